@@ -1,0 +1,12 @@
+//! Reads one CBOR data item (RFC 7049) from bytes or from hex with comments, and writes it as bytes,
+//! keeping how it was encoded: the width of each number and length, and which form a length has.
+//!
+//! A call that allocates takes an allocator first and answers `Error::Memory` where a growth was
+//! refused; every other answer depends on the input alone.
+#![tactic(auto)]
+
+mod error;
+mod syntax;
+
+pub use error::{Error, Result};
+pub use syntax::{ByteString, DataItem, FloatWidth, IntegerWidth, Simple, Tag, TextString};
