@@ -1,3 +1,9 @@
 pub mod Refusals
 pub mod Item
 pub mod View
+pub mod Head
+pub mod WellFormed
+pub mod Written
+pub mod Bytes
+pub mod Refused
+pub mod Reading

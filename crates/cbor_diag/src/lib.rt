@@ -6,6 +6,7 @@
 #![tactic(auto)]
 
 mod error;
+mod parse;
 mod syntax;
 
 pub use error::{Error, Result};

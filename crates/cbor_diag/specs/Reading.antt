@@ -1,0 +1,199 @@
+-- Reading from left to right, as the code of `parse/binary.rt` does: a function from bytes to a value and
+-- the rest, or the first refusal, `CutShort` where the bytes end. No public clause names it: proofs/
+-- shows that it agrees with `Spells`, `Cut` and `Fault`.
+use Rattle.std.specs.Prelude.{◌≡◌, ℕ, zero, suc, ◌+◌, ◌*◌, ◌/◌, ◌%◌, ◌^◌, ◌<◌, ◌≤◌, List, [], ◌∷◌, ◌++◌, length, take, drop, Option, Some, None, Result, Ok, Err, Bool, true, false, nat_lt, ◌==◌, if◌then◌else◌}
+use Rattle.std.specs.Str.{is_utf8}
+use Rattle.std.specs.Int.{Width, w8, w16, w32, w64, byte_len, from_be_bytes}
+use Rattle.cbor_diag.specs.declared.syntax.IntegerWidth.{IntegerWidth}
+use Rattle.cbor_diag.specs.declared.syntax.IntegerWidth.TheVariants.{Unknown, Zero, Eight, Sixteen, ThirtyTwo, SixtyFour}
+use Rattle.cbor_diag.specs.declared.syntax.FloatWidth.TheVariants as float_width
+use Rattle.cbor_diag.specs.declared.error.Error.{Error}
+use Rattle.cbor_diag.specs.declared.error.Error.TheVariants as refusal
+use Rattle.cbor_diag.specs.declared.parse.binary.Info.{Info}
+use Rattle.cbor_diag.specs.declared.parse.binary.Info.TheVariants as info
+use Rattle.cbor_diag.specs.declared.parse.binary.Head.{Head}
+use Rattle.cbor_diag.specs.declared.parse.binary.Head.TheVariants as kind
+use Rattle.cbor_diag.specs.Item as spec
+use Rattle.cbor_diag.specs.Item.{Chunk, integer, negative, byte_string, text_string, byte_chunks, text_chunks, float, simple, Item, atom, array, tagged, Items, no_items, item, Pairs, no_pairs, pair}
+use Rattle.cbor_diag.specs.Head.{FitsStated, break_byte}
+use Rattle.cbor_diag.specs.Bytes.{StringKind, bytes_kind, text_kind, major_of}
+
+-- a value and the bytes after it
+abbrev pub Read : Type 0 → Type 0
+Read X = Result (X × List ℕ) Error
+
+infixl 10 ◌>>=◌
+abbrev pub ◌>>=◌ : {A B : Type 0} → Result A Error → (A → Result B Error) → Result B Error
+(Ok x) >>= f = f x
+(Err e) >>= f = Err e
+
+-- A refusal that is no want of memory is the one that reading gives.
+abbrev pub Fails : {Y : Type 0} → Error → Result Y Error → Type 0
+Fails refusal.Memory read = Unit {0}
+Fails e read = read ≡ Err e
+
+-- What a function returned, seen by view, is what reading gives, unless memory ran out.
+abbrev pub Gives : {X Y : Type 0} → (X → Y) → Result X Error → Result Y Error → Type 0
+Gives view (Ok x) read = read ≡ Ok (view x)
+Gives view (Err e) read = Fails e read
+
+abbrev pub number_at : Width → List ℕ → Read ℕ
+number_at w b = if nat_lt (length b) (byte_len w) then Err refusal.CutShort else Ok (from_be_bytes w (take (byte_len w) b), drop (byte_len w) b)
+
+-- the number behind info 24 to 27
+unfoldable pub wide_at : Width → IntegerWidth → List ℕ → Read Info
+wide_at w width b = number_at w b >>= λ n. Ok (info.Number n.0 width, n.1)
+
+-- what five bits of info say, with the bytes that they ask for
+unfoldable pub info_at : ℕ → List ℕ → Read Info
+info_at bits b =
+    if nat_lt bits 24 then Ok (info.Number bits Zero, b)
+    else if bits == 24 then wide_at w8 Eight b
+    else if bits == 25 then wide_at w16 Sixteen b
+    else if bits == 26 then wide_at w32 ThirtyTwo b
+    else if bits == 27 then wide_at w64 SixtyFour b
+    else if bits == 31 then Ok (info.Indefinite, b)
+    else Err refusal.Head
+
+-- a number that was read fits the width that it was read in
+abbrev pub FitsInfo : Info → Type 0
+FitsInfo (info.Number n w) = FitsStated w n
+FitsInfo info.Indefinite = Unit {0}
+
+-- in major type 7 a number of one byte is a simple value, and a wider one the bits of a float
+abbrev pub simple_or_float : ℕ → IntegerWidth → Head
+simple_or_float n Sixteen = kind.Float n float_width.Sixteen
+simple_or_float n ThirtyTwo = kind.Float n float_width.ThirtyTwo
+simple_or_float n SixtyFour = kind.Float n float_width.SixtyFour
+simple_or_float n w = kind.Simple n
+
+unfoldable pub numbered : ℕ → ℕ → IntegerWidth → Head
+numbered major n w =
+    if major == 0 then kind.Integer n w
+    else if major == 1 then kind.Negative n w
+    else if major == 2 then kind.Bytes n w
+    else if major == 3 then kind.Text n w
+    else if major == 4 then kind.Array n w
+    else if major == 5 then kind.Map n w
+    else if major == 6 then kind.Tag n w
+    else simple_or_float n w
+
+unfoldable pub unnumbered : ℕ → Result Head Error
+unnumbered major =
+    if major == 2 then Ok kind.OpenBytes
+    else if major == 3 then Ok kind.OpenText
+    else if major == 4 then Ok kind.OpenArray
+    else if major == 5 then Ok kind.OpenMap
+    else if major == 7 then Ok kind.Break
+    else Err refusal.Head
+
+abbrev pub head_of : ℕ → Info → Result Head Error
+head_of major (info.Number n w) = Ok (numbered major n w)
+head_of major info.Indefinite = unnumbered major
+
+unfoldable pub head_at : List ℕ → Read Head
+head_at [] = Err refusal.CutShort
+head_at (first ∷ b) = info_at (first % 32) b >>= λ i. head_of (first / 32) i.0 >>= λ h. Ok (h, i.1)
+
+-- so many bytes
+abbrev pub split_at : ℕ → List ℕ → Read (List ℕ)
+split_at n b = if nat_lt (length b) n then Err refusal.CutShort else Ok (take n b, drop n b)
+
+-- a string of that length and its content
+unfoldable pub content_at : StringKind → ℕ → IntegerWidth → List ℕ → Read Chunk
+content_at bytes_kind n w b = split_at n b >>= λ s. Ok (record { bytes = s.0; width = w }, s.1)
+content_at text_kind n w b = split_at n b >>= λ s. if is_utf8 s.0 then Ok (record { bytes = s.0; width = w }, s.1) else Err refusal.Utf8
+
+-- the length in a chunk's head
+abbrev pub length_of : Info → List ℕ → Read (Option (ℕ × IntegerWidth))
+length_of (info.Number n w) b = Ok (Some (n, w), b)
+length_of info.Indefinite b = Err refusal.Head
+
+-- the length in the head of the next chunk of an indefinite string of that major type, or none at its break
+unfoldable pub chunk_length_at : ℕ → List ℕ → Read (Option (ℕ × IntegerWidth))
+chunk_length_at major [] = Err refusal.CutShort
+chunk_length_at major (first ∷ b) =
+    if first == break_byte then Ok (None, b)
+    else if first / 32 == major then (info_at (first % 32) b >>= λ i. length_of i.0 i.1)
+    else Err refusal.Head
+
+-- a chunk behind its info
+abbrev pub chunk_of : StringKind → Info → List ℕ → Read (Option Chunk)
+chunk_of kind (info.Number n w) b = content_at kind n w b >>= λ c. Ok (Some c.0, c.1)
+chunk_of kind info.Indefinite b = Err refusal.Head
+
+-- the next chunk of an indefinite string, or none at its break
+unfoldable pub chunk_at : StringKind → List ℕ → Read (Option Chunk)
+chunk_at kind [] = Err refusal.CutShort
+chunk_at kind (first ∷ b) =
+    if first == break_byte then Ok (None, b)
+    else if first / 32 == major_of kind then (info_at (first % 32) b >>= λ i. chunk_of kind i.0 i.1)
+    else Err refusal.Head
+
+abbrev pub more_chunks : (List ℕ → Read (List Chunk)) → Option Chunk → List ℕ → Read (List Chunk)
+more_chunks read None b = Ok ([], b)
+more_chunks read (Some c) b = read b >>= λ cs. Ok (c ∷ cs.0, cs.1)
+
+-- The chunks up to the break. The first number bounds how many are looked for; no input has more than
+-- it has bytes.
+unfoldable pub chunks_at : ℕ → StringKind → List ℕ → Read (List Chunk)
+chunks_at zero kind b = Err refusal.CutShort
+chunks_at (suc n) kind b = chunk_at kind b >>= λ c. more_chunks (chunks_at n kind) c.0 c.1
+
+-- so many items, each read by `read`
+unfoldable pub items_at : (List ℕ → Read Item) → ℕ → List ℕ → Read Items
+items_at read zero b = Ok (no_items, b)
+items_at read (suc n) b = read b >>= λ i. items_at read n i.1 >>= λ is. Ok (item i.0 is.0, is.1)
+
+-- a key and its value
+abbrev pub pair_at : (List ℕ → Read Item) → List ℕ → Read (Item × Item)
+pair_at read b = read b >>= λ k. read k.1 >>= λ v. Ok ((k.0, v.0), v.1)
+
+unfoldable pub pairs_at : (List ℕ → Read Item) → ℕ → List ℕ → Read Pairs
+pairs_at read zero b = Ok (no_pairs, b)
+pairs_at read (suc n) b = pair_at read b >>= λ p. pairs_at read n p.1 >>= λ ps. Ok (pair p.0.0 p.0.1 ps.0, ps.1)
+
+-- whether a break stands here, and where it does the bytes after it
+abbrev pub break_at : List ℕ → Option (List ℕ)
+break_at [] = None
+break_at (first ∷ b) = if first == break_byte then Some b else None
+
+abbrev pub unless_break : {X : Type 0} → Option (List ℕ) → X → Read X → Read X
+unless_break None none read = read
+unless_break (Some b) none read = Ok (none, b)
+
+-- the items up to the break, bounded as `chunks_at` is
+unfoldable pub open_items_at : (List ℕ → Read Item) → ℕ → List ℕ → Read Items
+open_items_at read zero b = Err refusal.CutShort
+open_items_at read (suc n) b = unless_break (break_at b) no_items (read b >>= λ i. open_items_at read n i.1 >>= λ is. Ok (item i.0 is.0, is.1))
+
+unfoldable pub open_pairs_at : (List ℕ → Read Item) → ℕ → List ℕ → Read Pairs
+open_pairs_at read zero b = Err refusal.CutShort
+open_pairs_at read (suc n) b = unless_break (break_at b) no_pairs (pair_at read b >>= λ p. open_pairs_at read n p.1 >>= λ ps. Ok (pair p.0.0 p.0.1 ps.0, ps.1))
+
+-- an item behind its head, the items in it read by `read`
+abbrev pub body_at : (List ℕ → Read Item) → Head → List ℕ → Read Item
+body_at read (kind.Integer n w) b = Ok (atom (integer n w), b)
+body_at read (kind.Negative n w) b = Ok (atom (negative n w), b)
+body_at read (kind.Bytes n w) b = content_at bytes_kind n w b >>= λ c. Ok (atom (byte_string c.0), c.1)
+body_at read (kind.Text n w) b = content_at text_kind n w b >>= λ c. Ok (atom (text_string c.0), c.1)
+body_at read (kind.Array n w) b = items_at read n b >>= λ is. Ok (array is.0 (Some w), is.1)
+body_at read (kind.Map n w) b = pairs_at read n b >>= λ ps. Ok (spec.map ps.0 (Some w), ps.1)
+body_at read (kind.Tag n w) b = read b >>= λ i. Ok (tagged n w i.0, i.1)
+body_at read (kind.Float bits w) b = Ok (atom (float bits w), b)
+body_at read (kind.Simple n) b = Ok (atom (simple n), b)
+body_at read kind.OpenBytes b = chunks_at (length b) bytes_kind b >>= λ cs. Ok (atom (byte_chunks cs.0), cs.1)
+body_at read kind.OpenText b = chunks_at (length b) text_kind b >>= λ cs. Ok (atom (text_chunks cs.0), cs.1)
+body_at read kind.OpenArray b = open_items_at read (length b) b >>= λ is. Ok (array is.0 None, is.1)
+body_at read kind.OpenMap b = open_pairs_at read (length b) b >>= λ ps. Ok (spec.map ps.0 None, ps.1)
+body_at read kind.Break b = Err refusal.Head
+
+-- no more levels are left, and an item is wanted
+abbrev pub too_deep_at : List ℕ → Read Item
+too_deep_at [] = Err refusal.CutShort
+too_deep_at (first ∷ b) = Err refusal.TooDeep
+
+-- an item, with so many levels left for it and the items in it
+unfoldable pub item_at : ℕ → List ℕ → Read Item
+item_at zero b = too_deep_at b
+item_at (suc left) b = head_at b >>= λ h. body_at (item_at left) h.0 h.1

@@ -1,0 +1,61 @@
+-- Which items have an encoding.
+use Rattle.std.specs.Prelude.{ℕ, ◌+◌, ◌^◌, ◌<◌, ◌≤◌, List, length, Option, Some, None, IsUtf8}
+use Rattle.std.specs.List.{AllByRecursion}
+use Rattle.cbor_diag.specs.declared.syntax.IntegerWidth.{IntegerWidth}
+use Rattle.cbor_diag.specs.declared.syntax.FloatWidth.{FloatWidth}
+use Rattle.cbor_diag.specs.declared.syntax.FloatWidth.TheVariants as float_width
+use Rattle.cbor_diag.specs.Item as spec
+use Rattle.cbor_diag.specs.Item.{Chunk, Atom, integer, negative, byte_string, text_string, byte_chunks, text_chunks, float, simple, Item, atom, array, tagged, Items, no_items, item, Pairs, no_pairs, pair, item_count, pair_count}
+use Rattle.cbor_diag.specs.Head.{FitsWidth}
+
+-- the deepest level that an item may stand at; the outermost stands at level 1
+abbrev pub deepest : ℕ
+deepest = 128
+
+-- the length fits its width, and the bytes are bytes
+pub record IsByteChunk (c : Chunk) : Type 0 where
+  pub fits : FitsWidth c.width (length c.bytes)
+  pub bytes : AllByRecursion (λ b. b < 256) c.bytes
+
+-- the same, and the bytes are UTF-8
+pub record IsTextChunk (c : Chunk) : Type 0 where
+  pub fits : FitsWidth c.width (length c.bytes)
+  pub bytes : AllByRecursion (λ b. b < 256) c.bytes
+  pub utf8 : IsUtf8 c.bytes
+
+abbrev pub FitsFloat : FloatWidth → ℕ → Type 0
+FitsFloat float_width.Unknown bits = bits < 2 ^ 64
+FitsFloat float_width.Sixteen bits = bits < 2 ^ 16
+FitsFloat float_width.ThirtyTwo bits = bits < 2 ^ 32
+FitsFloat float_width.SixtyFour bits = bits < 2 ^ 64
+
+abbrev pub WellAtom : Atom → Type 0
+WellAtom (integer n w) = FitsWidth w n
+WellAtom (negative n w) = FitsWidth w n
+WellAtom (byte_string c) = IsByteChunk c
+WellAtom (text_string c) = IsTextChunk c
+WellAtom (byte_chunks cs) = AllByRecursion IsByteChunk cs
+WellAtom (text_chunks cs) = AllByRecursion IsTextChunk cs
+WellAtom (float bits w) = FitsFloat w bits
+WellAtom (simple n) = n < 256
+
+-- a count fits its width; of an indefinite length there is none
+abbrev pub FitsCount : Option IntegerWidth → ℕ → Type 0
+FitsCount None n = Unit {0}
+FitsCount (Some w) n = FitsWidth w n
+
+-- Each number, tag, length and count fits its width, and no item stands deeper than the deepest level.
+abbrev mutual
+  pub Well : ℕ → Item → Type 0
+  Well level (atom a) = (level ≤ deepest) × WellAtom a
+  Well level (array is w) = (level ≤ deepest) × FitsCount w (item_count is) × WellItems (level + 1) is
+  Well level (spec.map ps w) = (level ≤ deepest) × FitsCount w (pair_count ps) × WellPairs (level + 1) ps
+  Well level (tagged t w i) = (level ≤ deepest) × FitsWidth w t × Well (level + 1) i
+
+  pub WellItems : ℕ → Items → Type 0
+  WellItems level no_items = Unit {0}
+  WellItems level (item i is) = Well level i × WellItems level is
+
+  pub WellPairs : ℕ → Pairs → Type 0
+  WellPairs level no_pairs = Unit {0}
+  WellPairs level (pair k v ps) = Well level k × Well level v × WellPairs level ps

@@ -1,0 +1,103 @@
+-- The one spelling that a writer gives an item, and the item that it reads as.
+use Rattle.std.specs.Prelude.{ℕ, ◌+◌, List, [], ◌∷◌, ◌++◌, length, map, Option, Some, None, nat_lt, if◌then◌else◌}
+use Rattle.std.specs.List.{flat_map}
+use Rattle.std.specs.Int.{w16, w32, w64, to_be_bytes}
+use Rattle.cbor_diag.specs.declared.syntax.IntegerWidth.{IntegerWidth}
+use Rattle.cbor_diag.specs.declared.syntax.FloatWidth.{FloatWidth}
+use Rattle.cbor_diag.specs.declared.syntax.FloatWidth.TheVariants as float_width
+use Rattle.cbor_diag.specs.Item as spec
+use Rattle.cbor_diag.specs.Item.{Chunk, Atom, integer, negative, byte_string, text_string, byte_chunks, text_chunks, float, simple, Item, atom, array, tagged, Items, no_items, item, Pairs, no_pairs, pair, item_count, pair_count}
+use Rattle.cbor_diag.specs.Head.{stated, head, opening, break_byte}
+
+-- a head, an open width being the shortest that fits
+abbrev pub enc_head : ℕ → ℕ → IntegerWidth → List ℕ
+enc_head major n w = head major n (stated w n)
+
+-- a string of definite length
+abbrev pub enc_chunk : ℕ → Chunk → List ℕ
+enc_chunk major c = enc_head major (length c.bytes) c.width ++ c.bytes
+
+-- an indefinite string: its chunks between the opening byte and the break
+abbrev pub enc_chunks : ℕ → List Chunk → List ℕ
+enc_chunks major cs = opening major ∷ (flat_map (enc_chunk major) cs ++ break_byte ∷ [])
+
+-- a float's bits, an open width being 64 bits
+abbrev pub enc_float : ℕ → FloatWidth → List ℕ
+enc_float bits float_width.Unknown = 251 ∷ to_be_bytes w64 bits
+enc_float bits float_width.Sixteen = 249 ∷ to_be_bytes w16 bits
+enc_float bits float_width.ThirtyTwo = 250 ∷ to_be_bytes w32 bits
+enc_float bits float_width.SixtyFour = 251 ∷ to_be_bytes w64 bits
+
+-- a simple value in one byte where it is below 24, else in two
+abbrev pub enc_simple : ℕ → List ℕ
+enc_simple n = if nat_lt n 24 then (224 + n) ∷ [] else 248 ∷ n ∷ []
+
+abbrev pub enc_atom : Atom → List ℕ
+enc_atom (integer n w) = enc_head 0 n w
+enc_atom (negative n w) = enc_head 1 n w
+enc_atom (byte_string c) = enc_chunk 2 c
+enc_atom (text_string c) = enc_chunk 3 c
+enc_atom (byte_chunks cs) = enc_chunks 2 cs
+enc_atom (text_chunks cs) = enc_chunks 3 cs
+enc_atom (float bits w) = enc_float bits w
+enc_atom (simple n) = enc_simple n
+
+-- members between a head with their count and nothing, or between an opening byte and the break
+abbrev pub enc_members : ℕ → ℕ → Option IntegerWidth → List ℕ → List ℕ
+enc_members major n (Some w) members = enc_head major n w ++ members
+enc_members major n None members = opening major ∷ (members ++ break_byte ∷ [])
+
+abbrev mutual
+  pub enc : Item → List ℕ
+  enc (atom a) = enc_atom a
+  enc (array is w) = enc_members 4 (item_count is) w (enc_items is)
+  enc (spec.map ps w) = enc_members 5 (pair_count ps) w (enc_pairs ps)
+  enc (tagged t w i) = enc_head 6 t w ++ enc i
+
+  pub enc_items : Items → List ℕ
+  enc_items no_items = []
+  enc_items (item i is) = enc i ++ enc_items is
+
+  pub enc_pairs : Pairs → List ℕ
+  enc_pairs no_pairs = []
+  enc_pairs (pair k v ps) = enc k ++ (enc v ++ enc_pairs ps)
+
+-- a string with the width that its length is written in
+abbrev pub resolve_chunk : Chunk → Chunk
+resolve_chunk c = record { bytes = c.bytes; width = stated c.width (length c.bytes) }
+
+abbrev pub resolve_float : FloatWidth → FloatWidth
+resolve_float float_width.Unknown = float_width.SixtyFour
+resolve_float w = w
+
+abbrev pub resolve_atom : Atom → Atom
+resolve_atom (integer n w) = integer n (stated w n)
+resolve_atom (negative n w) = negative n (stated w n)
+resolve_atom (byte_string c) = byte_string (resolve_chunk c)
+resolve_atom (text_string c) = text_string (resolve_chunk c)
+resolve_atom (byte_chunks cs) = byte_chunks (map resolve_chunk cs)
+resolve_atom (text_chunks cs) = text_chunks (map resolve_chunk cs)
+resolve_atom (float bits w) = float bits (resolve_float w)
+resolve_atom (simple n) = simple n
+
+-- the width that a count is written in, where the length is definite
+abbrev pub resolve_count : Option IntegerWidth → ℕ → Option IntegerWidth
+resolve_count None n = None
+resolve_count (Some w) n = Some (stated w n)
+
+-- The item with each open width replaced by the one that it is written in. Nothing else changes, bytes
+-- that are an encoded item included.
+abbrev mutual
+  pub resolve : Item → Item
+  resolve (atom a) = atom (resolve_atom a)
+  resolve (array is w) = array (resolve_items is) (resolve_count w (item_count is))
+  resolve (spec.map ps w) = spec.map (resolve_pairs ps) (resolve_count w (pair_count ps))
+  resolve (tagged t w i) = tagged t (stated w t) (resolve i)
+
+  pub resolve_items : Items → Items
+  resolve_items no_items = no_items
+  resolve_items (item i is) = item (resolve i) (resolve_items is)
+
+  pub resolve_pairs : Pairs → Pairs
+  resolve_pairs no_pairs = no_pairs
+  resolve_pairs (pair k v ps) = pair (resolve k) (resolve v) (resolve_pairs ps)

@@ -1,0 +1,2 @@
+//! Readers.
+mod binary;
