@@ -1,1 +1,3 @@
 pub mod Utf8
+pub mod Loops
+pub mod Members
