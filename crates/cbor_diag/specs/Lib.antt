@@ -7,3 +7,5 @@ pub mod Written
 pub mod Bytes
 pub mod Refused
 pub mod Reading
+pub mod Answer
+pub mod HexText

@@ -42,16 +42,21 @@ enc_atom (text_chunks cs) = enc_chunks 3 cs
 enc_atom (float bits w) = enc_float bits w
 enc_atom (simple n) = enc_simple n
 
--- members between a head with their count and nothing, or between an opening byte and the break
-abbrev pub enc_members : ℕ → ℕ → Option IntegerWidth → List ℕ → List ℕ
-enc_members major n (Some w) members = enc_head major n w ++ members
-enc_members major n None members = opening major ∷ (members ++ break_byte ∷ [])
+-- what stands before a container's members: a head with their count, or an opening byte
+abbrev pub enc_open : ℕ → ℕ → Option IntegerWidth → List ℕ
+enc_open major n (Some w) = enc_head major n w
+enc_open major n None = opening major ∷ []
+
+-- what stands after them: nothing, or the break
+abbrev pub enc_close : Option IntegerWidth → List ℕ
+enc_close (Some w) = []
+enc_close None = break_byte ∷ []
 
 abbrev mutual
   pub enc : Item → List ℕ
   enc (atom a) = enc_atom a
-  enc (array is w) = enc_members 4 (item_count is) w (enc_items is)
-  enc (spec.map ps w) = enc_members 5 (pair_count ps) w (enc_pairs ps)
+  enc (array is w) = enc_open 4 (item_count is) w ++ (enc_items is ++ enc_close w)
+  enc (spec.map ps w) = enc_open 5 (pair_count ps) w ++ (enc_pairs ps ++ enc_close w)
   enc (tagged t w i) = enc_head 6 t w ++ enc i
 
   pub enc_items : Items → List ℕ

@@ -5,6 +5,7 @@
 //! refused; every other answer depends on the input alone.
 #![tactic(auto)]
 
+mod encode;
 mod error;
 mod parse;
 mod syntax;

@@ -1,0 +1,2 @@
+//! Printers.
+mod bytes;

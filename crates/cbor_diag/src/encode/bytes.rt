@@ -1,0 +1,156 @@
+//! Writes an item as bytes (RFC 7049 section 2), each byte once, at the end of one vector.
+ghost use Rattle.std.specs.Prelude.{◌≡◌, ◌+◌, ◌*◌, ◌<◌, ◌≤◌, ◌^◌, ◌++◌, ◌∷◌, [], ℕ, length, map, OnOk, IfOk, IfErr};
+ghost use Rattle.cbor_diag.specs.Head.{FitsWidth, FitsStated, short, stated, opening, break_byte};
+ghost use Rattle.cbor_diag.specs.View.{view, items_view, pairs_view, byte_chunk, text_chunk};
+ghost use Rattle.cbor_diag.specs.WellFormed.{Well, WellItems, WellPairs, FitsFloat, FitsCount, IsByteChunk, IsTextChunk};
+ghost use Rattle.cbor_diag.specs.Written.{enc, enc_items, enc_pairs, enc_head, enc_float, enc_simple, enc_chunk, enc_chunks, enc_open, enc_close};
+
+use crate::syntax::{ByteString, DataItem, FloatWidth, IntegerWidth, Simple, TextString};
+use std::alloc::{AllocError, Global};
+
+impl IntegerWidth {
+    /// The shortest width that the number fits.
+    fn shortest(number: u64) -> IntegerWidth
+        ensures same { result ≡ short number }
+        ensures fits { FitsStated result number }
+    {
+        match number {
+            0..=23 => IntegerWidth::Zero,
+            24..=0xff => IntegerWidth::Eight,
+            0x100..=0xffff => IntegerWidth::Sixteen,
+            0x1_0000..=0xffff_ffff => IntegerWidth::ThirtyTwo,
+            _ => IntegerWidth::SixtyFour,
+        }
+    }
+
+    /// The width that the number is written in.
+    fn stated(self, number: u64) -> IntegerWidth
+        requires { FitsWidth self number }
+        ensures same { result ≡ stated self number }
+        ensures fits { FitsStated result number }
+    {
+        match self {
+            IntegerWidth::Unknown => IntegerWidth::shortest(number),
+            width => width,
+        }
+    }
+}
+
+/// Writes a head: the major type, below 8, and a number that fits its width.
+fn push_head(
+    out: &mut Vec<u8>,
+    major: u8,
+    number: u64,
+    width: IntegerWidth,
+) -> Result<(), AllocError>
+    requires major { major < 8 }
+    requires fits { FitsWidth width number }
+    ensures { OnOk result (out.new.items ≡ out.old.items ++ enc_head major number width) }
+{
+    let first = major * 32;
+    match width.stated(number) {
+        IntegerWidth::Zero => out.push(first + number as u8)?,
+        IntegerWidth::Eight => {
+            out.push(first + 24)?;
+            out.push(number as u8)?;
+        }
+        IntegerWidth::Sixteen => {
+            out.push(first + 25)?;
+            out.extend_from_slice(&(number as u16).to_be_bytes())?;
+        }
+        IntegerWidth::ThirtyTwo => {
+            out.push(first + 26)?;
+            out.extend_from_slice(&(number as u32).to_be_bytes())?;
+        }
+        IntegerWidth::Unknown | IntegerWidth::SixtyFour => {
+            out.push(first + 27)?;
+            out.extend_from_slice(&number.to_be_bytes())?;
+        }
+    }
+    Ok(())
+}
+
+/// Writes a byte string of definite length.
+fn push_byte_string(out: &mut Vec<u8>, string: &ByteString) -> Result<(), AllocError>
+    requires { IsByteChunk (byte_chunk string.now) }
+    ensures { OnOk result (out.new.items ≡ out.old.items ++ enc_chunk 2 (byte_chunk string.now)) }
+{
+    push_head(out, 2, string.content.len() as u64, string.bitwidth)?;
+    out.extend_from_slice(&string.content)?;
+    Ok(())
+}
+
+/// Writes a text string of definite length.
+fn push_text_string(out: &mut Vec<u8>, string: &TextString) -> Result<(), AllocError>
+    requires { IsTextChunk (text_chunk string.now) }
+    ensures { OnOk result (out.new.items ≡ out.old.items ++ enc_chunk 3 (text_chunk string.now)) }
+{
+    push_head(out, 3, string.content.len() as u64, string.bitwidth)?;
+    out.extend_from_slice(string.content.as_bytes())?;
+    Ok(())
+}
+
+/// Writes a float by its bits.
+fn push_float(out: &mut Vec<u8>, bits: u64, width: FloatWidth) -> Result<(), AllocError>
+    requires { FitsFloat width bits }
+    ensures { OnOk result (out.new.items ≡ out.old.items ++ enc_float bits width) }
+{
+    match width {
+        FloatWidth::Sixteen => {
+            out.push(0xf9)?;
+            out.extend_from_slice(&(bits as u16).to_be_bytes())?;
+        }
+        FloatWidth::ThirtyTwo => {
+            out.push(0xfa)?;
+            out.extend_from_slice(&(bits as u32).to_be_bytes())?;
+        }
+        FloatWidth::Unknown | FloatWidth::SixtyFour => {
+            out.push(0xfb)?;
+            out.extend_from_slice(&bits.to_be_bytes())?;
+        }
+    }
+    Ok(())
+}
+
+/// Writes a simple value.
+fn push_simple(out: &mut Vec<u8>, value: u8) -> Result<(), AllocError>
+    ensures { OnOk result (out.new.items ≡ out.old.items ++ enc_simple value) }
+{
+    if value < 24 {
+        out.push(0xe0 + value)?;
+    } else {
+        out.push(0xf8)?;
+        out.push(value)?;
+    }
+    Ok(())
+}
+
+/// Writes what stands before the members of a container: a head with their count, or an opening byte.
+fn push_open(
+    out: &mut Vec<u8>,
+    major: u8,
+    count: usize,
+    width: Option<IntegerWidth>,
+) -> Result<(), AllocError>
+    requires major { major < 8 }
+    requires fits { FitsCount width count }
+    ensures { OnOk result (out.new.items ≡ out.old.items ++ enc_open major count width) }
+{
+    match width {
+        Some(width) => push_head(out, major, count as u64, width),
+        None => {
+            out.push(major * 32 + 31)?;
+            Ok(())
+        }
+    }
+}
+
+/// Writes what stands after the members of a container: nothing, or the break.
+fn push_close(out: &mut Vec<u8>, width: Option<IntegerWidth>) -> Result<(), AllocError>
+    ensures { OnOk result (out.new.items ≡ out.old.items ++ enc_close width) }
+{
+    if width.is_none() {
+        out.push(0xff)?;
+    }
+    Ok(())
+}
