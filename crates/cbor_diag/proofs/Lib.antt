@@ -1,3 +1,4 @@
 pub mod Utf8
 pub mod Loops
-pub mod Members
+pub mod MemberLoops
+pub mod Views

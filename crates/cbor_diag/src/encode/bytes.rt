@@ -1,10 +1,12 @@
 //! Writes an item as bytes (RFC 7049 section 2), each byte once, at the end of one vector.
 ghost use Rattle.std.specs.Prelude.{◌≡◌, ◌+◌, ◌*◌, ◌<◌, ◌≤◌, ◌^◌, ◌++◌, ◌∷◌, [], ℕ, length, map, OnOk, IfOk, IfErr};
+ghost use Rattle.std.specs.List.{AllByRecursion};
 ghost use Rattle.cbor_diag.specs.Head.{FitsWidth, FitsStated, short, stated, opening, break_byte};
 ghost use Rattle.cbor_diag.specs.View.{view, items_view, pairs_view, byte_chunk, text_chunk};
 ghost use Rattle.cbor_diag.specs.WellFormed.{Well, WellItems, WellPairs, FitsFloat, FitsCount, IsByteChunk, IsTextChunk};
 ghost use Rattle.cbor_diag.specs.Written.{enc, enc_items, enc_pairs, enc_head, enc_float, enc_simple, enc_chunk, enc_chunks, enc_open, enc_close};
 
+use crate::error::Error;
 use crate::syntax::{ByteString, DataItem, FloatWidth, IntegerWidth, Simple, TextString};
 use std::alloc::{AllocError, Global};
 
@@ -153,4 +155,107 @@ fn push_close(out: &mut Vec<u8>, width: Option<IntegerWidth>) -> Result<(), Allo
         out.push(0xff)?;
     }
     Ok(())
+}
+
+/// Writes the chunks of an indefinite byte string, from its opening byte to its break.
+fn push_byte_chunks(out: &mut Vec<u8>, chunks: &[ByteString]) -> Result<(), AllocError>
+    requires { AllByRecursion IsByteChunk (map byte_chunk chunks.now) }
+    ensures { OnOk result (out.new.items ≡ out.old.items ++ enc_chunks 2 (map byte_chunk chunks.now)) }
+{
+    out.push(0x5f)?;
+    'chunks: for chunk in chunks {
+        push_byte_string(out, chunk)?;
+    }
+    out.push(0xff)?;
+    Ok(())
+}
+
+/// Writes the chunks of an indefinite text string, from its opening byte to its break.
+fn push_text_chunks(out: &mut Vec<u8>, chunks: &[TextString]) -> Result<(), AllocError>
+    requires { AllByRecursion IsTextChunk (map text_chunk chunks.now) }
+    ensures { OnOk result (out.new.items ≡ out.old.items ++ enc_chunks 3 (map text_chunk chunks.now)) }
+{
+    out.push(0x7f)?;
+    'chunks: for chunk in chunks {
+        push_text_string(out, chunk)?;
+    }
+    out.push(0xff)?;
+    Ok(())
+}
+
+/// Writes an item.
+#[cycle(push)]
+fn push_item(out: &mut Vec<u8>, item: &DataItem) -> Result<(), AllocError>
+    requires { (level : ℕ) × Well level (view item.now) }
+    ensures { OnOk result (out.new.items ≡ out.old.items ++ enc (view item.now)) }
+{
+    match item {
+        DataItem::Integer { value, bitwidth } => push_head(out, 0, *value, *bitwidth),
+        DataItem::Negative { value, bitwidth } => push_head(out, 1, *value, *bitwidth),
+        DataItem::ByteString(string) => push_byte_string(out, string),
+        DataItem::TextString(string) => push_text_string(out, string),
+        DataItem::IndefiniteByteString(chunks) => push_byte_chunks(out, chunks),
+        DataItem::IndefiniteTextString(chunks) => push_text_chunks(out, chunks),
+        DataItem::Array { content, bitwidth } => {
+            push_open(out, 4, content.len(), *bitwidth)?;
+            push_items(out, content)?;
+            push_close(out, *bitwidth)
+        }
+        DataItem::Map { content, bitwidth } => {
+            push_open(out, 5, content.len(), *bitwidth)?;
+            push_pairs(out, content)?;
+            push_close(out, *bitwidth)
+        }
+        DataItem::Tag {
+            tag,
+            bitwidth,
+            value,
+        } => {
+            push_head(out, 6, tag.0, *bitwidth)?;
+            push_item(out, value)
+        }
+        DataItem::Float { bits, bitwidth } => push_float(out, *bits, *bitwidth),
+        DataItem::Simple(simple) => push_simple(out, simple.0),
+    }
+}
+
+/// Writes items one after the other.
+#[cycle(push)]
+fn push_items(out: &mut Vec<u8>, items: &Vec<DataItem>) -> Result<(), AllocError>
+    requires { (level : ℕ) × WellItems level (items_view items.now.items) }
+    ensures { OnOk result (out.new.items ≡ out.old.items ++ enc_items (items_view items.now.items)) }
+{
+    'items: for item in items {
+        push_item(out, item)?;
+    }
+    Ok(())
+}
+
+/// Writes each key and then its value.
+#[cycle(push)]
+fn push_pairs(out: &mut Vec<u8>, pairs: &Vec<(DataItem, DataItem)>) -> Result<(), AllocError>
+    requires { (level : ℕ) × WellPairs level (pairs_view pairs.now.items) }
+    ensures { OnOk result (out.new.items ≡ out.old.items ++ enc_pairs (pairs_view pairs.now.items)) }
+{
+    'pairs: for (key, value) in pairs {
+        push_item(out, key)?;
+        push_item(out, value)?;
+    }
+    Ok(())
+}
+
+impl DataItem {
+    /// The item in bytes. An open width is the shortest that fits, an open float width 64 bits, and a
+    /// simple value below 24 takes one byte; indefinite lengths stay so (RFC 7049 section 2).
+    ///
+    /// The item has to be well formed, which `is_well_formed` tells. Refuses with `Memory` alone.
+    pub fn to_bytes(&self, alloc: Global) -> crate::Result<Vec<u8>>
+        requires { Well 1 (view self.now) }
+        ensures bytes { IfOk result (λ v. v.items ≡ enc (view self.now)) }
+        ensures refused { IfErr result (λ e. e ≡ Error.Memory) }
+    {
+        let mut out = Vec::new(alloc);
+        push_item(&mut out, self)?;
+        Ok(out)
+    }
 }

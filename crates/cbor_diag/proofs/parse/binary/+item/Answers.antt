@@ -3,7 +3,7 @@ use Rattle.std.proofs.lemmas.Result.{err_from_is_err_and}
 use Rattle.cbor_diag.specs.View.{view, items_view, pairs_view}
 use Rattle.cbor_diag.specs.Reading.{◌>>=◌, head_at, body_at, item_at, items_at, pairs_at, open_items_at, open_pairs_at}
 use Rattle.cbor_diag.proofs.Loops.{Fails-bind, Fails_from, joined, joined_pairs, joined-none, joined_pairs-none, item_joins, pair_joins}
-use Rattle.cbor_diag.proofs.Members.{item_at-none, item_at-some, item_at-nothing, more_items, items_fail, items_end, more_pairs, pairs_fail, pairs_end, more_open_items, open_items_fail, open_items_end, more_open_pairs, open_pairs_fail, open_pairs_end}
+use Rattle.cbor_diag.proofs.MemberLoops.{item_at-none, item_at-some, item_at-nothing, more_items, items_fail, items_end, more_pairs, pairs_fail, pairs_end, more_open_items, open_items_fail, open_items_end, more_open_pairs, open_pairs_fail, open_pairs_end}
 use Rattle.cbor_diag.proofs.parse.binary.+item.Goals as goal
 
 pub item_at-returns-then-level-gt-DEEPEST-clause-gives : goal.item_at-returns-then-level-gt-DEEPEST-clause-gives
