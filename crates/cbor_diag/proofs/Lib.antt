@@ -1,4 +1,15 @@
 pub mod Utf8
+pub mod Views
 pub mod Loops
 pub mod MemberLoops
-pub mod Views
+pub mod Heads
+pub mod Chunks
+pub mod Shorter
+pub mod Found
+pub mod HeadRefusals
+pub mod StringRefusals
+pub mod MemberRefusals
+pub mod Refusals
+pub mod Short
+pub mod Faults
+pub mod Three

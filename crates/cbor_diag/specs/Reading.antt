@@ -9,10 +9,10 @@ use Rattle.cbor_diag.specs.declared.syntax.IntegerWidth.TheVariants.{Unknown, Ze
 use Rattle.cbor_diag.specs.declared.syntax.FloatWidth.TheVariants as float_width
 use Rattle.cbor_diag.specs.declared.error.Error.{Error}
 use Rattle.cbor_diag.specs.declared.error.Error.TheVariants as refusal
-use Rattle.cbor_diag.specs.declared.parse.binary.Info.{Info}
-use Rattle.cbor_diag.specs.declared.parse.binary.Info.TheVariants as info
-use Rattle.cbor_diag.specs.declared.parse.binary.Head.{Head}
-use Rattle.cbor_diag.specs.declared.parse.binary.Head.TheVariants as kind
+use Rattle.cbor_diag.specs.declared.parse.binary.head.Info.{Info}
+use Rattle.cbor_diag.specs.declared.parse.binary.head.Info.TheVariants as info
+use Rattle.cbor_diag.specs.declared.parse.binary.head.Head.{Head}
+use Rattle.cbor_diag.specs.declared.parse.binary.head.Head.TheVariants as kind
 use Rattle.cbor_diag.specs.Item as spec
 use Rattle.cbor_diag.specs.Item.{Chunk, integer, negative, byte_string, text_string, byte_chunks, text_chunks, float, simple, Item, atom, array, tagged, Items, no_items, item, Pairs, no_pairs, pair}
 use Rattle.cbor_diag.specs.Head.{FitsStated, break_byte}

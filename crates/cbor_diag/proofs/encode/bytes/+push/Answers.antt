@@ -71,8 +71,8 @@ pub push_pairs-push_item-requires-in-pairs : goal.push_pairs-push_item-requires-
 push_pairs-push_item-requires-in-pairs t c = (
   search (rules, the_lemmas),
   let all = c.deref-key-items.result.now in
-  let i = c.pairs.key-index in
-  let here : drop i all ≡ c.pairs-item.result ∷ drop (suc i) all = drop-cons all i c.pairs-item.result c.pairs-test.true ∙ ap (λ p. p ∷ drop (suc i) all) (sym c.pairs-item.is) in
-  let well = subst (λ ps. WellPairs c.pairs.invariant.1 (pairs_view ps)) here c.pairs.invariant.2 in
-  (c.pairs.invariant.1, well.1),
+      let i = c.pairs.key-index in
+      let here : drop i all ≡ c.pairs-item.result ∷ drop (suc i) all = drop-cons all i c.pairs-item.result c.pairs-test.true ∙ ap (λ p. p ∷ drop (suc i) all) (sym c.pairs-item.is) in
+      let well = subst (λ ps. WellPairs c.pairs.invariant.1 (pairs_view ps)) here c.pairs.invariant.2 in
+      (c.pairs.invariant.1, well.1),
 )

@@ -3,7 +3,7 @@ use Rattle.cbor_diag.specs.View.{text_chunk}
 use Rattle.cbor_diag.specs.Bytes.{text_kind}
 use Rattle.cbor_diag.specs.Reading.{chunks_at}
 use Rattle.cbor_diag.proofs.Loops.{onto}
-use Rattle.cbor_diag.proofs.parse.binary.text_chunks_at.Given as goal
+use Rattle.cbor_diag.proofs.parse.binary.strings.text_chunks_at.Given as goal
 
 abbrev pub decreases-chunks : goal.decreases-chunks
 decreases-chunks l = length l.rest

@@ -5,7 +5,7 @@ use Rattle.cbor_diag.specs.View.{text_chunk}
 use Rattle.cbor_diag.specs.Bytes.{text_kind}
 use Rattle.cbor_diag.specs.Reading.{chunks_at}
 use Rattle.cbor_diag.proofs.Loops.{chunk_fails, more_chunk, no_more_chunk}
-use Rattle.cbor_diag.proofs.parse.binary.text_chunks_at.Goals as goal
+use Rattle.cbor_diag.proofs.parse.binary.strings.text_chunks_at.Goals as goal
 
 pub returns-in_err-chunk-clause-gives : goal.returns-in_err-chunk-clause-gives
 returns-in_err-chunk-clause-gives c =

@@ -1,0 +1,201 @@
+//! Heads (RFC 7049 section 2): the first byte of an item, and the number that goes with it.
+ghost use Rattle.std.specs.Prelude.{◌≡◌, ◌≢◌, ◌<◌, ◌≤◌, length, IfOk};
+ghost use Rattle.std.specs.Int.{w8, w16, w32, w64};
+ghost use Rattle.cbor_diag.specs.Head.{FitsStated};
+ghost use Rattle.cbor_diag.specs.Reading.{Gives, FitsInfo, number_at, info_at, numbered, unnumbered, simple_or_float, head_of, head_at};
+
+use crate::error::{Error, Result};
+use crate::syntax::{FloatWidth, IntegerWidth};
+
+/// What the five bits of info in a head's first byte say.
+#[derive(Clone, Copy)]
+pub(super) enum Info {
+    /// A number, and the width that it was written in.
+    Number(u64, IntegerWidth),
+    /// No number: an indefinite length, or a break.
+    Indefinite,
+}
+
+/// What a head opens.
+#[derive(Clone, Copy)]
+pub(super) enum Head {
+    Integer(u64, IntegerWidth),
+    Negative(u64, IntegerWidth),
+    /// A byte string of that length.
+    Bytes(u64, IntegerWidth),
+    /// A text string of that many bytes.
+    Text(u64, IntegerWidth),
+    /// An array of that many members.
+    Array(u64, IntegerWidth),
+    /// A map of that many pairs.
+    Map(u64, IntegerWidth),
+    Tag(u64, IntegerWidth),
+    Float(u64, FloatWidth),
+    Simple(u8),
+    OpenBytes,
+    OpenText,
+    OpenArray,
+    OpenMap,
+    Break,
+}
+
+fn u8_at(bytes: &[u8]) -> Result<(u8, &[u8])>
+    ensures gives { Gives (λ x. (x.0, x.1.now)) result (number_at w8 bytes.now) }
+    ensures memory { result ≢ Err Error.Memory }
+{
+    match bytes {
+        [] => Err(Error::CutShort),
+        [byte, rest @ ..] => Ok((*byte, rest)),
+    }
+}
+
+fn u16_at(bytes: &[u8]) -> Result<(u16, &[u8])>
+    ensures gives { Gives (λ x. (x.0, x.1.now)) result (number_at w16 bytes.now) }
+    ensures memory { result ≢ Err Error.Memory }
+{
+    if bytes.len() < 2 {
+        return Err(Error::CutShort);
+    }
+    let (front, rest) = bytes.split_at(2);
+    Ok((u16::from_be_bytes([front[0], front[1]]), rest))
+}
+
+fn u32_at(bytes: &[u8]) -> Result<(u32, &[u8])>
+    ensures gives { Gives (λ x. (x.0, x.1.now)) result (number_at w32 bytes.now) }
+    ensures memory { result ≢ Err Error.Memory }
+{
+    if bytes.len() < 4 {
+        return Err(Error::CutShort);
+    }
+    let (front, rest) = bytes.split_at(4);
+    let number = u32::from_be_bytes([front[0], front[1], front[2], front[3]]);
+    Ok((number, rest))
+}
+
+fn u64_at(bytes: &[u8]) -> Result<(u64, &[u8])>
+    ensures gives { Gives (λ x. (x.0, x.1.now)) result (number_at w64 bytes.now) }
+    ensures memory { result ≢ Err Error.Memory }
+{
+    if bytes.len() < 8 {
+        return Err(Error::CutShort);
+    }
+    let (front, rest) = bytes.split_at(8);
+    let number = u64::from_be_bytes([
+        front[0], front[1], front[2], front[3], front[4], front[5], front[6], front[7],
+    ]);
+    Ok((number, rest))
+}
+
+/// What the info `bits` of a head says, with the bytes that it asks for; `bits` is below 32.
+#[tactic(auto, unfolding(crate::specs::Reading::info_at, crate::specs::Reading::wide_at))]
+pub(super) fn info_at(bits: u8, bytes: &[u8]) -> Result<(Info, &[u8])>
+    requires { bits < 32 }
+    ensures gives { Gives (λ x. (x.0, x.1.now)) result (info_at bits bytes.now) }
+    ensures fits { IfOk result (λ x. FitsInfo x.0) }
+    ensures memory { result ≢ Err Error.Memory }
+    ensures shorter { IfOk result (λ x. length x.1.now ≤ length bytes.now) }
+{
+    match bits {
+        0..=23 => Ok((Info::Number(u64::from(bits), IntegerWidth::Zero), bytes)),
+        24 => {
+            let (number, rest) = u8_at(bytes)?;
+            Ok((Info::Number(u64::from(number), IntegerWidth::Eight), rest))
+        }
+        25 => {
+            let (number, rest) = u16_at(bytes)?;
+            Ok((Info::Number(u64::from(number), IntegerWidth::Sixteen), rest))
+        }
+        26 => {
+            let (number, rest) = u32_at(bytes)?;
+            Ok((
+                Info::Number(u64::from(number), IntegerWidth::ThirtyTwo),
+                rest,
+            ))
+        }
+        27 => {
+            let (number, rest) = u64_at(bytes)?;
+            Ok((Info::Number(number, IntegerWidth::SixtyFour), rest))
+        }
+        31 => Ok((Info::Indefinite, bytes)),
+        _ => Err(Error::Head),
+    }
+}
+
+impl Head {
+    /// What a head of that major type with that number opens.
+    #[tactic(auto, unfolding(crate::specs::Reading::numbered))]
+    fn numbered(major: u8, number: u64, width: IntegerWidth) -> Head
+        requires { FitsStated width number }
+        ensures { result ≡ numbered major number width }
+    {
+        match major {
+            0 => Head::Integer(number, width),
+            1 => Head::Negative(number, width),
+            2 => Head::Bytes(number, width),
+            3 => Head::Text(number, width),
+            4 => Head::Array(number, width),
+            5 => Head::Map(number, width),
+            6 => Head::Tag(number, width),
+            _ => Head::simple_or_float(number, width),
+        }
+    }
+
+    /// In major type 7 a number of up to 8 bits is a simple value, and a wider one the bits of a float.
+    fn simple_or_float(number: u64, width: IntegerWidth) -> Head
+        requires { FitsStated width number }
+        ensures { result ≡ simple_or_float number width }
+    {
+        match width {
+            IntegerWidth::Sixteen => Head::Float(number, FloatWidth::Sixteen),
+            IntegerWidth::ThirtyTwo => Head::Float(number, FloatWidth::ThirtyTwo),
+            IntegerWidth::SixtyFour => Head::Float(number, FloatWidth::SixtyFour),
+            IntegerWidth::Unknown | IntegerWidth::Zero | IntegerWidth::Eight => {
+                Head::Simple(number as u8)
+            }
+        }
+    }
+
+    /// What a head of that major type without a number opens.
+    #[tactic(auto, unfolding(crate::specs::Reading::unnumbered))]
+    fn unnumbered(major: u8) -> Result<Head>
+        ensures gives { result ≡ unnumbered major }
+        ensures memory { result ≢ Err Error.Memory }
+    {
+        match major {
+            2 => Ok(Head::OpenBytes),
+            3 => Ok(Head::OpenText),
+            4 => Ok(Head::OpenArray),
+            5 => Ok(Head::OpenMap),
+            7 => Ok(Head::Break),
+            _ => Err(Error::Head),
+        }
+    }
+
+    /// What a head of that major type and info opens.
+    pub(super) fn new(major: u8, info: Info) -> Result<Head>
+        requires { FitsInfo info }
+        ensures gives { result ≡ head_of major info }
+        ensures memory { result ≢ Err Error.Memory }
+    {
+        match info {
+            Info::Number(number, width) => Ok(Head::numbered(major, number, width)),
+            Info::Indefinite => Head::unnumbered(major),
+        }
+    }
+}
+
+/// The head at the front.
+#[tactic(auto, unfolding(crate::specs::Reading::head_at))]
+pub(super) fn head_at(bytes: &[u8]) -> Result<(Head, &[u8])>
+    ensures gives { Gives (λ x. (x.0, x.1.now)) result (head_at bytes.now) }
+    ensures shorter { IfOk result (λ x. length x.1.now < length bytes.now) }
+    ensures memory { result ≢ Err Error.Memory }
+{
+    match bytes {
+        [] => Err(Error::CutShort),
+        [first, rest @ ..] => {
+            let (info, rest) = info_at(*first % 32, rest)?;
+            Ok((Head::new(*first / 32, info)?, rest))
+        }
+    }
+}

@@ -1,0 +1,140 @@
+//! Strings of definite length, and the chunks of indefinite ones (RFC 7049 sections 2.1 and 2.2.2).
+ghost use Rattle.std.specs.Prelude.{◌≡◌, ◌<◌, ◌≤◌, length, IfOk, map, option_map};
+ghost use Rattle.cbor_diag.specs.View.{byte_chunk, text_chunk};
+ghost use Rattle.cbor_diag.specs.Bytes.{bytes_kind, text_kind};
+ghost use Rattle.cbor_diag.specs.Reading.{Gives, split_at, content_at, chunk_length_at, chunk_at, chunks_at};
+
+use super::head::{Info, info_at};
+use crate::error::{Error, Result};
+use crate::syntax::{ByteString, IntegerWidth, TextString};
+use std::alloc::Global;
+
+/// The first `count` bytes.
+fn split_at(bytes: &[u8], count: u64) -> Result<(&[u8], &[u8])>
+    ensures gives { Gives (λ x. (x.0.now, x.1.now)) result (split_at count bytes.now) }
+    ensures shorter { IfOk result (λ x. length x.1.now ≤ length bytes.now) }
+{
+    if (bytes.len() as u64) < count {
+        return Err(Error::CutShort);
+    }
+    Ok(bytes.split_at(count as usize))
+}
+
+/// A byte string behind its head.
+#[tactic(auto, unfolding(crate::specs::Reading::content_at))]
+pub(super) fn bytes_at(
+    alloc: Global,
+    count: u64,
+    bitwidth: IntegerWidth,
+    bytes: &[u8],
+) -> Result<(ByteString, &[u8])>
+    ensures gives { Gives (λ x. (byte_chunk x.0, x.1.now)) result (content_at bytes_kind count bitwidth bytes.now) }
+    ensures shorter { IfOk result (λ x. length x.1.now ≤ length bytes.now) }
+{
+    let (content, rest) = split_at(bytes, count)?;
+    let content = Vec::from_slice(alloc, content)?;
+    Ok((ByteString { content, bitwidth }, rest))
+}
+
+/// A text string behind its head.
+#[tactic(auto, unfolding(crate::specs::Reading::content_at), using(crate::proofs::Utf8::utf8_fails, crate::proofs::Utf8::utf8_passes))]
+pub(super) fn text_at(
+    alloc: Global,
+    count: u64,
+    bitwidth: IntegerWidth,
+    bytes: &[u8],
+) -> Result<(TextString, &[u8])>
+    ensures gives { Gives (λ x. (text_chunk x.0, x.1.now)) result (content_at text_kind count bitwidth bytes.now) }
+    ensures shorter { IfOk result (λ x. length x.1.now ≤ length bytes.now) }
+{
+    let (content, rest) = split_at(bytes, count)?;
+    let Ok(text) = std::str::from_utf8(content) else {
+        return Err(Error::Utf8);
+    };
+    let content = String::from_str(alloc, text)?;
+    Ok((TextString { content, bitwidth }, rest))
+}
+
+/// The length in the head of the next chunk of an indefinite string of that major type, or `None` at
+/// its break. The first byte decides whether a chunk can stand here, before more of its head is read.
+#[tactic(auto, unfolding(crate::specs::Reading::chunk_length_at))]
+fn chunk_length_at(major: u8, bytes: &[u8]) -> Result<(Option<(u64, IntegerWidth)>, &[u8])>
+    ensures gives { Gives (λ x. (x.0, x.1.now)) result (chunk_length_at major bytes.now) }
+    ensures shorter { IfOk result (λ x. length x.1.now < length bytes.now) }
+{
+    match bytes {
+        [] => Err(Error::CutShort),
+        [0xff, rest @ ..] => Ok((None, rest)),
+        [first, rest @ ..] => {
+            if *first / 32 != major {
+                return Err(Error::Head);
+            }
+            match info_at(*first % 32, rest)? {
+                (Info::Number(length, bitwidth), rest) => Ok((Some((length, bitwidth)), rest)),
+                (Info::Indefinite, _) => Err(Error::Head),
+            }
+        }
+    }
+}
+
+/// The next chunk of an indefinite byte string, or `None` at its break.
+#[tactic(auto, unfolding(crate::specs::Reading::chunk_length_at, crate::specs::Reading::chunk_at))]
+fn byte_chunk_at(alloc: Global, bytes: &[u8]) -> Result<(Option<ByteString>, &[u8])>
+    ensures gives { Gives (λ x. (option_map byte_chunk x.0, x.1.now)) result (chunk_at bytes_kind bytes.now) }
+    ensures shorter { IfOk result (λ x. length x.1.now < length bytes.now) }
+{
+    let (length, rest) = chunk_length_at(2, bytes)?;
+    let Some((length, bitwidth)) = length else {
+        return Ok((None, rest));
+    };
+    let (chunk, rest) = bytes_at(alloc, length, bitwidth, rest)?;
+    Ok((Some(chunk), rest))
+}
+
+/// The next chunk of an indefinite text string, or `None` at its break.
+#[tactic(auto, unfolding(crate::specs::Reading::chunk_length_at, crate::specs::Reading::chunk_at))]
+fn text_chunk_at(alloc: Global, bytes: &[u8]) -> Result<(Option<TextString>, &[u8])>
+    ensures gives { Gives (λ x. (option_map text_chunk x.0, x.1.now)) result (chunk_at text_kind bytes.now) }
+    ensures shorter { IfOk result (λ x. length x.1.now < length bytes.now) }
+{
+    let (length, rest) = chunk_length_at(3, bytes)?;
+    let Some((length, bitwidth)) = length else {
+        return Ok((None, rest));
+    };
+    let (chunk, rest) = text_at(alloc, length, bitwidth, rest)?;
+    Ok((Some(chunk), rest))
+}
+
+/// The chunks of an indefinite byte string up to its break.
+pub(super) fn byte_chunks_at(alloc: Global, bytes: &[u8]) -> Result<(Vec<ByteString>, &[u8])>
+    ensures gives { Gives (λ x. (map byte_chunk x.0.items, x.1.now)) result (chunks_at (length bytes.now) bytes_kind bytes.now) }
+    ensures shorter { IfOk result (λ x. length x.1.now ≤ length bytes.now) }
+{
+    let mut chunks = Vec::new(alloc);
+    let mut rest = bytes;
+    'chunks: loop {
+        let (chunk, after) = byte_chunk_at(alloc, rest)?;
+        let Some(chunk) = chunk else {
+            return Ok((chunks, after));
+        };
+        chunks.push(chunk)?;
+        rest = after;
+    }
+}
+
+/// The chunks of an indefinite text string up to its break.
+pub(super) fn text_chunks_at(alloc: Global, bytes: &[u8]) -> Result<(Vec<TextString>, &[u8])>
+    ensures gives { Gives (λ x. (map text_chunk x.0.items, x.1.now)) result (chunks_at (length bytes.now) text_kind bytes.now) }
+    ensures shorter { IfOk result (λ x. length x.1.now ≤ length bytes.now) }
+{
+    let mut chunks = Vec::new(alloc);
+    let mut rest = bytes;
+    'chunks: loop {
+        let (chunk, after) = text_chunk_at(alloc, rest)?;
+        let Some(chunk) = chunk else {
+            return Ok((chunks, after));
+        };
+        chunks.push(chunk)?;
+        rest = after;
+    }
+}
