@@ -13,3 +13,5 @@ pub mod Refusals
 pub mod Short
 pub mod Faults
 pub mod Three
+pub mod Outcomes
+pub mod Readers

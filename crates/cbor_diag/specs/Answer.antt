@@ -35,6 +35,13 @@ Gave (Ok None) o = o ≡ cut
 Gave (Err refusal.Memory) o = Unit {0}
 Gave (Err e) o = o ≡ fault e
 
+-- What a reader of the front of an input gave holds of it, want of memory aside.
+abbrev pub HasOutcome : ℕ → List ℕ → Result (Option (DataItem × ℕ)) Error → Type 0
+HasOutcome level b (Ok (Some x)) = IsOutcome level b (spelled (view x.0) x.1)
+HasOutcome level b (Ok None) = IsOutcome level b cut
+HasOutcome level b (Err refusal.Memory) = Unit {0}
+HasOutcome level b (Err e) = IsOutcome level b (fault e)
+
 -- why an input is not one whole item
 abbrev pub IsRefused : ℕ → List ℕ → Error → Type 0
 IsRefused level b refusal.CutShort = Cut level b
@@ -43,6 +50,12 @@ IsRefused level b refusal.Utf8 = Fault level b refusal.Utf8
 IsRefused level b refusal.TooDeep = Fault level b refusal.TooDeep
 IsRefused level b refusal.Remaining = (i : Item) × (n : ℕ) × (n < length b) × Spells any level (take n b) i
 IsRefused level b _ = ⊥
+
+-- What a reader of one whole item gave holds of the input, want of memory aside.
+abbrev pub HasAnswer : ℕ → List ℕ → Result DataItem Error → Type 0
+HasAnswer level b (Ok x) = Spells any level b (view x)
+HasAnswer level b (Err refusal.Memory) = Unit {0}
+HasAnswer level b (Err e) = IsRefused level b e
 
 -- A reader of one whole item gave it, or memory ran out.
 abbrev pub GaveItem : Result DataItem Error → Item → Type 0

@@ -188,6 +188,15 @@ body_at read kind.OpenArray b = open_items_at read (length b) b >>= λ is. Ok (a
 body_at read kind.OpenMap b = open_pairs_at read (length b) b >>= λ ps. Ok (spec.map ps.0 None, ps.1)
 body_at read kind.Break b = Err refusal.Head
 
+-- what needs memory: a string, a container or a tag
+abbrev pub HoldsContent : Head → Type 0
+HoldsContent (kind.Integer n w) = ⊥
+HoldsContent (kind.Negative n w) = ⊥
+HoldsContent (kind.Float bits w) = ⊥
+HoldsContent (kind.Simple n) = ⊥
+HoldsContent kind.Break = ⊥
+HoldsContent _ = Unit {0}
+
 -- no more levels are left, and an item is wanted
 abbrev pub too_deep_at : List ℕ → Read Item
 too_deep_at [] = Err refusal.CutShort

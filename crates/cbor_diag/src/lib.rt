@@ -11,4 +11,5 @@ mod parse;
 mod syntax;
 
 pub use error::{Error, Result};
+pub use parse::{parse_bytes, parse_bytes_partial};
 pub use syntax::{ByteString, DataItem, FloatWidth, IntegerWidth, Simple, Tag, TextString};

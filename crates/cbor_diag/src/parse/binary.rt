@@ -6,9 +6,13 @@
 mod head;
 mod strings;
 
-ghost use Rattle.std.specs.Prelude.{◌≡◌, ◌≢◌, ◌-◌, ◌<◌, ◌≤◌, length, IfOk, option_map};
+ghost use Rattle.std.specs.Prelude.{◌≡◌, ◌≢◌, ℕ, ◌-◌, ◌<◌, ◌≤◌, List, ◌++◌, length, take, IfOk, IfSome, OnOk, option_map};
+ghost use Rattle.cbor_diag.specs.Item.{Item};
+ghost use Rattle.cbor_diag.specs.Bytes.{any, strict, Spells};
+ghost use Rattle.cbor_diag.specs.Refused.{Cut, Fault};
 ghost use Rattle.cbor_diag.specs.View.{view, items_view, pairs_view};
-ghost use Rattle.cbor_diag.specs.Reading.{Gives, break_at, too_deep_at, item_at, body_at, items_at, pair_at, pairs_at, open_items_at, open_pairs_at};
+ghost use Rattle.cbor_diag.specs.Answer.{Outcome, spelled, IsOutcome, OneOutcome, HasOutcome, HasAnswer, Gave, GaveItem, GaveRefusal, IsRefused, RefusedSo, MayWantMemory};
+ghost use Rattle.cbor_diag.specs.Reading.{Gives, HoldsContent, break_at, too_deep_at, item_at, body_at, items_at, pair_at, pairs_at, open_items_at, open_pairs_at};
 
 use crate::error::{Error, Result};
 use crate::syntax::{DataItem, Simple, Tag};
@@ -47,6 +51,7 @@ fn item_at(alloc: Global, bytes: &[u8], level: u8) -> Result<(DataItem, &[u8])>
     requires { level ≤ 129 }
     ensures gives { Gives (λ x. (view x.0, x.1.now)) result (item_at (129 - level) bytes.now) }
     ensures shorter { IfOk result (λ x. length x.1.now < length bytes.now) }
+    ensures memory { result ≡ Err Error.Memory → MayWantMemory bytes.now }
 {
     if level > DEEPEST {
         return Err(no_level_left(bytes));
@@ -61,6 +66,7 @@ fn body_at(alloc: Global, head: Head, bytes: &[u8], inner: u8) -> Result<(DataIt
     requires { inner ≤ 129 }
     ensures gives { Gives (λ x. (view x.0, x.1.now)) result (body_at (item_at (129 - inner)) head bytes.now) }
     ensures shorter { IfOk result (λ x. length x.1.now ≤ length bytes.now) }
+    ensures memory { result ≡ Err Error.Memory → HoldsContent head }
 {
     match head {
         Head::Integer(value, bitwidth) => Ok((DataItem::Integer { value, bitwidth }, bytes)),
@@ -230,4 +236,73 @@ fn open_pairs_at(
         pairs.push(pair)?;
         rest = after;
     }
+}
+
+/// What stands at the front of the bytes, read from `level`: an item and how many bytes it takes, or
+/// `None` where the bytes end before the item does.
+fn front_at(alloc: Global, bytes: &[u8], level: u8) -> Result<Option<(DataItem, usize)>>
+    requires from { 1 ≤ level }
+    requires to { level ≤ 129 }
+    ensures outcome { HasOutcome level bytes.now result }
+    ensures memory { result ≡ Err Error.Memory → MayWantMemory bytes.now }
+{
+    match item_at(alloc, bytes, level) {
+        Ok((item, rest)) => Ok(Some((item, bytes.len() - rest.len()))),
+        Err(error) => match error {
+            Error::CutShort => Ok(None),
+            _ => Err(error),
+        },
+    }
+}
+
+/// The one item that the bytes are, all of them, read from `level`.
+fn whole_at(alloc: Global, bytes: &[u8], level: u8) -> Result<DataItem>
+    requires from { 1 ≤ level }
+    requires to { level ≤ 129 }
+    ensures answer { HasAnswer level bytes.now result }
+    ensures memory { result ≡ Err Error.Memory → MayWantMemory bytes.now }
+{
+    match front_at(alloc, bytes, level)? {
+        None => Err(Error::CutShort),
+        Some((_, used)) if used < bytes.len() => Err(Error::Remaining),
+        Some((item, _)) => Ok(item),
+    }
+}
+
+/// Reads one item from all of the bytes (RFC 7049 section 2), keeping how it was encoded.
+///
+/// Refuses with `CutShort` where the bytes end before the item does, `Remaining` where bytes follow
+/// it, and the first fault from the left otherwise: `Head`, `Utf8` or `TooDeep`. A claimed length or
+/// count takes no memory; an input that is empty, or whose first byte has major type 0, 1 or 7, takes
+/// none at all.
+pub fn parse_bytes(alloc: Global, bytes: &[u8]) -> Result<DataItem>
+    ensures ok { IfOk result (λ i. Spells any 1 bytes.now (view i)) }
+    ensures every_item { (i : Item) → Spells any 1 bytes.now i → GaveItem result i }
+    ensures refused { RefusedSo result (IsRefused 1 bytes.now) }
+    ensures every_refusal { (e : Error) → IsRefused 1 bytes.now e → GaveRefusal result e }
+    ensures memory { result ≡ Err Error.Memory → MayWantMemory bytes.now }
+    ensures fronts_cut { OnOk result ((n : ℕ) → n < length bytes.now → Cut 1 (take n bytes.now)) }
+{
+    whole_at(alloc, bytes, 1)
+}
+
+/// Reads one item from the front of the bytes, and says how many of them it takes; more may follow.
+/// `None` where the bytes end before the item does, so that the start of an item can be told from
+/// what no item begins with.
+///
+/// Refuses with the first fault from the left: `Head`, `Utf8` or `TooDeep`. Memory is taken as by
+/// `parse_bytes`.
+pub fn parse_bytes_partial(alloc: Global, bytes: &[u8]) -> Result<Option<(DataItem, usize)>>
+    ensures found { IfOk result (λ o. IfSome o (λ x.
+        (1 ≤ x.1) × (x.1 ≤ length bytes.now) × Spells any 1 (take x.1 bytes.now) (view x.0))) }
+    ensures cut { result ≡ Ok None → Cut 1 bytes.now }
+    ensures fault { RefusedSo result (Fault 1 bytes.now) }
+    ensures exact { (o : Outcome) → IsOutcome 1 bytes.now o → Gave result o }
+    ensures one_of_three { OneOutcome 1 bytes.now }
+    ensures fault_stays { RefusedSo result (λ e. (more : List ℕ) → Fault 1 (bytes.now ++ more) e) }
+    ensures found_stays { IfOk result (λ o. IfSome o (λ x.
+        (more : List ℕ) → IsOutcome 1 (bytes.now ++ more) (spelled (view x.0) x.1))) }
+    ensures memory { result ≡ Err Error.Memory → MayWantMemory bytes.now }
+{
+    front_at(alloc, bytes, 1)
 }

@@ -4,6 +4,7 @@ use Rattle.cbor_diag.specs.View.{view, items_view, pairs_view}
 use Rattle.cbor_diag.specs.Reading.{◌>>=◌, head_at, body_at, item_at, items_at, pairs_at, open_items_at, open_pairs_at}
 use Rattle.cbor_diag.proofs.Loops.{Fails-bind, Fails_from, joined, joined_pairs, joined-none, joined_pairs-none, item_joins, pair_joins}
 use Rattle.cbor_diag.proofs.MemberLoops.{item_at-none, item_at-some, item_at-nothing, more_items, items_fail, items_end, more_pairs, pairs_fail, pairs_end, more_open_items, open_items_fail, open_items_end, more_open_pairs, open_pairs_fail, open_pairs_end}
+use Rattle.cbor_diag.proofs.Outcomes.{memory_opens}
 use Rattle.cbor_diag.proofs.parse.binary.+item.Goals as goal
 
 pub item_at-returns-then-level-gt-DEEPEST-clause-gives : goal.item_at-returns-then-level-gt-DEEPEST-clause-gives
@@ -26,6 +27,9 @@ item_at-returns-clause-gives t c =
     let opened : item_at (129 - c.args.level) b ≡ body_at (item_at inner) c.in_ok-head.head c.in_ok-head.rest.now =
     item_at-some (129 - c.args.level) inner b (omega arith) ∙ ap (λ r. r >>= λ h. body_at (item_at inner) h.0 h.1) c.in_ok-head.ensures.gives in
     rw opened c.body_at.ensures.gives
+
+pub item_at-returns-clause-memory : goal.item_at-returns-clause-memory
+item_at-returns-clause-memory t c = λ wanted. memory_opens c.args.bytes.now c.in_ok-head.rest.now c.in_ok-head.head (λ i. omega (arith, c.type_inv.bytes i)) c.in_ok-head.ensures.gives (c.body_at.ensures.memory wanted)
 
 pub items_at-returns-in_err-item-clause-gives : goal.items_at-returns-in_err-item-clause-gives
 items_at-returns-in_err-item-clause-gives t c =

@@ -1,0 +1,19 @@
+use Rattle.std.proofs.Common.{arith}
+use Rattle.cbor_diag.proofs.Three.{one_outcome}
+use Rattle.cbor_diag.proofs.Readers.{item_is, refusal_is, gave_item, gave_refused, fronts_are_cut}
+use Rattle.cbor_diag.proofs.parse.binary.parse_bytes.Goals as goal
+
+pub returns-clause-ok : goal.returns-clause-ok
+returns-clause-ok c = item_is 1 c.args.bytes.now c.whole_at.result c.whole_at.ensures.answer
+
+pub returns-clause-every_item : goal.returns-clause-every_item
+returns-clause-every_item c = gave_item 1 c.args.bytes.now c.whole_at.result (one_outcome 1 128 c.args.bytes.now (omega arith) (λ i. omega (arith, c.type_inv.bytes i))) c.whole_at.ensures.answer
+
+pub returns-clause-refused : goal.returns-clause-refused
+returns-clause-refused c = refusal_is 1 c.args.bytes.now c.whole_at.result c.whole_at.ensures.answer
+
+pub returns-clause-every_refusal : goal.returns-clause-every_refusal
+returns-clause-every_refusal c = gave_refused 1 c.args.bytes.now c.whole_at.result (one_outcome 1 128 c.args.bytes.now (omega arith) (λ i. omega (arith, c.type_inv.bytes i))) c.whole_at.ensures.answer
+
+pub returns-clause-fronts_cut : goal.returns-clause-fronts_cut
+returns-clause-fronts_cut c = fronts_are_cut 1 c.args.bytes.now c.whole_at.result (λ i. omega (arith, c.type_inv.bytes i)) c.whole_at.ensures.answer

@@ -1,0 +1,25 @@
+use Rattle.std.proofs.Common.{arith}
+use Rattle.cbor_diag.proofs.Three.{one_outcome}
+use Rattle.cbor_diag.proofs.Readers.{found_is, cut_is, fault_is, exactly, fault_stays, found_stays}
+use Rattle.cbor_diag.proofs.parse.binary.parse_bytes_partial.Goals as goal
+
+pub returns-clause-found : goal.returns-clause-found
+returns-clause-found c = found_is c.args.bytes.now c.front_at.result c.front_at.ensures.outcome
+
+pub returns-clause-cut : goal.returns-clause-cut
+returns-clause-cut c = cut_is c.args.bytes.now c.front_at.result c.front_at.ensures.outcome
+
+pub returns-clause-fault : goal.returns-clause-fault
+returns-clause-fault c = fault_is c.args.bytes.now c.front_at.result c.front_at.ensures.outcome
+
+pub returns-clause-exact : goal.returns-clause-exact
+returns-clause-exact c = exactly c.args.bytes.now c.front_at.result c.front_at.ensures.outcome (one_outcome 1 128 c.args.bytes.now (omega arith) (λ i. omega (arith, c.type_inv.bytes i)))
+
+pub returns-clause-one_of_three : goal.returns-clause-one_of_three
+returns-clause-one_of_three c = one_outcome 1 128 c.args.bytes.now (omega arith) (λ i. omega (arith, c.type_inv.bytes i))
+
+pub returns-clause-fault_stays : goal.returns-clause-fault_stays
+returns-clause-fault_stays c = fault_stays c.args.bytes.now c.front_at.result c.front_at.ensures.outcome
+
+pub returns-clause-found_stays : goal.returns-clause-found_stays
+returns-clause-found_stays c = found_stays c.args.bytes.now c.front_at.result c.front_at.ensures.outcome
