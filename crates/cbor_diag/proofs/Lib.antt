@@ -15,3 +15,6 @@ pub mod Faults
 pub mod Three
 pub mod Outcomes
 pub mod Readers
+pub mod Strict
+pub mod Resolved
+pub mod Sizes

@@ -1,17 +1,22 @@
 -- What the readers of bytes promise, from what the front or the whole of an input is.
-use Rattle.std.proofs.Common.{◌≡◌, ◌≢◌, ℕ, ◌+◌, ◌-◌, ◌<◌, ◌≤◌, List, [], ◌∷◌, ◌++◌, length, take, drop, Option, Some, None, Result, Ok, Err, IfOk, IfErr, IfSome, OnOk, refl, sym, ap, subst, ◌∙◌, arith, ◌⊎◌, inl, inr}
+use Rattle.std.proofs.Common.{◌≡◌, ◌≢◌, ℕ, ◌+◌, ◌-◌, ◌<◌, ◌≤◌, List, [], ◌∷◌, ◌++◌, length, take, drop, Option, Some, None, Result, Ok, Err, ◌↔◌, IfOk, IfErr, IfSome, OnOk, refl, sym, ap, subst, ◌∙◌, arith, ◌⊎◌, inl, inr}
 use Rattle.std.proofs.lemmas.List.{length-append, length-take, length-drop, take-append-drop, take-append-le, take_all}
 use Rattle.cbor_diag.specs.declared.error.Error.{Error}
 use Rattle.cbor_diag.specs.declared.error.Error.TheVariants as refusal
 use Rattle.cbor_diag.specs.declared.syntax.DataItem.{DataItem}
 use Rattle.cbor_diag.specs.Item.{Item}
 use Rattle.cbor_diag.specs.View.{view}
-use Rattle.cbor_diag.specs.Bytes.{any, Spells}
+use Rattle.cbor_diag.specs.Bytes.{any, strict, Spells}
+use Rattle.cbor_diag.specs.WellFormed.{Well}
+use Rattle.cbor_diag.specs.Written.{enc}
 use Rattle.cbor_diag.specs.Refused.{Cut, Fault}
-use Rattle.cbor_diag.specs.Answer.{Outcome, spelled, cut, fault, IsOutcome, OneOutcome, HasOutcome, HasAnswer, Gave, GaveItem, GaveRefusal, IsRefused, RefusedSo}
+use Rattle.cbor_diag.specs.Answer.{Outcome, spelled, cut, fault, IsOutcome, OneOutcome, HasOutcome, HasAnswer, Gave, GaveItem, GaveRefusal, IsRefused, RefusedSo, size}
 use Rattle.cbor_diag.proofs.Heads.{IsBytes, IsBytes-take}
 use Rattle.cbor_diag.proofs.Found.{spelled_begins}
 use Rattle.cbor_diag.proofs.Faults.{fault_append}
+use Rattle.cbor_diag.proofs.Strict.{strict_only}
+use Rattle.cbor_diag.proofs.Resolved.{spells_well, enc_strict}
+use Rattle.cbor_diag.proofs.Sizes.{items_bound}
 use Rattle.cbor_diag.proofs.Three.{one_outcome, front_cut}
 
 abbrev pub Front : Type 0
@@ -135,3 +140,22 @@ fronts_are_cut level b (Ok x) fits h = λ n lt.
     let some : drop n b ≢ [] = λ e. omega (arith, length-drop n b, ap length e) in
     front_cut level (take n b) (drop n b) (view x) (IsBytes-take n b fits) (rw take-append-drop h) some
 fronts_are_cut level b (Err e) fits h = tt
+
+-- ---- what an item that was read is
+
+pub front_well : (b : List ℕ) (r : Front) → IsBytes b → HasOutcome 1 b r → IfOk r (λ o. IfSome o (λ x. Well 1 (view x.0)))
+front_well b (Ok (Some x)) fits h = spells_well 1 (take x.1 b) (view x.0) (IsBytes-take x.1 b fits) h.1
+front_well b (Ok None) fits h = tt
+front_well b (Err e) fits h = tt
+
+pub whole_well : (level : ℕ) (b : List ℕ) (r : Result DataItem Error) → IsBytes b → HasAnswer level b r → IfOk r (λ i. Well level (view i))
+whole_well level b (Ok x) fits h = spells_well level b (view x) fits h
+whole_well level b (Err e) fits h = tt
+
+pub written_as_read : (level : ℕ) (b : List ℕ) (r : Result DataItem Error) → IsBytes b → HasAnswer level b r → IfOk r (λ i. (enc (view i) ≡ b) ↔ Spells strict level b (view i))
+written_as_read level b (Ok x) fits h = (enc_strict level b (view x) fits h, λ s. sym (strict_only level b (view x) s))
+written_as_read level b (Err e) fits h = tt
+
+pub size_bounded : (level : ℕ) (b : List ℕ) (r : Result DataItem Error) → HasAnswer level b r → IfOk r (λ i. size (view i) ≤ length b)
+size_bounded level b (Ok x) h = items_bound level b (view x) h
+size_bounded level b (Err e) h = tt

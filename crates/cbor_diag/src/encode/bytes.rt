@@ -1,10 +1,12 @@
 //! Writes an item as bytes (RFC 7049 section 2), each byte once, at the end of one vector.
-ghost use Rattle.std.specs.Prelude.{◌≡◌, ◌+◌, ◌*◌, ◌<◌, ◌≤◌, ◌^◌, ◌++◌, ◌∷◌, [], ℕ, length, map, OnOk, IfOk, IfErr};
+ghost use Rattle.std.specs.Prelude.{◌≡◌, ◌+◌, ◌*◌, ◌<◌, ◌≤◌, ◌^◌, ◌++◌, ◌∷◌, [], ℕ, List, ◌↔◌, length, map, OnOk, IfOk, IfErr};
 ghost use Rattle.std.specs.List.{AllByRecursion};
 ghost use Rattle.cbor_diag.specs.Head.{FitsWidth, FitsStated, short, stated, opening, break_byte};
 ghost use Rattle.cbor_diag.specs.View.{view, items_view, pairs_view, byte_chunk, text_chunk};
 ghost use Rattle.cbor_diag.specs.WellFormed.{Well, WellItems, WellPairs, FitsFloat, FitsCount, IsByteChunk, IsTextChunk};
-ghost use Rattle.cbor_diag.specs.Written.{enc, enc_items, enc_pairs, enc_head, enc_float, enc_simple, enc_chunk, enc_chunks, enc_open, enc_close};
+ghost use Rattle.cbor_diag.specs.Bytes.{any, strict, Spells};
+ghost use Rattle.cbor_diag.specs.Item.{Item};
+ghost use Rattle.cbor_diag.specs.Written.{enc, resolve, enc_items, enc_pairs, enc_head, enc_float, enc_simple, enc_chunk, enc_chunks, enc_open, enc_close};
 
 use crate::error::Error;
 use crate::syntax::{ByteString, DataItem, FloatWidth, IntegerWidth, Simple, TextString};
@@ -252,6 +254,15 @@ impl DataItem {
     pub fn to_bytes(&self, alloc: Global) -> crate::Result<Vec<u8>>
         requires { Well 1 (view self.now) }
         ensures bytes { IfOk result (λ v. v.items ≡ enc (view self.now)) }
+        // What is written is the one strict spelling of the item with its open widths resolved.
+        ensures strictly { IfOk result (λ v. Spells strict 1 v.items (resolve (view self.now))) }
+        ensures no_other { IfOk result (λ v.
+            (b : List ℕ) → Spells strict 1 b (resolve (view self.now)) → b ≡ v.items) }
+        // So it is read back as that item.
+        ensures read_back { IfOk result (λ v. Spells any 1 v.items (resolve (view self.now))) }
+        // Two items are written alike exactly where they are the same but for open widths.
+        ensures alike { (other : Item) → Well 1 other
+            → (enc (view self.now) ≡ enc other) ↔ (resolve (view self.now) ≡ resolve other) }
         ensures refused { IfErr result (λ e. e ≡ Error.Memory) }
     {
         let mut out = Vec::new(alloc);

@@ -6,12 +6,14 @@
 mod head;
 mod strings;
 
-ghost use Rattle.std.specs.Prelude.{◌≡◌, ◌≢◌, ℕ, ◌-◌, ◌<◌, ◌≤◌, List, ◌++◌, length, take, IfOk, IfSome, OnOk, option_map};
+ghost use Rattle.std.specs.Prelude.{◌≡◌, ◌≢◌, ℕ, ◌-◌, ◌<◌, ◌≤◌, List, ◌++◌, length, take, ◌↔◌, IfOk, IfSome, OnOk, option_map};
 ghost use Rattle.cbor_diag.specs.Item.{Item};
 ghost use Rattle.cbor_diag.specs.Bytes.{any, strict, Spells};
 ghost use Rattle.cbor_diag.specs.Refused.{Cut, Fault};
 ghost use Rattle.cbor_diag.specs.View.{view, items_view, pairs_view};
-ghost use Rattle.cbor_diag.specs.Answer.{Outcome, spelled, IsOutcome, OneOutcome, HasOutcome, HasAnswer, Gave, GaveItem, GaveRefusal, IsRefused, RefusedSo, MayWantMemory};
+ghost use Rattle.cbor_diag.specs.WellFormed.{Well};
+ghost use Rattle.cbor_diag.specs.Written.{enc};
+ghost use Rattle.cbor_diag.specs.Answer.{Outcome, spelled, IsOutcome, OneOutcome, HasOutcome, HasAnswer, Gave, GaveItem, GaveRefusal, IsRefused, RefusedSo, MayWantMemory, size};
 ghost use Rattle.cbor_diag.specs.Reading.{Gives, HoldsContent, break_at, too_deep_at, item_at, body_at, items_at, pair_at, pairs_at, open_items_at, open_pairs_at};
 
 use crate::error::{Error, Result};
@@ -281,6 +283,10 @@ pub fn parse_bytes(alloc: Global, bytes: &[u8]) -> Result<DataItem>
     ensures refused { RefusedSo result (IsRefused 1 bytes.now) }
     ensures every_refusal { (e : Error) → IsRefused 1 bytes.now e → GaveRefusal result e }
     ensures memory { result ≡ Err Error.Memory → MayWantMemory bytes.now }
+    ensures well_formed { IfOk result (λ i. Well 1 (view i)) }
+    ensures written_again { IfOk result (λ i.
+        (enc (view i) ≡ bytes.now) ↔ Spells strict 1 bytes.now (view i)) }
+    ensures items_bounded { IfOk result (λ i. size (view i) ≤ length bytes.now) }
     ensures fronts_cut { OnOk result ((n : ℕ) → n < length bytes.now → Cut 1 (take n bytes.now)) }
 {
     whole_at(alloc, bytes, 1)
@@ -299,6 +305,7 @@ pub fn parse_bytes_partial(alloc: Global, bytes: &[u8]) -> Result<Option<(DataIt
     ensures fault { RefusedSo result (Fault 1 bytes.now) }
     ensures exact { (o : Outcome) → IsOutcome 1 bytes.now o → Gave result o }
     ensures one_of_three { OneOutcome 1 bytes.now }
+    ensures well_formed { IfOk result (λ o. IfSome o (λ x. Well 1 (view x.0))) }
     ensures fault_stays { RefusedSo result (λ e. (more : List ℕ) → Fault 1 (bytes.now ++ more) e) }
     ensures found_stays { IfOk result (λ o. IfSome o (λ x.
         (more : List ℕ) → IsOutcome 1 (bytes.now ++ more) (spelled (view x.0) x.1))) }

@@ -1,0 +1,11 @@
+//! Tests alone: examples of the standard and of docs/, and what crosses crates.
+#![tactic(auto)]
+
+#[cfg(test)]
+mod bytes;
+#[cfg(test)]
+mod malformed;
+#[cfg(test)]
+mod refusals;
+#[cfg(test)]
+mod written;
