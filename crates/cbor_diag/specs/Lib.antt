@@ -9,3 +9,4 @@ pub mod Refused
 pub mod Reading
 pub mod Answer
 pub mod HexText
+pub mod Examples

@@ -7,6 +7,7 @@
 
 mod encode;
 mod error;
+mod examples;
 mod parse;
 mod syntax;
 

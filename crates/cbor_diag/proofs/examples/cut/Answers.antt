@@ -1,0 +1,19 @@
+use Rattle.std.proofs.Common.{◌≤◌, ◌<◌, ◌^◌, [], ◌∷◌, length, refl, arith, inl}
+use Rattle.cbor_diag.specs.declared.syntax.IntegerWidth.TheVariants.{Zero}
+use Rattle.cbor_diag.specs.Bytes.{bytes_kind, text_kind}
+use Rattle.cbor_diag.specs.Refused.{Cut, cut_head, nothing, in_content, in_chunk, in_part, part, in_map}
+use Rattle.cbor_diag.specs.Examples.{small}
+use Rattle.cbor_diag.proofs.examples.cut.Goals as goal
+
+pub returns-clause-head : goal.returns-clause-head
+returns-clause-head c = in_chunk bytes_kind (88 ∷ []) (omega arith) ([], 88 ∷ [], refl, refl) (inl (refl, cut_head 0 (omega arith) refl (omega arith)))
+
+pub returns-clause-content : goal.returns-clause-content
+returns-clause-content c = in_content text_kind (omega arith) (3, Zero, (omega arith, 255 ∷ [], refl, omega arith))
+
+-- the key 1 is whole, and nothing stands in the value's place
+pub returns-clause-value : goal.returns-clause-value
+returns-clause-value c =
+    in_part part [] (omega arith)
+    (in_map 1 1 Zero (1 ∷ []) (omega arith, 1 ∷ [], refl, refl) (1 ∷ [], [], small 1, refl, (omega arith, (omega arith, [], refl, refl)), refl) (omega arith))
+    (nothing (omega arith))
