@@ -18,3 +18,5 @@ pub mod Readers
 pub mod Strict
 pub mod Resolved
 pub mod Sizes
+pub mod HexLines
+pub mod HexDigits

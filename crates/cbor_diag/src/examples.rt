@@ -1,6 +1,6 @@
 //! What the definitions of `specs/` say of a few inputs: each is computed when the crate is checked,
 //! so that a wrong definition does not pass. Nothing calls these functions.
-ghost use Rattle.std.specs.Prelude.{◌≡◌, [], ◌∷◌};
+ghost use Rattle.std.specs.Prelude.{◌≡◌, [], ◌∷◌, ◌++◌, codes};
 ghost use Rattle.cbor_diag.specs.declared.error.Error.TheVariants.{Head, TooDeep};
 ghost use Rattle.cbor_diag.specs.declared.syntax.IntegerWidth.TheVariants.{Unknown, Eight, Sixteen};
 ghost use Rattle.cbor_diag.specs.Item.{atom, simple, integer};
@@ -8,6 +8,7 @@ ghost use Rattle.cbor_diag.specs.WellFormed.{Well};
 ghost use Rattle.cbor_diag.specs.Written.{enc, enc_open, resolve};
 ghost use Rattle.cbor_diag.specs.Bytes.{any, strict, Spells};
 ghost use Rattle.cbor_diag.specs.Refused.{Cut, Fault};
+ghost use Rattle.cbor_diag.specs.HexText.{strip};
 ghost use Rattle.cbor_diag.specs.Examples.{small, uri, uri_bytes, three, open_map, open_count, resolved_count};
 
 /// Items in bytes. A count of 255 takes one byte, and a simple value below 24 takes no second one.
@@ -19,8 +20,7 @@ pub(crate) fn written()
     ensures one_byte { enc (atom (simple 20)) ≡ 0xf4 ∷ [] }
     ensures two_bytes { enc (atom (simple 24)) ≡ 0xf8 ∷ 24 ∷ [] }
     ensures resolved { resolve open_count ≡ resolved_count }
-{
-}
+{}
 
 /// Bytes that are an item, and a second spelling of `false` that is not strict.
 pub(crate) fn spelled()
@@ -29,16 +29,14 @@ pub(crate) fn spelled()
     ensures second { Spells any 1 (0xf8 ∷ 20 ∷ []) (atom (simple 20)) }
     ensures not_strict { ¬ (Spells strict 1 (0xf8 ∷ 20 ∷ []) (atom (simple 20))) }
     ensures too_deep { ¬ (Spells any 129 (1 ∷ []) (small 1)) }
-{
-}
+{}
 
 /// Bytes that end before their item does: in a chunk's head, in a string, and where a value is wanted.
 pub(crate) fn cut()
     ensures head { Cut 1 (0x5f ∷ 0x58 ∷ []) }
     ensures content { Cut 1 (0x63 ∷ 0xff ∷ []) }
     ensures value { Cut 1 (0xa1 ∷ 1 ∷ []) }
-{
-}
+{}
 
 /// Bytes that no item begins with: a break in no container, one in a value's place, a text that is not
 /// UTF-8, a text among the chunks of a byte string, and anything below the deepest level.
@@ -47,8 +45,7 @@ pub(crate) fn faults()
     ensures value { Fault 1 (0xbf ∷ 1 ∷ 2 ∷ 3 ∷ 0xff ∷ []) Head }
     ensures chunk { Fault 1 (0x5f ∷ 0x41 ∷ 1 ∷ 0x61 ∷ []) Head }
     ensures deep { Fault 129 (1 ∷ []) TooDeep }
-{
-}
+{}
 
 /// A number fits its width, or its item has no encoding.
 pub(crate) fn well_formed()
@@ -56,5 +53,18 @@ pub(crate) fn well_formed()
     ensures past { ¬ (Well 1 (atom (integer 300 Eight))) }
     ensures deepest { Well 128 (small 1) }
     ensures deeper { ¬ (Well 129 (small 1)) }
-{
-}
+{}
+
+/// What is kept of texts with comments, with line ends of both kinds, with carriage returns that end no
+/// line, with a tab and with spaces.
+pub(crate) fn hex_text()
+    ensures comment { strip (codes "01 # 02 # 03") ≡ codes "01" }
+    ensures lines { strip (codes "82 # two items" ++ 10 ∷ codes "01" ++ 10 ∷ 10 ∷ codes "# the second" ++ 10 ∷ codes "02" ++ 10 ∷ []) ≡ codes "820102" }
+    ensures carriage_return_and_line_feed { strip (codes "01" ++ 13 ∷ 10 ∷ codes "02" ++ 13 ∷ 10 ∷ []) ≡ codes "0102" }
+    ensures one_carriage_return_of_two { strip (codes "01" ++ 13 ∷ 13 ∷ 10 ∷ codes "02") ≡ codes "01" ++ 13 ∷ codes "02" }
+    ensures carriage_return_at_the_end { strip (codes "01" ++ 13 ∷ []) ≡ codes "01" ++ 13 ∷ [] }
+    ensures carriage_return_in_a_comment { strip (codes "01 #" ++ 13 ∷ codes "02") ≡ codes "01" }
+    ensures tab { strip (codes "01" ++ 9 ∷ codes "02") ≡ codes "01" ++ 9 ∷ codes "02" }
+    ensures spaces { strip (codes "  0 1  02 ") ≡ codes "0102" }
+    ensures nothing { strip [] ≡ [] }
+{}

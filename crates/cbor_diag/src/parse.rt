@@ -1,4 +1,6 @@
 //! Readers.
 mod binary;
+mod hex_text;
 
 pub use binary::{parse_bytes, parse_bytes_partial};
+pub use hex_text::parse_hex;

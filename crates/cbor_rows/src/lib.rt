@@ -4,6 +4,8 @@
 #[cfg(test)]
 mod bytes;
 #[cfg(test)]
+mod hex_text;
+#[cfg(test)]
 mod malformed;
 #[cfg(test)]
 mod refusals;
