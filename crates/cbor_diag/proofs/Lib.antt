@@ -13,6 +13,7 @@ pub mod Refusals
 pub mod Short
 pub mod Faults
 pub mod Three
+pub mod Fitting
 pub mod Outcomes
 pub mod Readers
 pub mod Strict

@@ -1,5 +1,7 @@
 //! The data item, with all that its encoding chose: widths, and definite or indefinite lengths.
+mod clone;
 mod tags;
+mod well_formed;
 
 /// How many bits follow a head's first byte to hold its number: a value, a length, a count or a tag
 /// (RFC 7049 section 2).

@@ -1,0 +1,144 @@
+//! Copies of items and strings, written out since a derived `clone` takes no allocator and says
+//! nothing of a type that holds itself.
+ghost use Rattle.std.specs.Prelude.{◌≡◌, IfErr, IfOk, map};
+ghost use Rattle.cbor_diag.specs.View.{view, items_view, pairs_view, byte_chunk, text_chunk};
+
+use super::{ByteString, DataItem, TextString};
+use crate::error::{Error, Result};
+use std::alloc::Global;
+
+impl ByteString {
+    /// A string with the same bytes and the same width, in memory of its own.
+    ///
+    /// Refuses with `Memory` alone, where the allocator has no room for the bytes.
+    pub fn clone(&self, alloc: Global) -> Result<ByteString>
+        ensures equal { IfOk result (λ v. byte_chunk v ≡ byte_chunk self.now) }
+        ensures refused { IfErr result (λ e. e ≡ Error.Memory) }
+    {
+        Ok(ByteString {
+            content: Vec::from_slice(alloc, &self.content)?,
+            bitwidth: self.bitwidth,
+        })
+    }
+}
+
+impl TextString {
+    /// A string with the same text and the same width, in memory of its own.
+    ///
+    /// Refuses with `Memory` alone, where the allocator has no room for the text.
+    pub fn clone(&self, alloc: Global) -> Result<TextString>
+        ensures equal { IfOk result (λ v. text_chunk v ≡ text_chunk self.now) }
+        ensures refused { IfErr result (λ e. e ≡ Error.Memory) }
+    {
+        Ok(TextString {
+            content: String::from_str(alloc, self.content.as_str())?,
+            bitwidth: self.bitwidth,
+        })
+    }
+}
+
+/// Copies of the chunks of a byte string, in order.
+fn clone_byte_chunks(alloc: Global, chunks: &[ByteString]) -> Result<Vec<ByteString>>
+    ensures equal { IfOk result (λ v. map byte_chunk v.items ≡ map byte_chunk chunks.now) }
+    ensures refused { IfErr result (λ e. e ≡ Error.Memory) }
+{
+    let mut copies = Vec::with_capacity(alloc, chunks.len())?;
+    'chunks: for chunk in chunks {
+        copies.push(chunk.clone(alloc)?)?;
+    }
+    Ok(copies)
+}
+
+/// Copies of the chunks of a text string, in order.
+fn clone_text_chunks(alloc: Global, chunks: &[TextString]) -> Result<Vec<TextString>>
+    ensures equal { IfOk result (λ v. map text_chunk v.items ≡ map text_chunk chunks.now) }
+    ensures refused { IfErr result (λ e. e ≡ Error.Memory) }
+{
+    let mut copies = Vec::with_capacity(alloc, chunks.len())?;
+    'chunks: for chunk in chunks {
+        copies.push(chunk.clone(alloc)?)?;
+    }
+    Ok(copies)
+}
+
+impl DataItem {
+    /// An equal item, widths included, in memory of its own. It need not be well formed.
+    ///
+    /// Refuses with `Memory` alone, where the allocator has no room for a part.
+    #[cycle(copy)]
+    pub fn clone(&self, alloc: Global) -> Result<DataItem>
+        ensures equal { IfOk result (λ v. view v ≡ view self.now) }
+        ensures refused { IfErr result (λ e. e ≡ Error.Memory) }
+    {
+        Ok(match self {
+            DataItem::Integer { value, bitwidth } => DataItem::Integer {
+                value: *value,
+                bitwidth: *bitwidth,
+            },
+            DataItem::Negative { value, bitwidth } => DataItem::Negative {
+                value: *value,
+                bitwidth: *bitwidth,
+            },
+            DataItem::ByteString(string) => DataItem::ByteString(string.clone(alloc)?),
+            DataItem::TextString(string) => DataItem::TextString(string.clone(alloc)?),
+            DataItem::IndefiniteByteString(chunks) => {
+                DataItem::IndefiniteByteString(clone_byte_chunks(alloc, chunks)?)
+            }
+            DataItem::IndefiniteTextString(chunks) => {
+                DataItem::IndefiniteTextString(clone_text_chunks(alloc, chunks)?)
+            }
+            DataItem::Array { content, bitwidth } => DataItem::Array {
+                content: clone_items(alloc, content)?,
+                bitwidth: *bitwidth,
+            },
+            DataItem::Map { content, bitwidth } => DataItem::Map {
+                content: clone_pairs(alloc, content)?,
+                bitwidth: *bitwidth,
+            },
+            DataItem::Tag {
+                tag,
+                bitwidth,
+                value,
+            } => DataItem::Tag {
+                tag: *tag,
+                bitwidth: *bitwidth,
+                value: Box::new(alloc, DataItem::clone(value, alloc)?)?,
+            },
+            DataItem::Float { bits, bitwidth } => DataItem::Float {
+                bits: *bits,
+                bitwidth: *bitwidth,
+            },
+            DataItem::Simple(simple) => DataItem::Simple(*simple),
+        })
+    }
+}
+
+/// Copies of items, in order.
+#[cycle(copy)]
+fn clone_items(alloc: Global, items: &Vec<DataItem>) -> Result<Vec<DataItem>>
+    ensures equal { IfOk result (λ v. items_view v.items ≡ items_view items.now.items) }
+    ensures refused { IfErr result (λ e. e ≡ Error.Memory) }
+{
+    let mut copies = Vec::with_capacity(alloc, items.len())?;
+    'items: for item in items {
+        copies.push(item.clone(alloc)?)?;
+    }
+    Ok(copies)
+}
+
+/// Copies of keys with their values, in order.
+#[cycle(copy)]
+fn clone_pairs(
+    alloc: Global,
+    pairs: &Vec<(DataItem, DataItem)>,
+) -> Result<Vec<(DataItem, DataItem)>>
+    ensures equal { IfOk result (λ v. pairs_view v.items ≡ pairs_view pairs.now.items) }
+    ensures refused { IfErr result (λ e. e ≡ Error.Memory) }
+{
+    let mut copies = Vec::with_capacity(alloc, pairs.len())?;
+    'pairs: for (key, value) in pairs {
+        let key = key.clone(alloc)?;
+        copies.push((key, value.clone(alloc)?))?;
+    }
+    Ok(copies)
+}

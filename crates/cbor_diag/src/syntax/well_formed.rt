@@ -1,0 +1,159 @@
+//! Whether an item has an encoding: each number fits its width, and no level is deeper than 128.
+ghost use Rattle.std.specs.Prelude.{◌↔◌, IsTrue, map};
+ghost use Rattle.std.specs.List.{AllByRecursion};
+ghost use Rattle.cbor_diag.specs.Head.{FitsWidth};
+ghost use Rattle.cbor_diag.specs.View.{view, items_view, pairs_view, byte_chunk, text_chunk};
+ghost use Rattle.cbor_diag.specs.WellFormed.{Well, WellItems, WellPairs, FitsFloat, FitsCount, IsByteChunk, IsTextChunk};
+
+use super::{ByteString, DataItem, FloatWidth, IntegerWidth, TextString};
+
+/// The deepest level that an item may stand at; the outermost stands at level 1.
+const DEEPEST: u8 = 128;
+
+impl IntegerWidth {
+    /// Whether the number can be written in this width; an open width takes any.
+    fn fits(self, number: u64) -> bool
+        ensures { IsTrue result ↔ FitsWidth self number }
+    {
+        match self {
+            IntegerWidth::Zero => number < 24,
+            IntegerWidth::Eight => number <= 0xff,
+            IntegerWidth::Sixteen => number <= 0xffff,
+            IntegerWidth::ThirtyTwo => number <= 0xffff_ffff,
+            IntegerWidth::Unknown | IntegerWidth::SixtyFour => true,
+        }
+    }
+}
+
+impl FloatWidth {
+    /// Whether the bits of a float can be written in this width; an open width takes 64 bits.
+    fn fits(self, bits: u64) -> bool
+        ensures { IsTrue result ↔ FitsFloat self bits }
+    {
+        match self {
+            FloatWidth::Sixteen => bits <= 0xffff,
+            FloatWidth::ThirtyTwo => bits <= 0xffff_ffff,
+            FloatWidth::Unknown | FloatWidth::SixtyFour => true,
+        }
+    }
+}
+
+/// Whether a count fits its width; an indefinite length has none to fit.
+fn count_fits(width: Option<IntegerWidth>, count: usize) -> bool
+    ensures { IsTrue result ↔ FitsCount width count }
+{
+    match width {
+        Some(width) => width.fits(count as u64),
+        None => true,
+    }
+}
+
+impl ByteString {
+    /// Whether the length fits its width.
+    fn length_fits(&self) -> bool
+        ensures { IsTrue result ↔ IsByteChunk (byte_chunk self.now) }
+    {
+        let content = self.content.as_slice();
+        self.bitwidth.fits(content.len() as u64)
+    }
+}
+
+impl TextString {
+    /// Whether the length, in bytes of UTF-8, fits its width.
+    fn length_fits(&self) -> bool
+        ensures { IsTrue result ↔ IsTextChunk (text_chunk self.now) }
+    {
+        let content = self.content.as_str();
+        self.bitwidth.fits(content.len() as u64)
+    }
+}
+
+/// Whether the length of each chunk of a byte string fits its width.
+fn byte_chunks_fit(chunks: &[ByteString]) -> bool
+    ensures { IsTrue result ↔ AllByRecursion IsByteChunk (map byte_chunk chunks.now) }
+{
+    chunks.iter().all(ByteString::length_fits)
+}
+
+/// Whether the length of each chunk of a text string fits its width.
+fn text_chunks_fit(chunks: &[TextString]) -> bool
+    ensures { IsTrue result ↔ AllByRecursion IsTextChunk (map text_chunk chunks.now) }
+{
+    chunks.iter().all(TextString::length_fits)
+}
+
+/// Whether an item that stands at this level is well formed; what stands past the deepest level is
+/// not looked at.
+#[cycle(well)]
+fn well_at(item: &DataItem, level: u8) -> bool
+    ensures { IsTrue result ↔ Well level (view item.now) }
+{
+    if level > DEEPEST {
+        return false;
+    }
+    match item {
+        DataItem::Integer { value, bitwidth } | DataItem::Negative { value, bitwidth } => {
+            bitwidth.fits(*value)
+        }
+        DataItem::ByteString(string) => string.length_fits(),
+        DataItem::TextString(string) => string.length_fits(),
+        DataItem::IndefiniteByteString(chunks) => byte_chunks_fit(chunks),
+        DataItem::IndefiniteTextString(chunks) => text_chunks_fit(chunks),
+        DataItem::Array { content, bitwidth } => {
+            count_fits(*bitwidth, content.len()) && items_well(content, level + 1)
+        }
+        DataItem::Map { content, bitwidth } => {
+            count_fits(*bitwidth, content.len()) && pairs_well(content, level + 1)
+        }
+        DataItem::Tag {
+            tag,
+            bitwidth,
+            value,
+        } => bitwidth.fits(tag.0) && well_at(value, level + 1),
+        DataItem::Float { bits, bitwidth } => bitwidth.fits(*bits),
+        DataItem::Simple(simple) => {
+            // Once it is read, the number is known to be below 256.
+            let _number = simple.0;
+            true
+        }
+    }
+}
+
+/// Whether items that stand at this level are well formed.
+#[cycle(well)]
+fn items_well(items: &Vec<DataItem>, level: u8) -> bool
+    ensures { IsTrue result ↔ WellItems level (items_view items.now.items) }
+{
+    'items: for item in items {
+        if !well_at(item, level) {
+            return false;
+        }
+    }
+    true
+}
+
+/// Whether keys and values that stand at this level are well formed.
+#[cycle(well)]
+fn pairs_well(pairs: &Vec<(DataItem, DataItem)>, level: u8) -> bool
+    ensures { IsTrue result ↔ WellPairs level (pairs_view pairs.now.items) }
+{
+    'pairs: for (key, value) in pairs {
+        if !(well_at(key, level) && well_at(value, level)) {
+            return false;
+        }
+    }
+    true
+}
+
+impl DataItem {
+    /// Whether the item is well formed, that is, has an encoding: each number, tag, length and count
+    /// fits the width stated for it, the bits of each float fit theirs, and no item stands deeper
+    /// than level 128, where the outermost stands at level 1.
+    ///
+    /// It takes no memory, and never goes deeper into the item than one level past the deepest.
+    pub fn is_well_formed(&self) -> bool
+        ensures { IsTrue result ↔ Well 1 (view self.now) }
+    {
+        well_at(self, 1)
+    }
+}
