@@ -1,39 +1,26 @@
 // Items that bytes are read as. Examples of RFC 7049 appendix A say so beside them.
 
+use crate::make::{bytes, integer, tagged, text};
 use cbor_diag::{
-    ByteString, DataItem, Error, FloatWidth, IntegerWidth, Simple, Tag, TextString, parse_bytes,
-    parse_bytes_partial,
+    DataItem, Error, FloatWidth, IntegerWidth, Simple, parse_bytes, parse_bytes_partial,
 };
 use std::alloc::{AllocError, Global};
 use std::test::Fail;
 
 const URI: &[u8] = b"\xd8\x20\x73https://example.com";
 
-fn text(alloc: Global, content: &str, bitwidth: IntegerWidth) -> Result<TextString, AllocError> {
-    let content = String::from_str(alloc, content)?;
-    Ok(TextString { content, bitwidth })
-}
-
-fn bytes(alloc: Global, content: &[u8], bitwidth: IntegerWidth) -> Result<ByteString, AllocError> {
-    let content = Vec::from_slice(alloc, content)?;
-    Ok(ByteString { content, bitwidth })
-}
-
 fn small(value: u64) -> DataItem {
-    let bitwidth = IntegerWidth::Zero;
-    DataItem::Integer { value, bitwidth }
+    integer(value, IntegerWidth::Zero)
 }
 
-fn uri(alloc: Global) -> Result<DataItem, AllocError> {
-    let value = DataItem::TextString(text(alloc, "https://example.com", IntegerWidth::Zero)?);
-    let value = Box::new(alloc, value)?;
-    let bitwidth = IntegerWidth::Eight;
-    let tag = Tag::URI;
-    Ok(DataItem::Tag {
-        tag,
-        bitwidth,
-        value,
-    })
+fn uri(alloc: Global) -> cbor_diag::Result<DataItem> {
+    let address = text(alloc, "https://example.com", IntegerWidth::Zero)?;
+    tagged(
+        alloc,
+        32,
+        IntegerWidth::Eight,
+        DataItem::TextString(address),
+    )
 }
 
 #[test]

@@ -6,6 +6,10 @@ mod bytes;
 #[cfg(test)]
 mod hex_text;
 #[cfg(test)]
+mod items;
+#[cfg(test)]
+mod make;
+#[cfg(test)]
 mod malformed;
 #[cfg(test)]
 mod refusals;
