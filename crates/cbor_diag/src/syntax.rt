@@ -3,6 +3,9 @@ mod clone;
 mod tags;
 mod well_formed;
 
+/// The deepest level that an item may stand at; the outermost stands at level 1.
+pub(crate) const DEEPEST: u8 = 128;
+
 /// How many bits follow a head's first byte to hold its number: a value, a length, a count or a tag
 /// (RFC 7049 section 2).
 #[derive(Clone, Copy, PartialEq, Eq, Debug)]

@@ -6,20 +6,18 @@ use std::test::Fail;
 #[test]
 fn refusals_have_texts_and_numbers(rt: HostRuntime) -> Result<(), Fail> {
     let all = [
-        (Error::Memory, "out of memory"),
-        (Error::CutShort, "the item is cut short"),
-        (Error::Head, "no item can have this head"),
-        (Error::Utf8, "a text is not UTF-8"),
-        (Error::TooDeep, "nested deeper than 128 levels"),
-        (Error::Remaining, "bytes remain after the item"),
-        (Error::OddHex, "an odd number of hex digits"),
-        (Error::BadHex, "not a hex digit"),
-        (Error::Notation, "not diagnostic notation"),
-        (Error::PastWidth, "a number does not fit its width"),
+        (1, Error::Memory, "out of memory"),
+        (2, Error::CutShort, "the item is cut short"),
+        (3, Error::Head, "no item can have this head"),
+        (4, Error::Utf8, "a text is not UTF-8"),
+        (5, Error::TooDeep, "nested deeper than 128 levels"),
+        (6, Error::Remaining, "bytes remain after the item"),
+        (7, Error::OddHex, "an odd number of hex digits"),
+        (8, Error::BadHex, "not a hex digit"),
+        (9, Error::Notation, "not diagnostic notation"),
+        (10, Error::PastWidth, "a number does not fit its width"),
     ];
-    let mut number = 0;
-    for (error, text) in all {
-        number += 1;
+    for (number, error, text) in all {
         assert_eq!(rt; error.number(), number);
         assert_eq!(rt; error.text(), text);
         assert_eq!(rt; error.to_string(rt.alloc())?.as_str(), text);

@@ -73,7 +73,9 @@ fn an_open_count_of_255_takes_one_byte(rt: HostRuntime) -> Result<(), Fail> {
         content.push(DataItem::Integer { value, bitwidth })?;
     }
     let bitwidth = Some(IntegerWidth::Unknown);
-    let bytes = DataItem::Array { content, bitwidth }.to_bytes(alloc)?;
+    let array = DataItem::Array { content, bitwidth };
+    assert!(rt; array.is_well_formed());
+    let bytes = array.to_bytes(alloc)?;
     assert_eq!(rt; bytes.len(), 257);
     assert_eq!(rt; &bytes[..2], b"\x98\xff".as_slice());
     Ok(())

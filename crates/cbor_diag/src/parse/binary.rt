@@ -17,13 +17,10 @@ ghost use Rattle.cbor_diag.specs.Answer.{Outcome, spelled, IsOutcome, OneOutcome
 ghost use Rattle.cbor_diag.specs.Reading.{Gives, HoldsContent, break_at, too_deep_at, item_at, body_at, items_at, pair_at, pairs_at, open_items_at, open_pairs_at};
 
 use crate::error::{Error, Result};
-use crate::syntax::{DataItem, Simple, Tag};
+use crate::syntax::{DEEPEST, DataItem, Simple, Tag};
 use head::{Head, head_at};
 use std::alloc::Global;
 use strings::{byte_chunks_at, bytes_at, text_at, text_chunks_at};
-
-/// The deepest level that an item may stand at; the outermost stands at level 1.
-const DEEPEST: u8 = 128;
 
 /// The bytes behind the break at the front, where one stands there.
 fn after_break(bytes: &[u8]) -> Option<&[u8]>

@@ -62,7 +62,8 @@ fn clone_text_chunks(alloc: Global, chunks: &[TextString]) -> Result<Vec<TextStr
 }
 
 impl DataItem {
-    /// An equal item, widths included, in memory of its own. It need not be well formed.
+    /// An equal item, widths included, in memory of its own. The original need not be well formed;
+    /// the call recurses as deep as it is nested.
     ///
     /// Refuses with `Memory` alone, where the allocator has no room for a part.
     #[cycle(copy)]

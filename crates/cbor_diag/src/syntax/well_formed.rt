@@ -5,10 +5,7 @@ ghost use Rattle.cbor_diag.specs.Head.{FitsWidth};
 ghost use Rattle.cbor_diag.specs.View.{view, items_view, pairs_view, byte_chunk, text_chunk};
 ghost use Rattle.cbor_diag.specs.WellFormed.{Well, WellItems, WellPairs, FitsFloat, FitsCount, IsByteChunk, IsTextChunk};
 
-use super::{ByteString, DataItem, FloatWidth, IntegerWidth, TextString};
-
-/// The deepest level that an item may stand at; the outermost stands at level 1.
-const DEEPEST: u8 = 128;
+use super::{ByteString, DEEPEST, DataItem, FloatWidth, IntegerWidth, TextString};
 
 impl IntegerWidth {
     /// Whether the number can be written in this width; an open width takes any.
@@ -112,7 +109,7 @@ fn well_at(item: &DataItem, level: u8) -> bool
         } => bitwidth.fits(tag.0) && well_at(value, level + 1),
         DataItem::Float { bits, bitwidth } => bitwidth.fits(*bits),
         DataItem::Simple(simple) => {
-            // Once it is read, the number is known to be below 256.
+            // Reading the number tells the proof that it is below 256.
             let _number = simple.0;
             true
         }
@@ -150,7 +147,7 @@ impl DataItem {
     /// fits the width stated for it, the bits of each float fit theirs, and no item stands deeper
     /// than level 128, where the outermost stands at level 1.
     ///
-    /// It takes no memory, and never goes deeper into the item than one level past the deepest.
+    /// It takes no memory, and looks at nothing below level 129.
     pub fn is_well_formed(&self) -> bool
         ensures { IsTrue result ↔ Well 1 (view self.now) }
     {
