@@ -12,6 +12,10 @@ mod make;
 #[cfg(test)]
 mod malformed;
 #[cfg(test)]
+mod notes_base;
+#[cfg(test)]
+mod notes_text;
+#[cfg(test)]
 mod refusals;
 #[cfg(test)]
 mod written;

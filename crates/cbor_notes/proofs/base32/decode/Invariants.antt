@@ -1,0 +1,5 @@
+use Rattle.cbor_notes.proofs.Base32Encode.{IsDecoded}
+use Rattle.cbor_notes.proofs.base32.decode.Given as goal
+
+abbrev pub invariant-loop-i : goal.invariant-loop-i
+invariant-loop-i l = IsDecoded l.alphabet l.digits l.bytes.items l.i

@@ -1,0 +1,22 @@
+-- Base 58, in the alphabet of Bitcoin's addresses, which has no `0`, `I`, `O` and `l`.
+use Rattle.std.specs.Prelude.{ℕ, ◌==◌, ◌<◌, List, [], ◌∷◌, ◌++◌, map, replicate, length, take_while, slice_index, codes}
+use Rattle.std.specs.Int.Digits.{digits_of, number_from_digits}
+
+-- the 58 characters, at the values that they stand for
+abbrev pub characters : List ℕ
+characters = codes "123456789ABCDEFGHJKLMNPQRSTUVWXYZabcdefghijkmnopqrstuvwxyz"
+
+-- how many zero bytes come first
+abbrev pub leading_zeros : List ℕ → ℕ
+leading_zeros bytes = length (take_while (λ byte. byte == 0) bytes)
+
+-- one `1` for each leading zero byte, and then the digits in base 58, the highest first and none for
+-- zero, of the number that the bytes are, the first byte highest
+unfoldable pub base58_of : List ℕ → List ℕ
+base58_of bytes =
+    replicate (leading_zeros bytes) 49 ++ map (slice_index characters) (digits_of 58 (number_from_digits 256 bytes))
+
+-- the digits are none, or the first one is not zero
+abbrev pub HasNoLeadingZero : List ℕ → Type 0
+HasNoLeadingZero [] = Unit {0}
+HasNoLeadingZero (digit ∷ digits) = 0 < digit

@@ -1,0 +1,19 @@
+-- Base 64: RFC 4648, section 4, and section 5 without padding.
+use Rattle.std.specs.Prelude.{ℕ, Bool, true, false, ◌==◌, ◌||◌, if◌then◌else◌, List, codes}
+use Rattle.base64.specs.Rfc4648.{encode}
+
+-- the encoding in the standard alphabet, with `=` up to a multiple of four characters
+abbrev pub standard : List ℕ → List ℕ
+standard = encode (codes "ABCDEFGHIJKLMNOPQRSTUVWXYZabcdefghijklmnopqrstuvwxyz0123456789+/") 61 true
+
+-- the encoding in the alphabet that is safe in URLs, without padding
+abbrev pub url_safe : List ℕ → List ℕ
+url_safe = encode (codes "ABCDEFGHIJKLMNOPQRSTUVWXYZabcdefghijklmnopqrstuvwxyz0123456789-_") 61 false
+
+-- `+`, `/` and `=`, which only the standard encoding has
+abbrev pub is_standard_only : ℕ → Bool
+is_standard_only digit = (digit == 43) || (digit == 47) || (digit == 61)
+
+-- the encoding that is safe in URLs, or the standard one
+abbrev pub encoding : Bool → List ℕ → List ℕ
+encoding url bytes = if url then url_safe bytes else standard bytes

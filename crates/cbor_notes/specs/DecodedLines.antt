@@ -1,0 +1,20 @@
+-- The lines that show what a text in base 64 encodes.
+use Rattle.std.specs.Prelude.{ℕ, ◌-◌, ◌*◌, List, ◌++◌, map, min, length, replicate, codes}
+use Rattle.std.specs.Int.{div_ceil}
+use Rattle.std.specs.List.{range_with_len}
+use Rattle.std.specs.Fork.{slice_chunk}
+use Rattle.hex.specs.Hex.{encode_lower}
+use Rattle.cbor_notes.specs.Text.{quoted_bytes}
+
+-- the line of a piece of bytes: its hex digits, filled up with blanks to the width, and after ` # `
+-- the bytes between quotes
+unfoldable pub decoded_line : ℕ → List ℕ → List ℕ
+decoded_line width piece =
+    encode_lower piece ++ replicate (width - 2 * length piece) 32 ++ codes " # " ++ quoted_bytes piece
+
+-- one line for each piece of sixteen bytes, of which the last may be shorter; the hex digits of each are
+-- as wide as those of the first
+unfoldable pub decoded_lines : List ℕ → List (List ℕ)
+decoded_lines bytes =
+    map (λ n. decoded_line (2 * min 16 (length bytes)) (slice_chunk bytes 16 n))
+    (range_with_len 0 (div_ceil (length bytes) 16))

@@ -1,0 +1,58 @@
+//! Base 58, as Bitcoin's addresses have it.
+
+ghost use Rattle.std.specs.Prelude.{◌≡◌, ◌++◌, ℕ, List, map, replicate, slice_index, IfOk, OnOk};
+ghost use Rattle.std.specs.String.{string_bytes};
+ghost use Rattle.std.specs.Int.Digits.{AllBelowBase, digits_of, number_from_digits};
+ghost use Rattle.cbor_notes.specs.Base58.{HasNoLeadingZero, base58_of, characters, leading_zeros};
+
+use std::alloc::{AllocError, Global};
+
+/// The characters for the digits 0 to 57: digits and letters but for `0`, `I`, `O` and `l`.
+const CHARACTERS: [u8; 58] = *b"123456789ABCDEFGHJKLMNPQRSTUVWXYZabcdefghijkmnopqrstuvwxyz";
+
+/// The base 58 text of sixteen bytes: one `1` for each leading zero byte, and then the digits of the
+/// number that the bytes are, the first byte highest; none for zero.
+pub fn base58(alloc: Global, bytes: &[u8; 16]) -> Result<String, AllocError>
+    ensures text { IfOk result (λ text. string_bytes text ≡ base58_of bytes.now) }
+    // The digits are those whose value is the number, and which do not begin with a zero.
+    ensures only { (digits : List ℕ) → AllBelowBase 58 digits → HasNoLeadingZero digits
+        → number_from_digits 58 digits ≡ number_from_digits 256 bytes.now
+        → IfOk result (λ text. string_bytes text
+        ≡ replicate (leading_zeros bytes.now) 49 ++ map (slice_index characters) digits) }
+{
+    // No text is longer than that of sixteen bytes 255.
+    let mut text = String::with_capacity(alloc, 22)?;
+    push_base58(&mut text, bytes)?;
+    Ok(text)
+}
+
+/// Appends what [`base58`] writes of `bytes` to `text`. After a refusal `text` may end with a part
+/// of it.
+pub(crate) fn push_base58(text: &mut String, bytes: &[u8; 16]) -> Result<(), AllocError>
+    ensures text { OnOk result
+        (string_bytes text.new ≡ string_bytes text.old ++ base58_of bytes.now) }
+{
+    for _ in 0..leading_zeros(bytes) {
+        text.push('1')?;
+    }
+    push_digits(text, u128::from_be_bytes(*bytes))
+}
+
+/// How many zero bytes come first.
+fn leading_zeros(bytes: &[u8]) -> usize
+    ensures count { result ≡ leading_zeros bytes.now }
+{
+    bytes.iter().take_while(|byte| **byte == 0).count()
+}
+
+/// Appends the digits of a number, the highest first, and none for zero.
+fn push_digits(text: &mut String, number: u128) -> Result<(), AllocError>
+    ensures text { OnOk result (string_bytes text.new
+        ≡ string_bytes text.old ++ map (slice_index characters) (digits_of 58 number)) }
+{
+    if number == 0 {
+        return Ok(());
+    }
+    push_digits(text, number / 58)?;
+    text.push(char::from(CHARACTERS[(number % 58) as usize]))
+}

@@ -1,0 +1,130 @@
+//! Base 64, decoded: RFC 4648, sections 4 and 5.
+
+ghost use Rattle.std.specs.Prelude.{◌≡◌, ◌≢◌, ◌⊎◌, ◌*◌, ◌≤◌, ℕ, List, length, map, IfSome, IfNone, IfOk, IsSomeAnd};
+ghost use Rattle.std.specs.List.{list_any};
+ghost use Rattle.std.specs.String.{string_bytes};
+ghost use Rattle.base64.specs.GeneralPurpose.{IsStrict, encode_of};
+ghost use Rattle.cbor_notes.specs.AreBytes.{AreBytes};
+ghost use Rattle.cbor_notes.specs.Base64.{encoding, is_standard_only, standard, url_safe};
+ghost use Rattle.cbor_notes.specs.DecodedLines.{decoded_line, decoded_lines};
+
+use crate::text::{push_hex, push_quoted_bytes};
+use base64::DecodeAllocError;
+use base64::engine::general_purpose::{GeneralPurpose, STANDARD, URL_SAFE_NO_PAD};
+use std::alloc::{AllocError, Global};
+
+/// The bytes that `digits` encode in base 64: either in the alphabet that is safe in URLs, without
+/// padding (RFC 4648, section 5), or in the standard alphabet with padding (section 4); or `None` where
+/// they encode none in either, by another character, a wrong length or padding, or an unused bit that
+/// is set. Digits that are both encode the same bytes in both.
+pub fn base64_any_decode(alloc: Global, digits: &[u8]) -> Result<Option<Vec<u8>>, AllocError>
+    ensures found { IfOk result (λ found. IfSome found
+        (λ bytes. AreBytes bytes.items
+        × ((digits.now ≡ url_safe bytes.items) ⊎ (digits.now ≡ standard bytes.items)))) }
+    ensures none { IfOk result (λ found. IfNone found ((bytes : List ℕ) → AreBytes bytes
+        → (digits.now ≢ url_safe bytes) × (digits.now ≢ standard bytes))) }
+    // No two lists of bytes have the same digits, not even one in each alphabet.
+    ensures only_url_safe { (bytes : List ℕ) → AreBytes bytes → digits.now ≡ url_safe bytes
+        → IfOk result (λ found. IsSomeAnd found (λ answer. answer.items ≡ bytes)) }
+    ensures only_standard { (bytes : List ℕ) → AreBytes bytes → digits.now ≡ standard bytes
+        → IfOk result (λ found. IsSomeAnd found (λ answer. answer.items ≡ bytes)) }
+{
+    decode(alloc, digits, !is_standard_only(digits))
+}
+
+/// The lines that show what `text` encodes in base 64, in the alphabet that is safe in URLs, without
+/// padding, if `url` is set (RFC 4648, section 5), and else in the standard alphabet with padding
+/// (section 4); or `None` where it encodes nothing in that one. There is a line for each sixteen decoded
+/// bytes: their hex digits, in the last line filled up with blanks to the width of the first one's, then
+/// ` # ` and the bytes as [`quoted_bytes`] writes them. Where nothing is decoded there are no lines.
+///
+/// [`quoted_bytes`]: crate::quoted_bytes
+pub fn base64_lines(alloc: Global, text: &str, url: bool) -> Result<Option<Vec<String>>, AllocError>
+    ensures found { IfOk result (λ found. IfSome found (λ lines. (bytes : List ℕ) × AreBytes bytes
+        × (text.now ≡ encoding url bytes) × (map string_bytes lines.items ≡ decoded_lines bytes))) }
+    ensures none { IfOk result (λ found. IfNone found
+        ((bytes : List ℕ) → AreBytes bytes → text.now ≢ encoding url bytes)) }
+    ensures only { (bytes : List ℕ) → AreBytes bytes → text.now ≡ encoding url bytes
+        → IfOk result (λ found. IsSomeAnd found
+        (λ lines. map string_bytes lines.items ≡ decoded_lines bytes)) }
+{
+    match decode(alloc, text.as_bytes(), url)? {
+        Some(bytes) => Ok(Some(decoded_lines(alloc, &bytes)?)),
+        None => Ok(None),
+    }
+}
+
+/// The lines of decoded bytes.
+fn decoded_lines(alloc: Global, bytes: &[u8]) -> Result<Vec<String>, AllocError>
+    ensures { IfOk result (λ lines. map string_bytes lines.items ≡ decoded_lines bytes.now) }
+{
+    let width = 2 * bytes.len().min(16);
+    let mut lines = Vec::with_capacity(alloc, bytes.len().div_ceil(16))?;
+    for piece in bytes.chunks(16) {
+        lines.push(decoded_line(alloc, piece, width)?)?;
+    }
+    Ok(lines)
+}
+
+/// The line of a piece of bytes, whose hex digits are filled up to a width.
+fn decoded_line(alloc: Global, piece: &[u8], width: usize) -> Result<String, AllocError>
+    requires piece { 2 * length piece.now ≤ width }
+    requires width { width ≤ 32 }
+    ensures { IfOk result (λ line. string_bytes line ≡ decoded_line width piece.now) }
+{
+    // Enough where each byte is written as it is.
+    let mut line = String::with_capacity(alloc, width + piece.len() + 5)?;
+    'digits: for byte in piece {
+        push_hex(&mut line, *byte)?;
+    }
+    'blanks: for _ in 2 * piece.len()..width {
+        line.push(' ')?;
+    }
+    line.push_str(" # ")?;
+    push_quoted_bytes(&mut line, piece)?;
+    Ok(line)
+}
+
+/// Whether one of the digits is `+`, `/` or `=`, which only the standard encoding has. Digits without
+/// them that are the standard encoding of some bytes are the other encoding of these bytes, too.
+fn is_standard_only(digits: &[u8]) -> bool
+    ensures { result ≡ list_any is_standard_only digits.now }
+{
+    digits
+        .iter()
+        .any(|digit| *digit == b'+' || *digit == b'/' || *digit == b'=')
+}
+
+/// The bytes that `digits` encode in the alphabet that is safe in URLs, without padding, if `url` is
+/// set, and else in the standard alphabet with padding.
+fn decode(alloc: Global, digits: &[u8], url: bool) -> Result<Option<Vec<u8>>, AllocError>
+    ensures found { IfOk result (λ found. IfSome found
+        (λ bytes. AreBytes bytes.items × (digits.now ≡ encoding url bytes.items))) }
+    ensures only { (bytes : List ℕ) → AreBytes bytes → digits.now ≡ encoding url bytes
+        → IfOk result (λ found. IsSomeAnd found (λ answer. answer.items ≡ bytes)) }
+{
+    if url {
+        decode_with(&URL_SAFE_NO_PAD, alloc, digits)
+    } else {
+        decode_with(&STANDARD, alloc, digits)
+    }
+}
+
+/// The bytes that `digits` encode under one engine.
+fn decode_with(
+    engine: &GeneralPurpose,
+    alloc: Global,
+    digits: &[u8],
+) -> Result<Option<Vec<u8>>, AllocError>
+    requires { IsStrict engine.now }
+    ensures found { IfOk result (λ found. IfSome found
+        (λ bytes. AreBytes bytes.items × (digits.now ≡ encode_of engine.now bytes.items))) }
+    ensures only { (bytes : List ℕ) → AreBytes bytes → digits.now ≡ encode_of engine.now bytes
+        → IfOk result (λ found. IsSomeAnd found (λ answer. answer.items ≡ bytes)) }
+{
+    match engine.decode(alloc, digits) {
+        Ok(bytes) => Ok(Some(bytes)),
+        Err(DecodeAllocError::DecodeError(_)) => Ok(None),
+        Err(DecodeAllocError::OutOfMemory) => Err(AllocError),
+    }
+}

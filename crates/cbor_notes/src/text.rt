@@ -1,0 +1,129 @@
+//! Bytes, text and numbers as a comment writes them.
+
+ghost use Rattle.std.specs.Prelude.{◌≡◌, [], ◌∷◌, ◌++◌, IfOk, OnOk};
+ghost use Rattle.std.specs.String.{string_bytes};
+ghost use Rattle.std.specs.Str.{IsAscii};
+ghost use Rattle.hex.specs.Hex.{encode_lower};
+ghost use Rattle.cbor_notes.specs.Text as spec;
+
+use std::alloc::{AllocError, Global};
+
+/// `bytes` between quotes, as in `"\x00A\n"`.
+///
+/// A tab, a carriage return and a line feed are `\t`, `\r` and `\n`; `'`, `"` and `\` stand after a
+/// backslash; the other bytes from `0x20` to `0x7e` are as they are; any other byte is `\x` and two
+/// hex digits in lower case. The only refusal is want of memory.
+pub fn quoted_bytes(alloc: Global, bytes: &[u8]) -> Result<String, AllocError>
+    ensures text { IfOk result (λ text. string_bytes text ≡ spec.quoted_bytes bytes.now) }
+{
+    let mut text = String::new(alloc);
+    push_quoted_bytes(&mut text, bytes)?;
+    Ok(text)
+}
+
+/// Appends what [`quoted_bytes`] writes of `bytes` to `text`. After a refusal `text` may end with a
+/// part of it.
+pub(crate) fn push_quoted_bytes(text: &mut String, bytes: &[u8]) -> Result<(), AllocError>
+    ensures text { OnOk result
+        (string_bytes text.new ≡ string_bytes text.old ++ spec.quoted_bytes bytes.now) }
+{
+    text.push('"')?;
+    for byte in bytes {
+        push_escaped_byte(text, *byte)?;
+    }
+    text.push('"')
+}
+
+fn push_escaped_byte(text: &mut String, byte: u8) -> Result<(), AllocError>
+    ensures text { OnOk result
+        (string_bytes text.new ≡ string_bytes text.old ++ spec.escaped_byte byte) }
+{
+    match byte {
+        b'\t' => text.push_str("\\t"),
+        b'\r' => text.push_str("\\r"),
+        b'\n' => text.push_str("\\n"),
+        b'\'' | b'"' | b'\\' => {
+            text.push('\\')?;
+            text.push(char::from(byte))
+        }
+        b' '..=b'~' => text.push(char::from(byte)),
+        _ => {
+            text.push_str("\\x")?;
+            push_hex(text, byte)
+        }
+    }
+}
+
+/// Appends the two hex digits of `byte` to `text`, in lower case.
+pub(crate) fn push_hex(text: &mut String, byte: u8) -> Result<(), AllocError>
+    ensures text { OnOk result
+        (string_bytes text.new ≡ string_bytes text.old ++ encode_lower (byte ∷ [])) }
+{
+    let mut digits = [0; 2];
+    hex::encode_to_slice([byte], &mut digits).unwrap();
+    text.push(char::from(digits[0]))?;
+    text.push(char::from(digits[1]))
+}
+
+/// `text` with each of its characters escaped that would not stand well in a line: `"` and `\` after
+/// a backslash, a tab, a carriage return and a line feed as `\t`, `\r` and `\n`, the other characters
+/// U+0000 to U+001F and U+007F to U+009F as `\u{h}` with hex digits in lower case and no leading
+/// zero. No quotes are put round it. The only refusal is want of memory.
+pub fn escaped_text(alloc: Global, text: &str) -> Result<String, AllocError>
+    ensures text { IfOk result (λ escaped. string_bytes escaped ≡ spec.escaped_text text.now) }
+{
+    let mut escaped = String::new(alloc);
+    for character in text.chars() {
+        push_escaped_char(&mut escaped, character)?;
+    }
+    Ok(escaped)
+}
+
+fn push_escaped_char(text: &mut String, character: char) -> Result<(), AllocError>
+    ensures text { OnOk result
+        (string_bytes text.new ≡ string_bytes text.old ++ spec.escaped_char character) }
+{
+    match character {
+        '\t' => text.push_str("\\t"),
+        '\r' => text.push_str("\\r"),
+        '\n' => text.push_str("\\n"),
+        '"' | '\\' => {
+            text.push('\\')?;
+            text.push(character)
+        }
+        '\0'..='\u{1f}' | '\u{7f}'..='\u{9f}' => {
+            let code = u32::from(character);
+            write!(text, "\\u{{{code:x}}}")
+        }
+        _ => text.push(character),
+    }
+}
+
+/// `number` in decimal digits, in groups of three from the right with `,` between them, and with `-`
+/// before it if `negative`: `999`, `1,000`, `-1,234,567`. The only refusal is want of memory.
+pub fn grouped(alloc: Global, number: u128, negative: bool) -> Result<String, AllocError>
+    ensures text { IfOk result (λ text. string_bytes text ≡ spec.grouped number negative) }
+{
+    let mut text = String::new(alloc);
+    if negative {
+        text.push('-')?;
+    }
+    let mut digits = itoa::Buffer::new();
+    push_in_groups(&mut text, digits.format(number).as_bytes())?;
+    Ok(text)
+}
+
+fn push_in_groups(text: &mut String, digits: &[u8]) -> Result<(), AllocError>
+    requires { IsAscii digits.now }
+    ensures text { OnOk result
+        (string_bytes text.new ≡ string_bytes text.old ++ spec.in_groups digits.now) }
+{
+    for (place, digit) in digits.iter().enumerate() {
+        text.push(char::from(*digit))?;
+        let after = digits.len() - place - 1;
+        if after > 0 && after % 3 == 0 {
+            text.push(',')?;
+        }
+    }
+    Ok(())
+}
