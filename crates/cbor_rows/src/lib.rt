@@ -16,6 +16,8 @@ mod notes_base;
 #[cfg(test)]
 mod notes_text;
 #[cfg(test)]
+mod readme;
+#[cfg(test)]
 mod refusals;
 #[cfg(test)]
 mod written;
