@@ -20,4 +20,6 @@ mod readme;
 #[cfg(test)]
 mod refusals;
 #[cfg(test)]
+mod standard;
+#[cfg(test)]
 mod written;
