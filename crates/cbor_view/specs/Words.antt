@@ -1,0 +1,13 @@
+-- The word of each form.
+use Rattle.std.specs.Prelude.{ℕ, List, codes}
+use Rattle.cbor_view.specs.declared.words.Source.{Source}
+use Rattle.cbor_view.specs.declared.words.Source.TheVariants as source
+use Rattle.cbor_view.specs.declared.words.To.{To}
+use Rattle.cbor_view.specs.declared.words.To.TheVariants as target
+
+abbrev pub source_word : Source → List ℕ
+source_word source.Bytes = codes "bytes"
+source_word source.Hex = codes "hex"
+
+abbrev pub target_word : To → List ℕ
+target_word target.Bytes = codes "bytes"

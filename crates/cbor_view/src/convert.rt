@@ -1,0 +1,43 @@
+//! From the bytes of an input to the bytes of its output.
+ghost use Rattle.std.specs.Prelude.{◌≡◌, Ok, Err, IfOk, IfErr};
+ghost use Rattle.cbor_diag.specs.View.{view};
+ghost use Rattle.cbor_diag.specs.WellFormed.{Well};
+ghost use Rattle.cbor_diag.specs.Answer.{RefusedSo};
+ghost use Rattle.cbor_view.specs.Output.{Reads, Refuses, output_of, IsOutput};
+
+use crate::words::{Source, To};
+use cbor_diag::{DataItem, Error, parse_bytes, parse_hex};
+use std::alloc::Global;
+
+/// The output for an input.
+pub(crate) fn convert(alloc: Global, from: Source, to: To, input: &[u8]) -> Result<Vec<u8>, Error>
+    ensures ok { IfOk result (λ output. IsOutput from to input.now (Ok output.items)) }
+    ensures refused { RefusedSo result (λ e. IsOutput from to input.now (Err e)) }
+{
+    let item = read_item(alloc, from, input)?;
+    write_item(alloc, to, &item)
+}
+
+fn read_item(alloc: Global, from: Source, input: &[u8]) -> Result<DataItem, Error>
+    ensures item { IfOk result (λ item. Reads from input.now (view item)) }
+    ensures refused { RefusedSo result (Refuses from input.now) }
+    ensures well_formed { IfOk result (λ item. Well 1 (view item)) }
+{
+    match from {
+        Source::Bytes => parse_bytes(alloc, input),
+        Source::Hex => match str::from_utf8(input) {
+            Ok(text) => parse_hex(alloc, text),
+            Err(_) => Err(Error::Utf8),
+        },
+    }
+}
+
+fn write_item(alloc: Global, to: To, item: &DataItem) -> Result<Vec<u8>, Error>
+    requires { Well 1 (view item.now) }
+    ensures written { IfOk result (λ output. output.items ≡ output_of to (view item.now)) }
+    ensures memory { IfErr result (λ e. e ≡ Error.Memory) }
+{
+    match to {
+        To::Bytes => item.to_bytes(alloc),
+    }
+}

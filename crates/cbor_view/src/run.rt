@@ -1,0 +1,132 @@
+//! One run of the program, over any reader and writer.
+ghost use Rattle.std.specs.Prelude.{◌≡◌, ◌≢◌, ℕ, ◌+◌, ◌<◌, ◌≤◌, List, length, take, drop, vec_len, Ok, Err, IfOk, IfErr, OnOk, OnErr, MatchBool, ◌⊎◌};
+ghost use Rattle.std.specs.Bool.{OnTrue};
+ghost use Rattle.std.specs.Io.KnownBytes.{Consumes};
+ghost use Rattle.cbor_diag.specs.declared.error.Error.TheVariants as refusal;
+ghost use Rattle.cbor_view.specs.Counting.{inner_of, failures_of};
+ghost use Rattle.cbor_view.specs.Output.{IsOutput};
+ghost use Rattle.cbor_view.specs.Running.{HadAll, Gains, GainsPart, IsReadOut, Stops, OnRefusal, OnReadOut, OnUnwritten, is_read_fault, is_write_fault, failures_then};
+
+use crate::convert::convert;
+use crate::counted::Counted;
+use crate::error::ViewError;
+use crate::words::{Source, To};
+use std::alloc::{AllocError, Global};
+use std::io::{Read, Write};
+
+/// How much room is made for a read.
+const BLOCK: usize = 64 * 1024;
+
+/// Reads the input to its end, converts it, and writes the output. Nothing is written before all of
+/// the input was read and converted, and any call that fails ends the run, an interrupted one too.
+pub fn run<R: Read, W: Write>(
+    alloc: Global,
+    from: Source,
+    to: To,
+    input: &mut Counted<R>,
+    output: &mut Counted<W>,
+) -> Result<(), ViewError>
+    // The output for all that the reader had was written, and nothing else.
+    ensures ok { OnOk result ((all bytes : List ℕ) × HadAll R.remaining input.old all
+        × IsOutput from to all (Ok bytes)
+        × Gains W.contents output.old output.new bytes) }
+
+    // A refusal, but want of memory, is why all that the reader had is no item.
+    ensures item { OnRefusal result (λ e. e ≢ refusal.Memory → (all : List ℕ)
+        × HadAll R.remaining input.old all × IsOutput from to all (Err e)) }
+
+    // Where a write failed, a beginning of the output was written, and nothing else.
+    ensures write { OnTrue (is_write_fault result) ((all bytes : List ℕ)
+        × HadAll R.remaining input.old all × IsOutput from to all (Ok bytes)
+        × GainsPart W.contents output.old output.new bytes) }
+
+    // All was read, but where a read failed or memory was refused.
+    ensures read_out { OnReadOut result (IsReadOut R.remaining input.new) }
+
+    // A refusal and a failed read leave the output as it was.
+    ensures unwritten { OnUnwritten result (output.new ≡ output.old) }
+
+    // Any call that fails ends the run.
+    ensures read_failures { failures_of input.new
+        ≡ failures_then (is_read_fault result) (failures_of input.old) }
+    ensures write_failures { MatchBool (is_write_fault result) (Stops output.old output.new)
+        (failures_of output.new ≡ failures_of output.old) }
+{
+    let all = read_to_end(alloc, input)?;
+    let bytes = convert(alloc, from, to, &all)?;
+    write_whole(output, &bytes)?;
+    Ok(())
+}
+
+/// All that the reader has.
+fn read_to_end<R: Read>(alloc: Global, input: &mut Counted<R>) -> Result<Vec<u8>, ViewError>
+    ensures all { IfOk result (λ bytes. HadAll R.remaining input.old bytes.items) }
+    ensures read_out { OnOk result (IsReadOut R.remaining input.new) }
+    ensures failures { failures_of input.new
+        ≡ failures_then (is_read_fault result) (failures_of input.old) }
+    ensures fault { IfErr result (λ e. (e ≡ ViewError.Read) ⊎ (e ≡ ViewError.Item refusal.Memory)) }
+{
+    let mut bytes = Vec::new(alloc);
+    let mut filled = 0;
+    loop {
+        make_room(&mut bytes, filled)?;
+        match read_after(input, bytes.as_mut_slice(), filled)? {
+            0 => break,
+            count => filled += count,
+        }
+    }
+    bytes.truncate(filled);
+    Ok(bytes)
+}
+
+/// Makes the bytes longer than what is filled. What an earlier read left unfilled serves again.
+fn make_room(bytes: &mut Vec<u8>, filled: usize) -> Result<(), AllocError>
+    requires { filled ≤ vec_len bytes.old }
+    ensures filled { take filled bytes.new.items ≡ take filled bytes.old.items }
+    ensures room { OnOk result (filled < vec_len bytes.new) }
+{
+    if filled == bytes.len() {
+        bytes.resize(filled + BLOCK, 0)?;
+    }
+    Ok(())
+}
+
+/// One read into the room behind what is filled.
+fn read_after<R: Read>(
+    input: &mut Counted<R>,
+    bytes: &mut [u8],
+    filled: usize,
+) -> Result<usize, ViewError>
+    requires { filled < length bytes.old }
+    ensures filled { take filled bytes.new ≡ take filled bytes.old }
+    ensures fits { IfOk result (λ count. filled + count ≤ length bytes.new) }
+    ensures read { IfOk result (λ count. Consumes (R.remaining (inner_of input.old))
+        (R.remaining (inner_of input.new)) (take count (drop filled bytes.new))) }
+    ensures end { IfOk result (λ count. count ≡ 0 → IsReadOut R.remaining input.new) }
+    ensures failures { failures_of input.new
+        ≡ failures_then (is_read_fault result) (failures_of input.old) }
+    ensures fault { IfErr result (λ e. e ≡ ViewError.Read) }
+{
+    match input.read(&mut bytes[filled..]) {
+        Ok(count) => Ok(count),
+        Err(_) => Err(ViewError::Read),
+    }
+}
+
+/// Writes all of the bytes, or a beginning of them.
+fn write_whole<W: Write>(output: &mut Counted<W>, bytes: &[u8]) -> Result<(), ViewError>
+    ensures ok { OnOk result (Gains W.contents output.old output.new bytes.now) }
+    ensures part { OnErr result (GainsPart W.contents output.old output.new bytes.now) }
+    ensures failures { MatchBool (is_write_fault result) (Stops output.old output.new)
+        (failures_of output.new ≡ failures_of output.old) }
+    ensures fault { IfErr result (λ e. e ≡ ViewError.Write) }
+{
+    let mut written = 0;
+    while written < bytes.len() {
+        match output.write(&bytes[written..]) {
+            Ok(0) | Err(_) => return Err(ViewError::Write),
+            Ok(count) => written += count,
+        }
+    }
+    Ok(())
+}

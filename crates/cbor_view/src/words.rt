@@ -1,0 +1,42 @@
+//! The words of the command line.
+ghost use Rattle.std.specs.Prelude.{◌≡◌, Some, IfSome};
+ghost use Rattle.cbor_view.specs.Words.{source_word, target_word};
+
+/// The form in which an item is read.
+#[derive(Clone, Copy, PartialEq, Eq, Debug)]
+pub enum Source {
+    /// The bytes of the item.
+    Bytes,
+    /// The bytes of the item in hex, with comments.
+    Hex,
+}
+
+/// The form in which an item is written.
+#[derive(Clone, Copy, PartialEq, Eq, Debug)]
+pub enum To {
+    /// The bytes of the item.
+    Bytes,
+}
+
+/// The form that a word names for the input: `bytes` or `hex`. Any other word names none.
+pub fn from_word(word: &str) -> Option<Source>
+    ensures named { IfSome result (λ source. word.now ≡ source_word source) }
+    ensures each_word { (source : Source) → word.now ≡ source_word source → result ≡ Some source }
+{
+    match word {
+        "bytes" => Some(Source::Bytes),
+        "hex" => Some(Source::Hex),
+        _ => None,
+    }
+}
+
+/// The form that a word names for the output: `bytes`. Any other word names none.
+pub fn to_word(word: &str) -> Option<To>
+    ensures named { IfSome result (λ target. word.now ≡ target_word target) }
+    ensures each_word { (target : To) → word.now ≡ target_word target → result ≡ Some target }
+{
+    match word {
+        "bytes" => Some(To::Bytes),
+        _ => None,
+    }
+}
