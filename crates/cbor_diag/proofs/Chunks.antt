@@ -112,22 +112,6 @@ no_chunk_of kind (info.Number n w) b rest e =
     cc
 no_chunk_of kind info.Indefinite b rest e = cc
 
-pub chunk_none : (kind : StringKind) (b rest : List ℕ) → chunk_at kind b ≡ Ok (None, rest) → b ≡ break_byte ∷ rest
-unfolding chunk_at
-chunk_none kind [] rest e = absurd cc
-chunk_none kind (first ∷ b) rest e =
-    elim (chunk_ways kind first b) [
-      | inl w ↦
-          let rest-is : b ≡ rest = ap (λ (p : Option Chunk × List ℕ). p.1) (ok_is (None, b) (None, rest) (sym w.1 ∙ e)) in
-          rw (w.0, rest-is) refl
-      | inr v ↦ elim v [
-        | inl w ↦
-            let a = bind_ok (info_at (first % 32) b) (λ i. chunk_of kind i.0 i.1) (None, rest) (sym w.2 ∙ e) in
-            absurd (no_chunk_of kind a.0.0 a.0.1 rest a.2)
-        | inr w ↦ absurd (let wrong = sym w.2 ∙ e in cc)
-      ]
-    ]
-
 pub chunk_again : (kind : StringKind) (b rest : List ℕ) (c : Chunk) → ChunkThen kind c b (λ r. r ≡ rest) → chunk_at kind b ≡ Ok (Some c, rest)
 chunk_again kind b rest c h =
     let o = opened (major_of kind) (length c.bytes) c.width b h.1.1 (h.1.0, h.1.1, h.1.2, refl) in

@@ -47,9 +47,6 @@ fault_refuses level (suc left) b e levels (bad_chunk_text rest le inside h) = ch
 fault_refuses level zero b e levels (bad_part next rest le inside no_break f) = absurd (omega arith)
 fault_refuses level (suc left) b e levels (bad_part next rest le inside no_break f) = inside_refuses level left next b rest e levels inside no_break (fault_refuses (level + 1) left rest e (omega arith) f)
 
-pub fault_again : (level left : ℕ) (b : List ℕ) (e : Error) → level + left ≡ 129 → IsBytes b → Fault level b e → item_at left b ≡ Err e
-fault_again level left b e levels fits f = fault_refuses level left b e levels f
-
 -- ---- bytes that follow
 
 -- the level of a fault, and how many levels are left there

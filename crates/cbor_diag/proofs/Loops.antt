@@ -1,13 +1,13 @@
 -- Reading one part after the other, as a loop does: what was read before a turn, and what is still read.
-use Rattle.std.proofs.Common.{◌≡◌, ℕ, zero, suc, ◌+◌, ◌-◌, ◌<◌, ◌≤◌, List, [], ◌∷◌, ◌++◌, length, map, Option, Some, None, Result, Ok, Err, refl, sym, ap, subst, ◌∙◌, append_assoc, arith}
+use Rattle.std.proofs.Common.{◌≡◌, ℕ, zero, suc, ◌<◌, ◌≤◌, List, [], ◌∷◌, ◌++◌, length, Some, None, Result, Ok, Err, refl, sym, ap, subst, ◌∙◌, append_assoc, arith}
 use Rattle.std.proofs.lemmas.List.{append-nil}
 use Rattle.cbor_diag.specs.declared.error.Error.{Error}
 use Rattle.cbor_diag.specs.declared.error.Error.TheVariants as refusal
 use Rattle.cbor_diag.specs.declared.syntax.DataItem.{DataItem}
-use Rattle.cbor_diag.specs.Item.{Chunk, Item, Items, no_items, item, Pairs, no_pairs, pair}
+use Rattle.cbor_diag.specs.Item.{Chunk, Items, no_items, item, Pairs, no_pairs, pair}
 use Rattle.cbor_diag.specs.View.{view, items_view, pairs_view}
 use Rattle.cbor_diag.specs.Bytes.{StringKind}
-use Rattle.cbor_diag.specs.Reading.{Read, ◌>>=◌, Fails, chunk_at, more_chunks, chunks_at, items_at, pair_at, pairs_at, break_at, unless_break, open_items_at, open_pairs_at}
+use Rattle.cbor_diag.specs.Reading.{Read, ◌>>=◌, Fails, chunk_at, more_chunks, chunks_at}
 
 -- a refusal of one step is that of all
 pub Fails-bind : {A B : Type 0} (e : Error) (r : Result A Error) (f : A → Result B Error) → Fails e r → Fails e (r >>= f)

@@ -1,23 +1,19 @@
 -- From what reading gives to what an input is.
-use Rattle.std.proofs.Common.{◌≡◌, ◌≢◌, ℕ, ◌+◌, ◌-◌, ◌*◌, ◌/◌, ◌%◌, ◌<◌, ◌≤◌, List, [], ◌∷◌, ◌++◌, length, take, drop, Option, Some, None, Result, Ok, Err, refl, sym, ap, subst, ◌∙◌, arith, inl, inr}
+use Rattle.std.proofs.Common.{◌≡◌, ◌≢◌, ℕ, ◌+◌, ◌-◌, ◌<◌, ◌≤◌, List, length, take, Ok, Err, refl, ap, ◌∙◌, arith, inl, inr}
 use Rattle.std.proofs.lemmas.List.{length-append, take_at}
 use Rattle.cbor_diag.specs.declared.error.Error.{Error}
 use Rattle.cbor_diag.specs.declared.error.Error.TheVariants as refusal
 use Rattle.cbor_diag.specs.declared.syntax.IntegerWidth.{IntegerWidth}
 use Rattle.cbor_diag.specs.declared.syntax.IntegerWidth.TheVariants.{Unknown, Zero, Eight, Sixteen, ThirtyTwo, SixtyFour}
-use Rattle.cbor_diag.specs.declared.syntax.DataItem.{DataItem}
 use Rattle.cbor_diag.specs.declared.parse.binary.head.Head.{Head}
 use Rattle.cbor_diag.specs.declared.parse.binary.head.Head.TheVariants as kind
 use Rattle.cbor_diag.specs.Item.{Item}
-use Rattle.cbor_diag.specs.View.{view}
 use Rattle.cbor_diag.specs.Head.{HeadThen}
-use Rattle.cbor_diag.specs.Bytes.{any, Spells}
-use Rattle.cbor_diag.specs.Refused.{Cut, Fault, too_deep, bad_head, bad_text, bad_chunk_head, bad_chunk_text, bad_part}
-use Rattle.cbor_diag.specs.Answer.{Outcome, spelled, cut, fault, IsOutcome, OneOutcome, HasOutcome, HasAnswer, Gave, GaveItem, GaveRefusal, IsRefused, RefusedSo, MayWantMemory}
+use Rattle.cbor_diag.specs.Refused.{Fault, too_deep, bad_head, bad_text, bad_chunk_head, bad_chunk_text, bad_part}
+use Rattle.cbor_diag.specs.Answer.{spelled, IsOutcome, HasOutcome, HasAnswer, MayWantMemory}
 use Rattle.cbor_diag.specs.Reading.{Fails, HoldsContent, head_at, item_at}
 use Rattle.cbor_diag.proofs.Heads.{IsBytes, HeadIs, head_takes}
 use Rattle.cbor_diag.proofs.Found.{item_takes}
-use Rattle.cbor_diag.proofs.Short.{cut_takes}
 use Rattle.cbor_diag.proofs.Faults.{fault_takes}
 
 -- ---- where memory may be wanted
@@ -60,10 +56,6 @@ found_outcome level left b i rest levels fits e =
     let counted : length b - length rest ≡ length t.front = omega (arith, length-append t.front rest, ap length t.parts) in
     let front : take (length b - length rest) b ≡ t.front = ap (λ n. take n b) counted ∙ ap (take (length t.front)) t.parts ∙ take_at t.front rest (length t.front) refl in
     (omega arith, rw front t.spells)
-
--- a refusal that is no cut is a fault
-fault_outcome : (level left : ℕ) (b : List ℕ) (e : Error) → level + left ≡ 129 → IsBytes b → e ≢ refusal.CutShort → item_at left b ≡ Err e → Fault level b e
-fault_outcome level left b e levels fits other h = fault_takes level left b e levels fits other h
 
 pub refusal_outcome : (level left : ℕ) (b : List ℕ) (e : Error) → level + left ≡ 129 → IsBytes b → e ≢ refusal.CutShort → Fails e (item_at left b) → HasOutcome level b (Err e)
 refusal_outcome level left b refusal.Memory levels fits other h = tt

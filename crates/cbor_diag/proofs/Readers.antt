@@ -1,5 +1,5 @@
 -- What the readers of bytes promise, from what the front or the whole of an input is.
-use Rattle.std.proofs.Common.{◌≡◌, ◌≢◌, ℕ, ◌+◌, ◌-◌, ◌<◌, ◌≤◌, List, [], ◌∷◌, ◌++◌, length, take, drop, Option, Some, None, Result, Ok, Err, ◌↔◌, IfOk, IfErr, IfSome, OnOk, refl, sym, ap, subst, ◌∙◌, arith, ◌⊎◌, inl, inr}
+use Rattle.std.proofs.Common.{◌≡◌, ◌≢◌, ℕ, ◌<◌, ◌≤◌, List, [], ◌++◌, length, take, drop, Option, Some, None, Result, Ok, Err, ◌↔◌, IfOk, IfSome, OnOk, refl, sym, ap, subst, ◌∙◌, arith, ◌⊎◌, inl, inr}
 use Rattle.std.proofs.lemmas.List.{length-append, length-take, length-drop, take-append-drop, take-append-le, take_all}
 use Rattle.cbor_diag.specs.declared.error.Error.{Error}
 use Rattle.cbor_diag.specs.declared.error.Error.TheVariants as refusal
@@ -17,7 +17,7 @@ use Rattle.cbor_diag.proofs.Faults.{fault_append}
 use Rattle.cbor_diag.proofs.Strict.{strict_only}
 use Rattle.cbor_diag.proofs.Resolved.{spells_well, enc_strict}
 use Rattle.cbor_diag.proofs.Sizes.{items_bound}
-use Rattle.cbor_diag.proofs.Three.{one_outcome, front_cut}
+use Rattle.cbor_diag.proofs.Three.{front_cut}
 
 abbrev pub Front : Type 0
 Front = Result (Option (DataItem × ℕ)) Error

@@ -67,14 +67,6 @@ one_outcome level left b levels fits =
       only = λ other h. same_outcome level b other found.0 h found.1 (sym (outcome_reads level left b other levels h) ∙ outcome_reads level left b found.0 levels found.1);
     }
 
--- bytes begin with one item, which takes one front of them
-pub one_item : (level : ℕ) (x y r s : List ℕ) (i j : Item) → Spells any level x i → Spells any level y j → x ++ r ≡ y ++ s → (i ≡ j) × (r ≡ s)
-one_item level x y r s i j first second same =
-    let le : level ≤ deepest = spelled_level level x i first in
-    let at = left_at level (omega arith) in
-    let is = ok_is (i, r) (j, s) (sym (item_again level at.0 x i r at.1 first) ∙ ap (item_at at.0) same ∙ item_again level at.0 y j s at.1 second) in
-    (ap (λ (p : Item × List ℕ). p.0) is, ap (λ (p : Item × List ℕ). p.1) is)
-
 -- ---- a part of an item's bytes is cut
 
 front_outcome : (level left : ℕ) (x y : List ℕ) (i : Item) → level + left ≡ 129 → item_at left (x ++ y) ≡ Ok (i, []) → (y ≡ [] → ⊥) → (o : Outcome) → IsOutcome level x o → Cut level x

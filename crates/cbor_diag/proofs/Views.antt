@@ -1,5 +1,5 @@
 -- A data item, level by level, beside the item that it is.
-use Rattle.std.proofs.Common.{◌≡◌, ℕ, suc, List, [], ◌∷◌, Option, Vec, Global, Box, length, refl, ap, rules}
+use Rattle.std.proofs.Common.{◌≡◌, suc, List, [], ◌∷◌, Option, Vec, Global, Box, length, refl, ap, rules}
 use Rattle.cbor_diag.specs.declared.syntax.IntegerWidth.{IntegerWidth}
 use Rattle.cbor_diag.specs.declared.syntax.Tag as declared
 use Rattle.cbor_diag.specs.declared.syntax.DataItem.{DataItem, Array, Map, Tag, the_lemmas}

@@ -1,5 +1,5 @@
 -- Hex with comments: which digits a text has, and which item they are.
-use Rattle.std.specs.Prelude.{◌≡◌, ℕ, ◌%◌, ◌==◌, List, length, filter, not, Result, Ok, Err}
+use Rattle.std.specs.Prelude.{◌≡◌, ℕ, ◌%◌, ◌==◌, List, length, filter, not, Ok}
 use Rattle.std.specs.List.{AllPass, before_first, flat_map}
 use Rattle.std.specs.Str.Lines.{lines}
 use Rattle.hex.specs.Hex.{decode_of, is_hex_digit}

@@ -59,7 +59,8 @@ pub(crate) fn well_formed()
 /// line, with a tab and with spaces.
 pub(crate) fn hex_text()
     ensures comment { strip (codes "01 # 02 # 03") ≡ codes "01" }
-    ensures lines { strip (codes "82 # two items" ++ 10 ∷ codes "01" ++ 10 ∷ 10 ∷ codes "# the second" ++ 10 ∷ codes "02" ++ 10 ∷ []) ≡ codes "820102" }
+    ensures lines { strip (codes "82 # two items" ++ 10 ∷ codes "01" ++ 10 ∷ 10 ∷ codes "# the second"
+        ++ 10 ∷ codes "02" ++ 10 ∷ []) ≡ codes "820102" }
     ensures carriage_return_and_line_feed { strip (codes "01" ++ 13 ∷ 10 ∷ codes "02" ++ 13 ∷ 10 ∷ []) ≡ codes "0102" }
     ensures one_carriage_return_of_two { strip (codes "01" ++ 13 ∷ 13 ∷ 10 ∷ codes "02") ≡ codes "01" ++ 13 ∷ codes "02" }
     ensures carriage_return_at_the_end { strip (codes "01" ++ 13 ∷ []) ≡ codes "01" ++ 13 ∷ [] }

@@ -73,9 +73,6 @@ standard_letter_at d low high = elim (standard_at (d - 65) (omega arith)) [ inl 
 pub standard_figure_at : (d : ℕ) → 50 ≤ d → d ≤ 55 → slice_index (characters Standard) (d - 50 + 26) ≡ d
 standard_figure_at d low high = elim (standard_at (d - 50 + 26) (omega arith)) [ inl w ↦ omega (arith, w.0, w.1) | inr w ↦ omega (arith, w.0, w.1) ]
 
-pub hex_figure_at : (d : ℕ) → 48 ≤ d → d ≤ 57 → slice_index (characters ExtendedHex) (d - 48) ≡ d
-hex_figure_at d low high = elim (extended_hex_at (d - 48) (omega arith)) [ inl w ↦ omega (arith, w.0, w.1) | inr w ↦ omega (arith, w.0, w.1) ]
-
 pub hex_letter_at : (d : ℕ) → 65 ≤ d → d ≤ 86 → slice_index (characters ExtendedHex) (d - 65 + 10) ≡ d
 hex_letter_at d low high = elim (extended_hex_at (d - 65 + 10) (omega arith)) [ inl w ↦ omega (arith, w.0, w.1) | inr w ↦ omega (arith, w.0, w.1) ]
 

@@ -8,10 +8,6 @@ use Rattle.cbor_notes.specs.declared.base32.Alphabet.{Alphabet}
 use Rattle.cbor_notes.proofs.Base32Alphabet.{same_value}
 use Rattle.cbor_notes.proofs.Places.{AllBelowBase_push}
 
--- no digits
-pub writes_none : (a : Alphabet) → Writes a [] 0
-writes_none a = record { values = []; below = tt; digits_are = refl; number_is = refl }
-
 -- one more digit
 pub writes_more : (a : Alphabet) (digits more : List ℕ) (number digit value : ℕ) → Writes a digits number
     → value < 32 → slice_index (characters a) value ≡ digit → more ≡ digits ++ digit ∷ []

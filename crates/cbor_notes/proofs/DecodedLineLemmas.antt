@@ -51,9 +51,6 @@ pub record AreShown (bytes rest : List ℕ) (lines : List (List ℕ)) (n : ℕ) 
   pub within : 16 * n < length bytes + 16
   pub shown : lines ≡ map (λ k. decoded_line (2 * min 16 (length bytes)) (slice_chunk bytes 16 k)) (range_with_len 0 n)
 
-pub shown_none : (bytes : List ℕ) → AreShown bytes bytes [] 0
-shown_none bytes = record { left = refl; within = omega arith; shown = refl }
-
 -- a piece of sixteen, or what is left
 cut_at : (rest piece left : List ℕ) → rest ≡ piece ++ left → length piece ≡ min 16 (length rest) → (take 16 rest ≡ piece) × (drop 16 rest ≡ left)
 cut_at rest piece left split long = (

@@ -63,7 +63,8 @@ fn item_at(alloc: Global, bytes: &[u8], level: u8) -> Result<(DataItem, &[u8])>
 #[cycle(item)]
 fn body_at(alloc: Global, head: Head, bytes: &[u8], inner: u8) -> Result<(DataItem, &[u8])>
     requires { inner ≤ 129 }
-    ensures gives { Gives (λ x. (view x.0, x.1.now)) result (body_at (item_at (129 - inner)) head bytes.now) }
+    ensures gives { Gives (λ x. (view x.0, x.1.now)) result
+        (body_at (item_at (129 - inner)) head bytes.now) }
     ensures shorter { IfOk result (λ x. length x.1.now ≤ length bytes.now) }
     ensures memory { result ≡ Err Error.Memory → HoldsContent head }
 {
@@ -148,7 +149,8 @@ fn body_at(alloc: Global, head: Head, bytes: &[u8], inner: u8) -> Result<(DataIt
 #[cycle(item)]
 fn items_at(alloc: Global, count: u64, bytes: &[u8], level: u8) -> Result<(Vec<DataItem>, &[u8])>
     requires { level ≤ 129 }
-    ensures gives { Gives (λ x. (items_view x.0.items, x.1.now)) result (items_at (item_at (129 - level)) count bytes.now) }
+    ensures gives { Gives (λ x. (items_view x.0.items, x.1.now)) result
+        (items_at (item_at (129 - level)) count bytes.now) }
     ensures shorter { IfOk result (λ x. length x.1.now ≤ length bytes.now) }
 {
     let mut items = Vec::new(alloc);
@@ -170,7 +172,8 @@ fn pairs_at(
     level: u8,
 ) -> Result<(Vec<(DataItem, DataItem)>, &[u8])>
     requires { level ≤ 129 }
-    ensures gives { Gives (λ x. (pairs_view x.0.items, x.1.now)) result (pairs_at (item_at (129 - level)) count bytes.now) }
+    ensures gives { Gives (λ x. (pairs_view x.0.items, x.1.now)) result
+        (pairs_at (item_at (129 - level)) count bytes.now) }
     ensures shorter { IfOk result (λ x. length x.1.now ≤ length bytes.now) }
 {
     let mut pairs = Vec::new(alloc);
@@ -187,7 +190,8 @@ fn pairs_at(
 #[cycle(item)]
 fn pair_at(alloc: Global, bytes: &[u8], level: u8) -> Result<((DataItem, DataItem), &[u8])>
     requires { level ≤ 129 }
-    ensures gives { Gives (λ x. ((view x.0.0, view x.0.1), x.1.now)) result (pair_at (item_at (129 - level)) bytes.now) }
+    ensures gives { Gives (λ x. ((view x.0.0, view x.0.1), x.1.now)) result
+        (pair_at (item_at (129 - level)) bytes.now) }
     ensures shorter { IfOk result (λ x. length x.1.now < length bytes.now) }
 {
     let (key, rest) = item_at(alloc, bytes, level)?;
@@ -199,7 +203,8 @@ fn pair_at(alloc: Global, bytes: &[u8], level: u8) -> Result<((DataItem, DataIte
 #[cycle(item)]
 fn open_items_at(alloc: Global, bytes: &[u8], level: u8) -> Result<(Vec<DataItem>, &[u8])>
     requires { level ≤ 129 }
-    ensures gives { Gives (λ x. (items_view x.0.items, x.1.now)) result (open_items_at (item_at (129 - level)) (length bytes.now) bytes.now) }
+    ensures gives { Gives (λ x. (items_view x.0.items, x.1.now)) result
+        (open_items_at (item_at (129 - level)) (length bytes.now) bytes.now) }
     ensures shorter { IfOk result (λ x. length x.1.now ≤ length bytes.now) }
 {
     let mut items = Vec::new(alloc);
@@ -222,7 +227,8 @@ fn open_pairs_at(
     level: u8,
 ) -> Result<(Vec<(DataItem, DataItem)>, &[u8])>
     requires { level ≤ 129 }
-    ensures gives { Gives (λ x. (pairs_view x.0.items, x.1.now)) result (open_pairs_at (item_at (129 - level)) (length bytes.now) bytes.now) }
+    ensures gives { Gives (λ x. (pairs_view x.0.items, x.1.now)) result
+        (open_pairs_at (item_at (129 - level)) (length bytes.now) bytes.now) }
     ensures shorter { IfOk result (λ x. length x.1.now ≤ length bytes.now) }
 {
     let mut pairs = Vec::new(alloc);

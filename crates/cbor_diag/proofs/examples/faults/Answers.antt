@@ -1,4 +1,4 @@
-use Rattle.std.proofs.Common.{◌≡◌, ◌≤◌, [], ◌∷◌, refl, arith, inr}
+use Rattle.std.proofs.Common.{[], ◌∷◌, refl, arith, inr}
 use Rattle.cbor_diag.specs.declared.syntax.IntegerWidth.TheVariants.{Zero}
 use Rattle.cbor_diag.specs.Bytes.{bytes_kind}
 use Rattle.cbor_diag.specs.Refused.{no_length, part, at_open_value, no_chunk, too_deep, bad_head, bad_chunk_head, bad_part}

@@ -28,7 +28,8 @@ pub(super) fn bytes_at(
     bitwidth: IntegerWidth,
     bytes: &[u8],
 ) -> Result<(ByteString, &[u8])>
-    ensures gives { Gives (λ x. (byte_chunk x.0, x.1.now)) result (content_at bytes_kind count bitwidth bytes.now) }
+    ensures gives { Gives (λ x. (byte_chunk x.0, x.1.now)) result
+        (content_at bytes_kind count bitwidth bytes.now) }
     ensures shorter { IfOk result (λ x. length x.1.now ≤ length bytes.now) }
 {
     let (content, rest) = split_at(bytes, count)?;
@@ -44,7 +45,8 @@ pub(super) fn text_at(
     bitwidth: IntegerWidth,
     bytes: &[u8],
 ) -> Result<(TextString, &[u8])>
-    ensures gives { Gives (λ x. (text_chunk x.0, x.1.now)) result (content_at text_kind count bitwidth bytes.now) }
+    ensures gives { Gives (λ x. (text_chunk x.0, x.1.now)) result
+        (content_at text_kind count bitwidth bytes.now) }
     ensures shorter { IfOk result (λ x. length x.1.now ≤ length bytes.now) }
 {
     let (content, rest) = split_at(bytes, count)?;
@@ -80,7 +82,8 @@ fn chunk_length_at(major: u8, bytes: &[u8]) -> Result<(Option<(u64, IntegerWidth
 /// The next chunk of an indefinite byte string, or `None` at its break.
 #[tactic(auto, unfolding(crate::specs::Reading::chunk_length_at, crate::specs::Reading::chunk_at))]
 fn byte_chunk_at(alloc: Global, bytes: &[u8]) -> Result<(Option<ByteString>, &[u8])>
-    ensures gives { Gives (λ x. (option_map byte_chunk x.0, x.1.now)) result (chunk_at bytes_kind bytes.now) }
+    ensures gives { Gives (λ x. (option_map byte_chunk x.0, x.1.now)) result
+        (chunk_at bytes_kind bytes.now) }
     ensures shorter { IfOk result (λ x. length x.1.now < length bytes.now) }
 {
     let (length, rest) = chunk_length_at(2, bytes)?;
@@ -94,7 +97,8 @@ fn byte_chunk_at(alloc: Global, bytes: &[u8]) -> Result<(Option<ByteString>, &[u
 /// The next chunk of an indefinite text string, or `None` at its break.
 #[tactic(auto, unfolding(crate::specs::Reading::chunk_length_at, crate::specs::Reading::chunk_at))]
 fn text_chunk_at(alloc: Global, bytes: &[u8]) -> Result<(Option<TextString>, &[u8])>
-    ensures gives { Gives (λ x. (option_map text_chunk x.0, x.1.now)) result (chunk_at text_kind bytes.now) }
+    ensures gives { Gives (λ x. (option_map text_chunk x.0, x.1.now)) result
+        (chunk_at text_kind bytes.now) }
     ensures shorter { IfOk result (λ x. length x.1.now < length bytes.now) }
 {
     let (length, rest) = chunk_length_at(3, bytes)?;
@@ -107,7 +111,8 @@ fn text_chunk_at(alloc: Global, bytes: &[u8]) -> Result<(Option<TextString>, &[u
 
 /// The chunks of an indefinite byte string up to its break.
 pub(super) fn byte_chunks_at(alloc: Global, bytes: &[u8]) -> Result<(Vec<ByteString>, &[u8])>
-    ensures gives { Gives (λ x. (map byte_chunk x.0.items, x.1.now)) result (chunks_at (length bytes.now) bytes_kind bytes.now) }
+    ensures gives { Gives (λ x. (map byte_chunk x.0.items, x.1.now)) result
+        (chunks_at (length bytes.now) bytes_kind bytes.now) }
     ensures shorter { IfOk result (λ x. length x.1.now ≤ length bytes.now) }
 {
     let mut chunks = Vec::new(alloc);
@@ -124,7 +129,8 @@ pub(super) fn byte_chunks_at(alloc: Global, bytes: &[u8]) -> Result<(Vec<ByteStr
 
 /// The chunks of an indefinite text string up to its break.
 pub(super) fn text_chunks_at(alloc: Global, bytes: &[u8]) -> Result<(Vec<TextString>, &[u8])>
-    ensures gives { Gives (λ x. (map text_chunk x.0.items, x.1.now)) result (chunks_at (length bytes.now) text_kind bytes.now) }
+    ensures gives { Gives (λ x. (map text_chunk x.0.items, x.1.now)) result
+        (chunks_at (length bytes.now) text_kind bytes.now) }
     ensures shorter { IfOk result (λ x. length x.1.now ≤ length bytes.now) }
 {
     let mut chunks = Vec::new(alloc);

@@ -1,5 +1,4 @@
-use Rattle.std.proofs.Common.{drop, drop-cons, suc, ◌∷◌, ◌≡◌, ℕ, List, ◌+◌, ◌++◌, length, ap, sym, subst, ◌∙◌, append_assoc, arith, rules, OnOk}
-use Rattle.cbor_diag.specs.Item as spec
+use Rattle.std.proofs.Common.{drop, drop-cons, suc, ◌∷◌, ◌≡◌, ℕ, List, ◌+◌, ◌++◌, ap, sym, subst, ◌∙◌, append_assoc, arith, rules, OnOk}
 use Rattle.cbor_diag.specs.Item.{Item, item_count, pair_count}
 use Rattle.cbor_diag.specs.View.{view, items_view, pairs_view}
 use Rattle.cbor_diag.specs.WellFormed.{Well, WellPairs, FitsCount}

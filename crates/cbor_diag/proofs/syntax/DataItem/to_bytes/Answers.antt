@@ -1,4 +1,4 @@
-use Rattle.std.proofs.Common.{◌≡◌, ◌++◌, ap, sym, subst, ◌∙◌}
+use Rattle.std.proofs.Common.{◌++◌, ap, sym, subst, ◌∙◌}
 use Rattle.cbor_diag.specs.View.{view}
 use Rattle.cbor_diag.specs.Written.{enc, resolve}
 use Rattle.cbor_diag.specs.Bytes.{any, strict, Spells}
