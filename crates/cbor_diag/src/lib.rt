@@ -8,6 +8,7 @@
 mod encode;
 mod error;
 mod examples;
+mod laws;
 mod parse;
 mod syntax;
 

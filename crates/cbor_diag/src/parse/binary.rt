@@ -79,32 +79,22 @@ fn body_at(alloc: Global, head: Head, bytes: &[u8], inner: u8) -> Result<(DataIt
             let (string, rest) = text_at(alloc, count, bitwidth, bytes)?;
             Ok((DataItem::TextString(string), rest))
         }
-        Head::Array(count, bitwidth) => {
+        Head::Array(count, width) => {
             let (content, rest) = items_at(alloc, count, bytes, inner)?;
-            Ok((
-                DataItem::Array {
-                    content,
-                    bitwidth: Some(bitwidth),
-                },
-                rest,
-            ))
+            let bitwidth = Some(width);
+            Ok((DataItem::Array { content, bitwidth }, rest))
         }
-        Head::Map(count, bitwidth) => {
+        Head::Map(count, width) => {
             let (content, rest) = pairs_at(alloc, count, bytes, inner)?;
-            Ok((
-                DataItem::Map {
-                    content,
-                    bitwidth: Some(bitwidth),
-                },
-                rest,
-            ))
+            let bitwidth = Some(width);
+            Ok((DataItem::Map { content, bitwidth }, rest))
         }
         Head::Tag(number, bitwidth) => {
             let (value, rest) = item_at(alloc, bytes, inner)?;
-            let value = Box::new(alloc, value)?;
+            let (tag, value) = (Tag(number), Box::new(alloc, value)?);
             Ok((
                 DataItem::Tag {
-                    tag: Tag(number),
+                    tag,
                     bitwidth,
                     value,
                 },
@@ -123,23 +113,13 @@ fn body_at(alloc: Global, head: Head, bytes: &[u8], inner: u8) -> Result<(DataIt
         }
         Head::OpenArray => {
             let (content, rest) = open_items_at(alloc, bytes, inner)?;
-            Ok((
-                DataItem::Array {
-                    content,
-                    bitwidth: None,
-                },
-                rest,
-            ))
+            let bitwidth = None;
+            Ok((DataItem::Array { content, bitwidth }, rest))
         }
         Head::OpenMap => {
             let (content, rest) = open_pairs_at(alloc, bytes, inner)?;
-            Ok((
-                DataItem::Map {
-                    content,
-                    bitwidth: None,
-                },
-                rest,
-            ))
+            let bitwidth = None;
+            Ok((DataItem::Map { content, bitwidth }, rest))
         }
         Head::Break => Err(Error::Head),
     }

@@ -71,46 +71,49 @@ impl DataItem {
         ensures equal { IfOk result (λ v. view v ≡ view self.now) }
         ensures refused { IfErr result (λ e. e ≡ Error.Memory) }
     {
-        Ok(match self {
-            DataItem::Integer { value, bitwidth } => DataItem::Integer {
-                value: *value,
-                bitwidth: *bitwidth,
-            },
-            DataItem::Negative { value, bitwidth } => DataItem::Negative {
-                value: *value,
-                bitwidth: *bitwidth,
-            },
-            DataItem::ByteString(string) => DataItem::ByteString(string.clone(alloc)?),
-            DataItem::TextString(string) => DataItem::TextString(string.clone(alloc)?),
-            DataItem::IndefiniteByteString(chunks) => {
-                DataItem::IndefiniteByteString(clone_byte_chunks(alloc, chunks)?)
+        match *self {
+            DataItem::Integer { value, bitwidth } => Ok(DataItem::Integer { value, bitwidth }),
+            DataItem::Negative { value, bitwidth } => Ok(DataItem::Negative { value, bitwidth }),
+            DataItem::ByteString(ref string) => Ok(DataItem::ByteString(string.clone(alloc)?)),
+            DataItem::TextString(ref string) => Ok(DataItem::TextString(string.clone(alloc)?)),
+            DataItem::IndefiniteByteString(ref chunks) => {
+                let chunks = clone_byte_chunks(alloc, chunks)?;
+                Ok(DataItem::IndefiniteByteString(chunks))
             }
-            DataItem::IndefiniteTextString(chunks) => {
-                DataItem::IndefiniteTextString(clone_text_chunks(alloc, chunks)?)
+            DataItem::IndefiniteTextString(ref chunks) => {
+                let chunks = clone_text_chunks(alloc, chunks)?;
+                Ok(DataItem::IndefiniteTextString(chunks))
             }
-            DataItem::Array { content, bitwidth } => DataItem::Array {
-                content: clone_items(alloc, content)?,
-                bitwidth: *bitwidth,
-            },
-            DataItem::Map { content, bitwidth } => DataItem::Map {
-                content: clone_pairs(alloc, content)?,
-                bitwidth: *bitwidth,
-            },
+            DataItem::Array {
+                ref content,
+                bitwidth,
+            } => {
+                let content = clone_items(alloc, content)?;
+                Ok(DataItem::Array { content, bitwidth })
+            }
+            DataItem::Map {
+                ref content,
+                ref bitwidth,
+            } => {
+                let content = clone_pairs(alloc, content)?;
+                let bitwidth = *bitwidth;
+                Ok(DataItem::Map { content, bitwidth })
+            }
             DataItem::Tag {
                 tag,
                 bitwidth,
-                value,
-            } => DataItem::Tag {
-                tag: *tag,
-                bitwidth: *bitwidth,
-                value: Box::new(alloc, DataItem::clone(value, alloc)?)?,
-            },
-            DataItem::Float { bits, bitwidth } => DataItem::Float {
-                bits: *bits,
-                bitwidth: *bitwidth,
-            },
-            DataItem::Simple(simple) => DataItem::Simple(*simple),
-        })
+                ref value,
+            } => {
+                let value = Box::new(alloc, DataItem::clone(value, alloc)?)?;
+                Ok(DataItem::Tag {
+                    tag,
+                    bitwidth,
+                    value,
+                })
+            }
+            DataItem::Float { bits, bitwidth } => Ok(DataItem::Float { bits, bitwidth }),
+            DataItem::Simple(simple) => Ok(DataItem::Simple(simple)),
+        }
     }
 }
 
