@@ -1,5 +1,6 @@
 -- How bytes, text and numbers are written in a comment.
-use Rattle.std.specs.Prelude.{ℕ, ◌%◌, ◌==◌, ◌&&◌, ◌||◌, nat_lt, nat_le, Bool, List, [], ◌∷◌, ◌++◌, length, if◌then◌else◌, codes, decimal, false, flat_map, encode_utf8}
+use Rattle.std.specs.Prelude.{◌≡◌, ◌<◌, ◌≤◌, ℕ, ◌%◌, ◌==◌, ◌&&◌, ◌||◌, nat_lt, nat_le, Bool, List, [], ◌∷◌, ◌++◌, length, if◌then◌else◌, codes, decimal, false, flat_map, encode_utf8}
+use Rattle.std.specs.List.{AllByRecursion, concat}
 use Rattle.std.specs.Fmt.{digits}
 use Rattle.std.specs.Str.{chars}
 use Rattle.hex.specs.Hex.{encode_lower}
@@ -57,3 +58,17 @@ minus_if negative = if negative then codes "-" else []
 -- a number in decimal digits, grouped, after a minus if it is negative
 abbrev pub grouped : ℕ → Bool → List ℕ
 grouped number negative = minus_if negative ++ in_groups (decimal number)
+
+-- digits with commas: a first group of one to three, and others of three, each after a comma
+pub record IsGrouped (digits text : List ℕ) : Type 0 where
+  pub first : List ℕ
+  pub others : List (List ℕ)
+  pub some : 0 < length first
+  pub short : length first ≤ 3
+  pub of_three : AllByRecursion (λ group. length group ≡ 3) others
+  pub digits_are : digits ≡ first ++ concat others
+  pub text_is : text ≡ first ++ flat_map (λ group. 44 ∷ group) others
+
+-- the text is a number in decimal digits, grouped so, after a minus if it is negative
+abbrev pub IsGroupedNumber : ℕ → Bool → List ℕ → Type 0
+IsGroupedNumber number negative text = (digits : List ℕ) × IsGrouped (decimal number) digits × (text ≡ minus_if negative ++ digits)

@@ -35,7 +35,7 @@ pub fn ipv6_text(alloc: Global, octets: &[u8; 16]) -> Result<String, AllocError>
 pub fn mac_text(alloc: Global, octets: &[u8; 6]) -> Result<String, AllocError>
     ensures text { IfOk result (λ text. string_bytes text ≡ spec.mac_text octets.now) }
 {
-    let mut text = String::new(alloc);
+    let mut text = String::with_capacity(alloc, 17)?;
     push_hex(&mut text, octets[0])?;
     for octet in &octets[1..] {
         text.push(':')?;

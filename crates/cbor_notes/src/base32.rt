@@ -29,6 +29,8 @@ enum Alphabet {
 /// The bytes that `digits` encode in base 32 (RFC 4648, section 6), or `None` where they encode none:
 /// another character, a length that is no multiple of eight, padding that is not the last group's, or
 /// an unused bit that is set. No digits encode no bytes.
+///
+/// The only refusal is want of memory.
 pub fn base32_decode(alloc: Global, digits: &[u8]) -> Result<Option<Vec<u8>>, AllocError>
     ensures found { IfOk result
         (λ found. IfSome found (λ bytes. AreBytes bytes.items × (digits.now ≡ base32 bytes.items))) }
@@ -43,6 +45,8 @@ pub fn base32_decode(alloc: Global, digits: &[u8]) -> Result<Option<Vec<u8>>, Al
 
 /// The bytes that `digits` encode in base 32 with the extended hex alphabet (RFC 4648, section 7), or
 /// `None` where they encode none, as `base32_decode` says.
+///
+/// The only refusal is want of memory.
 pub fn base32hex_decode(alloc: Global, digits: &[u8]) -> Result<Option<Vec<u8>>, AllocError>
     ensures found { IfOk result
         (λ found. IfSome found (λ bytes. AreBytes bytes.items × (digits.now ≡ base32hex bytes.items))) }
@@ -150,7 +154,8 @@ impl Alphabet {
     }
 }
 
-/// How many digits of a group stand before its padding: as few as a group of one to five bytes has.
+/// How many digits of a group stand before its padding: the fewest, of 2, 4, 5, 7 and 8, after which
+/// all are `=`.
 fn unpadded_len(digits: &[u8]) -> usize
     requires { length digits.now ≡ 8 }
     ensures count { IsDigitCount result }

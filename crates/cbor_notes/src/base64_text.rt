@@ -17,6 +17,8 @@ use std::alloc::{AllocError, Global};
 /// padding (RFC 4648, section 5), or in the standard alphabet with padding (section 4); or `None` where
 /// they encode none in either, by another character, a wrong length or padding, or an unused bit that
 /// is set. Digits that are both encode the same bytes in both.
+///
+/// The only refusal is want of memory.
 pub fn base64_any_decode(alloc: Global, digits: &[u8]) -> Result<Option<Vec<u8>>, AllocError>
     ensures found { IfOk result (λ found. IfSome found
         (λ bytes. AreBytes bytes.items
@@ -36,7 +38,8 @@ pub fn base64_any_decode(alloc: Global, digits: &[u8]) -> Result<Option<Vec<u8>>
 /// padding, if `url` is set (RFC 4648, section 5), and else in the standard alphabet with padding
 /// (section 4); or `None` where it encodes nothing in that one. There is a line for each sixteen decoded
 /// bytes: their hex digits, in the last line filled up with blanks to the width of the first one's, then
-/// ` # ` and the bytes as [`quoted_bytes`] writes them. Where nothing is decoded there are no lines.
+/// ` # ` and the bytes as [`quoted_bytes`] writes them. Where nothing is decoded there are no lines. The
+/// only refusal is want of memory.
 ///
 /// [`quoted_bytes`]: crate::quoted_bytes
 pub fn base64_lines(alloc: Global, text: &str, url: bool) -> Result<Option<Vec<String>>, AllocError>

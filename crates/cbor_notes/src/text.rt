@@ -16,7 +16,8 @@ use std::alloc::{AllocError, Global};
 pub fn quoted_bytes(alloc: Global, bytes: &[u8]) -> Result<String, AllocError>
     ensures text { IfOk result (λ text. string_bytes text ≡ spec.quoted_bytes bytes.now) }
 {
-    let mut text = String::new(alloc);
+    // Enough where each byte is written as it is.
+    let mut text = String::with_capacity(alloc, bytes.len().saturating_add(2))?;
     push_quoted_bytes(&mut text, bytes)?;
     Ok(text)
 }
@@ -65,14 +66,14 @@ pub(crate) fn push_hex(text: &mut String, byte: u8) -> Result<(), AllocError>
     text.push(char::from(digits[1]))
 }
 
-/// `text` with each of its characters escaped that would not stand well in a line: `"` and `\` after
-/// a backslash, a tab, a carriage return and a line feed as `\t`, `\r` and `\n`, the other characters
-/// U+0000 to U+001F and U+007F to U+009F as `\u{h}` with hex digits in lower case and no leading
-/// zero. No quotes are put round it. The only refusal is want of memory.
+/// `text` with some of its characters escaped: `"` and `\` stand after a backslash; a tab, a carriage
+/// return and a line feed are `\t`, `\r` and `\n`; the other characters of U+0000 to U+001F and
+/// U+007F to U+009F are `\u{h}` with hex digits in lower case and no leading zero. No quotes are put
+/// round it. The only refusal is want of memory.
 pub fn escaped_text(alloc: Global, text: &str) -> Result<String, AllocError>
     ensures text { IfOk result (λ escaped. string_bytes escaped ≡ spec.escaped_text text.now) }
 {
-    let mut escaped = String::new(alloc);
+    let mut escaped = String::with_capacity(alloc, text.len())?;
     for character in text.chars() {
         push_escaped_char(&mut escaped, character)?;
     }
@@ -103,6 +104,9 @@ fn push_escaped_char(text: &mut String, character: char) -> Result<(), AllocErro
 /// before it if `negative`: `999`, `1,000`, `-1,234,567`. The only refusal is want of memory.
 pub fn grouped(alloc: Global, number: u128, negative: bool) -> Result<String, AllocError>
     ensures text { IfOk result (λ text. string_bytes text ≡ spec.grouped number negative) }
+    // From the right, each group has three digits.
+    ensures by_three { IfOk result
+        (λ text. spec.IsGroupedNumber number negative (string_bytes text)) }
 {
     let mut text = String::new(alloc);
     if negative {
