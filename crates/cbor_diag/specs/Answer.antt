@@ -9,8 +9,8 @@ use Rattle.cbor_diag.specs.View.{view}
 use Rattle.cbor_diag.specs.Bytes.{any, Spells}
 use Rattle.cbor_diag.specs.Refused.{Cut, Fault}
 
--- what the front of an input is: an item, and how many bytes it takes; the beginning of an item; or
--- nothing that an item begins with, and why
+-- what the front of an input is: an item, and how many bytes it takes; cut before an item is whole and
+-- before any fault; or at fault, and why
 pub data Outcome : Type 0 where
   spelled : Item → ℕ → Outcome
   cut : Outcome

@@ -22,8 +22,8 @@ abbrev pub IsContent : StringKind → List ℕ → Type 0
 IsContent bytes_kind content = Unit {0}
 IsContent text_kind content = IsUtf8 content
 
--- Every item has one spelling, but a simple value below 24: `any` allows its byte and also `f8` and
--- the value, `strict` the byte alone.
+-- An item whose widths are stated has one spelling, but for simple values below 24 (RFC 7049 section
+-- 2.3): `any` allows their byte and also `f8` and the value, `strict` the byte alone.
 pub data Rule : Type 0 where
   any : Rule
   strict : Rule
@@ -32,7 +32,7 @@ abbrev pub SpellsSimple : Rule → List ℕ → ℕ → Type 0
 SpellsSimple any b n = ((n < 24) × (b ≡ (224 + n) ∷ [])) ⊎ ((n < 256) × (b ≡ 248 ∷ n ∷ []))
 SpellsSimple strict b n = ((n < 24) × (b ≡ (224 + n) ∷ [])) ⊎ ((24 ≤ n) × (n < 256) × (b ≡ 248 ∷ n ∷ []))
 
--- the float's bits in 2, 4 or 8 bytes, big endian
+-- the float's bits in 2, 4 or 8 bytes, big endian (RFC 7049 section 2.3)
 abbrev pub SpellsFloat : List ℕ → ℕ → FloatWidth → Type 0
 SpellsFloat b bits float_width.Unknown = ⊥
 SpellsFloat b bits float_width.Sixteen = FitsFloat float_width.Sixteen bits × (b ≡ 249 ∷ to_be_bytes w16 bits)
@@ -44,7 +44,8 @@ abbrev pub ChunkThen : StringKind → Chunk → List ℕ → (List ℕ → Type 
 ChunkThen kind c b Rest =
     IsContent kind c.bytes × HeadThen (major_of kind) (length c.bytes) c.width b (λ r. (rest : List ℕ) × (r ≡ c.bytes ++ rest) × Rest rest)
 
--- strings of definite length one after the other, and then the end
+-- the chunks of an indefinite string (RFC 7049 section 2.2.2): strings of definite length one after the
+-- other, and then the end
 abbrev pub SpellsChunks : StringKind → List ℕ → List Chunk → List ℕ → Type 0
 SpellsChunks kind b [] end = b ≡ end
 SpellsChunks kind b (c ∷ cs) end = ChunkThen kind c b (λ rest. SpellsChunks kind rest cs end)
@@ -53,6 +54,7 @@ SpellsChunks kind b (c ∷ cs) end = ChunkThen kind c b (λ rest. SpellsChunks k
 abbrev pub OpenThen : ℕ → List ℕ → (List ℕ → Type 0) → Type 0
 OpenThen major b Rest = (rest : List ℕ) × (b ≡ opening major ∷ rest) × Rest rest
 
+-- the bytes of an item that holds no item (RFC 7049 sections 2.1 to 2.3)
 abbrev pub SpellsAtom : Rule → List ℕ → Atom → Type 0
 SpellsAtom rule b (integer n w) = HeadThen 0 n w b (λ rest. rest ≡ [])
 SpellsAtom rule b (negative n w) = HeadThen 1 n w b (λ rest. rest ≡ [])
@@ -64,6 +66,7 @@ SpellsAtom rule b (float bits w) = SpellsFloat b bits w
 SpellsAtom rule b (simple n) = SpellsSimple rule b n
 
 -- a head with the count, then members and nothing else; or the opening byte, then members and the break
+-- (RFC 7049 sections 2.1 and 2.2.1)
 abbrev pub MembersThen : ℕ → ℕ → Option IntegerWidth → List ℕ → (List ℕ → List ℕ → Type 0) → Type 0
 MembersThen major n (Some w) b Members = HeadThen major n w b (λ rest. Members rest [])
 MembersThen major n None b Members = OpenThen major b (λ rest. Members rest (break_byte ∷ []))

@@ -7,6 +7,7 @@ use Rattle.cbor_diag.specs.declared.syntax.TextString.{TextString}
 use Rattle.cbor_diag.specs.declared.syntax.DataItem.{DataItem, fold-DataItem}
 use Rattle.cbor_diag.specs.declared.syntax.DataItem.TheOpen.{DataItem-F}
 
+-- a byte string, and a text string by its bytes
 abbrev pub byte_chunk : ByteString → Chunk
 byte_chunk s = record { bytes = s.content.items; width = s.bitwidth }
 
@@ -35,6 +36,7 @@ view_step (DataItem-F.Tag t w v) = spec.tagged t.0 w v.value
 view_step (DataItem-F.Float b w) = spec.atom (spec.float b w)
 view_step (DataItem-F.Simple s) = spec.atom (spec.simple s.0)
 
+-- the item that a data item is
 abbrev pub view : DataItem → Item
 view = fold-DataItem Item view_step
 

@@ -1,4 +1,4 @@
--- Which items have an encoding.
+-- Which items have an encoding (RFC 7049 section 2).
 use Rattle.std.specs.Prelude.{ℕ, ◌+◌, ◌^◌, ◌<◌, ◌≤◌, length, Option, Some, None, IsUtf8}
 use Rattle.std.specs.List.{AllByRecursion}
 use Rattle.cbor_diag.specs.declared.syntax.IntegerWidth.{IntegerWidth}
@@ -23,12 +23,14 @@ pub record IsTextChunk (c : Chunk) : Type 0 where
   pub bytes : AllByRecursion (λ b. b < 256) c.bytes
   pub utf8 : IsUtf8 c.bytes
 
+-- the bits of a float can be written in this width; an open one is 64 bits
 abbrev pub FitsFloat : FloatWidth → ℕ → Type 0
 FitsFloat float_width.Unknown bits = bits < 2 ^ 64
 FitsFloat float_width.Sixteen bits = bits < 2 ^ 16
 FitsFloat float_width.ThirtyTwo bits = bits < 2 ^ 32
 FitsFloat float_width.SixtyFour bits = bits < 2 ^ 64
 
+-- the numbers of an item that holds no item fit their widths
 abbrev pub WellAtom : Atom → Type 0
 WellAtom (integer n w) = FitsWidth w n
 WellAtom (negative n w) = FitsWidth w n

@@ -1,4 +1,4 @@
--- The one spelling that a writer gives an item, and the item that it reads as.
+-- The one spelling that a writer gives an item, and the item that it reads as (RFC 7049 section 2).
 use Rattle.std.specs.Prelude.{ℕ, ◌+◌, List, [], ◌∷◌, ◌++◌, length, map, Option, Some, None, nat_lt, if◌then◌else◌}
 use Rattle.std.specs.List.{flat_map}
 use Rattle.std.specs.Int.{w16, w32, w64, to_be_bytes}
@@ -32,6 +32,7 @@ enc_float bits float_width.SixtyFour = 251 ∷ to_be_bytes w64 bits
 abbrev pub enc_simple : ℕ → List ℕ
 enc_simple n = if nat_lt n 24 then (224 + n) ∷ [] else 248 ∷ n ∷ []
 
+-- the encoding of an item that holds no item
 abbrev pub enc_atom : Atom → List ℕ
 enc_atom (integer n w) = enc_head 0 n w
 enc_atom (negative n w) = enc_head 1 n w
@@ -52,6 +53,7 @@ abbrev pub enc_close : Option IntegerWidth → List ℕ
 enc_close (Some w) = []
 enc_close None = break_byte ∷ []
 
+-- The encoding of an item: each head in its width, or in the shortest that fits where it is open.
 abbrev mutual
   pub enc : Item → List ℕ
   enc (atom a) = enc_atom a

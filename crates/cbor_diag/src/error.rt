@@ -6,8 +6,8 @@ ghost use Rattle.cbor_diag.specs.declared.error.Error.TheVariants.{Memory};
 use std::alloc::{AllocError, AllocFailed};
 use std::fmt;
 
-/// Why a call refuses. A refusal changes no input and carries nothing; where several could be
-/// named, it is the first that is met from the left.
+/// Why a call refuses. A refusal changes no input and carries nothing. Of bytes it is the first that is
+/// met from the left; of hex `OddHex` comes before `BadHex`, and both before those of the bytes.
 #[derive(Clone, Copy, PartialEq, Eq, Debug)]
 pub enum Error {
     /// A growth of memory was refused.

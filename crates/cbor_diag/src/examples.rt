@@ -1,5 +1,5 @@
-//! What the definitions of `specs/` say of a few inputs: each is computed when the crate is checked,
-//! so that a wrong definition does not pass. Nothing calls these functions.
+//! What the definitions of `specs/` say of a few inputs: each is computed, or shown by a witness,
+//! when the crate is checked, so that a wrong definition does not pass. Nothing calls these functions.
 ghost use Rattle.std.specs.Prelude.{◌≡◌, [], ◌∷◌, ◌++◌, codes};
 ghost use Rattle.cbor_diag.specs.declared.error.Error.TheVariants.{Head, TooDeep};
 ghost use Rattle.cbor_diag.specs.declared.syntax.IntegerWidth.TheVariants.{Unknown, Eight, Sixteen};

@@ -1,6 +1,6 @@
 -- Known texts, computed from the definitions alone.
 use lib.Utf8.{encode}
-use Rattle.std.proofs.Common.{◌≡◌, true, false, [], ◌∷◌, ◌++◌, replicate, codes, refl}
+use Rattle.std.proofs.Common.{◌≡◌, ℕ, List, true, false, [], ◌∷◌, ◌++◌, replicate, codes, refl}
 use Rattle.std.specs.Fmt.{digits}
 use Rattle.std.specs.Str.{chars}
 use Rattle.base64.proofs.OnLiterals.{base64_on_literals}
@@ -8,7 +8,7 @@ use Rattle.hex.specs.Hex.{encode_with}
 use Rattle.uuid.proofs.OnLiterals.{uuid_on_literals}
 use Rattle.cbor_notes.specs.Address.{hex_text, ipv4_text, ipv6_text, mac_text}
 use Rattle.cbor_notes.specs.Base58.{base58_of}
-use Rattle.cbor_notes.specs.Identifier.{fields_line, uuid_lines}
+use Rattle.cbor_notes.specs.Identifier.{base16_line, base64_line, fields_line, uuid_lines}
 use Rattle.cbor_notes.specs.Text.{escaped_text, grouped, quoted_bytes}
 
 -- groups of three digits
@@ -80,3 +80,19 @@ uuid_lines-nil = refl
 fields_line-max : fields_line (replicate 16 0xff) ≡ codes "uuid(variant(Future), version(15, Max))"
 unfolding digits
 fields_line-max = refl
+
+-- the example of RFC 4122, section 3
+abbrev example : List ℕ
+example = 0xf8 ∷ 0x1d ∷ 0x4f ∷ 0xae ∷ 0x7d ∷ 0xec ∷ 0x11 ∷ 0xd0 ∷ 0xa7 ∷ 0x65 ∷ 0x00 ∷ 0xa0 ∷ 0xc9 ∷ 0x1e ∷ 0x6b ∷ 0xf6 ∷ []
+
+fields_line-example : fields_line example ≡ codes "uuid(variant(RFC4122), version(1, Mac))"
+unfolding digits
+fields_line-example = refl
+
+base16_line-example : base16_line example ≡ codes "base16(f81d4fae-7dec-11d0-a765-00a0c91e6bf6)"
+unfolding uuid_on_literals
+base16_line-example = refl
+
+base64_line-example : base64_line example ≡ codes "base64(+B1Prn3sEdCnZQCgyR5r9g)"
+unfolding base64_on_literals
+base64_line-example = refl

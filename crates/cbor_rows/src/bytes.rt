@@ -183,11 +183,11 @@ fn an_item_may_stand_at_level_128(rt: HostRuntime) -> Result<(), Fail> {
 #[test]
 fn no_item_may_stand_at_level_129(rt: HostRuntime) -> Result<(), Fail> {
     let alloc = rt.alloc();
-    for opening in [0xc0, 0x81] {
+    for (opening, end) in [(0xc0, b"\x60"), (0x81, b"\x01")] {
         let open = nested(alloc, opening, 128, b"")?;
         assert_eq!(rt; parse_bytes(alloc, &open).err(), Some(Error::CutShort));
         assert_eq!(rt; parse_bytes_partial(alloc, &open)?, None);
-        let deep = nested(alloc, opening, 128, b"\x01")?;
+        let deep = nested(alloc, opening, 128, end)?;
         assert_eq!(rt; parse_bytes(alloc, &deep).err(), Some(Error::TooDeep));
         assert_eq!(rt;
             parse_bytes_partial(alloc, &deep).err(),

@@ -22,4 +22,6 @@ mod refusals;
 #[cfg(test)]
 mod standard;
 #[cfg(test)]
+mod tags;
+#[cfg(test)]
 mod written;

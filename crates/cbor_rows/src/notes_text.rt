@@ -1,5 +1,5 @@
-// The texts of `cbor_notes` that know no item. Where a comment names no source, the values are those
-// that docs/NOTES.md gives; base 58 and base 64 of the UUIDs of RFC 4122 were computed by an
+// The texts of `cbor_notes` that know no item. Where a comment names no source, the values were written
+// by hand from the rules of docs/NOTES.md; base 58 and base 64 of the UUIDs of RFC 4122 were computed by an
 // independent implementation.
 
 use cbor_notes::{escaped_text, grouped, ipv4_text, ipv6_text, mac_text, quoted_bytes, uuid_lines};
@@ -56,7 +56,7 @@ fn text_is_escaped(rt: HostRuntime) -> Result<(), Fail> {
     Ok(())
 }
 
-// RFC 5737 and RFC 7042 set these aside for documentation.
+// The first of each is set aside for documentation, by RFC 5737 and RFC 7042.
 #[test]
 fn ipv4_and_mac_addresses(rt: HostRuntime) -> Result<(), Fail> {
     let alloc = rt.alloc();

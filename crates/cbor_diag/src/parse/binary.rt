@@ -276,8 +276,8 @@ pub fn parse_bytes(alloc: Global, bytes: &[u8]) -> Result<DataItem>
 }
 
 /// Reads one item from the front of the bytes, and says how many of them it takes; more may follow.
-/// `None` where the bytes end before the item does, so that the start of an item can be told from
-/// what no item begins with.
+/// `None` where the bytes end before the item does and before any fault; the bytes that follow may
+/// complete the item or bring a fault.
 ///
 /// Refuses with the first fault from the left: `Head`, `Utf8` or `TooDeep`. Memory is taken as by
 /// `parse_bytes`.
