@@ -1,4 +1,4 @@
-use Rattle.std.proofs.Common.{◌≡◌, ◌++◌, ap, ◌∙◌, sym, string_bytes, arith}
+use Rattle.std.proofs.Common.{◌≡◌, string_bytes, arith}
 use Rattle.std.proofs.lemmas.Grind.{common_steps}
 use Rattle.cbor_notes.specs.Text as spec
 use Rattle.cbor_notes.proofs.Groups.{number_is_grouped}
