@@ -10,7 +10,7 @@ use Rattle.cbor_diag.proofs.Heads.{IsBytes, cons_is, head_append}
 use Rattle.cbor_diag.proofs.Chunks.{chunks_append}
 use Rattle.cbor_diag.proofs.HeadRefusals.{err_is, head_bad}
 use Rattle.cbor_diag.proofs.StringRefusals as strings
-use Rattle.cbor_diag.proofs.Short.{fault_no_cut}
+use Rattle.cbor_diag.proofs.CutShort.{fault_no_cut}
 use Rattle.cbor_diag.proofs.Refusals.{Refusal, is_cut, is_fault, refused, item_nothing, inside_refuses, content_refuses_item, chunk_refuses_item}
 
 -- ---- a fault that reading found

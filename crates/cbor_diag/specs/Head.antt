@@ -19,12 +19,12 @@ FitsStated Unknown n = ⊥
 FitsStated w n = FitsWidth w n
 
 -- the first width that the number fits
-abbrev pub short : ℕ → IntegerWidth
-short n = if nat_lt n 24 then Zero else if nat_lt n (2 ^ 8) then Eight else if nat_lt n (2 ^ 16) then Sixteen else if nat_lt n (2 ^ 32) then ThirtyTwo else SixtyFour
+abbrev pub shortest : ℕ → IntegerWidth
+shortest n = if nat_lt n 24 then Zero else if nat_lt n (2 ^ 8) then Eight else if nat_lt n (2 ^ 16) then Sixteen else if nat_lt n (2 ^ 32) then ThirtyTwo else SixtyFour
 
 -- the width that a number is written in
 abbrev pub stated : IntegerWidth → ℕ → IntegerWidth
-stated Unknown n = short n
+stated Unknown n = shortest n
 stated w n = w
 
 -- Three bits of major type, then five of info: the number itself up to 23, or 24 to 27 and the number

@@ -10,13 +10,13 @@ use Rattle.cbor_diag.specs.Bytes.{any, Spells}
 use Rattle.cbor_diag.specs.Answer.{IsRefused}
 
 -- of one line, what stands before its first `#`, without spaces
-abbrev pub kept : List ℕ → List ℕ
-kept line = filter (λ b. not (b == 32)) (before_first (λ b. b == 35) line)
+abbrev pub uncommented : List ℕ → List ℕ
+uncommented line = filter (λ b. not (b == 32)) (before_first (λ b. b == 35) line)
 
 -- What is kept of all lines. A line ends at a line feed, and one carriage return right before it belongs
 -- to the end.
 abbrev pub strip : List ℕ → List ℕ
-strip text = flat_map kept (lines text)
+strip text = flat_map uncommented (lines text)
 
 -- the digits are those of an item's bytes
 abbrev pub IsHexOf : List ℕ → Item → Type 0

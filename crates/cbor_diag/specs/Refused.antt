@@ -83,4 +83,4 @@ pub data Fault : ℕ → List ℕ → Error → Type 0 where
   bad_text : {level : ℕ} {b : List ℕ} → level ≤ deepest → BadText b → Fault level b Utf8
   bad_chunk_head : {level : ℕ} {b : List ℕ} (kind : StringKind) (rest : List ℕ) → level ≤ deepest → InsideString kind b rest → NoChunk kind rest → Fault level b Head
   bad_chunk_text : {level : ℕ} {b : List ℕ} (rest : List ℕ) → level ≤ deepest → InsideString text_kind b rest → BadText rest → Fault level b Utf8
-  bad_part : {level : ℕ} {b : List ℕ} {kind : Error} (next : Next) (rest : List ℕ) → level ≤ deepest → Inside next level b rest → NoBreakAt next rest → Fault (level + 1) rest kind → Fault level b kind
+  bad_part : {level : ℕ} {b : List ℕ} {error : Error} (next : Next) (rest : List ℕ) → level ≤ deepest → Inside next level b rest → NoBreakAt next rest → Fault (level + 1) rest error → Fault level b error

@@ -6,7 +6,7 @@ use Rattle.cbor_diag.specs.Item.{Item}
 use Rattle.cbor_diag.specs.Bytes.{any, Spells}
 use Rattle.cbor_diag.specs.Answer.{IsRefused}
 use Rattle.cbor_diag.specs.HexText.{IsHexOf, IsHexRefused}
-use Rattle.cbor_diag.specs.Written.{enc}
+use Rattle.cbor_diag.specs.Written.{encoded}
 use Rattle.cbor_view.specs.declared.words.Source.{Source}
 use Rattle.cbor_view.specs.declared.words.Source.TheVariants as source
 use Rattle.cbor_view.specs.declared.words.To.{To}
@@ -25,7 +25,7 @@ Refuses source.Hex input e =
 
 -- what is written of an item in that form
 abbrev pub output_of : To → Item → List ℕ
-output_of target.Bytes i = enc i
+output_of target.Bytes i = encoded i
 
 -- the output for the input: the item that it is, in its form; or why it is none
 abbrev pub IsOutput : Source → To → List ℕ → Result (List ℕ) Error → Type 0

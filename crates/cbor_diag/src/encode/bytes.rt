@@ -1,12 +1,12 @@
 //! Writes an item as bytes (RFC 7049 section 2), each byte once, at the end of one vector.
 ghost use Rattle.std.specs.Prelude.{◌≡◌, ◌+◌, ◌*◌, ◌<◌, ◌≤◌, ◌^◌, ◌++◌, ◌∷◌, [], ℕ, List, ◌↔◌, length, map, OnOk, IfOk, IfErr};
 ghost use Rattle.std.specs.List.{AllByRecursion};
-ghost use Rattle.cbor_diag.specs.Head.{FitsWidth, FitsStated, short, stated, opening, break_byte};
+ghost use Rattle.cbor_diag.specs.Head.{FitsWidth, FitsStated, shortest, stated, opening, break_byte};
 ghost use Rattle.cbor_diag.specs.View.{view, items_view, pairs_view, byte_chunk, text_chunk};
-ghost use Rattle.cbor_diag.specs.WellFormed.{Well, WellItems, WellPairs, FitsFloat, FitsCount, IsByteChunk, IsTextChunk};
+ghost use Rattle.cbor_diag.specs.WellFormed.{WellFormed, WellFormedItems, WellFormedPairs, FitsFloat, FitsCount, IsByteChunk, IsTextChunk};
 ghost use Rattle.cbor_diag.specs.Bytes.{any, strict, Spells};
 ghost use Rattle.cbor_diag.specs.Item.{Item};
-ghost use Rattle.cbor_diag.specs.Written.{enc, resolve, enc_items, enc_pairs, enc_head, enc_float, enc_simple, enc_chunk, enc_chunks, enc_open, enc_close};
+ghost use Rattle.cbor_diag.specs.Written.{encoded, resolve, encoded_items, encoded_pairs, encoded_head, encoded_float, encoded_simple, encoded_chunk, encoded_chunks, encoded_open, encoded_close};
 
 use crate::error::Error;
 use crate::syntax::{ByteString, DataItem, FloatWidth, IntegerWidth, Simple, TextString};
@@ -15,7 +15,7 @@ use std::alloc::{AllocError, Global};
 impl IntegerWidth {
     /// The shortest width that the number fits.
     fn shortest(number: u64) -> IntegerWidth
-        ensures same { result ≡ short number }
+        ensures same { result ≡ shortest number }
         ensures fits { FitsStated result number }
     {
         match number {
@@ -49,7 +49,7 @@ fn push_head(
 ) -> Result<(), AllocError>
     requires major { major < 8 }
     requires fits { FitsWidth width number }
-    ensures { OnOk result (out.new.items ≡ out.old.items ++ enc_head major number width) }
+    ensures { OnOk result (out.new.items ≡ out.old.items ++ encoded_head major number width) }
 {
     let first = major * 32;
     match width.stated(number) {
@@ -77,7 +77,7 @@ fn push_head(
 /// Writes a byte string of definite length.
 fn push_byte_string(out: &mut Vec<u8>, string: &ByteString) -> Result<(), AllocError>
     requires { IsByteChunk (byte_chunk string.now) }
-    ensures { OnOk result (out.new.items ≡ out.old.items ++ enc_chunk 2 (byte_chunk string.now)) }
+    ensures { OnOk result (out.new.items ≡ out.old.items ++ encoded_chunk 2 (byte_chunk string.now)) }
 {
     push_head(out, 2, string.content.len() as u64, string.bitwidth)?;
     out.extend_from_slice(&string.content)?;
@@ -87,7 +87,7 @@ fn push_byte_string(out: &mut Vec<u8>, string: &ByteString) -> Result<(), AllocE
 /// Writes a text string of definite length.
 fn push_text_string(out: &mut Vec<u8>, string: &TextString) -> Result<(), AllocError>
     requires { IsTextChunk (text_chunk string.now) }
-    ensures { OnOk result (out.new.items ≡ out.old.items ++ enc_chunk 3 (text_chunk string.now)) }
+    ensures { OnOk result (out.new.items ≡ out.old.items ++ encoded_chunk 3 (text_chunk string.now)) }
 {
     push_head(out, 3, string.content.len() as u64, string.bitwidth)?;
     out.extend_from_slice(string.content.as_bytes())?;
@@ -97,7 +97,7 @@ fn push_text_string(out: &mut Vec<u8>, string: &TextString) -> Result<(), AllocE
 /// Writes a float by its bits.
 fn push_float(out: &mut Vec<u8>, bits: u64, width: FloatWidth) -> Result<(), AllocError>
     requires { FitsFloat width bits }
-    ensures { OnOk result (out.new.items ≡ out.old.items ++ enc_float bits width) }
+    ensures { OnOk result (out.new.items ≡ out.old.items ++ encoded_float bits width) }
 {
     match width {
         FloatWidth::Sixteen => {
@@ -118,7 +118,7 @@ fn push_float(out: &mut Vec<u8>, bits: u64, width: FloatWidth) -> Result<(), All
 
 /// Writes a simple value.
 fn push_simple(out: &mut Vec<u8>, value: u8) -> Result<(), AllocError>
-    ensures { OnOk result (out.new.items ≡ out.old.items ++ enc_simple value) }
+    ensures { OnOk result (out.new.items ≡ out.old.items ++ encoded_simple value) }
 {
     if value < 24 {
         out.push(0xe0 + value)?;
@@ -138,7 +138,7 @@ fn push_open(
 ) -> Result<(), AllocError>
     requires major { major < 8 }
     requires fits { FitsCount width count }
-    ensures { OnOk result (out.new.items ≡ out.old.items ++ enc_open major count width) }
+    ensures { OnOk result (out.new.items ≡ out.old.items ++ encoded_open major count width) }
 {
     match width {
         Some(width) => push_head(out, major, count as u64, width),
@@ -151,7 +151,7 @@ fn push_open(
 
 /// Writes what stands after the members of a container: nothing, or the break.
 fn push_close(out: &mut Vec<u8>, width: Option<IntegerWidth>) -> Result<(), AllocError>
-    ensures { OnOk result (out.new.items ≡ out.old.items ++ enc_close width) }
+    ensures { OnOk result (out.new.items ≡ out.old.items ++ encoded_close width) }
 {
     if width.is_none() {
         out.push(0xff)?;
@@ -162,7 +162,7 @@ fn push_close(out: &mut Vec<u8>, width: Option<IntegerWidth>) -> Result<(), Allo
 /// Writes the chunks of an indefinite byte string, from its opening byte to its break.
 fn push_byte_chunks(out: &mut Vec<u8>, chunks: &[ByteString]) -> Result<(), AllocError>
     requires { AllByRecursion IsByteChunk (map byte_chunk chunks.now) }
-    ensures { OnOk result (out.new.items ≡ out.old.items ++ enc_chunks 2 (map byte_chunk chunks.now)) }
+    ensures { OnOk result (out.new.items ≡ out.old.items ++ encoded_chunks 2 (map byte_chunk chunks.now)) }
 {
     out.push(0x5f)?;
     'chunks: for chunk in chunks {
@@ -175,7 +175,7 @@ fn push_byte_chunks(out: &mut Vec<u8>, chunks: &[ByteString]) -> Result<(), Allo
 /// Writes the chunks of an indefinite text string, from its opening byte to its break.
 fn push_text_chunks(out: &mut Vec<u8>, chunks: &[TextString]) -> Result<(), AllocError>
     requires { AllByRecursion IsTextChunk (map text_chunk chunks.now) }
-    ensures { OnOk result (out.new.items ≡ out.old.items ++ enc_chunks 3 (map text_chunk chunks.now)) }
+    ensures { OnOk result (out.new.items ≡ out.old.items ++ encoded_chunks 3 (map text_chunk chunks.now)) }
 {
     out.push(0x7f)?;
     'chunks: for chunk in chunks {
@@ -188,8 +188,8 @@ fn push_text_chunks(out: &mut Vec<u8>, chunks: &[TextString]) -> Result<(), Allo
 /// Writes an item.
 #[cycle(push)]
 fn push_item(out: &mut Vec<u8>, item: &DataItem) -> Result<(), AllocError>
-    requires { (level : ℕ) × Well level (view item.now) }
-    ensures { OnOk result (out.new.items ≡ out.old.items ++ enc (view item.now)) }
+    requires { (level : ℕ) × WellFormed level (view item.now) }
+    ensures { OnOk result (out.new.items ≡ out.old.items ++ encoded (view item.now)) }
 {
     match item {
         DataItem::Integer { value, bitwidth } => push_head(out, 0, *value, *bitwidth),
@@ -224,8 +224,8 @@ fn push_item(out: &mut Vec<u8>, item: &DataItem) -> Result<(), AllocError>
 /// Writes items one after the other.
 #[cycle(push)]
 fn push_items(out: &mut Vec<u8>, items: &Vec<DataItem>) -> Result<(), AllocError>
-    requires { (level : ℕ) × WellItems level (items_view items.now.items) }
-    ensures { OnOk result (out.new.items ≡ out.old.items ++ enc_items (items_view items.now.items)) }
+    requires { (level : ℕ) × WellFormedItems level (items_view items.now.items) }
+    ensures { OnOk result (out.new.items ≡ out.old.items ++ encoded_items (items_view items.now.items)) }
 {
     'items: for item in items {
         push_item(out, item)?;
@@ -236,8 +236,8 @@ fn push_items(out: &mut Vec<u8>, items: &Vec<DataItem>) -> Result<(), AllocError
 /// Writes each key and then its value.
 #[cycle(push)]
 fn push_pairs(out: &mut Vec<u8>, pairs: &Vec<(DataItem, DataItem)>) -> Result<(), AllocError>
-    requires { (level : ℕ) × WellPairs level (pairs_view pairs.now.items) }
-    ensures { OnOk result (out.new.items ≡ out.old.items ++ enc_pairs (pairs_view pairs.now.items)) }
+    requires { (level : ℕ) × WellFormedPairs level (pairs_view pairs.now.items) }
+    ensures { OnOk result (out.new.items ≡ out.old.items ++ encoded_pairs (pairs_view pairs.now.items)) }
 {
     'pairs: for (key, value) in pairs {
         push_item(out, key)?;
@@ -252,8 +252,8 @@ impl DataItem {
     ///
     /// The item has to be well formed, which `is_well_formed` tells. Refuses with `Memory` alone.
     pub fn to_bytes(&self, alloc: Global) -> crate::Result<Vec<u8>>
-        requires { Well 1 (view self.now) }
-        ensures bytes { IfOk result (λ v. v.items ≡ enc (view self.now)) }
+        requires { WellFormed 1 (view self.now) }
+        ensures bytes { IfOk result (λ v. v.items ≡ encoded (view self.now)) }
         // What is written is the one strict spelling of the item with its open widths resolved.
         ensures strictly { IfOk result (λ v. Spells strict 1 v.items (resolve (view self.now))) }
         ensures no_other { IfOk result (λ v.
@@ -261,8 +261,8 @@ impl DataItem {
         // So it is read back as that item.
         ensures read_back { IfOk result (λ v. Spells any 1 v.items (resolve (view self.now))) }
         // Two items are written alike exactly where they are the same but for open widths.
-        ensures alike { (other : Item) → Well 1 other
-            → (enc (view self.now) ≡ enc other) ↔ (resolve (view self.now) ≡ resolve other) }
+        ensures alike { (other : Item) → WellFormed 1 other
+            → (encoded (view self.now) ≡ encoded other) ↔ (resolve (view self.now) ≡ resolve other) }
         ensures refused { IfErr result (λ e. e ≡ Error.Memory) }
     {
         let mut out = Vec::new(alloc);

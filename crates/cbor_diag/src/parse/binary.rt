@@ -11,14 +11,14 @@ ghost use Rattle.cbor_diag.specs.Item.{Item};
 ghost use Rattle.cbor_diag.specs.Bytes.{any, strict, Spells};
 ghost use Rattle.cbor_diag.specs.Refused.{Cut, Fault};
 ghost use Rattle.cbor_diag.specs.View.{view, items_view, pairs_view};
-ghost use Rattle.cbor_diag.specs.WellFormed.{Well};
-ghost use Rattle.cbor_diag.specs.Written.{enc};
+ghost use Rattle.cbor_diag.specs.WellFormed.{WellFormed};
+ghost use Rattle.cbor_diag.specs.Written.{encoded};
 ghost use Rattle.cbor_diag.specs.Answer.{Outcome, spelled, IsOutcome, OneOutcome, HasOutcome, HasAnswer, Gave, GaveItem, GaveRefusal, IsRefused, RefusedSo, MayWantMemory, size};
 ghost use Rattle.cbor_diag.specs.Reading.{Gives, HoldsContent, break_at, too_deep_at, item_at, body_at, items_at, pair_at, pairs_at, open_items_at, open_pairs_at};
 
 use crate::error::{Error, Result};
 use crate::syntax::{DEEPEST, DataItem, Simple, Tag};
-use head::{Head, head_at};
+use head::{ItemHead, head_at};
 use std::alloc::Global;
 use strings::{byte_chunks_at, bytes_at, text_at, text_chunks_at};
 
@@ -61,7 +61,7 @@ fn item_at(alloc: Global, bytes: &[u8], level: u8) -> Result<(DataItem, &[u8])>
 
 /// The item behind its head; the items in it stand at `inner`, from 2 to 129.
 #[cycle(item)]
-fn body_at(alloc: Global, head: Head, bytes: &[u8], inner: u8) -> Result<(DataItem, &[u8])>
+fn body_at(alloc: Global, head: ItemHead, bytes: &[u8], inner: u8) -> Result<(DataItem, &[u8])>
     requires { inner ≤ 129 }
     ensures gives { Gives (λ x. (view x.0, x.1.now)) result
         (body_at (item_at (129 - inner)) head bytes.now) }
@@ -69,27 +69,27 @@ fn body_at(alloc: Global, head: Head, bytes: &[u8], inner: u8) -> Result<(DataIt
     ensures memory { result ≡ Err Error.Memory → HoldsContent head }
 {
     match head {
-        Head::Integer(value, bitwidth) => Ok((DataItem::Integer { value, bitwidth }, bytes)),
-        Head::Negative(value, bitwidth) => Ok((DataItem::Negative { value, bitwidth }, bytes)),
-        Head::Bytes(count, bitwidth) => {
+        ItemHead::Integer(value, bitwidth) => Ok((DataItem::Integer { value, bitwidth }, bytes)),
+        ItemHead::Negative(value, bitwidth) => Ok((DataItem::Negative { value, bitwidth }, bytes)),
+        ItemHead::Bytes(count, bitwidth) => {
             let (string, rest) = bytes_at(alloc, count, bitwidth, bytes)?;
             Ok((DataItem::ByteString(string), rest))
         }
-        Head::Text(count, bitwidth) => {
+        ItemHead::Text(count, bitwidth) => {
             let (string, rest) = text_at(alloc, count, bitwidth, bytes)?;
             Ok((DataItem::TextString(string), rest))
         }
-        Head::Array(count, width) => {
+        ItemHead::Array(count, width) => {
             let (content, rest) = items_at(alloc, count, bytes, inner)?;
             let bitwidth = Some(width);
             Ok((DataItem::Array { content, bitwidth }, rest))
         }
-        Head::Map(count, width) => {
+        ItemHead::Map(count, width) => {
             let (content, rest) = pairs_at(alloc, count, bytes, inner)?;
             let bitwidth = Some(width);
             Ok((DataItem::Map { content, bitwidth }, rest))
         }
-        Head::Tag(number, bitwidth) => {
+        ItemHead::Tag(number, bitwidth) => {
             let (value, rest) = item_at(alloc, bytes, inner)?;
             let (tag, value) = (Tag(number), Box::new(alloc, value)?);
             Ok((
@@ -101,27 +101,27 @@ fn body_at(alloc: Global, head: Head, bytes: &[u8], inner: u8) -> Result<(DataIt
                 rest,
             ))
         }
-        Head::Float(bits, bitwidth) => Ok((DataItem::Float { bits, bitwidth }, bytes)),
-        Head::Simple(value) => Ok((DataItem::Simple(Simple(value)), bytes)),
-        Head::OpenBytes => {
+        ItemHead::Float(bits, bitwidth) => Ok((DataItem::Float { bits, bitwidth }, bytes)),
+        ItemHead::Simple(value) => Ok((DataItem::Simple(Simple(value)), bytes)),
+        ItemHead::OpenBytes => {
             let (chunks, rest) = byte_chunks_at(alloc, bytes)?;
             Ok((DataItem::IndefiniteByteString(chunks), rest))
         }
-        Head::OpenText => {
+        ItemHead::OpenText => {
             let (chunks, rest) = text_chunks_at(alloc, bytes)?;
             Ok((DataItem::IndefiniteTextString(chunks), rest))
         }
-        Head::OpenArray => {
+        ItemHead::OpenArray => {
             let (content, rest) = open_items_at(alloc, bytes, inner)?;
             let bitwidth = None;
             Ok((DataItem::Array { content, bitwidth }, rest))
         }
-        Head::OpenMap => {
+        ItemHead::OpenMap => {
             let (content, rest) = open_pairs_at(alloc, bytes, inner)?;
             let bitwidth = None;
             Ok((DataItem::Map { content, bitwidth }, rest))
         }
-        Head::Break => Err(Error::Head),
+        ItemHead::Break => Err(Error::Head),
     }
 }
 
@@ -266,9 +266,9 @@ pub fn parse_bytes(alloc: Global, bytes: &[u8]) -> Result<DataItem>
     ensures refused { RefusedSo result (IsRefused 1 bytes.now) }
     ensures every_refusal { (e : Error) → IsRefused 1 bytes.now e → GaveRefusal result e }
     ensures memory { result ≡ Err Error.Memory → MayWantMemory bytes.now }
-    ensures well_formed { IfOk result (λ i. Well 1 (view i)) }
+    ensures well_formed { IfOk result (λ i. WellFormed 1 (view i)) }
     ensures written_again { IfOk result (λ i.
-        (enc (view i) ≡ bytes.now) ↔ Spells strict 1 bytes.now (view i)) }
+        (encoded (view i) ≡ bytes.now) ↔ Spells strict 1 bytes.now (view i)) }
     ensures items_bounded { IfOk result (λ i. size (view i) ≤ length bytes.now) }
     ensures fronts_cut { OnOk result ((n : ℕ) → n < length bytes.now → Cut 1 (take n bytes.now)) }
 {
@@ -288,7 +288,7 @@ pub fn parse_bytes_partial(alloc: Global, bytes: &[u8]) -> Result<Option<(DataIt
     ensures fault { RefusedSo result (Fault 1 bytes.now) }
     ensures exact { (o : Outcome) → IsOutcome 1 bytes.now o → Gave result o }
     ensures one_of_three { OneOutcome 1 bytes.now }
-    ensures well_formed { IfOk result (λ o. IfSome o (λ x. Well 1 (view x.0))) }
+    ensures well_formed { IfOk result (λ o. IfSome o (λ x. WellFormed 1 (view x.0))) }
     ensures fault_stays { RefusedSo result (λ e. (more : List ℕ) → Fault 1 (bytes.now ++ more) e) }
     ensures found_stays { IfOk result (λ o. IfSome o (λ x.
         (more : List ℕ) → IsOutcome 1 (bytes.now ++ more) (spelled (view x.0) x.1))) }
