@@ -7,9 +7,7 @@ pub mod Base32Padding
 pub mod Base58Digits
 pub mod Base58Lemmas
 pub mod Base64Digits
-mod BaseExamples
 pub mod DecodedLineLemmas
 pub mod Groups
 pub mod HexLemmas
 pub mod Places
-mod TextExamples

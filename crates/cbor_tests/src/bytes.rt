@@ -157,6 +157,10 @@ fn floats_and_simple_values_are_read(rt: HostRuntime) -> Result<(), Fail> {
         parse_bytes(alloc, b"\xf8\x14")?,
         DataItem::Simple(Simple(20))
     );
+    assert_eq!(rt;
+        parse_bytes_partial(alloc, b"\xf8\x14")?,
+        Some((DataItem::Simple(Simple(20)), 2))
+    );
     Ok(())
 }
 
@@ -170,13 +174,20 @@ fn nested(alloc: Global, opening: u8, depth: usize, end: &[u8]) -> Result<Vec<u8
 #[test]
 fn an_item_may_stand_at_level_128(rt: HostRuntime) -> Result<(), Fail> {
     let alloc = rt.alloc();
-    assert!(rt; parse_bytes(alloc, &nested(alloc, 0xc0, 127, b"\x60")?).is_ok());
-    assert!(rt; parse_bytes(alloc, &nested(alloc, 0x81, 127, b"\x01")?).is_ok());
     let breaks = nested(alloc, 0xff, 128, b"")?;
-    assert!(rt; parse_bytes(alloc, &nested(alloc, 0x9f, 128, &breaks)?).is_ok());
-    // chunks have no level
-    let chunked = nested(alloc, 0x81, 127, b"\x5f\x41\x01\xff")?;
-    assert!(rt; parse_bytes(alloc, &chunked).is_ok());
+    let deepest = [
+        nested(alloc, 0xc0, 127, b"\x60")?,
+        nested(alloc, 0x81, 127, b"\x01")?,
+        nested(alloc, 0x9f, 128, &breaks)?,
+        // chunks have no level
+        nested(alloc, 0x81, 127, b"\x5f\x41\x01\xff")?,
+    ];
+    for bytes in &deepest {
+        let item = parse_bytes(alloc, bytes)?;
+        let (front, used) = parse_bytes_partial(alloc, bytes)?.ok_or("nothing read")?;
+        assert_eq!(rt; used, bytes.len());
+        assert_eq!(rt; front, item);
+    }
     Ok(())
 }
 

@@ -24,3 +24,25 @@ fn refusals_have_texts_and_numbers(rt: HostRuntime) -> Result<(), Fail> {
     }
     Ok(())
 }
+
+// The name alone, since a refusal carries nothing.
+#[test]
+fn refusals_have_debug_texts(rt: HostRuntime) -> Result<(), Fail> {
+    let all = [
+        (Error::Memory, "Memory"),
+        (Error::CutShort, "CutShort"),
+        (Error::Head, "Head"),
+        (Error::Utf8, "Utf8"),
+        (Error::TooDeep, "TooDeep"),
+        (Error::Remaining, "Remaining"),
+        (Error::OddHex, "OddHex"),
+        (Error::BadHex, "BadHex"),
+        (Error::Notation, "Notation"),
+        (Error::PastWidth, "PastWidth"),
+    ];
+    for (error, text) in all {
+        let debug = format!(in rt.alloc(); "{error:?}")?;
+        assert_eq!(rt; debug.as_str(), text);
+    }
+    Ok(())
+}

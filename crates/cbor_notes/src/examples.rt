@@ -1,0 +1,87 @@
+//! What the definitions of `specs/` say of a few inputs: each is computed when the crate is checked, so
+//! that a wrong definition does not pass. Nothing calls these functions.
+ghost use Rattle.std.specs.Prelude.{◌≡◌, [], ◌∷◌, ◌++◌, map, replicate, codes, true, false};
+ghost use Rattle.cbor_notes.specs.Address.{ipv4_text, ipv6_text, mac_text};
+ghost use Rattle.cbor_notes.specs.Base32.{base32, base32hex};
+ghost use Rattle.cbor_notes.specs.Base58.{base58_of};
+ghost use Rattle.cbor_notes.specs.Base64.{standard, url_safe};
+ghost use Rattle.cbor_notes.specs.DecodedLines.{decoded_lines};
+ghost use Rattle.cbor_notes.specs.Identifier.{fields_line, base16_line, base64_line, uuid_lines};
+ghost use Rattle.cbor_notes.specs.Text.{escaped_text, grouped, quoted_bytes};
+
+/// The test vectors of RFC 4648, section 10.
+pub(crate) fn base32_vectors()
+    ensures upper { map base32 (codes "" ∷ codes "f" ∷ codes "fo" ∷ codes "foo" ∷ codes "foob" ∷ codes "fooba"
+        ∷ codes "foobar" ∷ []) ≡ codes "" ∷ codes "MY======" ∷ codes "MZXQ====" ∷ codes "MZXW6===" ∷ codes "MZXW6YQ="
+        ∷ codes "MZXW6YTB" ∷ codes "MZXW6YTBOI======" ∷ [] }
+    ensures hex { map base32hex (codes "" ∷ codes "f" ∷ codes "fo" ∷ codes "foo" ∷ codes "foob" ∷ codes "fooba"
+        ∷ codes "foobar" ∷ []) ≡ codes "" ∷ codes "CO======" ∷ codes "CPNG====" ∷ codes "CPNMU===" ∷ codes "CPNMUOG="
+        ∷ codes "CPNMUOJ1" ∷ codes "CPNMUOJ1E8======" ∷ [] }
+{}
+
+/// The test vectors of RFC 4648, section 10, and the last two digits of each alphabet.
+pub(crate) fn base64_vectors()
+    ensures vectors { map standard (codes "" ∷ codes "f" ∷ codes "fo" ∷ codes "foo" ∷ codes "foob" ∷ codes "fooba"
+        ∷ codes "foobar" ∷ []) ≡ codes "" ∷ codes "Zg==" ∷ codes "Zm8=" ∷ codes "Zm9v" ∷ codes "Zm9vYg=="
+        ∷ codes "Zm9vYmE=" ∷ codes "Zm9vYmFy" ∷ [] }
+    ensures standard { standard (0xfb ∷ 0xff ∷ []) ≡ codes "+/8=" }
+    ensures url_safe { url_safe (0xfb ∷ 0xff ∷ []) ≡ codes "-_8" }
+{}
+
+/// A zero byte in front is a `1`, and the number that the bytes are follows without leading zeros.
+pub(crate) fn base58_digits()
+    ensures zeros { base58_of (replicate 16 0) ≡ codes "1111111111111111" }
+    ensures two_digits { base58_of (replicate 15 0 ++ 58 ∷ []) ≡ codes "11111111111111121" }
+{}
+
+/// Seventeen zero bytes are two lines, and blanks fill the second one's digits.
+pub(crate) fn lines_of_decoded()
+    ensures { decoded_lines (replicate 17 0) ≡ codes "00000000000000000000000000000000 # \"\\x00\\x00\\x00\\x00\\x00\\x00\\x00\\x00\\x00\\x00\\x00\\x00\\x00\\x00\\x00\\x00\""
+        ∷ codes "00                               # \"\\x00\"" ∷ [] }
+{}
+
+/// Digits stand in groups of three from the right.
+pub(crate) fn numbers_in_groups()
+    ensures zero { grouped 0 false ≡ codes "0" }
+    ensures one_group { grouped 999 false ≡ codes "999" }
+    ensures two_groups { grouped 1000 true ≡ codes "-1,000" }
+    ensures three_groups { grouped 1234567 true ≡ codes "-1,234,567" }
+{}
+
+/// Bytes between quotes, and characters that can stand there: of U+0000, U+0085, U+00E9 and U+2028 the
+/// first two are control characters.
+pub(crate) fn escapes()
+    ensures bytes { quoted_bytes (0x00 ∷ 0x41 ∷ 0x22 ∷ 0x27 ∷ 0x5c ∷ 0x0a ∷ 0x7f ∷ [])
+        ≡ codes "\"\\x00A\\\"\\'\\\\\\n\\x7f\"" }
+    ensures text { escaped_text (0 ∷ 0xc2 ∷ 0x85 ∷ 0xc3 ∷ 0xa9 ∷ 0xe2 ∷ 0x80 ∷ 0xa8 ∷ [])
+        ≡ codes "\\u{0}\\u{85}" ++ 0xc3 ∷ 0xa9 ∷ 0xe2 ∷ 0x80 ∷ 0xa8 ∷ [] }
+{}
+
+/// An IPv4 address of RFC 5737, a MAC address of RFC 7042, and IPv6 addresses as RFC 5952 has them: the
+/// longest run of zero groups is `::`, of two as long the first, and one zero group by itself stays.
+pub(crate) fn addresses()
+    ensures ipv4 { ipv4_text (192 ∷ 0 ∷ 2 ∷ 1 ∷ []) ≡ codes "192.0.2.1" }
+    ensures mac { mac_text (0x00 ∷ 0x00 ∷ 0x5e ∷ 0x00 ∷ 0x53 ∷ 0x01 ∷ []) ≡ codes "00:00:5e:00:53:01" }
+    ensures longest { ipv6_text (0x20 ∷ 0x01 ∷ 0 ∷ 0 ∷ 0 ∷ 0 ∷ 0 ∷ 0x01 ∷ 0 ∷ 0 ∷ 0 ∷ 0 ∷ 0 ∷ 0 ∷ 0 ∷ 0x01 ∷ [])
+        ≡ codes "2001:0:0:1::1" }
+    ensures first { ipv6_text (0x20 ∷ 0x01 ∷ 0x0d ∷ 0xb8 ∷ 0 ∷ 0 ∷ 0 ∷ 0 ∷ 0 ∷ 0x01 ∷ 0 ∷ 0 ∷ 0 ∷ 0 ∷ 0 ∷ 0x01 ∷ [])
+        ≡ codes "2001:db8::1:0:0:1" }
+    ensures one_zero { ipv6_text (0x20 ∷ 0x01 ∷ 0x0d ∷ 0xb8 ∷ 0 ∷ 0 ∷ 0 ∷ 0x01 ∷ 0 ∷ 0x01 ∷ 0 ∷ 0x01 ∷ 0 ∷ 0x01 ∷ 0
+        ∷ 0x01 ∷ []) ≡ codes "2001:db8:0:1:1:1:1:1" }
+    ensures zeros { ipv6_text (replicate 16 0) ≡ codes "::" }
+    ensures mapped { ipv6_text (replicate 10 0 ++ 0xff ∷ 0xff ∷ 192 ∷ 0 ∷ 2 ∷ 1 ∷ []) ≡ codes "::ffff:192.0.2.1" }
+{}
+
+/// The UUID of sixteen zero bytes, that of sixteen bytes `ff`, and the example of RFC 4122, section 3.
+pub(crate) fn identifiers()
+    ensures nil { uuid_lines (replicate 16 0) ≡ codes "uuid(variant(NCS), version(0, Nil))"
+        ∷ codes "base16(00000000-0000-0000-0000-000000000000)"
+        ∷ codes "base58(1111111111111111)" ∷ codes "base64(AAAAAAAAAAAAAAAAAAAAAA)" ∷ [] }
+    ensures max { fields_line (replicate 16 0xff) ≡ codes "uuid(variant(Future), version(15, Max))" }
+    ensures example { fields_line (0xf8 ∷ 0x1d ∷ 0x4f ∷ 0xae ∷ 0x7d ∷ 0xec ∷ 0x11 ∷ 0xd0 ∷ 0xa7 ∷ 0x65 ∷ 0x00 ∷ 0xa0
+        ∷ 0xc9 ∷ 0x1e ∷ 0x6b ∷ 0xf6 ∷ []) ≡ codes "uuid(variant(RFC4122), version(1, Mac))" }
+    ensures base16 { base16_line (0xf8 ∷ 0x1d ∷ 0x4f ∷ 0xae ∷ 0x7d ∷ 0xec ∷ 0x11 ∷ 0xd0 ∷ 0xa7 ∷ 0x65 ∷ 0x00 ∷ 0xa0
+        ∷ 0xc9 ∷ 0x1e ∷ 0x6b ∷ 0xf6 ∷ []) ≡ codes "base16(f81d4fae-7dec-11d0-a765-00a0c91e6bf6)" }
+    ensures base64 { base64_line (0xf8 ∷ 0x1d ∷ 0x4f ∷ 0xae ∷ 0x7d ∷ 0xec ∷ 0x11 ∷ 0xd0 ∷ 0xa7 ∷ 0x65 ∷ 0x00 ∷ 0xa0
+        ∷ 0xc9 ∷ 0x1e ∷ 0x6b ∷ 0xf6 ∷ []) ≡ codes "base64(+B1Prn3sEdCnZQCgyR5r9g)" }
+{}
