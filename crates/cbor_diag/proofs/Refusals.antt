@@ -67,14 +67,14 @@ chunk_refusal text_kind level b rest e le inside (bad_text h) = is_fault (bad_ch
 chunks_refusal : (kind : StringKind) (level : ℕ) (b rest : List ℕ) (e : Error) → level ≤ deepest → b ≡ opening (major_of kind) ∷ rest → ChunksStop kind rest e → Refusal level b e
 chunks_refusal kind level b rest e le opens s = chunk_refusal kind level b s.rest e le (s.chunks, rest, opens, s.spelled) s.refused
 
-part_refusal : (next : Next) (level : ℕ) (b rest : List ℕ) (e : Error) → level ≤ deepest → Inside next level b rest → NoBreakAt next rest → Refusal (level + 1) rest e → Refusal level b e
+part_refusal : (next : Next) (level : ℕ) (b rest : List ℕ) (e : Error) → level ≤ deepest → Inside level b rest next → NoBreakAt next rest → Refusal (level + 1) rest e → Refusal level b e
 part_refusal next level b rest e le inside no_break (is_cut c) = is_cut (in_part next rest le inside c)
 part_refusal next level b rest e le inside no_break (is_fault f) = is_fault (bad_part next rest le inside no_break f)
 
 -- ---- an item behind its head
 
 module _ (level : ℕ) (read : List ℕ → Read Item) (reads : Reads (level + 1) read) (later : (b : List ℕ) (e : Error) → IsBytes b → read b ≡ Err e → Refusal (level + 1) b e) where
-  stop_refusal : (next : Next) (k : ℕ) (b rest : List ℕ) (e : Error) → level ≤ deepest → (s : Stops (level + 1) read next k rest e) → Inside next level b s.rest → Refusal level b e
+  stop_refusal : (next : Next) (k : ℕ) (b rest : List ℕ) (e : Error) → level ≤ deepest → (s : Stops (level + 1) read next k rest e) → Inside level b s.rest next → Refusal level b e
   stop_refusal next k b rest e le s inside = part_refusal next level b s.rest e le inside s.no_break (later s.rest e s.fits s.refused)
 
   body_refused : (h : ItemHead) (b rest : List ℕ) (e : Error) → level ≤ deepest → HeadIs h b rest → IsBytes rest → body_at read h rest ≡ Err e → Refusal level b e
@@ -162,7 +162,7 @@ refused (suc left) level b e levels fits h =
 
 -- ---- what stands inside a container is refused with it
 
-pub inside_refuses : (level left : ℕ) (next : Next) (b rest : List ℕ) (e : Error) → level + suc left ≡ 129 → Inside next level b rest → NoBreakAt next rest → item_at left rest ≡ Err e → item_at (suc left) b ≡ Err e
+pub inside_refuses : (level left : ℕ) (next : Next) (b rest : List ℕ) (e : Error) → level + suc left ≡ 129 → Inside level b rest next → NoBreakAt next rest → item_at left rest ≡ Err e → item_at (suc left) b ≡ Err e
 unfolding item_at numbered unnumbered
 inside_refuses level left next b rest e levels (in_tag t w h) no_break refused = rw (head_again 6 t w b rest (omega arith) h, refused) refl
 inside_refuses level left next b rest e levels (in_array n k w whole h parts few) no_break refused =

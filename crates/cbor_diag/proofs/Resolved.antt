@@ -16,7 +16,7 @@ use Rattle.cbor_diag.specs.Reading.{item_at}
 use Rattle.cbor_diag.proofs.Heads.{IsBytes, IsBytes-take, IsBytes-drop, ok_is}
 use Rattle.cbor_diag.proofs.Chunks.{chunk_parts}
 use Rattle.cbor_diag.proofs.Found.{item_again}
-use Rattle.cbor_diag.proofs.Strict.{fits_stated, stated_is, IsChunk, strict_any, strict_enc, encoded-resolve}
+use Rattle.cbor_diag.proofs.Strict.{fits_stated, stated_is, IsChunk, strict_any, strict_encoded, encoded-resolve}
 
 -- ---- parts of bytes
 
@@ -184,12 +184,12 @@ mutual
 
 pub encoded_strict : (level : ℕ) (b : List ℕ) (i : Item) → IsBytes b → Spells any level b i → encoded i ≡ b → Spells strict level b i
 encoded_strict level b i bytes h is =
-    let written : Spells strict level (encoded i) (resolve i) = strict_enc level i (spells_well level b i bytes h) in
+    let written : Spells strict level (encoded i) (resolve i) = strict_encoded level i (spells_well level b i bytes h) in
     subst (λ (x : List ℕ). Spells strict level x i) is (subst (λ (j : Item). Spells strict level (encoded i) j) (resolved level b i h) written)
 
 -- what is written is read as that item
 pub written_again : (i : Item) (rest : List ℕ) → WellFormed 1 i → item_at 128 (encoded i ++ rest) ≡ Ok (resolve i, rest)
-written_again i rest h = item_again 1 128 (encoded i) (resolve i) rest refl (strict_any 1 (encoded i) (resolve i) (strict_enc 1 i h))
+written_again i rest h = item_again 1 128 (encoded i) (resolve i) rest refl (strict_any 1 (encoded i) (resolve i) (strict_encoded 1 i h))
 
 -- items with the same encoding are read as one item
 pub written_alike : (i j : Item) → WellFormed 1 i → WellFormed 1 j → encoded i ≡ encoded j → resolve i ≡ resolve j

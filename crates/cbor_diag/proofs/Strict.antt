@@ -169,22 +169,22 @@ atom_enc (float bits w) h = float_enc bits w h
 atom_enc (simple n) h = simple_enc n h
 
 mutual
-  pub strict_enc : (level : ℕ) (i : Item) → WellFormed level i → Spells strict level (encoded i) (resolve i)
-  strict_enc level (atom a) h = (h.0, atom_enc a h.1)
-  strict_enc level (array is w) h =
+  pub strict_encoded : (level : ℕ) (i : Item) → WellFormed level i → Spells strict level (encoded i) (resolve i)
+  strict_encoded level (atom a) h = (h.0, atom_enc a h.1)
+  strict_encoded level (array is w) h =
       (h.0, rw (item_count-resolve is) (members_enc 4 (item_count is) w (encoded_items is) (λ rest end. SpellsItems strict (level + 1) rest (resolve_items is) end) h.1 (λ end. items_enc (level + 1) is end h.2)))
-  strict_enc level (spec.map ps w) h =
+  strict_encoded level (spec.map ps w) h =
       (h.0, rw (pair_count-resolve ps) (members_enc 5 (pair_count ps) w (encoded_pairs ps) (λ rest end. SpellsPairs strict (level + 1) rest (resolve_pairs ps) end) h.1 (λ end. pairs_enc (level + 1) ps end h.2)))
-  strict_enc level (tagged t w i) h = (h.0, (stated_fits w t h.1, encoded i, refl, strict_enc (level + 1) i h.2))
+  strict_encoded level (tagged t w i) h = (h.0, (stated_fits w t h.1, encoded i, refl, strict_encoded (level + 1) i h.2))
 
   items_enc : (level : ℕ) (is : Items) (end : List ℕ) → WellFormedItems level is → SpellsItems strict level (encoded_items is ++ end) (resolve_items is) end
   items_enc level no_items end h = refl
-  items_enc level (item i is) end h = (encoded i, encoded_items is ++ end, append_assoc (encoded i) (encoded_items is) end, strict_enc level i h.0, items_enc level is end h.1)
+  items_enc level (item i is) end h = (encoded i, encoded_items is ++ end, append_assoc (encoded i) (encoded_items is) end, strict_encoded level i h.0, items_enc level is end h.1)
 
   pairs_enc : (level : ℕ) (ps : Pairs) (end : List ℕ) → WellFormedPairs level ps → SpellsPairs strict level (encoded_pairs ps ++ end) (resolve_pairs ps) end
   pairs_enc level no_pairs end h = refl
   pairs_enc level (pair k v ps) end h =
-      (encoded k, encoded v, encoded_pairs ps ++ end, simp append_assoc, strict_enc level k h.0, strict_enc level v h.1, pairs_enc level ps end h.2)
+      (encoded k, encoded v, encoded_pairs ps ++ end, simp append_assoc, strict_encoded level k h.0, strict_encoded level v h.1, pairs_enc level ps end h.2)
 
 -- ---- a strict spelling is the encoding
 

@@ -1,7 +1,8 @@
 -- Reading from left to right, as the code of `parse/binary.rt` does: a function from bytes to a value and
 -- the rest, or the first refusal, `CutShort` where the bytes end. No public clause names it: proofs/
 -- shows that it agrees with `Spells`, `Cut` and `Fault`.
-use Rattle.std.specs.Prelude.{◌≡◌, ℕ, zero, suc, ◌/◌, ◌%◌, List, [], ◌∷◌, length, take, drop, Option, Some, None, Result, Ok, Err, nat_lt, ◌==◌, if◌then◌else◌}
+use Rattle.std.specs.Prelude.{◌≡◌, ℕ, zero, suc, ◌/◌, ◌%◌, List, [], ◌∷◌, length, take, drop, Option, Some, None}
+use Rattle.std.specs.Prelude.{Result, Ok, Err, nat_lt, ◌==◌, if◌then◌else◌}
 use Rattle.std.specs.Str.{is_utf8}
 use Rattle.std.specs.Int.{Width, w8, w16, w32, w64, byte_len, from_be_bytes}
 use Rattle.cbor_diag.specs.declared.syntax.IntegerWidth.{IntegerWidth}
@@ -14,7 +15,8 @@ use Rattle.cbor_diag.specs.declared.parse.binary.head.Info.TheVariants as info
 use Rattle.cbor_diag.specs.declared.parse.binary.head.ItemHead.{ItemHead}
 use Rattle.cbor_diag.specs.declared.parse.binary.head.ItemHead.TheVariants as item_head
 use Rattle.cbor_diag.specs.Item as spec
-use Rattle.cbor_diag.specs.Item.{Chunk, integer, negative, byte_string, text_string, byte_chunks, text_chunks, float, simple, Item, atom, array, tagged, Items, no_items, item, Pairs, no_pairs, pair}
+use Rattle.cbor_diag.specs.Item.{Chunk, integer, negative, byte_string, text_string, byte_chunks, text_chunks, float}
+use Rattle.cbor_diag.specs.Item.{simple, Item, atom, array, tagged, Items, no_items, item, Pairs, no_pairs, pair}
 use Rattle.cbor_diag.specs.Head.{FitsStated, break_byte}
 use Rattle.cbor_diag.specs.Bytes.{StringKind, bytes_kind, text_kind, major_of}
 
@@ -38,7 +40,9 @@ Gives view (Ok x) read = read ≡ Ok (view x)
 Gives view (Err e) read = Fails e read
 
 abbrev pub number_at : Width → List ℕ → Read ℕ
-number_at w b = if nat_lt (length b) (byte_len w) then Err refusal.CutShort else Ok (from_be_bytes w (take (byte_len w) b), drop (byte_len w) b)
+number_at w b =
+    if nat_lt (length b) (byte_len w) then Err refusal.CutShort
+    else Ok (from_be_bytes w (take (byte_len w) b), drop (byte_len w) b)
 
 -- the number behind info 24 to 27
 unfoldable pub wide_at : Width → IntegerWidth → List ℕ → Read Info
@@ -102,7 +106,8 @@ split_at n b = if nat_lt (length b) n then Err refusal.CutShort else Ok (take n 
 -- a string of that length and its content
 unfoldable pub content_at : StringKind → ℕ → IntegerWidth → List ℕ → Read Chunk
 content_at bytes_kind n w b = split_at n b >>= λ s. Ok (record { bytes = s.0; width = w }, s.1)
-content_at text_kind n w b = split_at n b >>= λ s. if is_utf8 s.0 then Ok (record { bytes = s.0; width = w }, s.1) else Err refusal.Utf8
+content_at text_kind n w b = split_at n b >>= λ s.
+    if is_utf8 s.0 then Ok (record { bytes = s.0; width = w }, s.1) else Err refusal.Utf8
 
 -- the length in a chunk's head
 abbrev pub length_of : Info → List ℕ → Read (Option (ℕ × IntegerWidth))
@@ -165,11 +170,13 @@ unless_break (Some b) none read = Ok (none, b)
 -- the items up to the break, bounded as `chunks_at` is
 unfoldable pub open_items_at : (List ℕ → Read Item) → ℕ → List ℕ → Read Items
 open_items_at read zero b = Err refusal.CutShort
-open_items_at read (suc n) b = unless_break (break_at b) no_items (read b >>= λ i. open_items_at read n i.1 >>= λ is. Ok (item i.0 is.0, is.1))
+open_items_at read (suc n) b = unless_break (break_at b) no_items
+    (read b >>= λ i. open_items_at read n i.1 >>= λ is. Ok (item i.0 is.0, is.1))
 
 unfoldable pub open_pairs_at : (List ℕ → Read Item) → ℕ → List ℕ → Read Pairs
 open_pairs_at read zero b = Err refusal.CutShort
-open_pairs_at read (suc n) b = unless_break (break_at b) no_pairs (pair_at read b >>= λ p. open_pairs_at read n p.1 >>= λ ps. Ok (pair p.0.0 p.0.1 ps.0, ps.1))
+open_pairs_at read (suc n) b = unless_break (break_at b) no_pairs
+    (pair_at read b >>= λ p. open_pairs_at read n p.1 >>= λ ps. Ok (pair p.0.0 p.0.1 ps.0, ps.1))
 
 -- an item behind its head, the items in it read by `read`
 abbrev pub body_at : (List ℕ → Read Item) → ItemHead → List ℕ → Read Item

@@ -5,7 +5,9 @@ use Rattle.cbor_diag.specs.declared.syntax.IntegerWidth.{IntegerWidth}
 use Rattle.cbor_diag.specs.declared.syntax.FloatWidth.{FloatWidth}
 use Rattle.cbor_diag.specs.declared.syntax.FloatWidth.TheVariants as float_width
 use Rattle.cbor_diag.specs.Item as spec
-use Rattle.cbor_diag.specs.Item.{Chunk, Atom, integer, negative, byte_string, text_string, byte_chunks, text_chunks, float, simple, Item, atom, array, tagged, Items, no_items, item, Pairs, no_pairs, pair, item_count, pair_count}
+use Rattle.cbor_diag.specs.Item.{Chunk, Atom, integer, negative, byte_string, text_string, byte_chunks, text_chunks}
+use Rattle.cbor_diag.specs.Item.{float, simple, Item, atom, array, tagged, Items, no_items, item, Pairs, no_pairs}
+use Rattle.cbor_diag.specs.Item.{pair, item_count, pair_count}
 use Rattle.cbor_diag.specs.Head.{FitsWidth}
 
 -- the deepest level that an item may stand at; the outermost stands at level 1
@@ -51,7 +53,8 @@ abbrev mutual
   pub WellFormed : ℕ → Item → Type 0
   WellFormed level (atom a) = (level ≤ deepest) × WellFormedAtom a
   WellFormed level (array is w) = (level ≤ deepest) × FitsCount w (item_count is) × WellFormedItems (level + 1) is
-  WellFormed level (spec.map ps w) = (level ≤ deepest) × FitsCount w (pair_count ps) × WellFormedPairs (level + 1) ps
+  WellFormed level (spec.map ps w) =
+      (level ≤ deepest) × FitsCount w (pair_count ps) × WellFormedPairs (level + 1) ps
   WellFormed level (tagged t w i) = (level ≤ deepest) × FitsWidth w t × WellFormed (level + 1) i
 
   pub WellFormedItems : ℕ → Items → Type 0

@@ -6,7 +6,9 @@ use Rattle.cbor_diag.specs.declared.syntax.IntegerWidth.{IntegerWidth}
 use Rattle.cbor_diag.specs.declared.syntax.FloatWidth.{FloatWidth}
 use Rattle.cbor_diag.specs.declared.syntax.FloatWidth.TheVariants as float_width
 use Rattle.cbor_diag.specs.Item as spec
-use Rattle.cbor_diag.specs.Item.{Chunk, Atom, integer, negative, byte_string, text_string, byte_chunks, text_chunks, float, simple, Item, atom, array, tagged, Items, no_items, item, Pairs, no_pairs, pair, item_count, pair_count}
+use Rattle.cbor_diag.specs.Item.{Chunk, Atom, integer, negative, byte_string, text_string, byte_chunks, text_chunks}
+use Rattle.cbor_diag.specs.Item.{float, simple, Item, atom, array, tagged, Items, no_items, item, Pairs, no_pairs}
+use Rattle.cbor_diag.specs.Item.{pair, item_count, pair_count}
 use Rattle.cbor_diag.specs.Head.{stated, head, opening, break_byte}
 
 -- a head, an open width being the shortest that fits
@@ -23,14 +25,14 @@ encoded_chunks major cs = opening major ∷ (flat_map (encoded_chunk major) cs +
 
 -- a float's bits, an open width being 64 bits
 abbrev pub encoded_float : ℕ → FloatWidth → List ℕ
-encoded_float bits float_width.Unknown = 251 ∷ to_be_bytes w64 bits
-encoded_float bits float_width.Sixteen = 249 ∷ to_be_bytes w16 bits
-encoded_float bits float_width.ThirtyTwo = 250 ∷ to_be_bytes w32 bits
-encoded_float bits float_width.SixtyFour = 251 ∷ to_be_bytes w64 bits
+encoded_float bits float_width.Unknown = 0xfb ∷ to_be_bytes w64 bits
+encoded_float bits float_width.Sixteen = 0xf9 ∷ to_be_bytes w16 bits
+encoded_float bits float_width.ThirtyTwo = 0xfa ∷ to_be_bytes w32 bits
+encoded_float bits float_width.SixtyFour = 0xfb ∷ to_be_bytes w64 bits
 
 -- a simple value in one byte where it is below 24, else in two
 abbrev pub encoded_simple : ℕ → List ℕ
-encoded_simple n = if nat_lt n 24 then (224 + n) ∷ [] else 248 ∷ n ∷ []
+encoded_simple n = if nat_lt n 24 then (0xe0 + n) ∷ [] else 0xf8 ∷ n ∷ []
 
 -- the encoding of an item that holds no item
 abbrev pub encoded_atom : Atom → List ℕ

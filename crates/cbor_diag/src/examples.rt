@@ -1,7 +1,7 @@
 //! What the definitions of `specs/` say of a few inputs: each is computed, or shown by a witness,
 //! when the crate is checked, so that a wrong definition does not pass. Nothing calls these functions.
 ghost use Rattle.std.specs.Prelude.{◌≡◌, [], ◌∷◌, ◌++◌, codes};
-ghost use Rattle.cbor_diag.specs.declared.error.Error.TheVariants.{Head, TooDeep};
+ghost use Rattle.cbor_diag.specs.declared.error.Error.TheVariants.{Head, Utf8, TooDeep};
 ghost use Rattle.cbor_diag.specs.declared.syntax.IntegerWidth.TheVariants.{Unknown, Eight, Sixteen};
 ghost use Rattle.cbor_diag.specs.Item.{atom, simple, integer};
 ghost use Rattle.cbor_diag.specs.WellFormed.{WellFormed};
@@ -43,6 +43,7 @@ pub(crate) fn cut()
 pub(crate) fn faults()
     ensures stray { Fault 1 (0xff ∷ []) Head }
     ensures value { Fault 1 (0xbf ∷ 1 ∷ 2 ∷ 3 ∷ 0xff ∷ []) Head }
+    ensures text { Fault 1 (0x61 ∷ 0xff ∷ []) Utf8 }
     ensures chunk { Fault 1 (0x5f ∷ 0x41 ∷ 1 ∷ 0x61 ∷ []) Head }
     ensures deep { Fault 129 (1 ∷ []) TooDeep }
 {}

@@ -6,7 +6,7 @@ ghost use Rattle.std.specs.List.{AllPass};
 ghost use Rattle.hex.specs.Hex.{decode_of, is_hex_digit};
 ghost use Rattle.cbor_diag.specs.Item.{Item};
 ghost use Rattle.cbor_diag.specs.View.{view};
-ghost use Rattle.cbor_diag.specs.WellFormed.{WellFormed};
+ghost use Rattle.cbor_diag.specs.Facts.{IsWellFormed};
 ghost use Rattle.cbor_diag.specs.Answer.{GaveItem, GaveRefusal, RefusedSo};
 ghost use Rattle.cbor_diag.specs.HexText.{uncommented, strip, IsHexOf, IsHexRefused};
 
@@ -73,7 +73,7 @@ pub fn parse_hex(alloc: Global, hex: &str) -> crate::Result<DataItem>
     ensures every_item { (i : Item) → IsHexOf hex.now i → GaveItem result i }
     ensures refused { RefusedSo result (IsHexRefused hex.now) }
     ensures every_refusal { (e : Error) → IsHexRefused hex.now e → GaveRefusal result e }
-    ensures well_formed { IfOk result (λ i. WellFormed 1 (view i)) }
+    ensures well_formed { IfOk result (λ i. IsWellFormed (view i)) }
 {
     let digits = strip(alloc, hex)?;
     let bytes = decode(alloc, digits)?;

@@ -1,49 +1,12 @@
 //! Whether an item has an encoding: each number fits its width, and no level is deeper than 128.
 ghost use Rattle.std.specs.Prelude.{◌↔◌, IsTrue, map};
 ghost use Rattle.std.specs.List.{AllByRecursion};
-ghost use Rattle.cbor_diag.specs.Head.{FitsWidth};
 ghost use Rattle.cbor_diag.specs.View.{view, items_view, pairs_view, byte_chunk, text_chunk};
-ghost use Rattle.cbor_diag.specs.WellFormed.{WellFormed, WellFormedItems, WellFormedPairs, FitsFloat, FitsCount, IsByteChunk, IsTextChunk};
+ghost use Rattle.cbor_diag.specs.Facts.{IsWellFormed};
+ghost use Rattle.cbor_diag.specs.WellFormed.{WellFormed, WellFormedItems, WellFormedPairs, IsByteChunk, IsTextChunk};
 
-use super::{ByteString, DEEPEST, DataItem, FloatWidth, IntegerWidth, TextString};
-
-impl IntegerWidth {
-    /// Whether the number can be written in this width; an open width takes any.
-    fn fits(self, number: u64) -> bool
-        ensures { IsTrue result ↔ FitsWidth self number }
-    {
-        match self {
-            IntegerWidth::Zero => number < 24,
-            IntegerWidth::Eight => number <= 0xff,
-            IntegerWidth::Sixteen => number <= 0xffff,
-            IntegerWidth::ThirtyTwo => number <= 0xffff_ffff,
-            IntegerWidth::Unknown | IntegerWidth::SixtyFour => true,
-        }
-    }
-}
-
-impl FloatWidth {
-    /// Whether the bits of a float can be written in this width; an open width takes 64 bits.
-    fn fits(self, bits: u64) -> bool
-        ensures { IsTrue result ↔ FitsFloat self bits }
-    {
-        match self {
-            FloatWidth::Sixteen => bits <= 0xffff,
-            FloatWidth::ThirtyTwo => bits <= 0xffff_ffff,
-            FloatWidth::Unknown | FloatWidth::SixtyFour => true,
-        }
-    }
-}
-
-/// Whether a count fits its width; an indefinite length has none to fit.
-fn count_fits(width: Option<IntegerWidth>, count: usize) -> bool
-    ensures { IsTrue result ↔ FitsCount width count }
-{
-    match width {
-        Some(width) => width.fits(count as u64),
-        None => true,
-    }
-}
+use super::width::count_fits;
+use super::{ByteString, DEEPEST, DataItem, TextString};
 
 impl ByteString {
     /// Whether the length fits its width.
@@ -149,7 +112,7 @@ impl DataItem {
     ///
     /// It takes no memory, and looks at nothing below level 129.
     pub fn is_well_formed(&self) -> bool
-        ensures { IsTrue result ↔ WellFormed 1 (view self.now) }
+        ensures { IsTrue result ↔ IsWellFormed (view self.now) }
     {
         well_formed_at(self, 1)
     }

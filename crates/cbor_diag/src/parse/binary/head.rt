@@ -116,8 +116,9 @@ pub(super) fn info_at(bits: u8, bytes: &[u8]) -> Result<(Info, &[u8])>
             let (number, rest) = u64_at(bytes)?;
             Ok((Info::Number(number, IntegerWidth::SixtyFour), rest))
         }
+        28..=30 => Err(Error::Head),
         31 => Ok((Info::Indefinite, bytes)),
-        _ => Err(Error::Head),
+        _ => unreachable!(),
     }
 }
 
@@ -125,7 +126,8 @@ impl ItemHead {
     /// What a head of that major type with that number opens.
     #[tactic(auto, unfolding(crate::specs::Reading::numbered))]
     fn numbered(major: u8, number: u64, width: IntegerWidth) -> ItemHead
-        requires { FitsStated width number }
+        requires major { major < 8 }
+        requires fits { FitsStated width number }
         ensures { result ≡ numbered major number width }
     {
         match major {
@@ -136,7 +138,8 @@ impl ItemHead {
             4 => ItemHead::Array(number, width),
             5 => ItemHead::Map(number, width),
             6 => ItemHead::Tag(number, width),
-            _ => ItemHead::simple_or_float(number, width),
+            7 => ItemHead::simple_or_float(number, width),
+            _ => unreachable!(),
         }
     }
 
@@ -149,31 +152,34 @@ impl ItemHead {
             IntegerWidth::Sixteen => ItemHead::Float(number, FloatWidth::Sixteen),
             IntegerWidth::ThirtyTwo => ItemHead::Float(number, FloatWidth::ThirtyTwo),
             IntegerWidth::SixtyFour => ItemHead::Float(number, FloatWidth::SixtyFour),
-            IntegerWidth::Unknown | IntegerWidth::Zero | IntegerWidth::Eight => {
-                ItemHead::Simple(number as u8)
-            }
+            IntegerWidth::Zero | IntegerWidth::Eight => ItemHead::Simple(number as u8),
+            // A head states its width.
+            IntegerWidth::Unknown => unreachable!(),
         }
     }
 
     /// What a head of that major type without a number opens.
     #[tactic(auto, unfolding(crate::specs::Reading::unnumbered))]
     fn unnumbered(major: u8) -> Result<ItemHead>
+        requires { major < 8 }
         ensures gives { result ≡ unnumbered major }
         ensures memory { result ≢ Err Error.Memory }
     {
         match major {
+            0 | 1 | 6 => Err(Error::Head),
             2 => Ok(ItemHead::OpenBytes),
             3 => Ok(ItemHead::OpenText),
             4 => Ok(ItemHead::OpenArray),
             5 => Ok(ItemHead::OpenMap),
             7 => Ok(ItemHead::Break),
-            _ => Err(Error::Head),
+            _ => unreachable!(),
         }
     }
 
     /// What a head of that major type and info opens.
     pub(super) fn new(major: u8, info: Info) -> Result<ItemHead>
-        requires { FitsInfo info }
+        requires major { major < 8 }
+        requires fits { FitsInfo info }
         ensures gives { result ≡ head_of major info }
         ensures memory { result ≢ Err Error.Memory }
     {
