@@ -27,32 +27,32 @@ use thiserror::Error;
 
 /// Why the program ends with another status than 0.
 #[derive(Debug, Drop, Error)]
-enum Fault {
+enum Failure {
     #[error("usage: cbor_view FROM TO")]
     Usage,
     #[error("{}", .0.text())]
     View(ViewError),
 }
 
-impl Fault {
+impl Failure {
     fn status(&self) -> ExitCode {
         match self {
-            Fault::Usage => ExitCode::from(2u8),
-            Fault::View(_) => ExitCode::FAILURE,
+            Failure::Usage => ExitCode::from(2u8),
+            Failure::View(_) => ExitCode::FAILURE,
         }
     }
 }
 
 /// The forms that the two words after the program's name stand for.
-fn forms(rt: &(impl Env + Alloc)) -> Result<(Source, To), Fault> {
-    let mut arguments = env::args(rt).map_err(|_| Fault::Usage)?;
+fn forms(rt: &(impl Env + Alloc)) -> Result<(Source, To), Failure> {
+    let mut arguments = env::args(rt).map_err(|_| Failure::Usage)?;
     let _program = arguments.next();
     let (Some(from), Some(to), None) = (arguments.next(), arguments.next(), arguments.next()) else {
-        return Err(Fault::Usage);
+        return Err(Failure::Usage);
     };
     match (from_word(from.as_str()), to_word(to.as_str())) {
         (Some(from), Some(to)) => Ok((from, to)),
-        _ => Err(Fault::Usage),
+        _ => Err(Failure::Usage),
     }
 }
 
@@ -61,21 +61,21 @@ fn view(
     rt: &(impl Env + AllocGlobal),
     input: impl Read + Drop,
     output: impl Write + Drop,
-) -> Result<(), Fault> {
+) -> Result<(), Failure> {
     let (from, to) = forms(rt)?;
     let mut input = Counted::new(input);
     let mut output = Counted::new(output);
-    run::run(rt.alloc(), from, to, &mut input, &mut output).map_err(Fault::View)?;
-    output.flush().map_err(|_| Fault::View(ViewError::Write))
+    run::run(rt.alloc(), from, to, &mut input, &mut output).map_err(Failure::View)?;
+    output.flush().map_err(|_| Failure::View(ViewError::Write))
 }
 
 fn main(rt: HostRuntime) -> ExitCode {
     match view(&rt, rt.stdin(), rt.stdout()) {
         Ok(()) => ExitCode::SUCCESS,
-        Err(fault) => {
+        Err(failure) => {
             // Nobody can be told where standard error itself fails.
-            let _ = eprintln!(rt; "cbor_view: {fault}");
-            fault.status()
+            let _ = eprintln!(rt; "cbor_view: {failure}");
+            failure.status()
         }
     }
 }
