@@ -20,7 +20,8 @@ DATES = [
 ]
 URLS = [
     "https://example.com", "http://", "http://[::1]:80/", "http://[::1", "mailto:a@b", "a", "//a", "http://a:99999/",
-    "http://1.2.3.256/", "file:///etc", "http:a", "urn:uuid:1", "http://a b/", "ftp://u:p@h/", "http://@/", "x://<", "x:<",
+    "http://1.2.3.256/", "file:///etc", "http:a", "urn:uuid:1", "http://a b/", "ftp://u:p@h/", "http://@/",
+    "x://<", "x:<",
 ]
 SECONDS = [0, 1363896240, 253402300799, 253402300800, 377705116800, 377705116799, (1 << 63) - 1, (1 << 64) - 1]
 DAYS = [0, 3994, 2932896, 2932897, 4371586, 4371587, 106751991167, (1 << 64) - 1]
@@ -29,7 +30,8 @@ DAYS = [0, 3994, 2932896, 2932897, 4371586, 4371587, 106751991167, (1 << 64) - 1
 def number(chance):
     return chance.choice([
         chance.randrange(24), chance.randrange(300), chance.randrange(1 << 17), chance.randrange(1 << 33),
-        chance.randrange(1 << 64), chance.choice([23, 24, 255, 256, 65535, 65536, (1 << 32) - 1, 1 << 32, (1 << 64) - 1]),
+        chance.randrange(1 << 64),
+        chance.choice([23, 24, 255, 256, 65535, 65536, (1 << 32) - 1, 1 << 32, (1 << 64) - 1]),
     ])
 
 
@@ -41,7 +43,9 @@ def width_for(chance, value):
 
 
 def some_bytes(chance):
-    count = chance.choice([0, 1, 2, 3, 4, 6, 8, 15, 16, 17, 23, 24, 25, 33, 60, 255, 256]) if chance.random() < 0.3 else chance.randrange(6)
+    count = chance.randrange(6)
+    if chance.random() < 0.3:
+        count = chance.choice([0, 1, 2, 3, 4, 6, 8, 15, 16, 17, 23, 24, 25, 33, 60, 255, 256])
     if chance.random() < 0.2:
         return bytes(count)
     return bytes(chance.choice([chance.randrange(256), 32 + chance.randrange(95)]) for _ in range(count))
@@ -145,7 +149,9 @@ def address(chance, size):
     prefix = bytes_item(chance, octets[:chance.randrange(size + 1)] + chance.choice([b"", b"\x01", b"\0"]))
     second = chance.choice([length, Simple(22), text_item(chance)])
     third = chance.choice([integer(chance, 7), text_item(chance), Simple(22)])
-    members = chance.choice([(length, prefix), (length,), (plain,), (plain, second), (plain, second, third), (length, plain, third)])
+    members = chance.choice([
+        (length, prefix), (length,), (plain,), (plain, second), (plain, second, third), (length, plain, third),
+    ])
     return Array(members, None if chance.random() < 0.2 else OPEN)
 
 
@@ -171,9 +177,12 @@ def item_bytes(chance):
     if kind in (1, 2, 3):
         content = damaged(chance, content)
     if kind == 4:
-        content = bytes(chance.choice([chance.randrange(256), 0x9F, 0x5F, 0xFF, 0x82, 0xA1]) for _ in range(chance.randrange(12)))
+        content = bytes(
+            chance.choice([chance.randrange(256), 0x9F, 0x5F, 0xFF, 0x82, 0xA1]) for _ in range(chance.randrange(12))
+        )
     if kind == 5:
-        content = chance.choice([b"\x81", b"\x9f", b"\xc1", b"\xa1\x00"]) * chance.choice([120, 126, 127, 128, 129]) + content
+        opening = chance.choice([b"\x81", b"\x9f", b"\xc1", b"\xa1\x00"])
+        content = opening * chance.choice([120, 126, 127, 128, 129]) + content
     return content
 
 
@@ -209,7 +218,8 @@ def blank(chance):
 
 
 def number_text(chance, value, width):
-    spelled = chance.choice([str(value)] * 4 + [f"0x{value:x}", f"0x{value:X}", f"0o{value:o}", f"0b{value:b}", f"00{value}"])
+    others = [f"0x{value:x}", f"0x{value:X}", f"0o{value:o}", f"0b{value:b}", f"00{value}"]
+    spelled = chance.choice([str(value)] * 4 + others)
     indicator = INDICATORS.get(width, "")
     if indicator and chance.random() < 0.2:
         indicator = "_0" + indicator[1:]
@@ -316,7 +326,8 @@ def diag_text(chance):
         opening, closing = chance.choice([("[", "]"), ("24(<<", ">>)"), ("1(", ")"), ("{1:", "}"), ("<<", ">>")])
         text = opening * count + text + closing * count
     if chance.random() < 0.4:
-        text = damaged_text(chance, text, list("[]{}()<>,:\"'\\/_-0123456789xhbo =+ \t\n\re.") + ["''_", '""_', "é", "h'", "<<", "(_"])
+        characters = list("[]{}()<>,:\"'\\/_-0123456789xhbo =+ \t\n\re.")
+        text = damaged_text(chance, text, characters + ["''_", '""_', "é", "h'", "<<", "(_"])
     return utf8(text)
 
 

@@ -12,7 +12,9 @@ def nested(count):
     content = b"\x01"
     for _ in range(count):
         length = len(content)
-        head = bytes([0x40 + length]) if length < 24 else bytes([0x58, length]) if length < 256 else b"\x59" + length.to_bytes(2, "big")
+        head = b"\x59" + length.to_bytes(2, "big")
+        if length < 256:
+            head = bytes([0x40 + length]) if length < 24 else bytes([0x58, length])
         content = b"\xd8\x18" + head + content
     return content.hex()
 

@@ -3,13 +3,11 @@
 import random
 
 import cases
-from bytes_form import parse_bytes, parse_bytes_partial, resolve, to_bytes
-from diag_form import parse_diag
-from diag_text import normal, to_diag, to_diag_pretty
-from dump import to_hex
 from examples import BYTES, COMMENTS, DUMPS, HEX, NOTATION, TEXTS, WRITTEN, nested
-from hex_form import parse_hex, strip
-from item import Refused
+from model import (
+    Refused, normal, parse_bytes, parse_bytes_partial, parse_diag, parse_hex, resolve, strip, to_bytes, to_diag,
+    to_diag_pretty, to_hex,
+)
 from notes import (
     base64_lines, base58, epoch_of_datetime, escaped_text, grouped, ipv6_text, quoted_bytes, uuid_lines,
 )
@@ -96,7 +94,8 @@ def texts_of_comments():
     check("\\u{0}\\u{85}é\u2028", escaped_text("\0\x85é\u2028"), "escaped")
     check("1" * 15 + "21", base58(bytes(15) + b"\x3a"), "base 58")
     check("2001:db8:0:1::1", ipv6_text(bytes_of("20010db8000000010000000000000001")), "ipv6")
-    for octets, wanted in [(bytes(16), "::"), (bytes(15) + b"\x01", "::1"), (bytes(10) + b"\xff\xff\xc0\x00\x02\x01", "::ffff:192.0.2.1")]:
+    mapped = bytes(10) + b"\xff\xff\xc0\x00\x02\x01"
+    for octets, wanted in [(bytes(16), "::"), (bytes(15) + b"\x01", "::1"), (mapped, "::ffff:192.0.2.1")]:
         check(wanted, ipv6_text(octets), octets)
     zeros = base64_lines("A" * 23 + "=", "standard")
     check(["0" * 32 + ' # "' + "\\x00" * 16 + '"', "00" + " " * 30 + ' # "\\x00"'], zeros, "two lines")

@@ -48,6 +48,9 @@ def is_authority(rest, special):
     authority = re.split(r"[/\\?#]" if special else r"[/?#]", rest, maxsplit=1)[0]
     host = authority.rpartition("@")[2]
     if "@" in authority and host == "":
+        # the standard says no of all schemes, and some parsers of special ones alone
+        if not special:
+            raise Unknown
         return False
     # a colon in brackets belongs to an address
     inside, port = False, None
