@@ -5,4 +5,7 @@ pub mod Base58
 pub mod Base64
 pub mod DecodedLines
 pub mod Identifier
+pub mod Layout
+pub mod LineTree
+pub mod TagNames
 pub mod Text
