@@ -11,5 +11,6 @@ pub mod Blanks
 pub mod DecodedLineLemmas
 pub mod Groups
 pub mod HexLemmas
+pub mod OneColumn
 pub mod Places
 pub mod Trees

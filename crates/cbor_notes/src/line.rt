@@ -4,9 +4,9 @@ ghost use Rattle.std.specs.Prelude.{◌≡◌, ◌≤◌, ◌<◌, ◌+◌, ◌*
 ghost use Rattle.std.specs.List.{AllByRecursion, flat_map};
 ghost use Rattle.std.specs.String.{string_bytes, string_len, string_capacity};
 ghost use Rattle.std.specs.Str.{IsAscii};
+ghost use Rattle.cbor_notes.specs.Columns.{IsColumn, IsPlain, digits_of, uncommented};
 ghost use Rattle.cbor_notes.specs.Layout.{left_column, line_text, layout, reach, width_of};
 ghost use Rattle.cbor_notes.specs.LineTree.{Fits, IsFit, first_line, forest_lines, most_hex, most_levels, tree_lines};
-
 ghost use Rattle.cbor_notes.specs.declared.line.Line.{out-Line};
 
 use std::alloc::{AllocError, Global};
@@ -86,7 +86,8 @@ impl Line {
         requires { AllByRecursion IsFit (tree_lines self.now depth) }
         ensures { result ≡ width_of (tree_lines self.now depth) }
     {
-        self.reach(depth).max(greatest_width_at(&self.sublines, depth + 1))
+        self.reach(depth)
+            .max(greatest_width_at(&self.sublines, depth + 1))
     }
 
     /// Appends a tree whose first line stands at a depth.
@@ -129,7 +130,12 @@ fn greatest_width_at(lines: &Vec<Line>, depth: usize) -> usize
 }
 
 #[cycle(put)]
-fn put_all_at(out: &mut String, lines: &Vec<Line>, width: usize, depth: usize) -> Result<(), AllocError>
+fn put_all_at(
+    out: &mut String,
+    lines: &Vec<Line>,
+    width: usize,
+    depth: usize,
+) -> Result<(), AllocError>
     requires fits { AllByRecursion IsFit (forest_lines lines.now.items depth) }
     requires width { width_of (forest_lines lines.now.items depth) ≤ width }
     requires most { width ≤ 3 * most_levels + most_hex }
@@ -149,7 +155,14 @@ fn put_all_at(out: &mut String, lines: &Vec<Line>, width: usize, depth: usize) -
 /// The tree has to fit, which [`Line::fits`] tells. The only refusal is want of memory.
 pub fn merge(alloc: Global, line: &Line) -> Result<String, AllocError>
     requires { Fits line.now }
-    ensures { IfOk result (λ text. string_bytes text ≡ layout (tree_lines line.now 0)) }
+    ensures text { IfOk result (λ text. string_bytes text ≡ layout (tree_lines line.now 0)) }
+    // Where no digit is a `#` and no line feed stands in the tree, its lines are those of the text, and the
+    // first `#` of each stands in one column.
+    ensures one_column { AllByRecursion IsPlain (tree_lines line.now 0) → IfOk result (λ text.
+        IsColumn (width_of (tree_lines line.now 0) + 1) (string_bytes text)) }
+    // And without comments and blanks the text is the digits.
+    ensures digits { AllByRecursion IsPlain (tree_lines line.now 0) → IfOk result (λ text.
+        uncommented (string_bytes text) ≡ digits_of (tree_lines line.now 0)) }
 {
     let width = line.width_at(0);
     let mut text = String::new(alloc);

@@ -1,4 +1,4 @@
-use Rattle.std.proofs.Common.{◌≡◌, List, refl, sym, subst}
+use Rattle.std.proofs.Common.{List, refl, sym, subst}
 use Rattle.std.specs.List.{AllByRecursion}
 use Rattle.cbor_notes.specs.LineTree.{IsFit, forest_lines}
 use Rattle.cbor_notes.specs.declared.line.Line.{Line}
@@ -13,9 +13,9 @@ pub all_fit_at-returns-then-not-fits_at : goal.all_fit_at-returns-then-not-fits_
 all_fit_at-returns-then-not-fits_at t c = (
   λ never. cc never,
   λ whole.
-    let seen = subst (λ (trees : List Line). AllByRecursion IsFit (forest_lines trees c.args.depth)) (sym c.deref-line-items.ensures.value) whole in
-    c.if-not-fits_at.ensures.1
-        (fit_here c.deref-line-items.result.now c.lines.line-index c.args.depth c.line-item.result c.line-item.is c.lines-test.true (c.lines.invariant.1 seen)),
+      let seen = subst (λ (trees : List Line). AllByRecursion IsFit (forest_lines trees c.args.depth)) (sym c.deref-line-items.ensures.value) whole in
+      c.if-not-fits_at.ensures.1
+      (fit_here c.deref-line-items.result.now c.lines.line-index c.args.depth c.line-item.result c.line-item.is c.lines-test.true (c.lines.invariant.1 seen)),
 )
 
 pub all_fit_at-lines-preserved : goal.all_fit_at-lines-preserved

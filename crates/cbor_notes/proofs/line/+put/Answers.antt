@@ -1,9 +1,8 @@
-use Rattle.std.proofs.Common.{◌≡◌, ◌≤◌, ◌∙◌, ◌++◌, ap, max, arith, rules, sym}
-use Rattle.std.specs.List.{AllByRecursion, flat_map}
+use Rattle.std.proofs.Common.{◌≡◌, ◌∙◌, ◌++◌, ap, arith, rules}
 use Rattle.std.specs.String.{string_bytes}
 use Rattle.std.proofs.lemmas.Grind.{common_steps}
 use Rattle.cbor_notes.specs.Layout.{line_text, width_of}
-use Rattle.cbor_notes.specs.LineTree.{IsFit, first_line, forest_lines, tree_lines}
+use Rattle.cbor_notes.specs.LineTree.{first_line}
 use Rattle.cbor_notes.specs.declared.line.Line.{the_lemmas}
 use Rattle.cbor_notes.proofs.Trees.{tree_is, fit_here, fit_others, text_more, width_more}
 use Rattle.cbor_notes.proofs.line.+put.Goals as goal
@@ -21,7 +20,8 @@ Line::put_at-returns t c =
 pub put_all_at-put_at-requires : goal.put_all_at-put_at-requires
 put_all_at-put_at-requires t c =
     let more = width_more c.deref-line-items.result.now c.lines.line-index c.args.depth c.line-item.result c.line-item.is c.lines-test.true in (
-      search (rules, the_lemmas), (
+      search (rules, the_lemmas),
+      (
         fit_here c.deref-line-items.result.now c.lines.line-index c.args.depth c.line-item.result c.line-item.is c.lines-test.true c.lines.invariant.0,
         (omega (arith, more), c.requires.most),
       ),

@@ -1,7 +1,5 @@
-use Rattle.std.proofs.Common.{◌≡◌, ◌∙◌, max, arith, rules, sym, ap}
-use Rattle.std.specs.List.{AllByRecursion}
+use Rattle.std.proofs.Common.{arith, rules, ap}
 use Rattle.cbor_notes.specs.Layout.{width_of}
-use Rattle.cbor_notes.specs.LineTree.{IsFit, first_line, forest_lines}
 use Rattle.cbor_notes.specs.declared.line.Line.{the_lemmas}
 use Rattle.cbor_notes.proofs.Trees.{tree_is, fit_here, fit_others, width_more}
 use Rattle.cbor_notes.proofs.line.+width.Goals as goal
