@@ -63,6 +63,16 @@ BYTES = [
 # bytes, and the bytes that their item is written as
 WRITTEN = [("f814", "f4"), ("f818", "f818"), ("98ff" + "00" * 255, "98ff" + "00" * 255)]
 
+# items one after the other: bytes, where they lead to, their outputs joined, and why the rest is no item
+SEQUENCES = [
+    ("0120f6", "diag", "1\n-1\nnull\n", None),
+    ("", "diag", "", None),
+    ("0162c3", "diag", "1\n", "CutShort"),
+    ("01ff02", "diag", "1\n", "Head"),
+    ("0101", "bytes", "\x01\x01", None),
+    ("0120", "hex", "01 # unsigned(1)\n20 # negative(-1)\n", None),
+]
+
 # hex with comments, and the bytes that it is, or the refusal
 HEX = [
     ("", "CutShort"),

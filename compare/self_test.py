@@ -3,7 +3,7 @@
 import random
 
 import cases
-from examples import BYTES, COMMENTS, DUMPS, HEX, NOTATION, TEXTS, WRITTEN, nested
+from examples import BYTES, COMMENTS, DUMPS, HEX, NOTATION, SEQUENCES, TEXTS, WRITTEN, nested
 from model import (
     Refused, normal, parse_bytes, parse_bytes_partial, parse_diag, parse_hex, resolve, strip, to_bytes, to_diag,
     to_diag_pretty, to_hex,
@@ -11,6 +11,7 @@ from model import (
 from notes import (
     base64_lines, base58, epoch_of_datetime, escaped_text, grouped, ipv6_text, quoted_bytes, uuid_lines,
 )
+from outcome import Outcome, expected
 
 
 def bytes_of(digits):
@@ -108,6 +109,13 @@ def texts_of_comments():
         check(wanted, epoch_of_datetime(text), text)
 
 
+def sequences():
+    for digits, target, output, refusal in SEQUENCES:
+        wanted = Outcome(output.encode(), frozenset([refusal] if refusal else []))
+        check(wanted, expected("seq", target, bytes_of(digits)), digits)
+    check(Outcome(b"\xf4\x80", frozenset()), expected("seq", "bytes", bytes_of("f81480")), "two spellings of false")
+
+
 def laws(count, seed):
     """What has to hold of every item, whatever the texts look like."""
     chance = random.Random(seed)
@@ -126,7 +134,7 @@ def laws(count, seed):
 
 
 def run(count=3000, seed=1):
-    for part in (read_bytes, read_hex, read_notation, written_texts, dumps, texts_of_comments):
+    for part in (read_bytes, read_hex, read_notation, written_texts, dumps, texts_of_comments, sequences):
         part()
     laws(count, seed)
     print(f"self-test: all examples, and the laws of {count} items by seed {seed}")

@@ -5,9 +5,10 @@
 //! Where FROM is `seq`, the input is the bytes of items one after the other (RFC 8742), and each is
 //! written in the form TO, before the next is looked at.
 //!
-//! The exit status is 0 where the item was written. It is 1 where the input is no item, or can't be
-//! read, or the output can't be written; for an input that is no item nothing is written. It is 2,
-//! and nothing is read, where the arguments are not two such words. Standard error then says why.
+//! The exit status is 0 where the output was written. It is 1 where the input is no item, or no
+//! sequence of items, or can't be read, or the output can't be written, or memory is wanting; of an
+//! input that is no item nothing is written, and of a sequence the items before a fault. It is 2, and
+//! nothing is read, where the arguments are not two such words. Standard error then says why.
 #![tactic(auto)]
 
 mod convert;
