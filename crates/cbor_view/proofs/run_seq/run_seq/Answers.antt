@@ -1,9 +1,6 @@
-use Rattle.std.proofs.Common.{◌≡◌, ℕ, List, []}
+use Rattle.std.proofs.Common.{[]}
 use Rattle.std.proofs.KnownBytes.{Appends-nil}
-use Rattle.cbor_diag.specs.declared.error.Error.TheVariants as refusal
 use Rattle.cbor_view.specs.Counting.{inner_of}
-use Rattle.cbor_view.specs.Running.{HadAll, Gains}
-use Rattle.cbor_view.specs.Sequence.{IsOutputOfFirst}
 use Rattle.cbor_view.proofs.Sequences.{none_written, had_some, for_any_refusal}
 use Rattle.cbor_view.proofs.run_seq.run_seq.Goals as goal
 

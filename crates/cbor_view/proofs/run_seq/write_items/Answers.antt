@@ -1,7 +1,7 @@
 use Rattle.std.proofs.Common.{ℕ, List, drop, ◌++◌, rules}
 use Rattle.std.proofs.lemmas.List.{take_rest}
 use Rattle.std.proofs.KnownBytes.{Appends-trans}
-use Rattle.cbor_view.specs.Running.{Gains, GainsPart}
+use Rattle.cbor_view.specs.Running.{GainsPart}
 use Rattle.cbor_view.specs.Sequence.{IsOutputOfFirst}
 use Rattle.cbor_view.proofs.Sequences.{more_written, part_later, write_error_later}
 use Rattle.cbor_view.proofs.run_seq.write_items.Goals as goal
