@@ -7,7 +7,7 @@ pub mod Base32Padding
 pub mod Base58Digits
 pub mod Base58Lemmas
 pub mod Base64Digits
-pub mod Blanks
+pub mod Spaces
 pub mod DecodedLineLemmas
 pub mod Groups
 pub mod HexLemmas

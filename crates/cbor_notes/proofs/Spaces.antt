@@ -1,4 +1,4 @@
--- Blanks, as many as are wanted.
+-- Spaces, as many as are wanted.
 use Rattle.std.proofs.Common.{◌≡◌, ℕ, ◌+◌, ◌-◌, ◌<◌, ◌≤◌, List, ◌++◌, length, slice_index, slice_range, replicate, take, ap, ◌∙◌, append_assoc, arith}
 use Rattle.std.proofs.lemmas.List.{replicate-append-replicate, get_or-replicate, length-replicate, take-replicate}
 
