@@ -13,3 +13,5 @@ pub mod Groups
 pub mod HexLemmas
 pub mod Places
 mod TextExamples
+pub mod Longest
+pub mod Blanks

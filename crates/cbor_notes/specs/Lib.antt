@@ -7,3 +7,4 @@ pub mod DecodedLines
 pub mod Identifier
 pub mod Text
 pub mod Token
+pub mod TokenReading

@@ -8,6 +8,7 @@ mod number;
 
 ghost use Rattle.std.specs.Prelude.{◌≡◌, ◌++◌, ◌<◌, ◌≤◌, [], List, ℕ, drop, length, slice_index, slice_range, true, IsTrue, IfNone, IfSome};
 ghost use Rattle.cbor_notes.specs.Token.{Blank, IsLongest, is_whitespace};
+ghost use Rattle.cbor_notes.specs.TokenReading.{after_blank};
 
 pub use content::{digits_at, quoted_at};
 pub use number::number_at;
@@ -28,7 +29,7 @@ pub fn blank_end(text: &[u8], at: usize) -> usize
 pub(crate) fn end_of_blank(text: &[u8], at: usize, comments: bool) -> usize
     requires { at ≤ length text.now }
     ensures within { (at ≤ result) × (result ≤ length text.now) }
-    ensures longest { IsLongest (Blank comments) (slice_range text.now at result) (drop result text.now) }
+    ensures rest { drop result text.now ≡ after_blank comments (drop at text.now) }
 {
     let mut end = at;
     while let Some(next) = end_of_piece(text, end, comments) {
@@ -40,10 +41,10 @@ pub(crate) fn end_of_blank(text: &[u8], at: usize, comments: bool) -> usize
 /// Where the whitespace or the comment at `at` ends, if one stands there.
 fn end_of_piece(text: &[u8], at: usize, comments: bool) -> Option<usize>
     requires { at ≤ length text.now }
-    ensures found { IfSome result (λ end. (at < end) × (end ≤ length text.now)
-        × Blank comments (slice_range text.now at end)) }
-    ensures none { IfNone result ((front rest : List ℕ) → drop at text.now ≡ front ++ rest
-        → Blank comments front → front ≡ []) }
+    ensures within { IfSome result (λ end. (at < end) × (end ≤ length text.now)) }
+    ensures found { IfSome result (λ end.
+        after_blank comments (drop end text.now) ≡ after_blank comments (drop at text.now)) }
+    ensures none { IfNone result (drop at text.now ≡ after_blank comments (drop at text.now)) }
 {
     if at == text.len() {
         return None;

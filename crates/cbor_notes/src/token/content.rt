@@ -1,8 +1,8 @@
 //! What stands between quotes in diagnostic notation: text with escapes, and digits with blanks.
 
-ghost use Rattle.std.specs.Prelude.{◌≡◌, ◌≢◌, ◌⊎◌, ◌++◌, ◌∷◌, ◌+◌, ◌<◌, ◌≤◌, [], List, ℕ, drop, length, slice_index, slice_range, false, IfNone, IfOk, IfSome, IsSomeAnd, IsTrue};
-ghost use Rattle.std.specs.List.{AllByRecursion};
+ghost use Rattle.std.specs.Prelude.{◌≡◌, ◌≢◌, ◌⊎◌, ◌++◌, ◌∷◌, ◌+◌, ◌<◌, ◌≤◌, [], List, ℕ, drop, length, slice_index, slice_range, false, IfNone, IfOk, IfSome, IsSomeAnd, None};
 ghost use Rattle.cbor_notes.specs.Token.{DigitsBetween, in_quotes, is_digit};
+ghost use Rattle.cbor_notes.specs.TokenReading.{digits_in, unquoted, with_front};
 
 use super::{end_of_blank, is_whitespace};
 use std::alloc::{AllocError, Global};
@@ -92,10 +92,12 @@ pub fn digits_at(
 /// The first place from `at` on with the quote or a `\`.
 fn plain_end(text: &[u8], at: usize, quote: u8) -> Option<usize>
     requires { at ≤ length text.now }
-    ensures found { IfSome result (λ end. (at ≤ end) × (end < length text.now)
-        × (in_quotes quote (slice_range text.now at end) ≡ slice_range text.now at end)
-        × ((slice_index text.now end ≡ quote) ⊎ (slice_index text.now end ≡ 92))) }
-    ensures none { IfNone result (in_quotes quote (drop at text.now) ≡ drop at text.now) }
+    ensures within { IfSome result (λ end. (at ≤ end) × (end < length text.now)) }
+    ensures found { IfSome result (λ end. unquoted quote false (drop at text.now)
+        ≡ with_front (slice_range text.now at end) (unquoted quote false (drop end text.now))) }
+    ensures stops { IfSome result (λ end.
+        (slice_index text.now end ≡ quote) ⊎ (slice_index text.now end ≡ 92)) }
+    ensures none { IfNone result (unquoted quote false (drop at text.now) ≡ None) }
 {
     let plain = text[at..]
         .iter()
@@ -107,7 +109,8 @@ fn plain_end(text: &[u8], at: usize, quote: u8) -> Option<usize>
 fn digits_end(text: &[u8], at: usize, comments: bool) -> usize
     requires { at ≤ length text.now }
     ensures within { (at ≤ result) × (result ≤ length text.now) }
-    ensures digits { AllByRecursion (λ byte. IsTrue (is_digit comments byte)) (slice_range text.now at result) }
+    ensures found { digits_in comments false (drop at text.now)
+        ≡ with_front (slice_range text.now at result) (digits_in comments false (drop result text.now)) }
     ensures stops { result < length text.now → is_digit comments (slice_index text.now result) ≡ false }
 {
     let mut end = at;

@@ -1,9 +1,8 @@
 //! Numbers of diagnostic notation, in four bases, with an indicator of their width or without.
 
 ghost use Rattle.std.specs.Prelude.{◌≡◌, ◌++◌, ◌∷◌, ◌+◌, ◌<◌, ◌≤◌, ◌⊎◌, List, ℕ, Option, drop, length, slice_index, slice_range, IfNone, IfSome, Some};
-ghost use Rattle.std.specs.Char.{digit_value};
-ghost use Rattle.std.specs.Str.Parse.{AllDigits, digits_value};
-ghost use Rattle.cbor_notes.specs.Token.{capped, prefix, radix, Indicates, IsLongest, IsNumber, IsSomeNumber};
+ghost use Rattle.cbor_notes.specs.Token.{capped, prefix, radix, IsLongest, IsNumber, IsSomeNumber};
+ghost use Rattle.cbor_notes.specs.TokenReading.{base_of, digit_run, indicator_of};
 
 /// What all values past 2^64 are answered as.
 const PAST: u128 = (1 << 64) + 1;
@@ -58,11 +57,7 @@ impl Base {
     /// The base of a number at `at`: that of its prefix if a digit of that base follows, else decimal.
     fn at(text: &[u8], at: usize) -> Base
         requires { at ≤ length text.now }
-        ensures prefix { drop at text.now ≡ prefix result ++ drop (at + length (prefix result)) text.now }
-        ensures only { (base : Base) (digit : ℕ) (rest : List ℕ) → drop at text.now ≡ prefix base ++ digit ∷ rest
-            → digit_value digit < radix base → (base ≡ result) ⊎ (base ≡ Base.Decimal) }
-        ensures digit { (result ≡ Base.Decimal) ⊎ ((digit : ℕ) × (rest : List ℕ)
-            × (drop at text.now ≡ prefix result ++ digit ∷ rest) × (digit_value digit < radix result)) }
+        ensures { result ≡ base_of (drop at text.now) }
     {
         if text.len() - at <= 2 || text[at] != b'0' {
             return Base::Decimal;
@@ -108,9 +103,8 @@ fn digits_from(text: &[u8], start: usize, radix: u32) -> (u128, usize)
     requires start { start ≤ length text.now }
     requires radix { (2 ≤ radix) × (radix ≤ 16) }
     ensures within { (start ≤ result.1) × (result.1 ≤ length text.now) }
-    ensures digits { AllDigits radix (slice_range text.now start result.1) }
-    ensures value { result.0 ≡ capped (digits_value radix (slice_range text.now start result.1)) }
-    ensures stops { result.1 < length text.now → radix ≤ digit_value (slice_index text.now result.1) }
+    ensures run { (value : ℕ) × (result.0 ≡ capped value)
+        × (digit_run radix 0 (drop start text.now) ≡ (value, drop result.1 text.now)) }
 {
     let mut value = 0;
     let mut end = start;
@@ -127,13 +121,10 @@ fn digits_from(text: &[u8], start: usize, radix: u32) -> (u128, usize)
 /// The longest indicator at `at`, which begins with `_`, and where it ends.
 fn indicator_at(text: &[u8], at: usize) -> Option<(u8, usize)>
     requires { at ≤ length text.now }
-    ensures found { IfSome result (λ found. (at < found.1) × (found.1 ≤ length text.now)
-        × Indicates (slice_range text.now at found.1) (Some found.0)) }
-    ensures longest { IfSome result (λ found. (front rest : List ℕ) (indicator : ℕ)
-        → drop at text.now ≡ front ++ rest → Indicates front (Some indicator)
-        → at + length front ≤ found.1) }
-    ensures none { IfNone result ((front rest : List ℕ) (indicator : ℕ)
-        → drop at text.now ≡ front ++ rest → ¬ (Indicates front (Some indicator))) }
+    ensures within { IfSome result (λ found. (at < found.1) × (found.1 ≤ length text.now)) }
+    ensures found { IfSome result (λ found.
+        indicator_of (drop at text.now) ≡ Some (found.0, drop found.1 text.now)) }
+    ensures none { IfNone result (indicator_of (drop at text.now) ≡ None) }
 {
     if at == text.len() || text[at] != b'_' {
         return None;
