@@ -1,8 +1,8 @@
 //! What stands between quotes in diagnostic notation: text with escapes, and digits with blanks.
 
-ghost use Rattle.std.specs.Prelude.{◌≡◌, ◌≢◌, ◌⊎◌, ◌++◌, ◌∷◌, ◌+◌, ◌<◌, ◌≤◌, [], List, ℕ, drop, length, slice_index, slice_range, false, IfNone, IfOk, IfSome, IsSomeAnd, None};
+ghost use Rattle.std.specs.Prelude.{◌≡◌, ◌≢◌, ◌⊎◌, ◌++◌, ◌∷◌, ◌+◌, ◌<◌, ◌≤◌, [], List, ℕ, drop, length, IfNone, IfOk, IfSome, IsSomeAnd, not, ◌==◌, ◌||◌, ◌-◌};
+ghost use Rattle.std.specs.List.{position_or_len};
 ghost use Rattle.cbor_notes.specs.Token.{DigitsBetween, in_quotes, is_digit};
-ghost use Rattle.cbor_notes.specs.TokenReading.{digits_in, unquoted, with_front};
 
 use super::{end_of_blank, is_whitespace};
 use std::alloc::{AllocError, Global};
@@ -92,32 +92,24 @@ pub fn digits_at(
 /// The first place from `at` on with the quote or a `\`.
 fn plain_end(text: &[u8], at: usize, quote: u8) -> Option<usize>
     requires { at ≤ length text.now }
-    ensures within { IfSome result (λ end. (at ≤ end) × (end < length text.now)) }
-    ensures found { IfSome result (λ end. unquoted quote false (drop at text.now)
-        ≡ with_front (slice_range text.now at end) (unquoted quote false (drop end text.now))) }
-    ensures stops { IfSome result (λ end.
-        (slice_index text.now end ≡ quote) ⊎ (slice_index text.now end ≡ 92)) }
-    ensures none { IfNone result (unquoted quote false (drop at text.now) ≡ None) }
+    ensures found { IfSome result (λ end. (end < length text.now)
+        × (end ≡ at + position_or_len (λ b. (b == quote) || (b == 92)) (drop at text.now))) }
+    ensures none { IfNone result (position_or_len (λ b. (b == quote) || (b == 92)) (drop at text.now)
+        ≡ length text.now - at) }
 {
-    let plain = text[at..]
-        .iter()
-        .position(|byte| *byte == quote || *byte == b'\\')?;
+    let plain = text[at..].iter().position(|byte| *byte == quote || *byte == b'\\')?;
     Some(at + plain)
 }
 
 /// Where the digits from `at` on end.
 fn digits_end(text: &[u8], at: usize, comments: bool) -> usize
     requires { at ≤ length text.now }
-    ensures within { (at ≤ result) × (result ≤ length text.now) }
-    ensures found { digits_in comments false (drop at text.now)
-        ≡ with_front (slice_range text.now at result) (digits_in comments false (drop result text.now)) }
-    ensures stops { result < length text.now → is_digit comments (slice_index text.now result) ≡ false }
+    ensures { result ≡ at + position_or_len (λ b. not (is_digit comments b)) (drop at text.now) }
 {
-    let mut end = at;
-    while end < text.len() && is_digit(comments, text[end]) {
-        end += 1;
+    match text[at..].iter().position(|byte| !is_digit(comments, *byte)) {
+        Some(digits) => at + digits,
+        None => text.len(),
     }
-    end
 }
 
 /// Whether a byte may be a digit: neither whitespace nor `'`, nor `/` where comments are allowed.

@@ -2,7 +2,7 @@
 
 ghost use Rattle.std.specs.Prelude.{◌≡◌, ◌++◌, ◌∷◌, ◌+◌, ◌<◌, ◌≤◌, ◌⊎◌, List, ℕ, Option, drop, length, slice_index, slice_range, IfNone, IfSome, Some};
 ghost use Rattle.cbor_notes.specs.Token.{capped, prefix, radix, IsLongest, IsNumber, IsSomeNumber};
-ghost use Rattle.cbor_notes.specs.TokenReading.{base_of, digit_run, indicator_of};
+ghost use Rattle.cbor_notes.specs.TokenReading.{base_of, digit_run, indicator_of, small_run};
 
 /// What all values past 2^64 are answered as.
 const PAST: u128 = (1 << 64) + 1;
@@ -130,19 +130,26 @@ fn indicator_at(text: &[u8], at: usize) -> Option<(u8, usize)>
         return None;
     }
     let start = at + 1;
-    let mut indicator = 0;
+    let (indicator, end) = small_digits_from(text, start);
+    if end == start { None } else { Some((indicator, end)) }
+}
+
+/// The number that the decimal digits from `start` on write as far as it is at most 3, and where these
+/// digits end.
+fn small_digits_from(text: &[u8], start: usize) -> (u8, usize)
+    requires { start ≤ length text.now }
+    ensures within { (start ≤ result.1) × (result.1 ≤ length text.now) }
+    ensures run { small_run 0 (drop start text.now) ≡ (result.0, drop result.1 text.now) }
+{
+    let mut value = 0;
     let mut end = start;
     while end < text.len() && text[end].is_ascii_digit() {
-        let next = indicator * 10 + (text[end] - b'0');
+        let next = value * 10 + (text[end] - b'0');
         if next > 3 {
             break;
         }
-        indicator = next;
+        value = next;
         end += 1;
     }
-    if end == start {
-        None
-    } else {
-        Some((indicator, end))
-    }
+    (value, end)
 }
