@@ -1,8 +1,8 @@
 //! What stands between quotes in diagnostic notation: text with escapes, and digits with blanks.
 
-ghost use Rattle.std.specs.Prelude.{◌≡◌, ◌≢◌, ◌⊎◌, ◌++◌, ◌∷◌, ◌+◌, ◌<◌, ◌≤◌, [], List, ℕ, drop, length, IfNone, IfOk, IfSome, IsSomeAnd, not, ◌==◌, ◌||◌, ◌-◌};
+ghost use Rattle.std.specs.Prelude.{◌≡◌, ◌≢◌, ◌⊎◌, ◌++◌, ◌∷◌, ◌+◌, ◌<◌, ◌≤◌, [], List, ℕ, drop, length, IfNone, IfOk, IfSome, IsSomeAnd, not, ◌-◌};
 ghost use Rattle.std.specs.List.{position_or_len};
-ghost use Rattle.cbor_notes.specs.Token.{DigitsBetween, in_quotes, is_digit};
+ghost use Rattle.cbor_notes.specs.Token.{DigitsBetween, in_quotes, is_digit, is_special};
 
 use super::{end_of_blank, is_whitespace};
 use std::alloc::{AllocError, Global};
@@ -37,7 +37,7 @@ pub fn quoted_at(
         if text[end] == quote {
             return Ok(Some((content, end + 1)));
         }
-        if end + 1 == text.len() || (text[end + 1] != quote && text[end + 1] != b'\\') {
+        if end + 1 == text.len() || !is_special(quote, text[end + 1]) {
             return Ok(None);
         }
         content.push(text[end + 1])?;
@@ -83,7 +83,11 @@ pub fn digits_at(
         digits.extend_from_slice(&text[start..stop])?;
         end = end_of_blank(text, stop, comments);
     }
-    if end == text.len() || (digits.is_empty() && end > at) {
+    if end == text.len() {
+        return Ok(None);
+    }
+    // Blanks alone.
+    if digits.is_empty() && end > at {
         return Ok(None);
     }
     Ok(Some((digits, end + 1)))
@@ -93,18 +97,26 @@ pub fn digits_at(
 fn plain_end(text: &[u8], at: usize, quote: u8) -> Option<usize>
     requires { at ≤ length text.now }
     ensures found { IfSome result (λ end. (end < length text.now)
-        × (end ≡ at + position_or_len (λ b. (b == quote) || (b == 92)) (drop at text.now))) }
-    ensures none { IfNone result (position_or_len (λ b. (b == quote) || (b == 92)) (drop at text.now)
+        × (end ≡ at + position_or_len (is_special quote) (drop at text.now))) }
+    ensures none { IfNone result (position_or_len (is_special quote) (drop at text.now)
         ≡ length text.now - at) }
 {
-    let plain = text[at..].iter().position(|byte| *byte == quote || *byte == b'\\')?;
+    let plain = text[at..].iter().position(|byte| is_special(quote, *byte))?;
     Some(at + plain)
+}
+
+/// Whether a byte is the quote or a `\`.
+fn is_special(quote: u8, byte: u8) -> bool
+    ensures { result ≡ is_special quote byte }
+{
+    byte == quote || byte == b'\\'
 }
 
 /// Where the digits from `at` on end.
 fn digits_end(text: &[u8], at: usize, comments: bool) -> usize
     requires { at ≤ length text.now }
-    ensures { result ≡ at + position_or_len (λ b. not (is_digit comments b)) (drop at text.now) }
+    ensures within { (at ≤ result) × (result ≤ length text.now) }
+    ensures first { result ≡ at + position_or_len (λ b. not (is_digit comments b)) (drop at text.now) }
 {
     match text[at..].iter().position(|byte| !is_digit(comments, *byte)) {
         Some(digits) => at + digits,
