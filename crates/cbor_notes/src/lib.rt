@@ -9,6 +9,7 @@ mod address;
 mod base32;
 mod base58_text;
 mod base64_text;
+mod examples;
 mod identifier;
 mod text;
 mod token;
