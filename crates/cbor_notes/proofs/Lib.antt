@@ -14,3 +14,11 @@ pub mod HexLemmas
 pub mod OneColumn
 pub mod Places
 pub mod Trees
+pub mod Blanks
+pub mod Contents
+pub mod Longest
+pub mod NumberRuns
+pub mod Numbers
+pub mod Quoted
+pub mod Spaced
+pub mod TextPlaces

@@ -11,3 +11,5 @@ pub mod LayoutExamples
 pub mod LineTree
 pub mod TagNames
 pub mod Text
+pub mod Token
+pub mod TokenReading

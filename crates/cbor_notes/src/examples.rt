@@ -1,6 +1,6 @@
 //! What the definitions of `specs/` say of a few inputs: each is computed when the crate is checked, so
 //! that a wrong definition does not pass. Nothing calls these functions.
-ghost use Rattle.std.specs.Prelude.{◌≡◌, [], ◌∷◌, ◌++◌, map, replicate, codes, true, false, Some, None};
+ghost use Rattle.std.specs.Prelude.{◌≡◌, [], ◌∷◌, ◌++◌, map, replicate, codes, true, false, Some, None, ◌+◌, ◌^◌, List, ℕ};
 ghost use Rattle.cbor_notes.specs.Address.{ipv4_text, ipv6_text, mac_text};
 ghost use Rattle.cbor_notes.specs.Base32.{base32, base32hex};
 ghost use Rattle.cbor_notes.specs.Base58.{base58_of};
@@ -12,6 +12,7 @@ ghost use Rattle.cbor_notes.specs.Layout.{layout, line_text, reach, width_of};
 ghost use Rattle.cbor_notes.specs.LayoutExamples.{bare, deep, head, number};
 ghost use Rattle.cbor_notes.specs.TagNames.{tag_name};
 ghost use Rattle.cbor_notes.specs.Text.{escaped_text, grouped, quoted_bytes};
+ghost use Rattle.cbor_notes.specs.Token.{Blank, DigitsBetween, IsLongest, IsNumber, IsSomeNumber, capped, in_quotes};
 
 /// The test vectors of RFC 4648, section 10.
 pub(crate) fn base32_vectors()
@@ -53,6 +54,7 @@ pub(crate) fn numbers_in_groups()
 {}
 
 /// Bytes between quotes, and characters that can stand there: of U+0000, U+0085, U+00E9 and U+2028 the
+
 /// first two are control characters.
 pub(crate) fn escapes()
     ensures bytes { quoted_bytes (0x00 ∷ 0x41 ∷ 0x22 ∷ 0x27 ∷ 0x5c ∷ 0x0a ∷ 0x7f ∷ [])
@@ -62,6 +64,7 @@ pub(crate) fn escapes()
 {}
 
 /// An IPv4 address of RFC 5737, a MAC address of RFC 7042, and IPv6 addresses as RFC 5952 has them: the
+
 /// longest run of zero groups is `::`, of two as long the first, and one zero group by itself stays.
 pub(crate) fn addresses()
     ensures ipv4 { ipv4_text (192 ∷ 0 ∷ 2 ∷ 1 ∷ []) ≡ codes "192.0.2.1" }
@@ -91,6 +94,7 @@ pub(crate) fn identifiers()
 {}
 
 /// A tag with a note, the lines of an empty string, and no lines: the width is that of the farthest
+
 /// digits, and a line without digits is as wide.
 pub(crate) fn laid_out()
     ensures reach { reach number ≡ 5 }
@@ -120,4 +124,45 @@ pub(crate) fn tag_names()
     ensures after_arrays { tag_name 88 ≡ None }
     ensures last { tag_name 55799 ≡ Some (codes "self describe cbor") }
     ensures beyond { tag_name 55800 ≡ None }
+{}
+
+/// Blanks are whitespace and closed comments, comments only where they are allowed.
+pub(crate) fn blanks()
+    ensures pieces { Blank true (codes " /x 'y/\n//") }
+    ensures empty { Blank false [] }
+    ensures open_comment { ¬ (Blank true (codes " /x")) }
+    ensures no_comments { ¬ (Blank false (codes "//")) }
+{}
+
+/// Numbers in their bases, with leading zeros, with indicators of 0 to 3 alone, and the longest of a text.
+pub(crate) fn numbers()
+    ensures zeros { IsNumber (codes "007") 7 None }
+    ensures hexadecimal { IsNumber (codes "0x1aF_1") 431 (Some 1) }
+    ensures zeros_of_the_indicator { IsNumber (codes "0b11_002") 3 (Some 2) }
+    ensures indicator_past_three { ¬ (IsSomeNumber (codes "1_4")) }
+    ensures prefix_alone { ¬ (IsSomeNumber (codes "0x")) }
+    ensures upper_case_prefix { ¬ (IsSomeNumber (codes "0X1")) }
+    ensures digit_of_another_base { ¬ (IsSomeNumber (codes "0o8")) }
+    ensures no_indicator { ¬ (IsSomeNumber (codes "1_")) }
+    ensures longest { IsLongest IsSomeNumber (codes "1_0") (codes "4") }
+    ensures two_to_the_64 { capped (2 ^ 64) ≡ 2 ^ 64 }
+    ensures past { capped (2 ^ 64 + 2) ≡ 2 ^ 64 + 1 }
+{}
+
+/// Between quotes, only the quote and the backslash are escaped.
+pub(crate) fn quoted()
+    ensures single { in_quotes 39 (codes "it's \"\\") ≡ codes "it\\'s \"\\\\" }
+    ensures double { in_quotes 34 (codes "it's \"\\") ≡ codes "it's \\\"\\\\" }
+{}
+
+/// Digits with blanks: a comment may hold a quote; blanks alone are no content, nor is a `/` that opens no
+
+/// comment; without comments a `/` is a digit.
+pub(crate) fn spaced()
+    ensures around { DigitsBetween true (codes " 0/'/1 ") (codes "01") }
+    ensures empty { DigitsBetween true [] [] }
+    ensures slashes { DigitsBetween false (codes "/x/ 0") (codes "/x/0") }
+    ensures blanks_alone { (digits : List ℕ) → ¬ (DigitsBetween true (codes " //") digits) }
+    ensures open_comment { (digits : List ℕ) → ¬ (DigitsBetween true (codes "0/1") digits) }
+    ensures quote { (digits : List ℕ) → ¬ (DigitsBetween false (codes "0'1") digits) }
 {}

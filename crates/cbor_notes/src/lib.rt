@@ -14,6 +14,7 @@ mod identifier;
 mod line;
 mod tags;
 mod text;
+mod token;
 
 pub use address::{ipv4_text, ipv6_text, mac_text};
 pub use base32::{base32_decode, base32hex_decode};
@@ -25,3 +26,4 @@ pub use tags::tag_name;
 pub use text::{
     escaped_text, grouped, push_escaped_text, push_grouped, push_quoted_bytes, quoted_bytes,
 };
+pub use token::{blank_end, digits_at, number_at, quoted_at};
