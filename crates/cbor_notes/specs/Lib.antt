@@ -3,6 +3,10 @@ pub mod AreBytes
 pub mod Base32
 pub mod Base58
 pub mod Base64
+pub mod Date
+pub mod DateTime
 pub mod DecodedLines
+pub mod Element
 pub mod Identifier
 pub mod Text
+pub mod Url

@@ -109,12 +109,25 @@ pub fn grouped(alloc: Global, number: u128, negative: bool) -> Result<String, Al
         (λ text. spec.IsGroupedNumber number negative (string_bytes text)) }
 {
     let mut text = String::new(alloc);
+    push_grouped(&mut text, number, negative)?;
+    Ok(text)
+}
+
+/// Appends what [`grouped`] writes of a number to `text`. After a refusal `text` may end with a part
+/// of it.
+pub(crate) fn push_grouped(
+    text: &mut String,
+    number: u128,
+    negative: bool,
+) -> Result<(), AllocError>
+    ensures text { OnOk result
+        (string_bytes text.new ≡ string_bytes text.old ++ spec.grouped number negative) }
+{
     if negative {
         text.push('-')?;
     }
     let mut digits = itoa::Buffer::new();
-    push_in_groups(&mut text, digits.format(number).as_bytes())?;
-    Ok(text)
+    push_in_groups(text, digits.format(number).as_bytes())
 }
 
 fn push_in_groups(text: &mut String, digits: &[u8]) -> Result<(), AllocError>
