@@ -8,6 +8,7 @@ pub mod Base58Digits
 pub mod Base58Lemmas
 pub mod Base64Digits
 mod BaseExamples
+pub mod DateTexts
 pub mod DecodedLineLemmas
 pub mod Groups
 pub mod HexLemmas

@@ -1,10 +1,9 @@
 -- Dates and times of day, as texts and as the days and seconds since 1970-01-01. The dates that there
 -- are, and the number of the day of each, are those of `jiff`.
-use Rattle.std.specs.Prelude.{◌≡◌, ℕ, ◌+◌, ◌*◌, ◌/◌, ◌%◌, ◌≤◌, ℤ, pos, ◌+ℤ◌, ◌*ℤ◌, ◌≤ℤ◌, unsigned_abs, List, [], ◌∷◌, ◌++◌, codes}
-use Rattle.std.specs.Int.{is_negative}
+use Rattle.std.specs.Prelude.{◌≡◌, ℕ, ◌+◌, ◌*◌, ◌/◌, ◌%◌, ◌≤◌, suc, ℤ, pos, negsuc, ◌+ℤ◌, ◌*ℤ◌, ◌≤ℤ◌, true, false, List, [], ◌∷◌, ◌++◌, codes}
 use Rattle.jiff.specs.Types.{Date}
 use Rattle.jiff.specs.Words.{epoch_day}
-use Rattle.cbor_notes.specs.Text.{grouped, minus_if}
+use Rattle.cbor_notes.specs.Text.{grouped}
 
 -- a number below 100 in two digits
 abbrev pub two_digits : ℕ → List ℕ
@@ -14,11 +13,15 @@ two_digits n = (48 + n / 10) ∷ (48 + n % 10) ∷ []
 abbrev pub four_digits : ℕ → List ℕ
 four_digits n = two_digits (n / 100) ++ two_digits (n % 100)
 
--- `2013-03-21`: the year in four digits, after a minus if it is negative
+-- a year in four digits, after a minus if it is before the year 0
+abbrev pub year_text : ℤ → List ℕ
+year_text (pos n) = four_digits n
+year_text (negsuc n) = codes "-" ++ four_digits (suc n)
+
+-- `2013-03-21`
 unfoldable pub date_text : Date → List ℕ
 date_text date =
-    minus_if (is_negative date.year) ++ four_digits (unsigned_abs date.year)
-    ++ codes "-" ++ two_digits date.month ++ codes "-" ++ two_digits date.day
+    year_text date.year ++ codes "-" ++ two_digits date.month ++ codes "-" ++ two_digits date.day
 
 -- `20:04:00`
 unfoldable pub clock_text : ℕ → ℕ → ℕ → List ℕ
@@ -33,9 +36,10 @@ IsDayText number text = (date : Date) × (epoch_day date ≡ number) × (text �
 abbrev pub IsDateText : List ℕ → Date → Type 0
 IsDateText text date = (pos 0 ≤ℤ date.year) × (text ≡ date_text date)
 
--- the number of a date's day, grouped
-abbrev pub day_number_text : Date → List ℕ
-day_number_text date = grouped (unsigned_abs (epoch_day date)) (is_negative (epoch_day date))
+-- a number, grouped, after a minus if it is below zero
+abbrev pub grouped_signed : ℤ → List ℕ
+grouped_signed (pos n) = grouped n false
+grouped_signed (negsuc n) = grouped (suc n) true
 
 -- the seconds from 1970-01-01T00:00:00 to a time on a date, where each day has 86,400
 abbrev pub civil_seconds : Date → ℕ → ℕ → ℕ → ℤ

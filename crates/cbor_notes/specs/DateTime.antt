@@ -1,6 +1,6 @@
 -- The texts of a date, a time of day and an offset from UTC, after RFC 3339, and the seconds since
 -- 1970-01-01T00:00:00Z that they name.
-use Rattle.std.specs.Prelude.{IsTrue, ◌≡◌, ◌⊎◌, ℕ, ◌+◌, ◌*◌, ◌<◌, ◌≤◌, ℤ, pos, neg_ℤ, ◌-ℤ◌, ◌≤ℤ◌, List, [], ◌∷◌, ◌++◌, length, take, drop, replicate, codes, bytes_eq, if◌then◌else◌}
+use Rattle.std.specs.Prelude.{IsTrue, ◌≡◌, ◌⊎◌, ℕ, ◌+◌, ◌*◌, ◌<◌, ◌≤◌, ℤ, pos, neg_ℤ, ◌-ℤ◌, ◌≤ℤ◌, List, [], ◌∷◌, ◌++◌, length, take, drop, replicate, codes, bytes_eq, ◌==◌, if◌then◌else◌}
 use Rattle.std.specs.Char.{is_ascii_digit}
 use Rattle.std.specs.Fmt.{signed_decimal}
 use Rattle.std.specs.List.{list_all}
@@ -48,15 +48,19 @@ pub record IsDateTimeText (text : List ℕ) (seconds : ℤ) (digits : List ℕ) 
 abbrev pub nine_digits : List ℕ → List ℕ
 nine_digits digits = take 9 (digits ++ replicate 9 48)
 
--- a fraction of a second, cut to nine digits: nothing where they are zeros, else `.` and 3, 6 or 9 of
--- them, the fewest after which all are zeros
+-- the fewest of 0, 3, 6 and 9 of nine digits after which all are zeros
+abbrev pub shown : List ℕ → ℕ
+shown nine =
+    if bytes_eq nine (replicate 9 48) then 0
+    else if bytes_eq (drop 3 nine) (replicate 6 48) then 3
+    else if bytes_eq (drop 6 nine) (replicate 3 48) then 6
+    else 9
+
+-- a fraction of a second, cut to nine digits: `.` and as many of them as are shown, or nothing
 unfoldable pub fraction_text : List ℕ → List ℕ
 fraction_text digits =
     let nine = nine_digits digits in
-    if bytes_eq nine (replicate 9 48) then []
-    else if bytes_eq (drop 3 nine) (replicate 6 48) then codes "." ++ take 3 nine
-    else if bytes_eq (drop 6 nine) (replicate 3 48) then codes "." ++ take 6 nine
-    else codes "." ++ nine
+    if shown nine == 0 then [] else codes "." ++ take (shown nine) nine
 
 -- seconds in decimal, and the fraction
 abbrev pub epoch_text : ℤ → List ℕ → List ℕ

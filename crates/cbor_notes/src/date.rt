@@ -1,9 +1,9 @@
 //! Dates, as texts and as days from 1970-01-01.
 
-ghost use Rattle.std.specs.Prelude.{◌≡◌, ◌↔◌, ◌++◌, ℕ, ◌<◌, [], ◌∷◌, IsSome, IfSome, IfOk, OnOk, IsSomeAnd};
+ghost use Rattle.std.specs.Prelude.{◌≡◌, ◌↔◌, ◌++◌, ℕ, ◌<◌, [], ◌∷◌, pos, IsSome, IfSome, IfOk, OnOk, IsSomeAnd};
 ghost use Rattle.std.specs.String.{string_bytes};
 ghost use Rattle.jiff.specs.Types.{Date as CivilDate};
-ghost use Rattle.jiff.specs.Words.{IsEpochDay, epoch_day};
+ghost use Rattle.jiff.specs.Words.{IsDate, IsEpochDay, IsYear, IsYmd, epoch_day};
 ghost use Rattle.cbor_notes.specs.Date as spec;
 ghost use Rattle.cbor_notes.specs.Date.{IsDateText, IsDayText};
 
@@ -40,12 +40,12 @@ pub fn date_of_epoch(alloc: Global, day: i64) -> Result<Option<String>, AllocErr
 pub fn epoch_of_date(alloc: Global, text: &str) -> Result<Option<String>, AllocError>
     ensures found { IfOk result (λ found. IfSome found
         (λ day. (date : CivilDate) × IsDateText text.now date
-        × (string_bytes day ≡ spec.day_number_text date))) }
+        × (string_bytes day ≡ spec.grouped_signed (epoch_day date)))) }
     // No text is that of two dates.
     ensures only { (date : CivilDate) → IsDateText text.now date
-        → IfOk result (λ found. IsSomeAnd found (λ day. string_bytes day ≡ spec.day_number_text date)) }
+        → IfOk result (λ found. IsSomeAnd found (λ day. string_bytes day ≡ spec.grouped_signed (epoch_day date))) }
 {
-    let Some(date) = read_date(text.as_bytes()) else {
+    let Some(date) = text_date(text) else {
         return Ok(None);
     };
     let day = day_of_date(date);
@@ -73,21 +73,41 @@ pub(crate) fn day_of_date(date: Date) -> i32
     date.to_plain().to_unix_epoch_day()
 }
 
-/// The date that a text is: four digits, two and two, with `-` between them.
-pub(crate) fn read_date(text: &[u8]) -> Option<Date>
+/// The date that a text is, if it is as long as one.
+fn text_date(text: &str) -> Option<Date>
     ensures found { IfSome result (λ date. IsDateText text.now date) }
     ensures only { (date : CivilDate) → IsDateText text.now date
         → IsSomeAnd result (λ answer. epoch_day answer ≡ epoch_day date) }
 {
-    let [a, b, c, d, b'-', e, f, b'-', g, h] = *text else {
+    read_date(text.as_bytes().as_array()?)
+}
+
+/// The date that ten bytes are: four digits, two and two, with `-` between them.
+pub(crate) fn read_date(text: &[u8; 10]) -> Option<Date>
+    ensures found { IfSome result (λ date. IsDateText text.now date) }
+    ensures only { (date : CivilDate) → IsDateText text.now date
+        → IsSomeAnd result (λ answer. epoch_day answer ≡ epoch_day date) }
+{
+    let [a, b, c, d, first, e, f, second, g, h] = *text;
+    if first != b'-' || second != b'-' {
         return None;
-    };
+    }
     let century = two_digits(a, b)?;
     let year = two_digits(c, d)?;
     let month = two_digits(e, f)?;
     let day = two_digits(g, h)?;
-    let year = i16::from(century) * 100 + i16::from(year);
-    Date::new(year, month as i8, day as i8).ok()
+    calendar_date(u16::from(century) * 100 + u16::from(year), month, day)
+}
+
+/// The date with these parts, if the calendar of `jiff` has it.
+fn calendar_date(year: u16, month: u8, day: u8) -> Option<Date>
+    requires year { year < 10000 }
+    requires month { month < 100 }
+    requires day { day < 100 }
+    ensures found { IfSome result (IsYmd (pos year) (pos month) (pos day)) }
+    ensures some { IsDate (pos year) (pos month) (pos day) → IsSome result }
+{
+    Date::new(year as i16, month as i8, day as i8).ok()
 }
 
 /// The number of two decimal digits.
@@ -107,17 +127,32 @@ pub(crate) fn two_digits(tens: u8, ones: u8) -> Option<u8>
 pub(crate) fn push_date(text: &mut String, date: Date) -> Result<(), AllocError>
     ensures text { OnOk result (string_bytes text.new ≡ string_bytes text.old ++ spec.date_text date) }
 {
-    let year = date.year();
-    if year < 0 {
-        text.push('-')?;
-    }
-    let year = year.unsigned_abs();
-    push_two_digits(text, (year / 100) as u8)?;
-    push_two_digits(text, (year % 100) as u8)?;
+    push_year(text, date.year())?;
     text.push('-')?;
     push_two_digits(text, date.month() as u8)?;
     text.push('-')?;
     push_two_digits(text, date.day() as u8)
+}
+
+/// Appends a year of at most four digits, with a `-` before a negative one.
+fn push_year(text: &mut String, year: i16) -> Result<(), AllocError>
+    requires { IsYear year }
+    ensures text { OnOk result (string_bytes text.new ≡ string_bytes text.old ++ spec.year_text year) }
+{
+    if year < 0 {
+        text.push('-')?;
+    }
+    push_four_digits(text, year.unsigned_abs())
+}
+
+/// Appends a number below 10,000 in four digits. After a refusal `text` may end with some of them.
+fn push_four_digits(text: &mut String, number: u16) -> Result<(), AllocError>
+    requires { number < 10000 }
+    ensures text { OnOk result
+        (string_bytes text.new ≡ string_bytes text.old ++ spec.four_digits number) }
+{
+    push_two_digits(text, (number / 100) as u8)?;
+    push_two_digits(text, (number % 100) as u8)
 }
 
 /// Appends a number below 100 in two digits. After a refusal `text` may end with one of them.

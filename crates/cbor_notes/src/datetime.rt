@@ -1,6 +1,6 @@
 //! Dates with a time of day, as texts and as seconds from 1970-01-01T00:00:00Z.
 
-ghost use Rattle.std.specs.Prelude.{IsTrue, ◌≡◌, ◌↔◌, ◌++◌, ℕ, ◌+◌, ◌*◌, ◌<◌, ◌≤◌, pos, ◌-ℤ◌, ℤ, List, IsSome, IfSome, IfOk, OnOk, IsSomeAnd};
+ghost use Rattle.std.specs.Prelude.{IsTrue, ◌≡◌, ◌↔◌, ◌++◌, ℕ, ◌+◌, ◌*◌, ◌/◌, ◌%◌, ◌<◌, ◌≤◌, pos, ◌-ℤ◌, ℤ, List, IsSome, IfSome, IfOk, OnOk, IsSomeAnd};
 ghost use Rattle.std.specs.Int.{int_div_euclid};
 ghost use Rattle.std.specs.Char.{is_ascii_digit};
 ghost use Rattle.std.specs.List.{list_all};
@@ -73,13 +73,13 @@ fn read_datetime(text: &[u8]) -> Option<(i64, &[u8])>
     ensures only { (seconds : ℤ) (digits : List ℕ) → IsDateTimeText text.now seconds digits
         → IsSomeAnd result (λ answer. (answer.0 ≡ seconds) × (answer.1.now ≡ digits)) }
 {
-    let (date, rest) = text.split_at_checked(10)?;
+    let (date, rest) = text.split_first_chunk()?;
     let date = read_date(date)?;
     let (separator, rest) = rest.split_first()?;
     if *separator != b'T' && *separator != b't' {
         return None;
     }
-    let (clock, rest) = rest.split_at_checked(8)?;
+    let (clock, rest) = rest.split_first_chunk()?;
     let clock = read_clock(clock)?;
     let (digits, zone) = split_fraction(rest)?;
     let offset = read_zone(zone)?;
@@ -88,7 +88,7 @@ fn read_datetime(text: &[u8]) -> Option<(i64, &[u8])>
 }
 
 /// The seconds from midnight to a time of day, whose seconds may be 60.
-fn read_clock(text: &[u8]) -> Option<u32>
+fn read_clock(text: &[u8; 8]) -> Option<u32>
     ensures found { IfSome result (λ seconds. (hour minute second : ℕ)
         × (hour ≤ 23) × (minute ≤ 59) × (second ≤ 60)
         × (text.now ≡ date.clock_text hour minute second)
@@ -97,9 +97,10 @@ fn read_clock(text: &[u8]) -> Option<u32>
         → text.now ≡ date.clock_text hour minute second
         → IsSomeAnd result (λ seconds. seconds ≡ 3600 * hour + 60 * minute + second) }
 {
-    let [a, b, b':', c, d, b':', e, f] = *text else {
+    let [a, b, first, c, d, last, e, f] = *text;
+    if first != b':' || last != b':' {
         return None;
-    };
+    }
     let hour = two_digits(a, b)?;
     let minute = two_digits(c, d)?;
     let second = two_digits(e, f)?;
@@ -109,8 +110,14 @@ fn read_clock(text: &[u8]) -> Option<u32>
     Some(u32::from(hour) * 3600 + u32::from(minute) * 60 + u32::from(second))
 }
 
-/// The digits of a fraction of a second, if there is one, and what follows it.
-fn split_fraction(text: &[u8]) -> Option<(&[u8], &[u8])> {
+/// The digits of a fraction of a second, if there is one, and the zone that follows it.
+fn split_fraction(text: &[u8]) -> Option<(&[u8], &[u8])>
+    ensures found { IfSome result (λ answer. (fraction : List ℕ) × IsFraction fraction answer.0.now
+        × (text.now ≡ fraction ++ answer.1.now)) }
+    ensures only { (fraction digits zone : List ℕ) (offset : ℤ)
+        → IsFraction fraction digits → IsZone zone offset → text.now ≡ fraction ++ zone
+        → IsSomeAnd result (λ answer. (answer.0.now ≡ digits) × (answer.1.now ≡ zone)) }
+{
     let [b'.', rest @ ..] = text else {
         return Some((&[], text));
     };
@@ -148,6 +155,8 @@ fn read_zone(text: &[u8]) -> Option<i32>
 /// Appends a time of day, given in seconds from midnight.
 fn push_clock(text: &mut String, seconds: u32) -> Result<(), AllocError>
     requires { seconds < 86400 }
+    ensures text { OnOk result (string_bytes text.new ≡ string_bytes text.old
+        ++ date.clock_text (seconds / 3600) (seconds / 60 % 60) (seconds % 60)) }
 {
     push_two_digits(text, (seconds / 3600) as u8)?;
     text.push(':')?;
@@ -185,7 +194,10 @@ fn nine_digits(digits: &[u8]) -> [u8; 9]
 }
 
 /// The fewest of 0, 3, 6 and 9 digits after which all are zeros.
-fn shown_digits(nine: &[u8; 9]) -> usize {
+fn shown_digits(nine: &[u8; 9]) -> usize
+    ensures count { result ≡ spec.shown nine.now }
+    ensures bound { result ≤ 9 }
+{
     if nine.ends_with(b"000000000") {
         0
     } else if nine.ends_with(b"000000") {
