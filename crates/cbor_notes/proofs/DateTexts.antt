@@ -1,5 +1,7 @@
 -- What stands at each place of the texts of dates and times.
-use Rattle.std.proofs.Common.{◌*◌, ap, ◌∙◌, Option, Some, None, IsSome, IsSomeAnd, nat_abs, to_z, of_z, w8, append_assoc, ◌<ℤ◌, Result, Ok, Err, IfOk, IfSome, ◌≡◌, ℕ, ◌+◌, ◌/◌, ◌%◌, ◌<◌, ◌≤◌, ℤ, pos, negsuc, ◌≤ℤ◌, unsigned_abs, List, [], ◌∷◌, ◌++◌, length, get_or, refl, arith}
+use Rattle.std.proofs.Common.{◌⊎◌, inl, inr, neg_ℤ, ◌*◌, ap, ◌∙◌, Option, Some, None, false, IsSome, IsSomeAnd, nat_abs, to_z, of_z, w8, append_assoc, ◌<ℤ◌, Result, Ok, Err, IfOk, IfSome, ◌≡◌, ℕ, ◌+◌, ◌/◌, ◌%◌, ◌<◌, ◌≤◌, ℤ, pos, negsuc, ◌≤ℤ◌, unsigned_abs, List, [], ◌∷◌, ◌++◌, length, get_or, refl, arith}
+use Rattle.std.proofs.lemmas.Bool.Decides.{nat_tests}
+use Rattle.std.specs.Int.Signed.{lt_z}
 use Rattle.std.specs.Result.{result_ok}
 use Rattle.std.proofs.lemmas.Slice.Eq.{text_from_reads}
 use Rattle.std.proofs.NetLemmas.Arrays.{eight_items}
@@ -9,7 +11,9 @@ use Rattle.jiff.proofs.OnLiterals.{jiff_on_literals}
 use Rattle.jiff.proofs.SpanFacts.{signed_arith}
 use Rattle.jiff.specs.Types.{Date}
 use Rattle.jiff.specs.Words.{IsDate, IsYear, IsYmd, days_in_month, epoch_day}
-use Rattle.cbor_notes.specs.Date.{IsDateText, clock_text, date_text, two_digits, four_digits, year_text}
+use Rattle.cbor_notes.specs.Date.{IsDateText, clock_text, date_text, two_digits, four_digits, grouped_signed, year_text}
+use Rattle.cbor_notes.specs.DateTime.{IsOffset, ahead, behind}
+use Rattle.cbor_notes.specs.Text.{grouped}
 
 pub ten_items : (xs : List ℕ) → length xs ≡ 10 → xs ≡ get_or xs 0 0 ∷ get_or xs 1 0 ∷ get_or xs 2 0 ∷ get_or xs 3 0 ∷ get_or xs 4 0 ∷ get_or xs 5 0 ∷ get_or xs 6 0 ∷ get_or xs 7 0 ∷ get_or xs 8 0 ∷ get_or xs 9 0 ∷ []
 ten_items xs h = text_from_reads xs _ h (refl, (refl, (refl, (refl, (refl, (refl, (refl, (refl, (refl, (refl, tt))))))))))
@@ -119,3 +123,61 @@ day_below date =
     let d = date.day_in in
     let m : days_in_month date.year date.month ≤ 31 = grind arith in
     omega arith
+
+-- a year after a text, with its minus and without one
+pub minus_first : (t₀ t₁ : List ℕ) (y : ℤ) (n : ℕ) → y <ℤ pos 0 → n ≡ unsigned_abs y → t₁ ≡ t₀ ++ (45 ∷ []) → t₁ ++ four_digits n ≡ t₀ ++ year_text y
+minus_first t₀ t₁ y n h e f = rw (f, e, with_minus y h) (append_assoc t₀ (45 ∷ []) (four_digits (unsigned_abs y)))
+
+pub digits_first : (t₀ t₁ : List ℕ) (y : ℤ) (n : ℕ) → pos 0 ≤ℤ y → n ≡ unsigned_abs y → t₁ ≡ t₀ → t₁ ++ four_digits n ≡ t₀ ++ year_text y
+digits_first t₀ t₁ y n h e f = rw (f, e, no_minus y h) refl
+
+-- a number is grouped by its distance from zero and its sign
+pub grouped_signed-is : (z : ℤ) → grouped (unsigned_abs z) (lt_z z (pos 0)) ≡ grouped_signed z
+grouped_signed-is (pos n) =
+    let up : lt_z (pos n) (pos 0) ≡ false = grind (arith, nat_tests) in
+    rw up refl
+grouped_signed-is (negsuc n) = refl
+
+-- what an offset's text has at its places
+pub record OffsetParts (text : List ℕ) (offset : ℤ) : Type 0 where
+  pub hour : ℕ
+  pub minute : ℕ
+  pub hour_in : hour ≤ 23
+  pub minute_in : minute ≤ 59
+  pub length_is : length text ≡ 6
+  pub colon : get_or text 3 0 ≡ 58
+  pub hour_is : get_or text 1 0 ∷ get_or text 2 0 ∷ [] ≡ two_digits hour
+  pub minute_is : get_or text 4 0 ∷ get_or text 5 0 ∷ [] ≡ two_digits minute
+  pub sign_is : ((get_or text 0 0 ≡ 43) × (offset ≡ pos (3600 * hour + 60 * minute))) ⊎ ((get_or text 0 0 ≡ 45) × (offset ≡ neg_ℤ (pos (3600 * hour + 60 * minute))))
+
+pub IsOffset-parts : (text : List ℕ) (offset : ℤ) → IsOffset text offset → OffsetParts text offset
+IsOffset-parts text offset (ahead hour minute h m is o) = record {
+  hour = hour;
+  minute = minute;
+  hour_in = h;
+  minute_in = m;
+  length_is = ap length is;
+  colon = ap (λ t. get_or t 3 0) is;
+  hour_is = ap (λ t. get_or t 1 0 ∷ get_or t 2 0 ∷ []) is;
+  minute_is = ap (λ t. get_or t 4 0 ∷ get_or t 5 0 ∷ []) is;
+  sign_is = inl (ap (λ t. get_or t 0 0) is, o);
+}
+IsOffset-parts text offset (behind hour minute h m is o) = record {
+  hour = hour;
+  minute = minute;
+  hour_in = h;
+  minute_in = m;
+  length_is = ap length is;
+  colon = ap (λ t. get_or t 3 0) is;
+  hour_is = ap (λ t. get_or t 1 0 ∷ get_or t 2 0 ∷ []) is;
+  minute_is = ap (λ t. get_or t 4 0 ∷ get_or t 5 0 ∷ []) is;
+  sign_is = inr (ap (λ t. get_or t 0 0) is, o);
+}
+
+-- six characters that are a sign, digits and a colon
+pub offset_text : (text : List ℕ) (sign hour minute : ℕ) → length text ≡ 6 → get_or text 0 0 ≡ sign → get_or text 3 0 ≡ 58
+    → get_or text 1 0 ∷ get_or text 2 0 ∷ [] ≡ two_digits hour
+    → get_or text 4 0 ∷ get_or text 5 0 ∷ [] ≡ two_digits minute
+    → text ≡ (sign ∷ two_digits hour) ++ (58 ∷ two_digits minute)
+offset_text text sign hour minute six first colon a b =
+    text_from_reads text (get_or text 0 0 ∷ get_or text 1 0 ∷ get_or text 2 0 ∷ get_or text 3 0 ∷ get_or text 4 0 ∷ get_or text 5 0 ∷ []) six (refl, (refl, (refl, (refl, (refl, (refl, tt)))))) ∙ cc

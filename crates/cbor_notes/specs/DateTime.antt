@@ -12,16 +12,20 @@ pub data IsFraction (text digits : List ℕ) : Type 0 where
   no_fraction : text ≡ [] → digits ≡ [] → IsFraction text digits
   some_digits : text ≡ 46 ∷ digits → 0 < length digits → IsTrue (list_all is_ascii_digit digits) → IsFraction text digits
 
--- `Z` or `z`, which is UTC itself, or a sign with the hours and minutes that the clock is ahead of UTC,
--- or behind it; and the seconds that it is ahead
-pub data IsZone (text : List ℕ) (offset : ℤ) : Type 0 where
-  utc : (text ≡ codes "Z") ⊎ (text ≡ codes "z") → offset ≡ pos 0 → IsZone text offset
+-- a sign with hours and minutes, and the seconds that a clock is ahead of UTC, which are negative where
+-- it is behind
+pub data IsOffset (text : List ℕ) (offset : ℤ) : Type 0 where
   ahead : (hour minute : ℕ) → hour ≤ 23 → minute ≤ 59
       → text ≡ codes "+" ++ two_digits hour ++ codes ":" ++ two_digits minute
-      → offset ≡ pos (3600 * hour + 60 * minute) → IsZone text offset
+      → offset ≡ pos (3600 * hour + 60 * minute) → IsOffset text offset
   behind : (hour minute : ℕ) → hour ≤ 23 → minute ≤ 59
       → text ≡ codes "-" ++ two_digits hour ++ codes ":" ++ two_digits minute
-      → offset ≡ neg_ℤ (pos (3600 * hour + 60 * minute)) → IsZone text offset
+      → offset ≡ neg_ℤ (pos (3600 * hour + 60 * minute)) → IsOffset text offset
+
+-- `Z` or `z`, which is UTC itself, or such an offset from it
+abbrev pub IsZone : List ℕ → ℤ → Type 0
+IsZone text offset =
+    (((text ≡ codes "Z") ⊎ (text ≡ codes "z")) × (offset ≡ pos 0)) ⊎ IsOffset text offset
 
 -- the text is that of a date from the year 0 on, a time of day whose seconds may be 60, a fraction and
 -- an offset; it names these seconds, and has these digits of a fraction

@@ -9,7 +9,7 @@ ghost use Rattle.jiff.specs.Words.{IsEpochDay};
 ghost use Rattle.cbor_notes.specs.Date as date;
 ghost use Rattle.cbor_notes.specs.Date.{IsMomentText};
 ghost use Rattle.cbor_notes.specs.DateTime as spec;
-ghost use Rattle.cbor_notes.specs.DateTime.{IsDateTimeText, IsFraction, IsZone};
+ghost use Rattle.cbor_notes.specs.DateTime.{IsDateTimeText, IsFraction, IsOffset, IsZone};
 
 use crate::date::{date_of_day, day_of_date, push_date, push_two_digits, read_date, two_digits};
 use std::alloc::{AllocError, Global};
@@ -134,17 +134,28 @@ fn read_zone(text: &[u8]) -> Option<i32>
     ensures only { (offset : ℤ) → IsZone text.now offset
         → IsSomeAnd result (λ answer. answer ≡ offset) }
 {
-    let (sign, [a, b, c, d]) = match *text {
-        [b'Z' | b'z'] => return Some(0),
-        [sign, a, b, b':', c, d] => (sign, [a, b, c, d]),
-        _ => return None,
-    };
+    match *text {
+        [b'Z' | b'z'] => Some(0),
+        _ => read_offset(text.as_array()?),
+    }
+}
+
+/// The seconds that a sign, hours and minutes are.
+fn read_offset(text: &[u8; 6]) -> Option<i32>
+    ensures found { IfSome result (λ offset. IsOffset text.now offset) }
+    ensures only { (offset : ℤ) → IsOffset text.now offset
+        → IsSomeAnd result (λ answer. answer ≡ offset) }
+{
+    let [sign, a, b, colon, c, d] = *text;
+    if colon != b':' {
+        return None;
+    }
     let hour = two_digits(a, b)?;
     let minute = two_digits(c, d)?;
     if hour > 23 || minute > 59 {
         return None;
     }
-    let offset = i32::from(hour) * 3600 + i32::from(minute) * 60;
+    let offset = (u32::from(hour) * 3600 + u32::from(minute) * 60) as i32;
     match sign {
         b'+' => Some(offset),
         b'-' => Some(-offset),

@@ -16,5 +16,5 @@ returns c =
     let day = small_part c.day.result c.args.date.day c.day.ensures (omega arith) in
     record { text =
       on_ok_weaker c.push_two_digits-2.result
-      (λ e. (rw day at e) ∙ five_pieces _ _ _ _ _ _ _ _ _ _ (rw year at c.in_ok-push_year.ensures.text) (c.in_ok-push.ensures.ascii (omega arith)) (rw month at c.in_ok-push_two_digits.ensures.text) (c.in_ok-push-2.ensures.ascii (omega arith)))
+      (λ e. (rw day at e) ∙ five_pieces _ _ _ _ _ _ _ _ _ _ (rw year at c.in_ok-push_year.ensures.text) (rw (c.in_ok-push.ensures.ascii (omega arith)) at c.in_ok-push.ensures.bytes) (rw month at c.in_ok-push_two_digits.ensures.text) (rw (c.in_ok-push-2.ensures.ascii (omega arith)) at c.in_ok-push-2.ensures.bytes))
       c.push_two_digits-2.ensures.text }

@@ -31,8 +31,11 @@ returns-then-hour-gt23-clause-only c = λ hour minute second h m s is.
     let a = c.in_ok-hour.ensures.only hour (omega arith) (ap (λ t. get_or t 0 0 ∷ get_or t 1 0 ∷ []) e) in
     let b = c.in_ok-minute.ensures.only minute (omega arith) (ap (λ t. get_or t 3 0 ∷ get_or t 4 0 ∷ []) e) in
     let d = c.in_ok-second.ensures.only second (omega arith) (ap (λ t. get_or t 6 0 ∷ get_or t 7 0 ∷ []) e) in
-    let either = c.then-hour-gt23.either in
-    ?
+    elim c.then-hour-gt23.either [
+      | inl past ↦ absurd (omega arith)
+      | inr (inl past) ↦ absurd (omega arith)
+      | inr (inr past) ↦ absurd (omega arith)
+    ]
 
 pub returns-clause-only : goal.returns-clause-only
 returns-clause-only c = λ hour minute second h m s is.
