@@ -9,8 +9,11 @@ pub mod Base58Lemmas
 pub mod Base64Digits
 mod BaseExamples
 pub mod DateTexts
+pub mod DateTimeTexts
 pub mod DecodedLineLemmas
+pub mod ElementLemmas
 pub mod Groups
 pub mod HexLemmas
+pub mod Moments
 pub mod Places
 mod TextExamples

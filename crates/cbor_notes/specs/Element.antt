@@ -35,12 +35,21 @@ signed_text bytes number =
     if nat_lt number (2 ^ (8 * bytes - 1)) then grouped number false
     else grouped (2 ^ (8 * bytes) - number) true
 
+-- what an element is called
+abbrev pub word : Kind → List ℕ
+word Unsigned = codes "unsigned"
+word Signed = codes "signed"
+word Float = codes "float"
+
 -- an element, its highest byte first: a number, grouped, or the bits of a float in hex
+abbrev pub value : Kind → List ℕ → List ℕ
+value Unsigned bytes = grouped (number_from_digits 256 bytes) false
+value Signed bytes = signed_text (length bytes) (number_from_digits 256 bytes)
+value Float bytes = encode_lower bytes
+
+-- the same between brackets, after what it is called
 abbrev pub value_text : Kind → List ℕ → List ℕ
-value_text Unsigned bytes = codes "unsigned(" ++ grouped (number_from_digits 256 bytes) false ++ codes ")"
-value_text Signed bytes =
-    codes "signed(" ++ signed_text (length bytes) (number_from_digits 256 bytes) ++ codes ")"
-value_text Float bytes = codes "float(" ++ encode_lower bytes ++ codes ")"
+value_text of_kind bytes = word of_kind ++ codes "(" ++ value of_kind bytes ++ codes ")"
 
 -- the bytes of an element, the highest first
 abbrev pub big_endian : ℕ → List ℕ → List ℕ

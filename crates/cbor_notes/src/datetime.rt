@@ -1,6 +1,6 @@
 //! Dates with a time of day, as texts and as seconds from 1970-01-01T00:00:00Z.
 
-ghost use Rattle.std.specs.Prelude.{IsTrue, ◌≡◌, ◌↔◌, ◌++◌, ℕ, ◌+◌, ◌*◌, ◌/◌, ◌%◌, ◌<◌, ◌≤◌, pos, ◌-ℤ◌, ℤ, List, IsSome, IfSome, IfOk, OnOk, IsSomeAnd};
+ghost use Rattle.std.specs.Prelude.{IsTrue, length, take_while, ◌≡◌, ◌↔◌, ◌++◌, ℕ, ◌+◌, ◌*◌, ◌/◌, ◌%◌, ◌<◌, ◌≤◌, pos, ◌-ℤ◌, ℤ, List, IsSome, IfSome, IfOk, OnOk, IsSomeAnd};
 ghost use Rattle.std.specs.Int.{int_div_euclid};
 ghost use Rattle.std.specs.Char.{is_ascii_digit};
 ghost use Rattle.std.specs.List.{list_all};
@@ -118,14 +118,24 @@ fn split_fraction(text: &[u8]) -> Option<(&[u8], &[u8])>
         → IsFraction fraction digits → IsZone zone offset → text.now ≡ fraction ++ zone
         → IsSomeAnd result (λ answer. (answer.0.now ≡ digits) × (answer.1.now ≡ zone)) }
 {
-    let [b'.', rest @ ..] = text else {
+    if text.is_empty() || text[0] != b'.' {
         return Some((&[], text));
-    };
-    let count = rest.iter().take_while(|byte| byte.is_ascii_digit()).count();
+    }
+    let rest = &text[1..];
+    let count = leading_digits(rest);
     if count == 0 {
         return None;
     }
     Some((&rest[..count], &rest[count..]))
+}
+
+/// How many decimal digits come first.
+fn leading_digits(text: &[u8]) -> usize
+    ensures count { result ≡ length (take_while is_ascii_digit text.now) }
+{
+    text.iter()
+        .take_while(|byte| byte.is_ascii_digit())
+        .count()
 }
 
 /// The seconds that the clock of a zone is ahead of UTC.

@@ -1,11 +1,12 @@
 //! The elements of typed arrays: RFC 8746, section 2.
 
-ghost use Rattle.std.specs.Prelude.{◌≡◌, ◌++◌, ◌-◌, ◌≤◌, ◌*◌, length, replicate, reverse, option_map, if◌then◌else◌, IfSome, IfNone, IfOk, OnOk, false, true};
+ghost use Rattle.std.specs.Prelude.{◌≡◌, ◌++◌, ◌-◌, ◌<◌, ◌≤◌, ◌*◌, ◌^◌, drop, length, replicate, take, reverse, option_map, if◌then◌else◌, IfSome, IfNone, IfOk, OnOk, false, true};
+ghost use Rattle.std.specs.Int.{IsInRange};
 ghost use Rattle.std.specs.Int.Digits.{number_from_digits};
 ghost use Rattle.std.specs.String.{string_bytes};
 ghost use Rattle.cbor_notes.specs.Element as spec;
 
-use crate::text::{push_grouped, push_hex};
+use crate::text::{push_grouped, push_hex_digits};
 use std::alloc::{AllocError, Global};
 
 /// What the elements of a typed array are.
@@ -46,9 +47,26 @@ pub fn element_text(alloc: Global, tag: u64, bytes: &[u8]) -> Result<Option<Stri
     if bytes.len() != element.size {
         return Ok(None);
     }
+    let ordered = element.ordered(bytes);
     let mut text = String::new(alloc);
-    push_value(&mut text, element.kind, bytes.len(), element.widened(bytes))?;
+    text.push_str(element.kind.word())?;
+    text.push('(')?;
+    push_value(&mut text, element.kind, &ordered[..bytes.len()])?;
+    text.push(')')?;
     Ok(Some(text))
+}
+
+impl Kind {
+    /// What an element is called.
+    fn word(self) -> &'static str
+        ensures word { result.now ≡ spec.word self }
+    {
+        match self {
+            Kind::Unsigned => "unsigned",
+            Kind::Signed => "signed",
+            Kind::Float => "float",
+        }
+    }
 }
 
 impl Element {
@@ -80,51 +98,54 @@ impl Element {
         })
     }
 
-    /// The bytes of an element, the highest first, after zeros up to sixteen bytes.
-    fn widened(self, bytes: &[u8]) -> [u8; 16]
+    /// The bytes of an element, the highest first, and then zeros up to sixteen bytes.
+    fn ordered(self, bytes: &[u8]) -> [u8; 16]
         requires { length bytes.now ≤ 16 }
-        ensures { result ≡ replicate (16 - length bytes.now) 0
-            ++ (if self.little_endian then reverse bytes.now else bytes.now) }
+        ensures { take (length bytes.now) result
+            ≡ (if self.little_endian then reverse bytes.now else bytes.now) }
     {
         let mut wide = [0; 16];
-        let end = &mut wide[16 - bytes.len()..];
-        end.copy_from_slice(bytes);
+        let start = &mut wide[..bytes.len()];
+        start.copy_from_slice(bytes);
         if self.little_endian {
-            end.reverse();
+            start.reverse();
         }
         wide
     }
 }
 
-/// Appends the text of an element of so many bytes, which come last in `wide`, after zeros.
-fn push_value(
-    text: &mut String,
-    kind: Kind,
-    size: usize,
-    wide: [u8; 16],
-) -> Result<(), AllocError> {
+/// Appends an element, whose highest byte comes first. After a refusal `text` may end with a part of it.
+fn push_value(text: &mut String, kind: Kind, bytes: &[u8]) -> Result<(), AllocError>
+    requires { IsInRange 1 16 (length bytes.now) }
+    ensures text { OnOk result
+        (string_bytes text.new ≡ string_bytes text.old ++ spec.value kind bytes.now) }
+{
     match kind {
-        Kind::Unsigned => {
-            text.push_str("unsigned(")?;
-            push_grouped(text, u128::from_be_bytes(wide), false)?;
-        }
-        Kind::Signed => {
-            text.push_str("signed(")?;
-            push_signed(text, u128::from_be_bytes(wide), size)?;
-        }
-        Kind::Float => {
-            text.push_str("float(")?;
-            for byte in &wide[16 - size..] {
-                push_hex(text, *byte)?;
-            }
-        }
+        Kind::Unsigned => push_grouped(text, number(bytes), false),
+        Kind::Signed => push_signed(text, bytes),
+        Kind::Float => push_hex_digits(text, bytes),
     }
-    text.push(')')
 }
 
-/// Appends a number of so many bytes in two's complement, grouped.
-fn push_signed(text: &mut String, number: u128, size: usize) -> Result<(), AllocError> {
-    let half = 1u128 << (8 * size - 1);
+/// The number that at most sixteen bytes are, the highest first.
+fn number(bytes: &[u8]) -> u128
+    requires { length bytes.now ≤ 16 }
+    ensures value { result ≡ number_from_digits 256 bytes.now }
+    ensures bound { result < 2 ^ (8 * length bytes.now) }
+{
+    let mut wide = [0; 16];
+    wide[16 - bytes.len()..].copy_from_slice(bytes);
+    u128::from_be_bytes(wide)
+}
+
+/// Appends a number in two's complement, grouped: from half of its range on it is negative.
+fn push_signed(text: &mut String, bytes: &[u8]) -> Result<(), AllocError>
+    requires { IsInRange 1 16 (length bytes.now) }
+    ensures text { OnOk result (string_bytes text.new ≡ string_bytes text.old
+        ++ spec.signed_text (length bytes.now) (number_from_digits 256 bytes.now)) }
+{
+    let number = number(bytes);
+    let half = 1u128 << (8 * bytes.len() - 1);
     if number < half {
         push_grouped(text, number, false)
     } else {

@@ -1,0 +1,89 @@
+-- What is read of the texts of fractions, offsets and zones.
+use Rattle.std.proofs.Common.{Bool, false, cond, append-nil, ◌-◌, min, replicate, ◌⊎◌, inl, inr, neg_ℤ, ◌*◌, ap, sym, ◌∙◌, to_z, of_z, w32, ◌-ℤ◌, ◌≡◌, ◌≢◌, ℕ, zero, suc, ◌+◌, ◌^◌, ◌<◌, ◌≤◌, ℤ, pos, List, [], ◌∷◌, ◌++◌, length, take, drop, get_or, true, refl, arith}
+use Rattle.std.proofs.lemmas.Bool.Decides.{nat_tests}
+use Rattle.std.proofs.lemmas.Int.{to_z-of_z, to_z_pos}
+use Rattle.std.proofs.Math.Seq.{drop-append_seam, take-append-add, take-append_seam}
+use Rattle.std.proofs.lemmas.Bool.{cases_lt}
+use Rattle.std.proofs.lemmas.List.{drop-replicate, take-append-drop, take-append-le, take-replicate, take_all}
+use Rattle.std.proofs.lemmas.List.Folds.{length-prefix_len}
+use Rattle.std.proofs.lemmas.List.Sums.{take_while-cons}
+use Rattle.std.specs.Char.{is_ascii_digit}
+use Rattle.std.specs.List.{ends_with, list_all, prefix_len}
+use Rattle.std.specs.Prelude.{IsTrue, bytes_eq, nat_eq, take_while}
+use Rattle.jiff.proofs.SpanFacts.{signed_arith}
+use Rattle.cbor_notes.specs.DateTime.{IsFraction, no_fraction, some_digits, IsOffset, IsZone, ahead, behind, nine_digits}
+
+-- seconds of a zone behind UTC
+pub negated : (n m : ℕ) → n ≡ m → n < 2 ^ 31 → to_z w32 (of_z w32 (pos 0 -ℤ to_z w32 n)) ≡ neg_ℤ (pos m)
+negated n m e h =
+    let back : pos 0 -ℤ pos n ≡ neg_ℤ (pos n) = omega (arith, signed_arith) in
+    rw (to_z_pos w32 n (omega arith), back, ← e) (to_z-of_z w32 (neg_ℤ (pos n)) (omega (arith, signed_arith)))
+
+-- a zone begins with no digit and no dot
+pub zone_first : (zone : List ℕ) (offset : ℤ) → IsZone zone offset → (prefix_len is_ascii_digit zone ≡ 0) × (get_or zone 0 0 ≢ 46)
+zone_first zone offset (inl (inl upper, o)) = rw upper (refl, λ e. absurd (omega (arith, e)))
+zone_first zone offset (inl (inr lower, o)) = rw lower (refl, λ e. absurd (omega (arith, e)))
+zone_first zone offset (inr (ahead hour minute h m is o)) = rw is (refl, λ e. absurd (omega (arith, e)))
+zone_first zone offset (inr (behind hour minute h m is o)) = rw is (refl, λ e. absurd (omega (arith, e)))
+
+-- digits, and then what begins with none
+pub digits_then : (digits zone : List ℕ) → list_all is_ascii_digit digits ≡ true → prefix_len is_ascii_digit zone ≡ 0 → prefix_len is_ascii_digit (digits ++ zone) ≡ length digits
+digits_then [] zone all none = none
+digits_then (d ∷ ds) zone all none =
+    let first : is_ascii_digit d ≡ true = grind (arith, nat_tests) in
+    let more : list_all is_ascii_digit ds ≡ true = grind (arith, nat_tests) in
+    rw first (omega (arith, digits_then ds zone more none))
+
+all_digits-step : (b : Bool) (x : ℕ) (xs : List ℕ) → is_ascii_digit x ≡ b → list_all is_ascii_digit xs ≡ true → list_all is_ascii_digit (cond b (x ∷ xs) []) ≡ true
+all_digits-step true x xs first more = rw (first, more) refl
+all_digits-step false x xs first more = refl
+
+-- the first digits are digits
+pub all_digits : (xs : List ℕ) → list_all is_ascii_digit (take_while is_ascii_digit xs) ≡ true
+all_digits [] = refl
+all_digits (x ∷ xs) = rw take_while-cons (all_digits-step (is_ascii_digit x) x (take_while is_ascii_digit xs) refl (all_digits xs))
+
+-- a fraction with digits is read from its dot on
+pub fraction_read : (text rest : List ℕ) (n : ℕ) → text ≡ 46 ∷ rest → n ≡ length (take_while is_ascii_digit rest) → 0 < n
+    → IsFraction (46 ∷ take n rest) (take n rest) × (text ≡ (46 ∷ take n rest) ++ drop n rest)
+fraction_read text rest n is count some =
+    let len : n ≡ prefix_len is_ascii_digit rest = count ∙ length-prefix_len is_ascii_digit rest in
+    let here : take n rest ≡ take_while is_ascii_digit rest = ap (λ k. take k rest) len in
+    (some_digits refl (rw (here, ← count) some) (rw here (all_digits rest)), is ∙ ap (λ t. 46 ∷ t) (sym (take-append-drop n rest)))
+
+-- and only so
+pub fraction_only : (text rest fraction digits zone : List ℕ) (offset : ℤ) (n : ℕ) → text ≡ 46 ∷ rest → n ≡ length (take_while is_ascii_digit rest)
+    → IsFraction fraction digits → IsZone zone offset → text ≡ fraction ++ zone → (take n rest ≡ digits) × (drop n rest ≡ zone)
+fraction_only text rest fraction digits zone offset n is count (no_fraction empty none) zone_is whole =
+    let e : 46 ∷ rest ≡ zone = sym is ∙ whole ∙ ap (λ t. t ++ zone) empty in
+    absurd ((zone_first zone offset zone_is).1 (ap (λ t. get_or t 0 0) (sym e)))
+fraction_only text rest fraction digits zone offset n is count (some_digits dot some all) zone_is whole =
+    let e : 46 ∷ rest ≡ 46 ∷ (digits ++ zone) = sym is ∙ whole ∙ ap (λ t. t ++ zone) dot in
+    let same : rest ≡ digits ++ zone = cc in
+    let len : n ≡ length digits = count ∙ length-prefix_len is_ascii_digit rest ∙ ap (prefix_len is_ascii_digit) same ∙ digits_then digits zone all (zone_first zone offset zone_is).0 in
+    rw (len, same) (take-append_seam digits zone, drop-append_seam digits zone)
+
+-- so many places: digits, and zeros in the places of the others
+fill_places : (k : ℕ) (digits : List ℕ) (n : ℕ) → n ≡ min (length digits) k → take n digits ++ drop n (replicate k 48) ≡ take k (digits ++ replicate k 48)
+fill_places k digits n is = elim (cases_lt k (length digits)) [
+  | inl more ↦
+      let all : n ≡ k = omega arith in
+      let none : k - k ≡ 0 = omega arith in
+      rw (all, drop-replicate k k 48, none, take-append-le k digits (replicate k 48) (omega arith)) (append-nil (take k digits))
+  | inr few ↦
+      let all : n ≡ length digits = omega arith in
+      let split : k ≡ length digits + (k - length digits) = omega arith in
+      let left : take n digits ++ drop n (replicate k 48) ≡ digits ++ replicate (k - length digits) 48 = rw (all, take_all (length digits) digits (omega arith), drop-replicate (length digits) k 48) refl in
+      let right : take k (digits ++ replicate k 48) ≡ digits ++ replicate (k - length digits) 48 =
+        ap (λ m. take m (digits ++ replicate k 48)) split ∙ take-append-add digits (replicate k 48) (k - length digits) ∙ ap (λ t. digits ++ t) (take-replicate (k - length digits) k 48 (omega arith)) in
+      left ∙ sym right
+]
+
+pub nine_places : (digits : List ℕ) (n : ℕ) → n ≡ min (length digits) 9 → take n digits ++ drop n (replicate 9 48) ≡ nine_digits digits
+nine_places digits n is = fill_places 9 digits n is
+
+-- whether the digits from a place on are zeros
+pub ends : (nine zeros : List ℕ) (k : ℕ) (b : Bool) → length nine ≡ 9 → length zeros + k ≡ 9 → b ≡ ends_with nat_eq nine zeros → bytes_eq (drop k nine) zeros ≡ b
+ends nine zeros k b nine_is zeros_are is =
+    let start : length nine - length zeros ≡ k = omega arith in
+    sym (rw start at is)
