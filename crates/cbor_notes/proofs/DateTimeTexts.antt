@@ -2,14 +2,17 @@
 use Rattle.std.proofs.Common.{Bool, false, cond, append-nil, ◌-◌, min, replicate, ◌⊎◌, inl, inr, neg_ℤ, ◌*◌, ap, sym, ◌∙◌, to_z, of_z, w32, ◌-ℤ◌, ◌≡◌, ◌≢◌, ℕ, zero, suc, ◌+◌, ◌^◌, ◌<◌, ◌≤◌, ℤ, pos, List, [], ◌∷◌, ◌++◌, length, take, drop, get_or, true, refl, arith}
 use Rattle.std.proofs.lemmas.Bool.Decides.{nat_tests}
 use Rattle.std.proofs.lemmas.Int.{to_z-of_z, to_z_pos}
-use Rattle.std.proofs.Math.Seq.{drop-append_seam, take-append-add, take-append_seam}
+use Rattle.std.proofs.Math.Seq.{drop-cons, drop-append_seam, take-append-add, take-append_seam}
 use Rattle.std.proofs.lemmas.Bool.{cases_lt}
-use Rattle.std.proofs.lemmas.List.{drop-replicate, take-append-drop, take-append-le, take-replicate, take_all}
+use Rattle.std.proofs.lemmas.List.{length-drop, drop-replicate, take-append-drop, take-append-le, take-replicate, take_all}
 use Rattle.std.proofs.lemmas.List.Folds.{length-prefix_len}
 use Rattle.std.proofs.lemmas.List.Sums.{take_while-cons}
+use Rattle.std.proofs.lemmas.Str.{IsAscii-append, IsAscii-take}
+use Rattle.std.proofs.lemmas.Str.Ascii.{IsAscii-cons, IsAscii-nil}
 use Rattle.std.specs.Char.{is_ascii_digit}
-use Rattle.std.specs.List.{ends_with, list_all, prefix_len}
-use Rattle.std.specs.Prelude.{IsTrue, bytes_eq, nat_eq, take_while}
+use Rattle.std.specs.List.{list_all, prefix_len}
+use Rattle.std.specs.Str.{IsAscii}
+use Rattle.std.specs.Prelude.{IsTrue, take_while}
 use Rattle.jiff.proofs.SpanFacts.{signed_arith}
 use Rattle.cbor_notes.specs.DateTime.{IsFraction, no_fraction, some_digits, IsOffset, IsZone, ahead, behind, nine_digits}
 
@@ -69,21 +72,47 @@ fill_places k digits n is = elim (cases_lt k (length digits)) [
   | inl more ↦
       let all : n ≡ k = omega arith in
       let none : k - k ≡ 0 = omega arith in
-      rw (all, drop-replicate k k 48, none, take-append-le k digits (replicate k 48) (omega arith)) (append-nil (take k digits))
+      rw (all, drop-replicate {X = ℕ} k k 48, none, take-append-le k digits (replicate k 48) (omega arith)) (append-nil (take k digits))
   | inr few ↦
       let all : n ≡ length digits = omega arith in
       let split : k ≡ length digits + (k - length digits) = omega arith in
-      let left : take n digits ++ drop n (replicate k 48) ≡ digits ++ replicate (k - length digits) 48 = rw (all, take_all (length digits) digits (omega arith), drop-replicate (length digits) k 48) refl in
+      let left : take n digits ++ drop n (replicate k 48) ≡ digits ++ replicate (k - length digits) 48 = rw (all, take_all (length digits) digits (omega arith), drop-replicate {X = ℕ} (length digits) k 48) refl in
       let right : take k (digits ++ replicate k 48) ≡ digits ++ replicate (k - length digits) 48 =
-        ap (λ m. take m (digits ++ replicate k 48)) split ∙ take-append-add digits (replicate k 48) (k - length digits) ∙ ap (λ t. digits ++ t) (take-replicate (k - length digits) k 48 (omega arith)) in
+        ap (λ m. take m (digits ++ replicate k 48)) split ∙ take-append-add digits (replicate k 48) (k - length digits) ∙ ap (λ t. digits ++ t) (take-replicate {X = ℕ} (k - length digits) k 48 (omega arith)) in
       left ∙ sym right
 ]
 
 pub nine_places : (digits : List ℕ) (n : ℕ) → n ≡ min (length digits) 9 → take n digits ++ drop n (replicate 9 48) ≡ nine_digits digits
 nine_places digits n is = fill_places 9 digits n is
 
--- whether the digits from a place on are zeros
-pub ends : (nine zeros : List ℕ) (k : ℕ) (b : Bool) → length nine ≡ 9 → length zeros + k ≡ 9 → b ≡ ends_with nat_eq nine zeros → bytes_eq (drop k nine) zeros ≡ b
-ends nine zeros k b nine_is zeros_are is =
-    let start : length nine - length zeros ≡ k = omega arith in
-    sym (rw start at is)
+-- nine digits are ASCII
+pub digits_ascii : (xs : List ℕ) → list_all is_ascii_digit xs ≡ true → IsAscii xs
+digits_ascii [] all = IsAscii-nil
+digits_ascii (x ∷ xs) all =
+    IsAscii-cons x xs (grind (arith, nat_tests)) (digits_ascii xs (grind (arith, nat_tests)))
+
+pub nine_ascii : (digits : List ℕ) → list_all is_ascii_digit digits ≡ true → IsAscii (nine_digits digits)
+nine_ascii digits all =
+    IsAscii-take (digits ++ replicate 9 48) 9 (IsAscii-append digits (replicate 9 48) (digits_ascii digits all) (digits_ascii (replicate 9 48) refl))
+
+-- a text that begins with a dot is the dot and the rest
+pub dot_first : (text : List ℕ) → 0 < length text → get_or text 0 0 ≡ 46 → text ≡ 46 ∷ take (length text - 1) (drop 1 text)
+dot_first text some dot =
+    let all = take_all (length text - 1) (drop 1 text) (omega (arith, length-drop 1 text)) in
+    drop-cons text 0 0 some ∙ rw (dot, all) refl
+
+-- what is left of a list after so many
+pub rest_is : (xs : List ℕ) (n : ℕ) → take (length xs - n) (drop n xs) ≡ drop n xs
+rest_is xs n = take_all (length xs - n) (drop n xs) (omega (arith, length-drop n xs))
+
+-- where a dot comes first, so do digits
+pub fraction_some : (text rest fraction digits zone : List ℕ) (offset : ℤ) (n : ℕ) → text ≡ 46 ∷ rest → n ≡ length (take_while is_ascii_digit rest)
+    → IsFraction fraction digits → IsZone zone offset → text ≡ fraction ++ zone → 0 < n
+fraction_some text rest fraction digits zone offset n is count (no_fraction empty none) zone_is whole =
+    let e : 46 ∷ rest ≡ zone = sym is ∙ whole ∙ ap (λ t. t ++ zone) empty in
+    absurd ((zone_first zone offset zone_is).1 (ap (λ t. get_or t 0 0) (sym e)))
+fraction_some text rest fraction digits zone offset n is count (some_digits dot some all) zone_is whole =
+    let e : 46 ∷ rest ≡ 46 ∷ (digits ++ zone) = sym is ∙ whole ∙ ap (λ t. t ++ zone) dot in
+    let same : rest ≡ digits ++ zone = cc in
+    let len : n ≡ length digits = count ∙ length-prefix_len is_ascii_digit rest ∙ ap (prefix_len is_ascii_digit) same ∙ digits_then digits zone all (zone_first zone offset zone_is).0 in
+    rw len some

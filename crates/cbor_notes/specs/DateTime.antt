@@ -1,9 +1,9 @@
 -- The texts of a date, a time of day and an offset from UTC, after RFC 3339, and the seconds since
 -- 1970-01-01T00:00:00Z that they name.
-use Rattle.std.specs.Prelude.{IsTrue, ◌≡◌, ◌⊎◌, ℕ, ◌+◌, ◌*◌, ◌<◌, ◌≤◌, ℤ, pos, neg_ℤ, ◌-ℤ◌, ◌≤ℤ◌, List, [], ◌∷◌, ◌++◌, length, take, drop, replicate, codes, bytes_eq, ◌==◌, if◌then◌else◌}
+use Rattle.std.specs.Prelude.{IsTrue, ◌≡◌, ◌⊎◌, ℕ, ◌+◌, ◌*◌, ◌<◌, ◌≤◌, ℤ, pos, neg_ℤ, ◌-ℤ◌, ◌≤ℤ◌, List, [], ◌∷◌, ◌++◌, length, take, replicate, codes, nat_eq, ◌==◌, if◌then◌else◌}
 use Rattle.std.specs.Char.{is_ascii_digit}
 use Rattle.std.specs.Fmt.{signed_decimal}
-use Rattle.std.specs.List.{list_all}
+use Rattle.std.specs.List.{ends_with, list_all}
 use Rattle.jiff.specs.Types.{Date}
 use Rattle.cbor_notes.specs.Date.{civil_seconds, clock_text, date_text, two_digits}
 
@@ -55,9 +55,9 @@ nine_digits digits = take 9 (digits ++ replicate 9 48)
 -- the fewest of 0, 3, 6 and 9 of nine digits after which all are zeros
 abbrev pub shown : List ℕ → ℕ
 shown nine =
-    if bytes_eq nine (replicate 9 48) then 0
-    else if bytes_eq (drop 3 nine) (replicate 6 48) then 3
-    else if bytes_eq (drop 6 nine) (replicate 3 48) then 6
+    if ends_with nat_eq nine (replicate 9 48) then 0
+    else if ends_with nat_eq nine (replicate 6 48) then 3
+    else if ends_with nat_eq nine (replicate 3 48) then 6
     else 9
 
 -- a fraction of a second, cut to nine digits: `.` and as many of them as are shown, or nothing

@@ -4,6 +4,7 @@ ghost use Rattle.std.specs.Prelude.{IsTrue, length, take_while, ◌≡◌, ◌�
 ghost use Rattle.std.specs.Int.{int_div_euclid};
 ghost use Rattle.std.specs.Char.{is_ascii_digit};
 ghost use Rattle.std.specs.List.{list_all};
+ghost use Rattle.std.specs.Str.{IsAscii};
 ghost use Rattle.std.specs.String.{string_bytes};
 ghost use Rattle.jiff.specs.Words.{IsEpochDay};
 ghost use Rattle.cbor_notes.specs.Date as date;
@@ -198,7 +199,15 @@ fn push_fraction(text: &mut String, digits: &[u8]) -> Result<(), AllocError>
         return Ok(());
     }
     text.push('.')?;
-    for digit in &nine[..shown] {
+    push_digits(text, &nine[..shown])
+}
+
+/// Appends ASCII characters. After a refusal `text` may end with some of them.
+fn push_digits(text: &mut String, digits: &[u8]) -> Result<(), AllocError>
+    requires { IsAscii digits.now }
+    ensures text { OnOk result (string_bytes text.new ≡ string_bytes text.old ++ digits.now) }
+{
+    for digit in digits {
         text.push(char::from(*digit))?;
     }
     Ok(())
