@@ -1,5 +1,5 @@
 -- What is read of the texts of fractions, offsets and zones.
-use Rattle.std.proofs.Common.{Bool, false, cond, append-nil, ◌-◌, min, replicate, ◌⊎◌, inl, inr, neg_ℤ, ◌*◌, ap, sym, ◌∙◌, to_z, of_z, w32, ◌-ℤ◌, ◌≡◌, ◌≢◌, ℕ, zero, suc, ◌+◌, ◌^◌, ◌<◌, ◌≤◌, ℤ, pos, List, [], ◌∷◌, ◌++◌, length, take, drop, get_or, true, refl, arith}
+use Rattle.std.proofs.Common.{append_assoc, ◌≤ℤ◌, ne_eqb, ◌==◌, Bool, false, cond, append-nil, ◌-◌, min, replicate, ◌⊎◌, inl, inr, neg_ℤ, ◌*◌, ap, sym, ◌∙◌, to_z, of_z, w32, ◌-ℤ◌, ◌≡◌, ◌≢◌, ℕ, zero, suc, ◌+◌, ◌^◌, ◌<◌, ◌≤◌, ℤ, pos, List, [], ◌∷◌, ◌++◌, length, take, drop, get_or, true, refl, arith}
 use Rattle.std.proofs.lemmas.Bool.Decides.{nat_tests}
 use Rattle.std.proofs.lemmas.Int.{to_z-of_z, to_z_pos}
 use Rattle.std.proofs.Math.Seq.{drop-cons, drop-append_seam, take-append-add, take-append_seam}
@@ -14,7 +14,10 @@ use Rattle.std.specs.List.{list_all, prefix_len}
 use Rattle.std.specs.Str.{IsAscii}
 use Rattle.std.specs.Prelude.{IsTrue, take_while}
 use Rattle.jiff.proofs.SpanFacts.{signed_arith}
-use Rattle.cbor_notes.specs.DateTime.{IsFraction, no_fraction, some_digits, IsOffset, IsZone, ahead, behind, nine_digits}
+use Rattle.cbor_notes.specs.DateTime.{IsFraction, no_fraction, some_digits, IsOffset, IsZone, ahead, behind, IsDateTimeText, fraction_text, nine_digits, shown}
+use Rattle.cbor_notes.specs.Date.{clock_text, date_text}
+use Rattle.cbor_notes.proofs.DateTexts.{clock_text-eight, date_text-ten}
+use Rattle.jiff.specs.Types.{Date}
 
 -- seconds of a zone behind UTC
 pub negated : (n m : ℕ) → n ≡ m → n < 2 ^ 31 → to_z w32 (of_z w32 (pos 0 -ℤ to_z w32 n)) ≡ neg_ℤ (pos m)
@@ -116,3 +119,63 @@ fraction_some text rest fraction digits zone offset n is count (some_digits dot 
     let same : rest ≡ digits ++ zone = cc in
     let len : n ≡ length digits = count ∙ length-prefix_len is_ascii_digit rest ∙ ap (prefix_len is_ascii_digit) same ∙ digits_then digits zone all (zone_first zone offset zone_is).0 in
     rw len some
+
+-- a fraction of zeros is nothing, and any other the digits that are shown
+pub fraction_none : (digits : List ℕ) → shown (nine_digits digits) ≡ 0 → fraction_text digits ≡ []
+unfolding fraction_text
+fraction_none digits none = rw none refl
+
+pub fraction_shown : (digits : List ℕ) → (shown (nine_digits digits) ≡ 0 → ⊥) → fraction_text digits ≡ 46 ∷ take (shown (nine_digits digits)) (nine_digits digits)
+unfolding fraction_text
+fraction_shown digits some =
+    let test : (shown (nine_digits digits) == 0) ≡ false = ne_eqb (shown (nine_digits digits)) 0 some in
+    rw test refl
+
+-- the digits of a fraction are digits
+pub fraction_digits : (fraction digits : List ℕ) → IsFraction fraction digits → IsTrue (list_all is_ascii_digit digits)
+fraction_digits fraction digits (no_fraction empty none) = rw none refl
+fraction_digits fraction digits (some_digits dot some all) = all
+
+-- the pieces of a text of a date and a time, by their places
+pub record Pieces (text : List ℕ) (date : Date) (hour minute second : ℕ) (fraction zone : List ℕ) : Type 0 where
+  pub separator : ℕ
+  pub after : List ℕ
+  pub long : 10 ≤ length text
+  pub date_is : take 10 text ≡ date_text date
+  pub time_is : drop 10 text ≡ separator ∷ after
+  pub separator_is : (separator ≡ 84) ⊎ (separator ≡ 116)
+  pub clock_long : 8 ≤ length after
+  pub clock_is : take 8 after ≡ clock_text hour minute second
+  pub rest_is : drop 8 after ≡ fraction ++ zone
+
+pieces_of : (text : List ℕ) (date : Date) (hour minute second sep : ℕ) (fraction zone : List ℕ) → pos 0 ≤ℤ date.year → (sep ≡ 84) ⊎ (sep ≡ 116)
+    → text ≡ date_text date ++ (sep ∷ []) ++ clock_text hour minute second ++ fraction ++ zone → Pieces text date hour minute second fraction zone
+pieces_of text date hour minute second sep fraction zone here which is =
+    let ten = date_text-ten date here in
+    let eight = clock_text-eight hour minute second in
+    let e = rw (ten, eight) at is in
+    record {
+      separator = sep;
+      after = drop 11 text;
+      long = omega (arith, ap length e);
+      date_is = ap (take 10) e ∙ sym ten;
+      time_is = ap (drop 10) e ∙ ap (λ t. sep ∷ t) (sym (ap (drop 11) e));
+      separator_is = which;
+      clock_long = omega (arith, ap (λ t. length (drop 11 t)) e);
+      clock_is = ap (λ t. take 8 (drop 11 t)) e ∙ sym eight;
+      rest_is = ap (λ t. drop 8 (drop 11 t)) e;
+    }
+
+pub datetime_pieces : (text : List ℕ) (seconds : ℤ) (digits : List ℕ) → (d : IsDateTimeText text seconds digits) → Pieces text d.date d.hour d.minute d.second d.fraction d.zone
+datetime_pieces text seconds digits d = elim d.separator_is [
+  | inl upper ↦ pieces_of text d.date d.hour d.minute d.second 84 d.fraction d.zone d.year_in (inl refl) (rw upper at d.text_is)
+  | inr lower ↦ pieces_of text d.date d.hour d.minute d.second 116 d.fraction d.zone d.year_in (inr refl) (rw lower at d.text_is)
+]
+
+-- the separator and what follows, of any that follow the date
+pub time_parts : (rest after : List ℕ) (sep sep₂ : ℕ) (after₂ : List ℕ) → rest ≡ sep ∷ after → rest ≡ sep₂ ∷ after₂ → (sep ≡ sep₂) × (after ≡ after₂)
+time_parts rest after sep sep₂ after₂ p q = (cc, cc)
+
+-- a list of five pieces, by what is left after each
+pub five_parts : (text a b c d e r₁ r₂ r₃ : List ℕ) → text ≡ a ++ r₁ → r₁ ≡ b ++ r₂ → r₂ ≡ c ++ r₃ → r₃ ≡ d ++ e → text ≡ a ++ b ++ c ++ d ++ e
+five_parts text a b c d e r₁ r₂ r₃ p q r s = p ∙ rw (q, r, s) (simp append_assoc)

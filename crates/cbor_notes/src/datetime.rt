@@ -1,18 +1,19 @@
 //! Dates with a time of day, as texts and as seconds from 1970-01-01T00:00:00Z.
 
-ghost use Rattle.std.specs.Prelude.{IsTrue, length, take_while, ◌≡◌, ◌↔◌, ◌++◌, ℕ, ◌+◌, ◌*◌, ◌/◌, ◌%◌, ◌<◌, ◌≤◌, pos, ◌-ℤ◌, ℤ, List, IsSome, IfSome, IfOk, OnOk, IsSomeAnd};
+ghost use Rattle.std.specs.Prelude.{IsTrue, length, take_while, ◌≡◌, ◌↔◌, ◌++◌, ℕ, ◌+◌, ◌*◌, ◌/◌, ◌%◌, ◌<◌, ◌≤◌, pos, ◌+ℤ◌, ◌-ℤ◌, ◌*ℤ◌, ℤ, List, IsSome, IfSome, IfOk, OnOk, IsSomeAnd};
 ghost use Rattle.std.specs.Int.{int_div_euclid};
 ghost use Rattle.std.specs.Char.{is_ascii_digit};
 ghost use Rattle.std.specs.List.{list_all};
 ghost use Rattle.std.specs.Str.{IsAscii};
 ghost use Rattle.std.specs.String.{string_bytes};
-ghost use Rattle.jiff.specs.Words.{IsEpochDay};
+ghost use Rattle.jiff.specs.Words.{IsEpochDay, epoch_day};
 ghost use Rattle.cbor_notes.specs.Date as date;
 ghost use Rattle.cbor_notes.specs.Date.{IsMomentText};
 ghost use Rattle.cbor_notes.specs.DateTime as spec;
 ghost use Rattle.cbor_notes.specs.DateTime.{IsDateTimeText, IsFraction, IsOffset, IsZone};
 
 use crate::date::{date_of_day, day_of_date, push_date, push_two_digits, read_date, two_digits};
+use jiff::civil::Date;
 use std::alloc::{AllocError, Global};
 
 /// The seconds of a day.
@@ -84,8 +85,15 @@ fn read_datetime(text: &[u8]) -> Option<(i64, &[u8])>
     let clock = read_clock(clock)?;
     let (digits, zone) = split_fraction(rest)?;
     let offset = read_zone(zone)?;
-    let seconds = i64::from(day_of_date(date)) * DAY + i64::from(clock) - i64::from(offset);
-    Some((seconds, digits))
+    Some((moment_seconds(date, clock, offset), digits))
+}
+
+/// The seconds from 1970-01-01T00:00:00Z to so many seconds after the midnight of a date, on a clock
+/// that is `offset` seconds ahead of UTC.
+fn moment_seconds(date: Date, clock: u32, offset: i32) -> i64
+    ensures { result ≡ (epoch_day date *ℤ pos 86400 +ℤ pos clock) -ℤ offset }
+{
+    i64::from(day_of_date(date)) * DAY + i64::from(clock) - i64::from(offset)
 }
 
 /// The seconds from midnight to a time of day, whose seconds may be 60.

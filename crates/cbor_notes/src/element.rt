@@ -133,9 +133,11 @@ fn number(bytes: &[u8]) -> u128
     ensures value { result ≡ number_from_digits 256 bytes.now }
     ensures bound { result < 2 ^ (8 * length bytes.now) }
 {
-    let mut wide = [0; 16];
-    wide[16 - bytes.len()..].copy_from_slice(bytes);
-    u128::from_be_bytes(wide)
+    let mut number = 0;
+    for byte in bytes {
+        number = number * 256 + u128::from(*byte);
+    }
+    number
 }
 
 /// Appends a number in two's complement, grouped: from half of its range on it is negative.
