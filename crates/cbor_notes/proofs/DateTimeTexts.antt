@@ -1,5 +1,5 @@
 -- What is read of the texts of fractions, offsets and zones.
-use Rattle.std.proofs.Common.{append_assoc, ◌≤ℤ◌, ne_eqb, ◌==◌, Bool, false, cond, append-nil, ◌-◌, min, replicate, ◌⊎◌, inl, inr, neg_ℤ, ◌*◌, ap, sym, ◌∙◌, to_z, of_z, w32, ◌-ℤ◌, ◌≡◌, ◌≢◌, ℕ, zero, suc, ◌+◌, ◌^◌, ◌<◌, ◌≤◌, ℤ, pos, List, [], ◌∷◌, ◌++◌, length, take, drop, get_or, true, refl, arith}
+use Rattle.std.proofs.Common.{FitsSigned, append_assoc, ◌≤ℤ◌, ne_eqb, ◌==◌, Bool, false, cond, append-nil, ◌-◌, min, replicate, ◌⊎◌, inl, inr, neg_ℤ, ◌*◌, ap, sym, ◌∙◌, to_z, of_z, w32, ◌-ℤ◌, ◌≡◌, ◌≢◌, ℕ, zero, suc, ◌+◌, ◌^◌, ◌<◌, ◌≤◌, ℤ, pos, List, [], ◌∷◌, ◌++◌, length, take, drop, get_or, true, refl, arith}
 use Rattle.std.proofs.lemmas.Bool.Decides.{nat_tests}
 use Rattle.std.proofs.lemmas.Int.{to_z-of_z, to_z_pos}
 use Rattle.std.proofs.Math.Seq.{drop-cons, drop-append_seam, take-append-add, take-append_seam}
@@ -179,3 +179,9 @@ time_parts rest after sep sep₂ after₂ p q = (cc, cc)
 -- a list of five pieces, by what is left after each
 pub five_parts : (text a b c d e r₁ r₂ r₃ : List ℕ) → text ≡ a ++ r₁ → r₁ ≡ b ++ r₂ → r₂ ≡ c ++ r₃ → r₃ ≡ d ++ e → text ≡ a ++ b ++ c ++ d ++ e
 five_parts text a b c d e r₁ r₂ r₃ p q r s = p ∙ rw (q, r, s) (simp append_assoc)
+
+-- an offset is small
+pub zone_fits : (zone : List ℕ) (offset : ℤ) → IsZone zone offset → FitsSigned w32 offset
+zone_fits zone offset (inl utc) = rw utc.1 (omega (arith, signed_arith))
+zone_fits zone offset (inr (ahead hour minute h m is o)) = rw o (omega (arith, signed_arith))
+zone_fits zone offset (inr (behind hour minute h m is o)) = rw o (omega (arith, signed_arith))

@@ -4,7 +4,7 @@ use Rattle.std.proofs.lemmas.List.{take-append-drop}
 use Rattle.jiff.proofs.SpanFacts.{signed_arith}
 use Rattle.jiff.specs.Words.{epoch_day}
 use Rattle.cbor_notes.specs.Date.{clock_text, date_text}
-use Rattle.cbor_notes.proofs.DateTimeTexts.{Pieces, datetime_pieces, five_parts, time_parts}
+use Rattle.cbor_notes.proofs.DateTimeTexts.{Pieces, datetime_pieces, five_parts, time_parts, zone_fits}
 use Rattle.cbor_notes.proofs.datetime.read_datetime.Goals as goal
 use Rattle.cbor_notes.proofs.datetime.read_datetime.Goals.{else-separator-ne84-via-then-separator-ne84+else-separator-ne116, else-separator-ne84-via-else-separator-ne84}
 
@@ -71,10 +71,15 @@ Seconds c =
     ≡ (epoch_day c.in_ok-date-2.date *ℤ pos 86400 +ℤ pos c.in_ok-clock-2.clock) -ℤ c.in_ok-offset.offset
 
 seconds_are : (c : goal.After-moment_seconds) → Seconds c
-seconds_are c = let m = c.moment_seconds.ensures in ?
+seconds_are c =
+    let fits : FitsSigned w64 c.moment_seconds.result = record { sfits = c.moment_seconds.type_inv } in
+    let small = zone_fits c.in_ok-digits.zone.now c.in_ok-offset.offset c.in_ok-offset.ensures.found in
+    to_z-of_z w64 c.moment_seconds.result fits ∙ c.moment_seconds.ensures
+    ∙ ap (λ o. (epoch_day c.in_ok-date-2.date *ℤ pos 86400 +ℤ pos c.in_ok-clock-2.clock) -ℤ o) (to_z-of_z w32 c.in_ok-offset.offset small)
 
 pub returns-clause-found : goal.returns-clause-found
 returns-clause-found c =
+    let text = c.args.text.now in
     let chunk = c.in_ok-date.ensures.cases in
     let day = c.in_ok-date-2.ensures.found in
     let after = c.in_ok-clock.ensures.cases in
@@ -85,6 +90,10 @@ returns-clause-found c =
       | else-separator-ne84-via-then-separator-ne84+else-separator-ne116 w ↦ inr (ap (λ s. s ∷ []) w.if-separator-ne116.false)
       | else-separator-ne84-via-else-separator-ne84 w ↦ inl (ap (λ s. s ∷ []) w.if-separator-ne84.false)
     ] in
+    let first : text ≡ date_text c.in_ok-date-2.date ++ c.in_ok-date.rest.now =
+      sym (take-append-drop 10 text) ∙ ap (λ t. t ++ drop 10 text) (sym chunk.0 ∙ day.1) ∙ ap (λ t. date_text c.in_ok-date-2.date ++ t) (sym chunk.1) in
+    let third : c.in_ok-separator.rest.now ≡ clock_text clock.0 clock.1 clock.2 ++ c.in_ok-clock.rest.now =
+      sym (take-append-drop 8 c.in_ok-separator.rest.now) ∙ ap (λ t. t ++ drop 8 c.in_ok-separator.rest.now) (sym after.0 ∙ clock.6) ∙ ap (λ t. clock_text clock.0 clock.1 clock.2 ++ t) (sym after.1) in
     record {
       date = c.in_ok-date-2.date;
       hour = clock.0;
@@ -102,7 +111,7 @@ returns-clause-found c =
       fraction_is = split.1;
       zone_is = c.in_ok-offset.ensures.found;
       seconds_are = seconds_are c ∙ ap (λ n. (epoch_day c.in_ok-date-2.date *ℤ pos 86400 +ℤ pos n) -ℤ c.in_ok-offset.offset) clock.7;
-      text_is = ?;
+      text_is = five_parts text (date_text c.in_ok-date-2.date) (sep ∷ []) (clock_text clock.0 clock.1 clock.2) split.0 c.in_ok-digits.zone.now c.in_ok-date.rest.now c.in_ok-separator.rest.now c.in_ok-clock.rest.now first c.in_ok-separator.ensures.cases.0 third split.2;
     }
 
 pub returns-clause-only : goal.returns-clause-only
