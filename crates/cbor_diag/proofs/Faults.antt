@@ -10,7 +10,7 @@ use Rattle.cbor_diag.proofs.Heads.{IsBytes, cons_is, head_append}
 use Rattle.cbor_diag.proofs.Chunks.{chunks_append}
 use Rattle.cbor_diag.proofs.HeadRefusals.{err_is, head_bad}
 use Rattle.cbor_diag.proofs.StringRefusals as strings
-use Rattle.cbor_diag.proofs.Short.{fault_no_cut}
+use Rattle.cbor_diag.proofs.CutShort.{fault_no_cut}
 use Rattle.cbor_diag.proofs.Refusals.{Refusal, is_cut, is_fault, refused, item_nothing, inside_refuses, content_refuses_item, chunk_refuses_item}
 
 -- ---- a fault that reading found
@@ -78,7 +78,7 @@ bad_text_append b c h = (h.0, h.1, head_append 3 h.0 h.1 b c _ _ h.2 (λ r t. (t
 no_chunk_append : {kind : StringKind} {b : List ℕ} (c : List ℕ) → NoChunk kind b → NoChunk kind (b ++ c)
 no_chunk_append c (no_chunk no_break other) = no_chunk no_break other
 
-inside_append : {next : Next} {level : ℕ} {b rest : List ℕ} (c : List ℕ) → Inside next level b rest → Inside next level (b ++ c) (rest ++ c)
+inside_append : {next : Next} {level : ℕ} {b rest : List ℕ} (c : List ℕ) → Inside level b rest next → Inside level (b ++ c) (rest ++ c) next
 inside_append {b = b} {rest = rest} c (in_tag t w h) = in_tag t w (head_append 6 t w b c (λ r. r ≡ rest) (λ r. r ≡ rest ++ c) h (λ r is. ap (λ (x : List ℕ). x ++ c) is))
 inside_append {b = b} {rest = rest} c (in_array n k w whole h parts few) = in_array n k w whole (head_append 4 n w b c (λ r. r ≡ whole ++ rest) (λ r. r ≡ whole ++ (rest ++ c)) h (λ r is. behind r whole rest c is)) parts few
 inside_append {b = b} {rest = rest} c (in_map n k w whole h parts few) = in_map n k w whole (head_append 5 n w b c (λ r. r ≡ whole ++ rest) (λ r. r ≡ whole ++ (rest ++ c)) h (λ r is. behind r whole rest c is)) parts few

@@ -6,8 +6,8 @@ use Rattle.std.proofs.lemmas.List.{length-append, append-nil}
 use Rattle.cbor_diag.specs.declared.syntax.IntegerWidth.{IntegerWidth}
 use Rattle.cbor_diag.specs.declared.syntax.IntegerWidth.TheVariants.{Zero, Eight, Sixteen, ThirtyTwo, SixtyFour}
 use Rattle.cbor_diag.specs.declared.syntax.FloatWidth.TheVariants as float_width
-use Rattle.cbor_diag.specs.declared.parse.binary.head.Head.{Head}
-use Rattle.cbor_diag.specs.declared.parse.binary.head.Head.TheVariants as kind
+use Rattle.cbor_diag.specs.declared.parse.binary.head.ItemHead.{ItemHead}
+use Rattle.cbor_diag.specs.declared.parse.binary.head.ItemHead.TheVariants as item_head
 use Rattle.cbor_diag.specs.Item as spec
 use Rattle.cbor_diag.specs.Item.{Chunk, Atom, integer, negative, byte_string, text_string, byte_chunks, text_chunks, float, simple, Item, atom, array, tagged, Items, no_items, item, Pairs, no_pairs, pair, item_count, pair_count}
 use Rattle.cbor_diag.specs.Head.{head, opening, break_byte, HeadThen}
@@ -167,62 +167,62 @@ open_string_takes kind b r rest cs fits h e =
     (opening (major_of kind) ∷ f.0, h ∙ ap (λ (x : List ℕ). opening (major_of kind) ∷ x) f.1, (f.0, refl, f.2), t.1)
 
 -- an item behind its head
-body_takes : (level : ℕ) (read : List ℕ → Read Item) (finds : Finds (level + 1) read) (h : Head) (b r rest : List ℕ) (i : Item) → level ≤ deepest → HeadIs h b r → IsBytes r → body_at read h r ≡ Ok (i, rest) → Spelled level b i rest
-body_takes level read finds (kind.Integer n w) b r rest i le h fits e =
+body_takes : (level : ℕ) (read : List ℕ → Read Item) (finds : Finds (level + 1) read) (h : ItemHead) (b r rest : List ℕ) (i : Item) → level ≤ deepest → HeadIs h b r → IsBytes r → body_at read h r ≡ Ok (i, rest) → Spelled level b i rest
+body_takes level read finds (item_head.Integer n w) b r rest i le h fits e =
     given level b r rest (atom (integer n w)) i e (headed level b r 0 n w (atom (integer n w)) fits h (λ front f. (le, f)))
-body_takes level read finds (kind.Negative n w) b r rest i le h fits e =
+body_takes level read finds (item_head.Negative n w) b r rest i le h fits e =
     given level b r rest (atom (negative n w)) i e (headed level b r 1 n w (atom (negative n w)) fits h (λ front f. (le, f)))
-body_takes level read finds (kind.Bytes n w) b r rest i le h fits e =
+body_takes level read finds (item_head.Bytes n w) b r rest i le h fits e =
     let a = bind_ok (content_at bytes_kind n w r) (λ c. Ok (atom (byte_string c.0), c.1)) (i, rest) e in
     let t = string_takes bytes_kind n w b r a.0.1 a.0.0 fits h a.1 in
     given level b a.0.1 rest (atom (byte_string a.0.0)) i a.2 (record { front = t.0; parts = t.1; spells = (le, t.2); rest_bytes = t.3 })
-body_takes level read finds (kind.Text n w) b r rest i le h fits e =
+body_takes level read finds (item_head.Text n w) b r rest i le h fits e =
     let a = bind_ok (content_at text_kind n w r) (λ c. Ok (atom (text_string c.0), c.1)) (i, rest) e in
     let t = string_takes text_kind n w b r a.0.1 a.0.0 fits h a.1 in
     given level b a.0.1 rest (atom (text_string a.0.0)) i a.2 (record { front = t.0; parts = t.1; spells = (le, t.2); rest_bytes = t.3 })
-body_takes level read finds (kind.Array n w) b r rest i le h fits e =
+body_takes level read finds (item_head.Array n w) b r rest i le h fits e =
     let a = bind_ok (items_at read n r) (λ is. Ok (array is.0 (Some w), is.1)) (i, rest) e in
     let t = items_take (level + 1) read finds n r a.0.1 a.0.0 fits a.1 in
     let f = head_front 4 n w b a.0.1 (λ x. x ≡ r) (λ x. SpellsItems any (level + 1) x a.0.0 []) h (λ x is. items_front (level + 1) a.0.0 x [] a.0.1 (rw is t.1)) in
     given level b a.0.1 rest (array a.0.0 (Some w)) i a.2 (record { front = f.0; parts = f.1; spells = (le, rw t.0 f.2); rest_bytes = t.2 })
-body_takes level read finds (kind.Map n w) b r rest i le h fits e =
+body_takes level read finds (item_head.Map n w) b r rest i le h fits e =
     let a = bind_ok (pairs_at read n r) (λ ps. Ok (spec.map ps.0 (Some w), ps.1)) (i, rest) e in
     let t = pairs_take (level + 1) read finds n r a.0.1 a.0.0 fits a.1 in
     let f = head_front 5 n w b a.0.1 (λ x. x ≡ r) (λ x. SpellsPairs any (level + 1) x a.0.0 []) h (λ x is. pairs_front (level + 1) a.0.0 x [] a.0.1 (rw is t.1)) in
     given level b a.0.1 rest (spec.map a.0.0 (Some w)) i a.2 (record { front = f.0; parts = f.1; spells = (le, rw t.0 f.2); rest_bytes = t.2 })
-body_takes level read finds (kind.Tag n w) b r rest i le h fits e =
+body_takes level read finds (item_head.Tag n w) b r rest i le h fits e =
     let a = bind_ok (read r) (λ i. Ok (tagged n w i.0, i.1)) (i, rest) e in
     let t = finds r a.0.0 a.0.1 fits a.1 in
     let f = head_front 6 n w b a.0.1 (λ x. x ≡ r) (λ x. Spells any (level + 1) x a.0.0) h (λ x is. (t.front, is ∙ t.parts, t.spells)) in
     given level b a.0.1 rest (tagged n w a.0.0) i a.2 (record { front = f.0; parts = f.1; spells = (le, f.2); rest_bytes = t.rest_bytes })
-body_takes level read finds (kind.Float bits float_width.Unknown) b r rest i le h fits e = absurd h
-body_takes level read finds (kind.Float bits float_width.Sixteen) b r rest i le h fits e =
+body_takes level read finds (item_head.Float bits float_width.Unknown) b r rest i le h fits e = absurd h
+body_takes level read finds (item_head.Float bits float_width.Sixteen) b r rest i le h fits e =
     given level b r rest (atom (float bits float_width.Sixteen)) i e (record { front = 249 ∷ to_be_bytes w16 bits; parts = h.1; spells = (le, (h.0, refl)); rest_bytes = fits })
-body_takes level read finds (kind.Float bits float_width.ThirtyTwo) b r rest i le h fits e =
+body_takes level read finds (item_head.Float bits float_width.ThirtyTwo) b r rest i le h fits e =
     given level b r rest (atom (float bits float_width.ThirtyTwo)) i e (record { front = 250 ∷ to_be_bytes w32 bits; parts = h.1; spells = (le, (h.0, refl)); rest_bytes = fits })
-body_takes level read finds (kind.Float bits float_width.SixtyFour) b r rest i le h fits e =
+body_takes level read finds (item_head.Float bits float_width.SixtyFour) b r rest i le h fits e =
     given level b r rest (atom (float bits float_width.SixtyFour)) i e (record { front = 251 ∷ to_be_bytes w64 bits; parts = h.1; spells = (le, (h.0, refl)); rest_bytes = fits })
-body_takes level read finds (kind.Simple n) b r rest i le h fits e =
+body_takes level read finds (item_head.Simple n) b r rest i le h fits e =
     given level b r rest (atom (simple n)) i e (record { front = h.0; parts = h.1; spells = (le, h.2); rest_bytes = fits })
-body_takes level read finds kind.OpenBytes b r rest i le h fits e =
+body_takes level read finds item_head.OpenBytes b r rest i le h fits e =
     let a = bind_ok (chunks_at (length r) bytes_kind r) (λ cs. Ok (atom (byte_chunks cs.0), cs.1)) (i, rest) e in
     let t = open_string_takes bytes_kind b r a.0.1 a.0.0 fits h a.1 in
     given level b a.0.1 rest (atom (byte_chunks a.0.0)) i a.2 (record { front = t.0; parts = t.1; spells = (le, t.2); rest_bytes = t.3 })
-body_takes level read finds kind.OpenText b r rest i le h fits e =
+body_takes level read finds item_head.OpenText b r rest i le h fits e =
     let a = bind_ok (chunks_at (length r) text_kind r) (λ cs. Ok (atom (text_chunks cs.0), cs.1)) (i, rest) e in
     let t = open_string_takes text_kind b r a.0.1 a.0.0 fits h a.1 in
     given level b a.0.1 rest (atom (text_chunks a.0.0)) i a.2 (record { front = t.0; parts = t.1; spells = (le, t.2); rest_bytes = t.3 })
-body_takes level read finds kind.OpenArray b r rest i le h fits e =
+body_takes level read finds item_head.OpenArray b r rest i le h fits e =
     let a = bind_ok (open_items_at read (length r) r) (λ is. Ok (array is.0 None, is.1)) (i, rest) e in
     let t = open_items_take (level + 1) read finds (length r) r a.0.1 a.0.0 fits a.1 in
     let f = items_front (level + 1) a.0.0 r (break_byte ∷ []) a.0.1 t.0 in
     given level b a.0.1 rest (array a.0.0 None) i a.2 (record { front = opening 4 ∷ f.0; parts = h ∙ ap (λ (x : List ℕ). opening 4 ∷ x) f.1; spells = (le, (f.0, refl, f.2)); rest_bytes = t.1 })
-body_takes level read finds kind.OpenMap b r rest i le h fits e =
+body_takes level read finds item_head.OpenMap b r rest i le h fits e =
     let a = bind_ok (open_pairs_at read (length r) r) (λ ps. Ok (spec.map ps.0 None, ps.1)) (i, rest) e in
     let t = open_pairs_take (level + 1) read finds (length r) r a.0.1 a.0.0 fits a.1 in
     let f = pairs_front (level + 1) a.0.0 r (break_byte ∷ []) a.0.1 t.0 in
     given level b a.0.1 rest (spec.map a.0.0 None) i a.2 (record { front = opening 5 ∷ f.0; parts = h ∙ ap (λ (x : List ℕ). opening 5 ∷ x) f.1; spells = (le, (f.0, refl, f.2)); rest_bytes = t.1 })
-body_takes level read finds kind.Break b r rest i le h fits e = absurd cc
+body_takes level read finds item_head.Break b r rest i le h fits e = absurd cc
 
 nothing_read : (b : List ℕ) (x : Item × List ℕ) → too_deep_at b ≡ Ok x → ⊥
 nothing_read [] x e = cc
@@ -348,7 +348,7 @@ string_behind kind x rest c h =
     head_append (major_of kind) (length c.bytes) c.width x rest _ (λ r. r ≡ c.bytes ++ rest) h.1 (λ r s. ap (λ (y : List ℕ). y ++ rest) s.1 ∙ append_assoc c.bytes s.0 rest ∙ ap (λ (y : List ℕ). c.bytes ++ (y ++ rest)) s.2)
 
 -- a head of major type 7 that holds a simple value or a float
-simple_again : (x rest : List ℕ) (n : ℕ) → SpellsSimple any x n → head_at (x ++ rest) ≡ Ok (kind.Simple n, rest)
+simple_again : (x rest : List ℕ) (n : ℕ) → SpellsSimple any x n → head_at (x ++ rest) ≡ Ok (item_head.Simple n, rest)
 unfolding numbered
 simple_again x rest n (inl h) = head_again 7 n Zero (x ++ rest) rest (omega arith) (h.0, rest, ap (λ (y : List ℕ). y ++ rest) h.1, refl)
 simple_again x rest n (inr h) =
@@ -371,11 +371,11 @@ module _ (level : ℕ) (read : List ℕ → Read Item) (again : FindsAgain (leve
   body_again x (atom (byte_chunks cs)) rest h =
       let r : List ℕ = h.1.0 ++ rest in
       ap (λ (y : List ℕ). whole_at read (y ++ rest)) h.1.1
-      ∙ rw (open_again 2 kind.OpenBytes r (omega arith) refl, chunks_again (length r) bytes_kind r rest cs (omega arith) (chunks_append bytes_kind cs h.1.0 (break_byte ∷ []) rest h.1.2)) refl
+      ∙ rw (open_again 2 item_head.OpenBytes r (omega arith) refl, chunks_again (length r) bytes_kind r rest cs (omega arith) (chunks_append bytes_kind cs h.1.0 (break_byte ∷ []) rest h.1.2)) refl
   body_again x (atom (text_chunks cs)) rest h =
       let r : List ℕ = h.1.0 ++ rest in
       ap (λ (y : List ℕ). whole_at read (y ++ rest)) h.1.1
-      ∙ rw (open_again 3 kind.OpenText r (omega arith) refl, chunks_again (length r) text_kind r rest cs (omega arith) (chunks_append text_kind cs h.1.0 (break_byte ∷ []) rest h.1.2)) refl
+      ∙ rw (open_again 3 item_head.OpenText r (omega arith) refl, chunks_again (length r) text_kind r rest cs (omega arith) (chunks_append text_kind cs h.1.0 (break_byte ∷ []) rest h.1.2)) refl
   body_again x (atom (float bits float_width.Unknown)) rest h = absurd h.1
   body_again x (atom (float bits float_width.Sixteen)) rest h =
       rw (head_again 7 bits Sixteen (x ++ rest) rest (omega arith) (h.1.0, rest, ap (λ (y : List ℕ). y ++ rest) h.1.1, refl)) refl
@@ -390,14 +390,14 @@ module _ (level : ℕ) (read : List ℕ → Read Item) (again : FindsAgain (leve
   body_again x (array is None) rest h =
       let r : List ℕ = h.1.0 ++ rest in
       ap (λ (y : List ℕ). whole_at read (y ++ rest)) h.1.1
-      ∙ rw (open_again 4 kind.OpenArray r (omega arith) refl, open_items_again (level + 1) read again (length r) is r rest (omega arith) (items_append (level + 1) is h.1.0 (break_byte ∷ []) rest h.1.2)) refl
+      ∙ rw (open_again 4 item_head.OpenArray r (omega arith) refl, open_items_again (level + 1) read again (length r) is r rest (omega arith) (items_append (level + 1) is h.1.0 (break_byte ∷ []) rest h.1.2)) refl
   body_again x (spec.map ps (Some w)) rest h =
       let g = head_append 5 (pair_count ps) w x rest _ (λ r. SpellsPairs any (level + 1) r ps rest) h.1 (λ r s. pairs_append (level + 1) ps r [] rest s) in
       rw (head_again 5 (pair_count ps) w (x ++ rest) g.1 (omega arith) (g.0, g.1, g.2, refl), pairs_again (level + 1) read again ps g.1 rest g.3) refl
   body_again x (spec.map ps None) rest h =
       let r : List ℕ = h.1.0 ++ rest in
       ap (λ (y : List ℕ). whole_at read (y ++ rest)) h.1.1
-      ∙ rw (open_again 5 kind.OpenMap r (omega arith) refl, open_pairs_again (level + 1) read again (length r) ps r rest (omega arith) (pairs_append (level + 1) ps h.1.0 (break_byte ∷ []) rest h.1.2)) refl
+      ∙ rw (open_again 5 item_head.OpenMap r (omega arith) refl, open_pairs_again (level + 1) read again (length r) ps r rest (omega arith) (pairs_append (level + 1) ps h.1.0 (break_byte ∷ []) rest h.1.2)) refl
   body_again x (tagged t w i) rest h =
       let g = head_append 6 t w x rest (λ r. r ≡ h.1.1) (λ r. r ≡ h.1.1 ++ rest) (h.1.0, h.1.1, h.1.2, refl) (λ r e. ap (λ (y : List ℕ). y ++ rest) e) in
       rw (head_again 6 t w (x ++ rest) (h.1.1 ++ rest) (omega arith) g, again h.1.1 i rest h.1.3) refl

@@ -9,7 +9,7 @@ use Rattle.cbor_diag.specs.declared.error.Error.{Error}
 use Rattle.cbor_diag.specs.declared.error.Error.TheVariants as refusal
 use Rattle.cbor_diag.specs.declared.parse.binary.head.Info.{Info}
 use Rattle.cbor_diag.specs.declared.parse.binary.head.Info.TheVariants as info
-use Rattle.cbor_diag.specs.declared.parse.binary.head.Head.TheVariants as kind
+use Rattle.cbor_diag.specs.declared.parse.binary.head.ItemHead.TheVariants as item_head
 use Rattle.cbor_diag.specs.Refused.{CutHead, cut_head, BadHead, no_info, no_length}
 use Rattle.cbor_diag.specs.Reading.{◌>>=◌, number_at, wide_at, info_at, unnumbered, head_of, head_at}
 use Rattle.cbor_diag.proofs.Heads.{IsBytes, IsBytes-rest, bind_err, branch, info_takes}
@@ -156,7 +156,7 @@ unfolding head_at
 head_cut b (cut_head {first = first} {rest = rest} k small is short) = rw (info_refuses (first % 32) rest refusal.CutShort (cut_info k small is short)) refl
 
 -- the head is refused, or it is a break, which is refused after it
-pub head_bad : (b : List ℕ) → BadHead b → (head_at b ≡ Err refusal.Head) ⊎ ((rest : List ℕ) × (head_at b ≡ Ok (kind.Break, rest)))
+pub head_bad : (b : List ℕ) → BadHead b → (head_at b ≡ Err refusal.Head) ⊎ ((rest : List ℕ) × (head_at b ≡ Ok (item_head.Break, rest)))
 unfolding head_at unnumbered
 head_bad b (no_info {first = first} {rest = rest} least most) = inl (rw (info_refuses (first % 32) rest refusal.Head (bad_info least most)) refl)
 head_bad b (no_length {first = first} {rest = rest} is major) =

@@ -11,8 +11,8 @@ use Rattle.cbor_diag.specs.declared.error.Error.{Error}
 use Rattle.cbor_diag.specs.declared.error.Error.TheVariants as refusal
 use Rattle.cbor_diag.specs.declared.parse.binary.head.Info.{Info}
 use Rattle.cbor_diag.specs.declared.parse.binary.head.Info.TheVariants as info
-use Rattle.cbor_diag.specs.declared.parse.binary.head.Head.{Head}
-use Rattle.cbor_diag.specs.declared.parse.binary.head.Head.TheVariants as kind
+use Rattle.cbor_diag.specs.declared.parse.binary.head.ItemHead.{ItemHead}
+use Rattle.cbor_diag.specs.declared.parse.binary.head.ItemHead.TheVariants as item_head
 use Rattle.cbor_diag.specs.Head.{FitsStated, head, opening, break_byte, HeadThen}
 use Rattle.cbor_diag.specs.Bytes.{any, SpellsSimple}
 use Rattle.cbor_diag.specs.Reading.{◌>>=◌, number_at, wide_at, info_at, simple_or_float, numbered, unnumbered, head_of, head_at}
@@ -230,24 +230,24 @@ info_again SixtyFour n rest fits = wide_again w64 (2 ^ 64) wide64 SixtyFour n re
 -- ---- heads
 
 -- what a head is in bytes, with the bytes after it
-abbrev pub HeadIs : Head → List ℕ → List ℕ → Type 0
-HeadIs (kind.Integer n w) b rest = HeadThen 0 n w b (λ r. r ≡ rest)
-HeadIs (kind.Negative n w) b rest = HeadThen 1 n w b (λ r. r ≡ rest)
-HeadIs (kind.Bytes n w) b rest = HeadThen 2 n w b (λ r. r ≡ rest)
-HeadIs (kind.Text n w) b rest = HeadThen 3 n w b (λ r. r ≡ rest)
-HeadIs (kind.Array n w) b rest = HeadThen 4 n w b (λ r. r ≡ rest)
-HeadIs (kind.Map n w) b rest = HeadThen 5 n w b (λ r. r ≡ rest)
-HeadIs (kind.Tag n w) b rest = HeadThen 6 n w b (λ r. r ≡ rest)
-HeadIs (kind.Float bits float_width.Unknown) b rest = ⊥
-HeadIs (kind.Float bits float_width.Sixteen) b rest = (bits < 2 ^ 16) × (b ≡ (249 ∷ to_be_bytes w16 bits) ++ rest)
-HeadIs (kind.Float bits float_width.ThirtyTwo) b rest = (bits < 2 ^ 32) × (b ≡ (250 ∷ to_be_bytes w32 bits) ++ rest)
-HeadIs (kind.Float bits float_width.SixtyFour) b rest = (bits < 2 ^ 64) × (b ≡ (251 ∷ to_be_bytes w64 bits) ++ rest)
-HeadIs (kind.Simple n) b rest = (x : List ℕ) × (b ≡ x ++ rest) × SpellsSimple any x n
-HeadIs kind.OpenBytes b rest = b ≡ opening 2 ∷ rest
-HeadIs kind.OpenText b rest = b ≡ opening 3 ∷ rest
-HeadIs kind.OpenArray b rest = b ≡ opening 4 ∷ rest
-HeadIs kind.OpenMap b rest = b ≡ opening 5 ∷ rest
-HeadIs kind.Break b rest = b ≡ break_byte ∷ rest
+abbrev pub HeadIs : ItemHead → List ℕ → List ℕ → Type 0
+HeadIs (item_head.Integer n w) b rest = HeadThen 0 n w b (λ r. r ≡ rest)
+HeadIs (item_head.Negative n w) b rest = HeadThen 1 n w b (λ r. r ≡ rest)
+HeadIs (item_head.Bytes n w) b rest = HeadThen 2 n w b (λ r. r ≡ rest)
+HeadIs (item_head.Text n w) b rest = HeadThen 3 n w b (λ r. r ≡ rest)
+HeadIs (item_head.Array n w) b rest = HeadThen 4 n w b (λ r. r ≡ rest)
+HeadIs (item_head.Map n w) b rest = HeadThen 5 n w b (λ r. r ≡ rest)
+HeadIs (item_head.Tag n w) b rest = HeadThen 6 n w b (λ r. r ≡ rest)
+HeadIs (item_head.Float bits float_width.Unknown) b rest = ⊥
+HeadIs (item_head.Float bits float_width.Sixteen) b rest = (bits < 2 ^ 16) × (b ≡ (249 ∷ to_be_bytes w16 bits) ++ rest)
+HeadIs (item_head.Float bits float_width.ThirtyTwo) b rest = (bits < 2 ^ 32) × (b ≡ (250 ∷ to_be_bytes w32 bits) ++ rest)
+HeadIs (item_head.Float bits float_width.SixtyFour) b rest = (bits < 2 ^ 64) × (b ≡ (251 ∷ to_be_bytes w64 bits) ++ rest)
+HeadIs (item_head.Simple n) b rest = (x : List ℕ) × (b ≡ x ++ rest) × SpellsSimple any x n
+HeadIs item_head.OpenBytes b rest = b ≡ opening 2 ∷ rest
+HeadIs item_head.OpenText b rest = b ≡ opening 3 ∷ rest
+HeadIs item_head.OpenArray b rest = b ≡ opening 4 ∷ rest
+HeadIs item_head.OpenMap b rest = b ≡ opening 5 ∷ rest
+HeadIs item_head.Break b rest = b ≡ break_byte ∷ rest
 
 -- a head with more bytes behind it
 pub head_append : (major n : ℕ) (w : IntegerWidth) (b more : List ℕ) (Rest More : List ℕ → Type 0) → HeadThen major n w b Rest → ((r : List ℕ) → Rest r → More (r ++ more)) → HeadThen major n w (b ++ more) More
@@ -295,7 +295,7 @@ head_again major n w b rest le h =
     let o = opened major n w b rest h in
     ap head_at o.parts ∙ rw (o.info_is, o.major_is) refl
 
-pub open_again : (major : ℕ) (h : Head) (rest : List ℕ) → major ≤ 7 → unnumbered major ≡ Ok h → head_at (opening major ∷ rest) ≡ Ok (h, rest)
+pub open_again : (major : ℕ) (h : ItemHead) (rest : List ℕ) → major ≤ 7 → unnumbered major ≡ Ok h → head_at (opening major ∷ rest) ≡ Ok (h, rest)
 unfolding head_at info_at
 open_again major h rest le e =
     let bits-are : (32 * major + 31) % 32 ≡ 31 = omega arith in
@@ -335,16 +335,16 @@ unfolding numbered
 numbered_takes bits n w b rest i =
     at_majors (λ m. HeadIs (numbered m n w) ((32 * m + bits) ∷ b) rest) (head_then 0 bits n w b rest i) (head_then 1 bits n w b rest i) (head_then 2 bits n w b rest i) (head_then 3 bits n w b rest i) (head_then 4 bits n w b rest i) (head_then 5 bits n w b rest i) (head_then 6 bits n w b rest i) (simple_takes bits n w b rest i)
 
-unnumbered_takes : (b rest : List ℕ) (h : Head) → b ≡ rest → (major : ℕ) → major ≤ 7 → unnumbered major ≡ Ok h → HeadIs h ((32 * major + 31) ∷ b) rest
+unnumbered_takes : (b rest : List ℕ) (h : ItemHead) → b ≡ rest → (major : ℕ) → major ≤ 7 → unnumbered major ≡ Ok h → HeadIs h ((32 * major + 31) ∷ b) rest
 unfolding unnumbered
 unnumbered_takes b rest h is =
-    let found : (o : Head) (first : ℕ) → HeadIs o (first ∷ b) rest → done o ≡ Ok h → HeadIs h (first ∷ b) rest = λ o first this e. subst (λ (x : Head). HeadIs x (first ∷ b) rest) (ok_is o h e) this in
+    let found : (o : ItemHead) (first : ℕ) → HeadIs o (first ∷ b) rest → done o ≡ Ok h → HeadIs h (first ∷ b) rest = λ o first this e. subst (λ (x : ItemHead). HeadIs x (first ∷ b) rest) (ok_is o h e) this in
     let behind : (first : ℕ) → (first ∷ b) ≡ first ∷ rest = λ first. ap (λ (r : List ℕ). first ∷ r) is in
-    at_majors (λ m. unnumbered m ≡ Ok h → HeadIs h ((32 * m + 31) ∷ b) rest) (λ e. absurd cc) (λ e. absurd cc) (found kind.OpenBytes 95 (behind 95)) (found kind.OpenText 127 (behind 127)) (found kind.OpenArray 159 (behind 159)) (found kind.OpenMap 191 (behind 191)) (λ e. absurd cc) (found kind.Break 255 (behind 255))
+    at_majors (λ m. unnumbered m ≡ Ok h → HeadIs h ((32 * m + 31) ∷ b) rest) (λ e. absurd cc) (λ e. absurd cc) (found item_head.OpenBytes 95 (behind 95)) (found item_head.OpenText 127 (behind 127)) (found item_head.OpenArray 159 (behind 159)) (found item_head.OpenMap 191 (behind 191)) (λ e. absurd cc) (found item_head.Break 255 (behind 255))
 
-info_head_takes : (major bits : ℕ) (i : Info) (b rest : List ℕ) (h : Head) → major ≤ 7 → InfoIs bits i b rest → head_of major i ≡ Ok h → HeadIs h ((32 * major + bits) ∷ b) rest
+info_head_takes : (major bits : ℕ) (i : Info) (b rest : List ℕ) (h : ItemHead) → major ≤ 7 → InfoIs bits i b rest → head_of major i ≡ Ok h → HeadIs h ((32 * major + bits) ∷ b) rest
 info_head_takes major bits (info.Number n w) b rest h le is e =
-    subst (λ (x : Head). HeadIs x ((32 * major + bits) ∷ b) rest) (ok_is (numbered major n w) h e) (numbered_takes bits n w b rest is major le)
+    subst (λ (x : ItemHead). HeadIs x ((32 * major + bits) ∷ b) rest) (ok_is (numbered major n w) h e) (numbered_takes bits n w b rest is major le)
 info_head_takes major bits info.Indefinite b rest h le is e =
     rw is.0 (unnumbered_takes b rest h is.1 major le e)
 
@@ -352,7 +352,7 @@ pub info_rest : (bits : ℕ) (i : Info) (b rest : List ℕ) → InfoIs bits i b 
 info_rest bits (info.Number n w) b rest is = is.3
 info_rest bits info.Indefinite b rest is = is.2
 
-pub head_takes : (b rest : List ℕ) (h : Head) → IsBytes b → head_at b ≡ Ok (h, rest) → HeadIs h b rest × IsBytes rest
+pub head_takes : (b rest : List ℕ) (h : ItemHead) → IsBytes b → head_at b ≡ Ok (h, rest) → HeadIs h b rest × IsBytes rest
 unfolding head_at
 head_takes [] rest h fits e = absurd cc
 head_takes (first ∷ b) rest h fits e =
@@ -362,4 +362,4 @@ head_takes (first ∷ b) rest h fits e =
     let byte : first < 256 = fits 0 in
     let whole : 32 * (first / 32) + first % 32 ≡ first = omega arith in
     let found = info_head_takes (first / 32) (first % 32) a.0.0 b a.0.1 c.0 (omega arith) is c.1 in
-    subst (λ (x : Head × List ℕ). HeadIs x.0 (first ∷ b) x.1 × IsBytes x.1) (ok_is (c.0, a.0.1) (h, rest) c.2) (rw whole at found, info_rest (first % 32) a.0.0 b a.0.1 is)
+    subst (λ (x : ItemHead × List ℕ). HeadIs x.0 (first ∷ b) x.1 × IsBytes x.1) (ok_is (c.0, a.0.1) (h, rest) c.2) (rw whole at found, info_rest (first % 32) a.0.0 b a.0.1 is)

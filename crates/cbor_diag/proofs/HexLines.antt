@@ -3,7 +3,7 @@ use Rattle.std.proofs.Common.{◌≡◌, ◌≢◌, ℕ, ◌+◌, List, [], ◌�
 use Rattle.std.specs.List.{position_or_len, before_first}
 use Rattle.std.proofs.lemmas.Bool.{ne_eqb}
 use Rattle.std.proofs.lemmas.List.{drop_more}
-use Rattle.cbor_diag.specs.HexText.{kept}
+use Rattle.cbor_diag.specs.HexText.{uncommented}
 
 -- what stands before the first element that passes, with one element more in front
 before_first-cons : {X : Type 0} (p : X → Bool) (x : X) (xs : List X) → before_first p (x ∷ xs) ≡ cond (p x) [] (x ∷ before_first p xs)
@@ -14,21 +14,21 @@ before_first-cons p x xs =
     ]
 
 -- a space is dropped
-kept_space : (b : ℕ) (rest : List ℕ) → b ≡ 32 → kept (b ∷ rest) ≡ kept rest
-kept_space b rest e = rw (e, before_first-cons (λ (c : ℕ). c == 35) 32 rest) refl
+uncommented_space : (b : ℕ) (rest : List ℕ) → b ≡ 32 → uncommented (b ∷ rest) ≡ uncommented rest
+uncommented_space b rest e = rw (e, before_first-cons (λ (c : ℕ). c == 35) 32 rest) refl
 
 -- any other byte is kept
-kept_other : (b : ℕ) (rest : List ℕ) → b ≢ 35 → b ≢ 32 → kept (b ∷ rest) ≡ b ∷ kept rest
-kept_other b rest n m =
+uncommented_other : (b : ℕ) (rest : List ℕ) → b ≢ 35 → b ≢ 32 → uncommented (b ∷ rest) ≡ b ∷ uncommented rest
+uncommented_other b rest n m =
     rw (before_first-cons (λ (c : ℕ). c == 35) b rest, ne_eqb b 35 n, ne_eqb b 32 m) refl
 
 -- the same of a line whose first i bytes are read
 module _ (line : List ℕ) (i : ℕ) (inside : i < length line) where
-  pub space_here : get_or line i 0 ≡ 32 → kept (drop i line) ≡ kept (drop (i + 1) line)
-  space_here e = rw (drop_more line i 0 inside) (kept_space _ (drop (i + 1) line) e)
+  pub space_here : get_or line i 0 ≡ 32 → uncommented (drop i line) ≡ uncommented (drop (i + 1) line)
+  space_here e = rw (drop_more line i 0 inside) (uncommented_space _ (drop (i + 1) line) e)
 
-  pub byte_here : get_or line i 0 ≢ 35 → get_or line i 0 ≢ 32 → kept (drop i line) ≡ get_or line i 0 ∷ kept (drop (i + 1) line)
-  byte_here n m = rw (drop_more line i 0 inside) (kept_other _ (drop (i + 1) line) n m)
+  pub byte_here : get_or line i 0 ≢ 35 → get_or line i 0 ≢ 32 → uncommented (drop i line) ≡ get_or line i 0 ∷ uncommented (drop (i + 1) line)
+  byte_here n m = rw (drop_more line i 0 inside) (uncommented_other _ (drop (i + 1) line) n m)
 
 -- what a turn of the loop over a line's bytes needs
-pub ruleset kept_steps = (append_assoc, space_here, byte_here)
+pub ruleset uncommented_steps = (append_assoc, space_here, byte_here)

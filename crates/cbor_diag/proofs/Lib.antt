@@ -10,7 +10,7 @@ pub mod HeadRefusals
 pub mod StringRefusals
 pub mod MemberRefusals
 pub mod Refusals
-pub mod Short
+pub mod CutShort
 pub mod Faults
 pub mod Three
 pub mod Fitting

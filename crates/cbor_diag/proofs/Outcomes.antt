@@ -5,8 +5,8 @@ use Rattle.cbor_diag.specs.declared.error.Error.{Error}
 use Rattle.cbor_diag.specs.declared.error.Error.TheVariants as refusal
 use Rattle.cbor_diag.specs.declared.syntax.IntegerWidth.{IntegerWidth}
 use Rattle.cbor_diag.specs.declared.syntax.IntegerWidth.TheVariants.{Unknown, Zero, Eight, Sixteen, ThirtyTwo, SixtyFour}
-use Rattle.cbor_diag.specs.declared.parse.binary.head.Head.{Head}
-use Rattle.cbor_diag.specs.declared.parse.binary.head.Head.TheVariants as kind
+use Rattle.cbor_diag.specs.declared.parse.binary.head.ItemHead.{ItemHead}
+use Rattle.cbor_diag.specs.declared.parse.binary.head.ItemHead.TheVariants as item_head
 use Rattle.cbor_diag.specs.Item.{Item}
 use Rattle.cbor_diag.specs.Head.{HeadThen}
 use Rattle.cbor_diag.specs.Refused.{Fault, too_deep, bad_head, bad_text, bad_chunk_head, bad_chunk_text, bad_part}
@@ -28,24 +28,24 @@ number_opens major n Sixteen b rest low high h = rw h.2 (omega arith, omega arit
 number_opens major n ThirtyTwo b rest low high h = rw h.2 (omega arith, omega arith, inl (omega arith))
 number_opens major n SixtyFour b rest low high h = rw h.2 (omega arith, omega arith, inl (omega arith))
 
-head_opens : (b rest : List ℕ) (h : Head) → HeadIs h b rest → HoldsContent h → MayWantMemory b
-head_opens b rest (kind.Integer n w) is holds = absurd holds
-head_opens b rest (kind.Negative n w) is holds = absurd holds
-head_opens b rest (kind.Bytes n w) is holds = number_opens 2 n w b rest (omega arith) (omega arith) is
-head_opens b rest (kind.Text n w) is holds = number_opens 3 n w b rest (omega arith) (omega arith) is
-head_opens b rest (kind.Array n w) is holds = number_opens 4 n w b rest (omega arith) (omega arith) is
-head_opens b rest (kind.Map n w) is holds = number_opens 5 n w b rest (omega arith) (omega arith) is
-head_opens b rest (kind.Tag n w) is holds = number_opens 6 n w b rest (omega arith) (omega arith) is
-head_opens b rest (kind.Float bits w) is holds = absurd holds
-head_opens b rest (kind.Simple n) is holds = absurd holds
-head_opens b rest kind.OpenBytes is holds = rw is (omega arith, omega arith, inr (refl, omega arith))
-head_opens b rest kind.OpenText is holds = rw is (omega arith, omega arith, inr (refl, omega arith))
-head_opens b rest kind.OpenArray is holds = rw is (omega arith, omega arith, inr (refl, omega arith))
-head_opens b rest kind.OpenMap is holds = rw is (omega arith, omega arith, inr (refl, omega arith))
-head_opens b rest kind.Break is holds = absurd holds
+head_opens : (b rest : List ℕ) (h : ItemHead) → HeadIs h b rest → HoldsContent h → MayWantMemory b
+head_opens b rest (item_head.Integer n w) is holds = absurd holds
+head_opens b rest (item_head.Negative n w) is holds = absurd holds
+head_opens b rest (item_head.Bytes n w) is holds = number_opens 2 n w b rest (omega arith) (omega arith) is
+head_opens b rest (item_head.Text n w) is holds = number_opens 3 n w b rest (omega arith) (omega arith) is
+head_opens b rest (item_head.Array n w) is holds = number_opens 4 n w b rest (omega arith) (omega arith) is
+head_opens b rest (item_head.Map n w) is holds = number_opens 5 n w b rest (omega arith) (omega arith) is
+head_opens b rest (item_head.Tag n w) is holds = number_opens 6 n w b rest (omega arith) (omega arith) is
+head_opens b rest (item_head.Float bits w) is holds = absurd holds
+head_opens b rest (item_head.Simple n) is holds = absurd holds
+head_opens b rest item_head.OpenBytes is holds = rw is (omega arith, omega arith, inr (refl, omega arith))
+head_opens b rest item_head.OpenText is holds = rw is (omega arith, omega arith, inr (refl, omega arith))
+head_opens b rest item_head.OpenArray is holds = rw is (omega arith, omega arith, inr (refl, omega arith))
+head_opens b rest item_head.OpenMap is holds = rw is (omega arith, omega arith, inr (refl, omega arith))
+head_opens b rest item_head.Break is holds = absurd holds
 
 -- memory is wanted only behind a head that holds content
-pub memory_opens : (b rest : List ℕ) (h : Head) → IsBytes b → head_at b ≡ Ok (h, rest) → HoldsContent h → MayWantMemory b
+pub memory_opens : (b rest : List ℕ) (h : ItemHead) → IsBytes b → head_at b ≡ Ok (h, rest) → HoldsContent h → MayWantMemory b
 memory_opens b rest h fits e holds = head_opens b rest h (head_takes b rest h fits e).0 holds
 
 -- ---- what the front of an input is

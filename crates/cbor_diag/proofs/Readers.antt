@@ -7,15 +7,15 @@ use Rattle.cbor_diag.specs.declared.syntax.DataItem.{DataItem}
 use Rattle.cbor_diag.specs.Item.{Item}
 use Rattle.cbor_diag.specs.View.{view}
 use Rattle.cbor_diag.specs.Bytes.{any, strict, Spells}
-use Rattle.cbor_diag.specs.WellFormed.{Well}
-use Rattle.cbor_diag.specs.Written.{enc}
+use Rattle.cbor_diag.specs.WellFormed.{WellFormed}
+use Rattle.cbor_diag.specs.Written.{encoded}
 use Rattle.cbor_diag.specs.Refused.{Cut, Fault}
 use Rattle.cbor_diag.specs.Answer.{Outcome, spelled, cut, fault, IsOutcome, OneOutcome, HasOutcome, HasAnswer, Gave, GaveItem, GaveRefusal, IsRefused, RefusedSo, size}
 use Rattle.cbor_diag.proofs.Heads.{IsBytes, IsBytes-take}
 use Rattle.cbor_diag.proofs.Found.{spelled_begins}
 use Rattle.cbor_diag.proofs.Faults.{fault_append}
 use Rattle.cbor_diag.proofs.Strict.{strict_only}
-use Rattle.cbor_diag.proofs.Resolved.{spells_well, enc_strict}
+use Rattle.cbor_diag.proofs.Resolved.{spells_well, encoded_strict}
 use Rattle.cbor_diag.proofs.Sizes.{items_bound}
 use Rattle.cbor_diag.proofs.Three.{front_cut}
 
@@ -143,17 +143,17 @@ fronts_are_cut level b (Err e) fits h = tt
 
 -- ---- what an item that was read is
 
-pub front_well : (b : List ℕ) (r : Front) → IsBytes b → HasOutcome 1 b r → IfOk r (λ o. IfSome o (λ x. Well 1 (view x.0)))
-front_well b (Ok (Some x)) fits h = spells_well 1 (take x.1 b) (view x.0) (IsBytes-take x.1 b fits) h.1
-front_well b (Ok None) fits h = tt
-front_well b (Err e) fits h = tt
+pub front_well_formed : (b : List ℕ) (r : Front) → IsBytes b → HasOutcome 1 b r → IfOk r (λ o. IfSome o (λ x. WellFormed 1 (view x.0)))
+front_well_formed b (Ok (Some x)) fits h = spells_well 1 (take x.1 b) (view x.0) (IsBytes-take x.1 b fits) h.1
+front_well_formed b (Ok None) fits h = tt
+front_well_formed b (Err e) fits h = tt
 
-pub whole_well : (level : ℕ) (b : List ℕ) (r : Result DataItem Error) → IsBytes b → HasAnswer level b r → IfOk r (λ i. Well level (view i))
-whole_well level b (Ok x) fits h = spells_well level b (view x) fits h
-whole_well level b (Err e) fits h = tt
+pub whole_well_formed : (level : ℕ) (b : List ℕ) (r : Result DataItem Error) → IsBytes b → HasAnswer level b r → IfOk r (λ i. WellFormed level (view i))
+whole_well_formed level b (Ok x) fits h = spells_well level b (view x) fits h
+whole_well_formed level b (Err e) fits h = tt
 
-pub written_as_read : (level : ℕ) (b : List ℕ) (r : Result DataItem Error) → IsBytes b → HasAnswer level b r → IfOk r (λ i. (enc (view i) ≡ b) ↔ Spells strict level b (view i))
-written_as_read level b (Ok x) fits h = (enc_strict level b (view x) fits h, λ s. sym (strict_only level b (view x) s))
+pub written_as_read : (level : ℕ) (b : List ℕ) (r : Result DataItem Error) → IsBytes b → HasAnswer level b r → IfOk r (λ i. (encoded (view i) ≡ b) ↔ Spells strict level b (view i))
+written_as_read level b (Ok x) fits h = (encoded_strict level b (view x) fits h, λ s. sym (strict_only level b (view x) s))
 written_as_read level b (Err e) fits h = tt
 
 pub size_bounded : (level : ℕ) (b : List ℕ) (r : Result DataItem Error) → HasAnswer level b r → IfOk r (λ i. size (view i) ≤ length b)

@@ -3,8 +3,8 @@ use Rattle.std.proofs.Common.{◌≡◌, ℕ, zero, suc, ◌+◌, ◌*◌, ◌�
 use Rattle.cbor_diag.specs.declared.syntax.IntegerWidth.{IntegerWidth}
 use Rattle.cbor_diag.specs.declared.error.Error.{Error}
 use Rattle.cbor_diag.specs.declared.error.Error.TheVariants as refusal
-use Rattle.cbor_diag.specs.declared.parse.binary.head.Head.{Head}
-use Rattle.cbor_diag.specs.declared.parse.binary.head.Head.TheVariants as kind
+use Rattle.cbor_diag.specs.declared.parse.binary.head.ItemHead.{ItemHead}
+use Rattle.cbor_diag.specs.declared.parse.binary.head.ItemHead.TheVariants as item_head
 use Rattle.cbor_diag.specs.Item as spec
 use Rattle.cbor_diag.specs.Item.{Item, atom, byte_string, text_string, byte_chunks, text_chunks, array, tagged}
 use Rattle.cbor_diag.specs.Head.{opening, break_byte, HeadThen}
@@ -67,68 +67,68 @@ chunk_refusal text_kind level b rest e le inside (bad_text h) = is_fault (bad_ch
 chunks_refusal : (kind : StringKind) (level : ℕ) (b rest : List ℕ) (e : Error) → level ≤ deepest → b ≡ opening (major_of kind) ∷ rest → ChunksStop kind rest e → Refusal level b e
 chunks_refusal kind level b rest e le opens s = chunk_refusal kind level b s.rest e le (s.chunks, rest, opens, s.spelled) s.refused
 
-part_refusal : (next : Next) (level : ℕ) (b rest : List ℕ) (e : Error) → level ≤ deepest → Inside next level b rest → NoBreakAt next rest → Refusal (level + 1) rest e → Refusal level b e
+part_refusal : (next : Next) (level : ℕ) (b rest : List ℕ) (e : Error) → level ≤ deepest → Inside level b rest next → NoBreakAt next rest → Refusal (level + 1) rest e → Refusal level b e
 part_refusal next level b rest e le inside no_break (is_cut c) = is_cut (in_part next rest le inside c)
 part_refusal next level b rest e le inside no_break (is_fault f) = is_fault (bad_part next rest le inside no_break f)
 
 -- ---- an item behind its head
 
 module _ (level : ℕ) (read : List ℕ → Read Item) (reads : Reads (level + 1) read) (later : (b : List ℕ) (e : Error) → IsBytes b → read b ≡ Err e → Refusal (level + 1) b e) where
-  stop_refusal : (next : Next) (k : ℕ) (b rest : List ℕ) (e : Error) → level ≤ deepest → (s : Stops (level + 1) read next k rest e) → Inside next level b s.rest → Refusal level b e
+  stop_refusal : (next : Next) (k : ℕ) (b rest : List ℕ) (e : Error) → level ≤ deepest → (s : Stops (level + 1) read next k rest e) → Inside level b s.rest next → Refusal level b e
   stop_refusal next k b rest e le s inside = part_refusal next level b s.rest e le inside s.no_break (later s.rest e s.fits s.refused)
 
-  body_refused : (h : Head) (b rest : List ℕ) (e : Error) → level ≤ deepest → HeadIs h b rest → IsBytes rest → body_at read h rest ≡ Err e → Refusal level b e
-  body_refused (kind.Integer n w) b rest e le is fits h = absurd cc
-  body_refused (kind.Negative n w) b rest e le is fits h = absurd cc
-  body_refused (kind.Bytes n w) b rest e le is fits h =
+  body_refused : (h : ItemHead) (b rest : List ℕ) (e : Error) → level ≤ deepest → HeadIs h b rest → IsBytes rest → body_at read h rest ≡ Err e → Refusal level b e
+  body_refused (item_head.Integer n w) b rest e le is fits h = absurd cc
+  body_refused (item_head.Negative n w) b rest e le is fits h = absurd cc
+  body_refused (item_head.Bytes n w) b rest e le is fits h =
       elim (bind_err (content_at bytes_kind n w rest) (λ c. Ok (atom (byte_string c.0), c.1)) e h) [
         | inl refused ↦ content_refusal bytes_kind level n w b rest e le is (content_refused bytes_kind n w rest e refused)
         | inr made ↦ absurd cc
       ]
-  body_refused (kind.Text n w) b rest e le is fits h =
+  body_refused (item_head.Text n w) b rest e le is fits h =
       elim (bind_err (content_at text_kind n w rest) (λ c. Ok (atom (text_string c.0), c.1)) e h) [
         | inl refused ↦ content_refusal text_kind level n w b rest e le is (content_refused text_kind n w rest e refused)
         | inr made ↦ absurd cc
       ]
-  body_refused (kind.Array n w) b rest e le is fits h =
+  body_refused (item_head.Array n w) b rest e le is fits h =
       elim (bind_err (items_at read n rest) (λ is. Ok (array is.0 (Some w), is.1)) e h) [
         | inl refused ↦
             let s = items_stop (level + 1) read reads n rest e fits refused in
             stop_refusal part s.0 b rest e le s.2 (in_array n s.0 w s.2.whole (is.0, is.1, is.2, is.3 ∙ s.2.parts) s.2.spelled s.1)
         | inr made ↦ absurd cc
       ]
-  body_refused (kind.Map n w) b rest e le is fits h =
+  body_refused (item_head.Map n w) b rest e le is fits h =
       elim (bind_err (pairs_at read n rest) (λ ps. Ok (spec.map ps.0 (Some w), ps.1)) e h) [
         | inl refused ↦
             let s = pairs_stop (level + 1) read reads n rest e fits refused in
             stop_refusal part s.0 b rest e le s.2 (in_map n s.0 w s.2.whole (is.0, is.1, is.2, is.3 ∙ s.2.parts) s.2.spelled s.1)
         | inr made ↦ absurd cc
       ]
-  body_refused (kind.Tag n w) b rest e le is fits h =
+  body_refused (item_head.Tag n w) b rest e le is fits h =
       elim (bind_err (read rest) (λ i. Ok (tagged n w i.0, i.1)) e h) [
         | inl refused ↦ part_refusal part level b rest e le (in_tag n w is) tt (later rest e fits refused)
         | inr made ↦ absurd cc
       ]
-  body_refused (kind.Float bits w) b rest e le is fits h = absurd cc
-  body_refused (kind.Simple n) b rest e le is fits h = absurd cc
-  body_refused kind.OpenBytes b rest e le is fits h =
+  body_refused (item_head.Float bits w) b rest e le is fits h = absurd cc
+  body_refused (item_head.Simple n) b rest e le is fits h = absurd cc
+  body_refused item_head.OpenBytes b rest e le is fits h =
       elim (bind_err (chunks_at (length rest) bytes_kind rest) (λ cs. Ok (atom (byte_chunks cs.0), cs.1)) e h) [
         | inl refused ↦ chunks_refusal bytes_kind level b rest e le is (chunks_stop (length rest) bytes_kind rest e fits (omega arith) refused)
         | inr made ↦ absurd cc
       ]
-  body_refused kind.OpenText b rest e le is fits h =
+  body_refused item_head.OpenText b rest e le is fits h =
       elim (bind_err (chunks_at (length rest) text_kind rest) (λ cs. Ok (atom (text_chunks cs.0), cs.1)) e h) [
         | inl refused ↦ chunks_refusal text_kind level b rest e le is (chunks_stop (length rest) text_kind rest e fits (omega arith) refused)
         | inr made ↦ absurd cc
       ]
-  body_refused kind.OpenArray b rest e le is fits h =
+  body_refused item_head.OpenArray b rest e le is fits h =
       elim (bind_err (open_items_at read (length rest) rest) (λ is. Ok (array is.0 None, is.1)) e h) [
         | inl refused ↦
             let s = open_items_stop (level + 1) read reads (length rest) rest e fits (omega arith) refused in
             stop_refusal part_or_break s.0 b rest e le s.1 (in_open_array s.0 s.1.whole (is ∙ ap (λ (r : List ℕ). opening 4 ∷ r) s.1.parts) s.1.spelled)
         | inr made ↦ absurd cc
       ]
-  body_refused kind.OpenMap b rest e le is fits h =
+  body_refused item_head.OpenMap b rest e le is fits h =
       elim (bind_err (open_pairs_at read (length rest) rest) (λ ps. Ok (spec.map ps.0 None, ps.1)) e h) [
         | inl refused ↦
             let s = open_pairs_stop (level + 1) read reads (length rest) rest e fits (omega arith) refused in
@@ -138,7 +138,7 @@ module _ (level : ℕ) (read : List ℕ → Read Item) (reads : Reads (level + 1
             ]
         | inr made ↦ absurd cc
       ]
-  body_refused kind.Break b rest e le is fits h =
+  body_refused item_head.Break b rest e le is fits h =
       let head : refusal.Head ≡ e = cc in
       subst (λ (d : Error). Refusal level b d) head (is_fault (rw is (spelled.bad_head le (spelled.no_length {first = break_byte} refl (inr (omega arith))))))
 
@@ -162,7 +162,7 @@ refused (suc left) level b e levels fits h =
 
 -- ---- what stands inside a container is refused with it
 
-pub inside_refuses : (level left : ℕ) (next : Next) (b rest : List ℕ) (e : Error) → level + suc left ≡ 129 → Inside next level b rest → NoBreakAt next rest → item_at left rest ≡ Err e → item_at (suc left) b ≡ Err e
+pub inside_refuses : (level left : ℕ) (next : Next) (b rest : List ℕ) (e : Error) → level + suc left ≡ 129 → Inside level b rest next → NoBreakAt next rest → item_at left rest ≡ Err e → item_at (suc left) b ≡ Err e
 unfolding item_at numbered unnumbered
 inside_refuses level left next b rest e levels (in_tag t w h) no_break refused = rw (head_again 6 t w b rest (omega arith) h, refused) refl
 inside_refuses level left next b rest e levels (in_array n k w whole h parts few) no_break refused =
@@ -170,11 +170,11 @@ inside_refuses level left next b rest e levels (in_array n k w whole h parts few
 inside_refuses level left next b rest e levels (in_map n k w whole h parts few) no_break refused =
     rw (head_again 5 n w b (whole ++ rest) (omega arith) h, pairs_refuse (level + 1) (item_at left) (item_reads (level + 1) left (omega arith)) k n whole rest e parts few refused) refl
 inside_refuses level left next b rest e levels (in_open_array k whole opens parts) no_break refused =
-    rw (opens, open_again 4 kind.OpenArray (whole ++ rest) (omega arith) refl, open_items_refuse (level + 1) (item_at left) (item_reads (level + 1) left (omega arith)) k (length (whole ++ rest)) whole rest e parts (omega arith) no_break refused) refl
+    rw (opens, open_again 4 item_head.OpenArray (whole ++ rest) (omega arith) refl, open_items_refuse (level + 1) (item_at left) (item_reads (level + 1) left (omega arith)) k (length (whole ++ rest)) whole rest e parts (omega arith) no_break refused) refl
 inside_refuses level left next b rest e levels (at_open_key k whole opens parts) no_break refused =
-    rw (opens, open_again 5 kind.OpenMap (whole ++ rest) (omega arith) refl, open_pairs_refuse (level + 1) (item_at left) (item_reads (level + 1) left (omega arith)) (2 * k) (length (whole ++ rest)) whole rest e parts (omega arith) (λ j is. no_break) refused) refl
+    rw (opens, open_again 5 item_head.OpenMap (whole ++ rest) (omega arith) refl, open_pairs_refuse (level + 1) (item_at left) (item_reads (level + 1) left (omega arith)) (2 * k) (length (whole ++ rest)) whole rest e parts (omega arith) (λ j is. no_break) refused) refl
 inside_refuses level left next b rest e levels (at_open_value k whole opens parts) no_break refused =
-    rw (opens, open_again 5 kind.OpenMap (whole ++ rest) (omega arith) refl, open_pairs_refuse (level + 1) (item_at left) (item_reads (level + 1) left (omega arith)) (2 * k + 1) (length (whole ++ rest)) whole rest e parts (omega arith) (λ j is. absurd (omega arith)) refused) refl
+    rw (opens, open_again 5 item_head.OpenMap (whole ++ rest) (omega arith) refl, open_pairs_refuse (level + 1) (item_at left) (item_reads (level + 1) left (omega arith)) (2 * k + 1) (length (whole ++ rest)) whole rest e parts (omega arith) (λ j is. absurd (omega arith)) refused) refl
 
 -- ---- a string that is refused
 
@@ -185,5 +185,5 @@ content_refuses_item text_kind left n w b rest e h refused = rw (head_again 3 n 
 
 pub chunk_refuses_item : (kind : StringKind) (left : ℕ) (b rest : List ℕ) (e : Error) → InsideString kind b rest → ChunkRefusal kind rest e → item_at (suc left) b ≡ Err e
 unfolding item_at unnumbered
-chunk_refuses_item bytes_kind left b rest e inside refused = rw (inside.2, open_again 2 kind.OpenBytes inside.1 (omega arith) refl, chunks_refuse (length inside.1) bytes_kind inside.0 inside.1 rest e inside.3 (omega arith) refused) refl
-chunk_refuses_item text_kind left b rest e inside refused = rw (inside.2, open_again 3 kind.OpenText inside.1 (omega arith) refl, chunks_refuse (length inside.1) text_kind inside.0 inside.1 rest e inside.3 (omega arith) refused) refl
+chunk_refuses_item bytes_kind left b rest e inside refused = rw (inside.2, open_again 2 item_head.OpenBytes inside.1 (omega arith) refl, chunks_refuse (length inside.1) bytes_kind inside.0 inside.1 rest e inside.3 (omega arith) refused) refl
+chunk_refuses_item text_kind left b rest e inside refused = rw (inside.2, open_again 3 item_head.OpenText inside.1 (omega arith) refl, chunks_refuse (length inside.1) text_kind inside.0 inside.1 rest e inside.3 (omega arith) refused) refl

@@ -9,14 +9,14 @@ use Rattle.cbor_diag.specs.declared.syntax.FloatWidth.TheVariants as float_width
 use Rattle.cbor_diag.specs.Item as spec
 use Rattle.cbor_diag.specs.Item.{Chunk, Atom, integer, negative, byte_string, text_string, byte_chunks, text_chunks, float, simple, Item, atom, array, tagged, Items, no_items, item, Pairs, no_pairs, pair, item_count, pair_count}
 use Rattle.cbor_diag.specs.Head.{FitsWidth, stated, head, opening, break_byte}
-use Rattle.cbor_diag.specs.WellFormed.{FitsFloat, WellAtom, FitsCount, Well, WellItems, WellPairs}
+use Rattle.cbor_diag.specs.WellFormed.{FitsFloat, WellFormedAtom, FitsCount, WellFormed, WellFormedItems, WellFormedPairs}
 use Rattle.cbor_diag.specs.Bytes.{StringKind, bytes_kind, text_kind, major_of, IsContent, any, strict, SpellsFloat, ChunkThen, OpenThen, SpellsChunks, SpellsAtom, MembersThen, Spells, SpellsItems, SpellsPairs}
-use Rattle.cbor_diag.specs.Written.{enc, resolve_chunk, resolve_float, resolve_atom, resolve_count, resolve, resolve_items, resolve_pairs}
+use Rattle.cbor_diag.specs.Written.{encoded, resolve_chunk, resolve_float, resolve_atom, resolve_count, resolve, resolve_items, resolve_pairs}
 use Rattle.cbor_diag.specs.Reading.{item_at}
 use Rattle.cbor_diag.proofs.Heads.{IsBytes, IsBytes-take, IsBytes-drop, ok_is}
 use Rattle.cbor_diag.proofs.Chunks.{chunk_parts}
 use Rattle.cbor_diag.proofs.Found.{item_again}
-use Rattle.cbor_diag.proofs.Strict.{fits_stated, stated_is, IsChunk, strict_any, strict_enc, enc-resolve}
+use Rattle.cbor_diag.proofs.Strict.{fits_stated, stated_is, IsChunk, strict_any, strict_encoded, encoded-resolve}
 
 -- ---- parts of bytes
 
@@ -144,7 +144,7 @@ float_well : (b : List ℕ) (bits : ℕ) (w : FloatWidth) → SpellsFloat b bits
 float_well b bits float_width.Unknown h = absurd h
 float_well b bits w h = h.0
 
-atom_well : (b : List ℕ) (a : Atom) → IsBytes b → SpellsAtom any b a → WellAtom a
+atom_well : (b : List ℕ) (a : Atom) → IsBytes b → SpellsAtom any b a → WellFormedAtom a
 atom_well b (integer n w) bytes h = fits_stated w n h.0
 atom_well b (negative n w) bytes h = fits_stated w n h.0
 atom_well b (byte_string c) bytes h = string_well bytes_kind c b bytes h
@@ -156,47 +156,47 @@ atom_well b (simple n) bytes (inl h) = omega (arith, h.0)
 atom_well b (simple n) bytes (inr h) = h.0
 
 mutual
-  pub spells_well : (level : ℕ) (b : List ℕ) (i : Item) → IsBytes b → Spells any level b i → Well level i
+  pub spells_well : (level : ℕ) (b : List ℕ) (i : Item) → IsBytes b → Spells any level b i → WellFormed level i
   spells_well level b (atom a) bytes h = (h.0, atom_well b a bytes h.1)
   spells_well level b (array is w) bytes h =
       let m = inner 4 (item_count is) w b (λ rest end. SpellsItems any (level + 1) rest is end) h.1 in
-      (h.0, m.count, items_well (level + 1) m.rest is m.end (IsBytes-behind m.front m.rest (subst IsBytes m.parts bytes)) m.holds)
+      (h.0, m.count, items_well_formed (level + 1) m.rest is m.end (IsBytes-behind m.front m.rest (subst IsBytes m.parts bytes)) m.holds)
   spells_well level b (spec.map ps w) bytes h =
       let m = inner 5 (pair_count ps) w b (λ rest end. SpellsPairs any (level + 1) rest ps end) h.1 in
-      (h.0, m.count, pairs_well (level + 1) m.rest ps m.end (IsBytes-behind m.front m.rest (subst IsBytes m.parts bytes)) m.holds)
+      (h.0, m.count, pairs_well_formed (level + 1) m.rest ps m.end (IsBytes-behind m.front m.rest (subst IsBytes m.parts bytes)) m.holds)
   spells_well level b (tagged t w i) bytes h =
       (h.0, fits_stated w t h.1.0, spells_well (level + 1) h.1.1 i (IsBytes-behind (head 6 t w) h.1.1 (subst IsBytes h.1.2 bytes)) h.1.3)
 
-  items_well : (level : ℕ) (b : List ℕ) (is : Items) (end : List ℕ) → IsBytes b → SpellsItems any level b is end → WellItems level is
-  items_well level b no_items end bytes h = tt
-  items_well level b (item i is) end bytes h =
+  items_well_formed : (level : ℕ) (b : List ℕ) (is : Items) (end : List ℕ) → IsBytes b → SpellsItems any level b is end → WellFormedItems level is
+  items_well_formed level b no_items end bytes h = tt
+  items_well_formed level b (item i is) end bytes h =
       let both : IsBytes (h.0 ++ h.1) = subst IsBytes h.2 bytes in
-      (spells_well level h.0 i (IsBytes-front h.0 h.1 both) h.3, items_well level h.1 is end (IsBytes-behind h.0 h.1 both) h.4)
+      (spells_well level h.0 i (IsBytes-front h.0 h.1 both) h.3, items_well_formed level h.1 is end (IsBytes-behind h.0 h.1 both) h.4)
 
-  pairs_well : (level : ℕ) (b : List ℕ) (ps : Pairs) (end : List ℕ) → IsBytes b → SpellsPairs any level b ps end → WellPairs level ps
-  pairs_well level b no_pairs end bytes h = tt
-  pairs_well level b (pair k v ps) end bytes h =
+  pairs_well_formed : (level : ℕ) (b : List ℕ) (ps : Pairs) (end : List ℕ) → IsBytes b → SpellsPairs any level b ps end → WellFormedPairs level ps
+  pairs_well_formed level b no_pairs end bytes h = tt
+  pairs_well_formed level b (pair k v ps) end bytes h =
       let whole : IsBytes (h.0 ++ (h.1 ++ h.2)) = subst IsBytes h.3 bytes in
       let both : IsBytes (h.1 ++ h.2) = IsBytes-behind h.0 (h.1 ++ h.2) whole in
-      (spells_well level h.0 k (IsBytes-front h.0 (h.1 ++ h.2) whole) h.4, spells_well level h.1 v (IsBytes-front h.1 h.2 both) h.5, pairs_well level h.2 ps end (IsBytes-behind h.1 h.2 both) h.6)
+      (spells_well level h.0 k (IsBytes-front h.0 (h.1 ++ h.2) whole) h.4, spells_well level h.1 v (IsBytes-front h.1 h.2 both) h.5, pairs_well_formed level h.2 ps end (IsBytes-behind h.1 h.2 both) h.6)
 
 -- ---- bytes that are the encoding of what they spell, and items with the same encoding
 
-pub enc_strict : (level : ℕ) (b : List ℕ) (i : Item) → IsBytes b → Spells any level b i → enc i ≡ b → Spells strict level b i
-enc_strict level b i bytes h is =
-    let written : Spells strict level (enc i) (resolve i) = strict_enc level i (spells_well level b i bytes h) in
-    subst (λ (x : List ℕ). Spells strict level x i) is (subst (λ (j : Item). Spells strict level (enc i) j) (resolved level b i h) written)
+pub encoded_strict : (level : ℕ) (b : List ℕ) (i : Item) → IsBytes b → Spells any level b i → encoded i ≡ b → Spells strict level b i
+encoded_strict level b i bytes h is =
+    let written : Spells strict level (encoded i) (resolve i) = strict_encoded level i (spells_well level b i bytes h) in
+    subst (λ (x : List ℕ). Spells strict level x i) is (subst (λ (j : Item). Spells strict level (encoded i) j) (resolved level b i h) written)
 
 -- what is written is read as that item
-pub written_again : (i : Item) (rest : List ℕ) → Well 1 i → item_at 128 (enc i ++ rest) ≡ Ok (resolve i, rest)
-written_again i rest h = item_again 1 128 (enc i) (resolve i) rest refl (strict_any 1 (enc i) (resolve i) (strict_enc 1 i h))
+pub written_again : (i : Item) (rest : List ℕ) → WellFormed 1 i → item_at 128 (encoded i ++ rest) ≡ Ok (resolve i, rest)
+written_again i rest h = item_again 1 128 (encoded i) (resolve i) rest refl (strict_any 1 (encoded i) (resolve i) (strict_encoded 1 i h))
 
 -- items with the same encoding are read as one item
-pub written_alike : (i j : Item) → Well 1 i → Well 1 j → enc i ≡ enc j → resolve i ≡ resolve j
+pub written_alike : (i j : Item) → WellFormed 1 i → WellFormed 1 j → encoded i ≡ encoded j → resolve i ≡ resolve j
 written_alike i j i-well j-well same =
     let read = sym (written_again i [] i-well) ∙ ap (λ (x : List ℕ). item_at 128 (x ++ [])) same ∙ written_again j [] j-well in
     ap (λ (p : Item × List ℕ). p.0) (ok_is (resolve i, []) (resolve j, []) read)
 
 -- and items that are read as one item have the same encoding
-pub resolved_alike : (i j : Item) → resolve i ≡ resolve j → enc i ≡ enc j
-resolved_alike i j same = sym (enc-resolve i) ∙ ap enc same ∙ enc-resolve j
+pub resolved_alike : (i j : Item) → resolve i ≡ resolve j → encoded i ≡ encoded j
+resolved_alike i j same = sym (encoded-resolve i) ∙ ap encoded same ∙ encoded-resolve j

@@ -10,8 +10,8 @@ use Rattle.cbor_diag.specs.declared.error.Error.{Error}
 use Rattle.cbor_diag.specs.declared.error.Error.TheVariants as refusal
 use Rattle.cbor_diag.specs.declared.parse.binary.head.Info.{Info}
 use Rattle.cbor_diag.specs.declared.parse.binary.head.Info.TheVariants as info
-use Rattle.cbor_diag.specs.declared.parse.binary.head.Head.{Head}
-use Rattle.cbor_diag.specs.declared.parse.binary.head.Head.TheVariants as kind
+use Rattle.cbor_diag.specs.declared.parse.binary.head.ItemHead.{ItemHead}
+use Rattle.cbor_diag.specs.declared.parse.binary.head.ItemHead.TheVariants as item_head
 use Rattle.cbor_diag.specs.Item as spec
 use Rattle.cbor_diag.specs.Item.{Chunk, byte_string, text_string, byte_chunks, text_chunks, Item, atom, array, tagged, Items, no_items, item, Pairs, no_pairs, pair}
 use Rattle.cbor_diag.specs.Head.{break_byte}
@@ -62,7 +62,7 @@ info_leaves bits b =
       ]
     ]
 
-head_of_leaves : (n : ℕ) (r : Result Head Error) (rest : List ℕ) → length rest < n → Leaves n (r >>= λ h. Ok (h, rest))
+head_of_leaves : (n : ℕ) (r : Result ItemHead Error) (rest : List ℕ) → length rest < n → Leaves n (r >>= λ h. Ok (h, rest))
 head_of_leaves n (Ok h) rest lt = lt
 head_of_leaves n (Err e) rest lt = tt
 
@@ -140,21 +140,21 @@ module _ (read : List ℕ → Read Item) (leaves : (b : List ℕ) → Leaves (le
   open_pairs_leave (suc n) b =
       break_leaves b no_pairs _ (leaves_then (length b) (length b) (pair_at read b) _ (pair_leaves b) (λ p lt. leaves_made (length p.1) (length b) (open_pairs_at read n p.1) (λ ps. pair p.0.0 p.0.1 ps) (omega arith) (open_pairs_leave n p.1)))
 
-  body_leaves : (h : Head) (b : List ℕ) → Leaves (suc (length b)) (body_at read h b)
-  body_leaves (kind.Integer n w) b = omega arith
-  body_leaves (kind.Negative n w) b = omega arith
-  body_leaves (kind.Bytes n w) b = leaves_made (suc (length b)) (suc (length b)) (content_at bytes_kind n w b) (λ c. atom (byte_string c)) (omega arith) (content_leaves bytes_kind n w b)
-  body_leaves (kind.Text n w) b = leaves_made (suc (length b)) (suc (length b)) (content_at text_kind n w b) (λ c. atom (text_string c)) (omega arith) (content_leaves text_kind n w b)
-  body_leaves (kind.Array n w) b = leaves_made (suc (length b)) (suc (length b)) (items_at read n b) (λ is. array is (Some w)) (omega arith) (items_leave n b)
-  body_leaves (kind.Map n w) b = leaves_made (suc (length b)) (suc (length b)) (pairs_at read n b) (λ ps. spec.map ps (Some w)) (omega arith) (pairs_leave n b)
-  body_leaves (kind.Tag n w) b = leaves_made (length b) (suc (length b)) (read b) (λ i. tagged n w i) (omega arith) (leaves b)
-  body_leaves (kind.Float bits w) b = omega arith
-  body_leaves (kind.Simple n) b = omega arith
-  body_leaves kind.OpenBytes b = leaves_made (length b) (suc (length b)) (chunks_at (length b) bytes_kind b) (λ cs. atom (byte_chunks cs)) (omega arith) (chunks_leaves (length b) bytes_kind b)
-  body_leaves kind.OpenText b = leaves_made (length b) (suc (length b)) (chunks_at (length b) text_kind b) (λ cs. atom (text_chunks cs)) (omega arith) (chunks_leaves (length b) text_kind b)
-  body_leaves kind.OpenArray b = leaves_made (length b) (suc (length b)) (open_items_at read (length b) b) (λ is. array is None) (omega arith) (open_items_leave (length b) b)
-  body_leaves kind.OpenMap b = leaves_made (length b) (suc (length b)) (open_pairs_at read (length b) b) (λ ps. spec.map ps None) (omega arith) (open_pairs_leave (length b) b)
-  body_leaves kind.Break b = tt
+  body_leaves : (h : ItemHead) (b : List ℕ) → Leaves (suc (length b)) (body_at read h b)
+  body_leaves (item_head.Integer n w) b = omega arith
+  body_leaves (item_head.Negative n w) b = omega arith
+  body_leaves (item_head.Bytes n w) b = leaves_made (suc (length b)) (suc (length b)) (content_at bytes_kind n w b) (λ c. atom (byte_string c)) (omega arith) (content_leaves bytes_kind n w b)
+  body_leaves (item_head.Text n w) b = leaves_made (suc (length b)) (suc (length b)) (content_at text_kind n w b) (λ c. atom (text_string c)) (omega arith) (content_leaves text_kind n w b)
+  body_leaves (item_head.Array n w) b = leaves_made (suc (length b)) (suc (length b)) (items_at read n b) (λ is. array is (Some w)) (omega arith) (items_leave n b)
+  body_leaves (item_head.Map n w) b = leaves_made (suc (length b)) (suc (length b)) (pairs_at read n b) (λ ps. spec.map ps (Some w)) (omega arith) (pairs_leave n b)
+  body_leaves (item_head.Tag n w) b = leaves_made (length b) (suc (length b)) (read b) (λ i. tagged n w i) (omega arith) (leaves b)
+  body_leaves (item_head.Float bits w) b = omega arith
+  body_leaves (item_head.Simple n) b = omega arith
+  body_leaves item_head.OpenBytes b = leaves_made (length b) (suc (length b)) (chunks_at (length b) bytes_kind b) (λ cs. atom (byte_chunks cs)) (omega arith) (chunks_leaves (length b) bytes_kind b)
+  body_leaves item_head.OpenText b = leaves_made (length b) (suc (length b)) (chunks_at (length b) text_kind b) (λ cs. atom (text_chunks cs)) (omega arith) (chunks_leaves (length b) text_kind b)
+  body_leaves item_head.OpenArray b = leaves_made (length b) (suc (length b)) (open_items_at read (length b) b) (λ is. array is None) (omega arith) (open_items_leave (length b) b)
+  body_leaves item_head.OpenMap b = leaves_made (length b) (suc (length b)) (open_pairs_at read (length b) b) (λ ps. spec.map ps None) (omega arith) (open_pairs_leave (length b) b)
+  body_leaves item_head.Break b = tt
 
 too_deep_leaves : (b : List ℕ) → Leaves (length b) (too_deep_at b)
 too_deep_leaves [] = tt

@@ -13,7 +13,7 @@ use Rattle.cbor_diag.proofs.Heads.{IsBytes, ok_is}
 use Rattle.cbor_diag.proofs.HeadRefusals.{err_is}
 use Rattle.cbor_diag.proofs.Found.{item_takes, spelled_level, item_again}
 use Rattle.cbor_diag.proofs.Refusals.{Refusal, is_cut, is_fault, refused}
-use Rattle.cbor_diag.proofs.Short.{fault_no_cut, cut_again}
+use Rattle.cbor_diag.proofs.CutShort.{fault_no_cut, cut_again}
 use Rattle.cbor_diag.proofs.Faults.{left_at, fault_refuses, fault_append}
 
 -- ---- the outcome of reading

@@ -1,10 +1,12 @@
 -- What reading answers, want of memory apart.
-use Rattle.std.specs.Prelude.{◌≡◌, ◌≢◌, ℕ, ◌+◌, ◌/◌, ◌%◌, ◌<◌, ◌≤◌, List, [], ◌∷◌, length, take, Option, Some, None, Result, Ok, Err, MatchResult, IfErr, ◌⊎◌}
+use Rattle.std.specs.Prelude.{◌≡◌, ◌≢◌, ℕ, ◌+◌, ◌/◌, ◌%◌, ◌<◌, ◌≤◌, List, [], ◌∷◌, length, take, Option, Some, None}
+use Rattle.std.specs.Prelude.{Result, Ok, Err, MatchResult, IfErr, ◌⊎◌}
 use Rattle.cbor_diag.specs.declared.error.Error.{Error}
 use Rattle.cbor_diag.specs.declared.error.Error.TheVariants as refusal
 use Rattle.cbor_diag.specs.declared.syntax.DataItem.{DataItem}
 use Rattle.cbor_diag.specs.Item as spec
-use Rattle.cbor_diag.specs.Item.{Atom, byte_chunks, text_chunks, Item, atom, array, tagged, Items, no_items, item, Pairs, no_pairs, pair}
+use Rattle.cbor_diag.specs.Item.{Atom, byte_chunks, text_chunks, Item, atom, array, tagged, Items, no_items, item}
+use Rattle.cbor_diag.specs.Item.{Pairs, no_pairs, pair}
 use Rattle.cbor_diag.specs.View.{view}
 use Rattle.cbor_diag.specs.Bytes.{any, Spells}
 use Rattle.cbor_diag.specs.Refused.{Cut, Fault}
@@ -73,7 +75,8 @@ RefusedSo result Means = IfErr result (λ e. e ≢ refusal.Memory → Means e)
 -- fault stands in it. Elsewhere memory is never wanted.
 abbrev pub MayWantMemory : List ℕ → Type 0
 MayWantMemory [] = ⊥
-MayWantMemory (first ∷ b) = (2 ≤ first / 32) × (first / 32 ≤ 6) × ((first % 32 < 28) ⊎ ((first % 32 ≡ 31) × (first / 32 ≤ 5)))
+MayWantMemory (first ∷ b) =
+    (2 ≤ first / 32) × (first / 32 ≤ 6) × ((first % 32 < 28) ⊎ ((first % 32 ≡ 31) × (first / 32 ≤ 5)))
 
 -- how many items there are in an item, itself and the chunks of strings counted
 abbrev pub atom_size : Atom → ℕ

@@ -5,7 +5,9 @@ use Rattle.cbor_diag.specs.declared.syntax.IntegerWidth.{IntegerWidth}
 use Rattle.cbor_diag.specs.declared.syntax.FloatWidth.{FloatWidth}
 use Rattle.cbor_diag.specs.declared.syntax.FloatWidth.TheVariants as float_width
 use Rattle.cbor_diag.specs.Item as spec
-use Rattle.cbor_diag.specs.Item.{Chunk, Atom, integer, negative, byte_string, text_string, byte_chunks, text_chunks, float, simple, Item, atom, array, tagged, Items, no_items, item, Pairs, no_pairs, pair, item_count, pair_count}
+use Rattle.cbor_diag.specs.Item.{Chunk, Atom, integer, negative, byte_string, text_string, byte_chunks, text_chunks}
+use Rattle.cbor_diag.specs.Item.{float, simple, Item, atom, array, tagged, Items, no_items, item, Pairs, no_pairs}
+use Rattle.cbor_diag.specs.Item.{pair, item_count, pair_count}
 use Rattle.cbor_diag.specs.Head.{opening, break_byte, HeadThen}
 use Rattle.cbor_diag.specs.WellFormed.{deepest, FitsFloat}
 
@@ -29,20 +31,23 @@ pub data Rule : Type 0 where
   strict : Rule
 
 abbrev pub SpellsSimple : Rule → List ℕ → ℕ → Type 0
-SpellsSimple any b n = ((n < 24) × (b ≡ (224 + n) ∷ [])) ⊎ ((n < 256) × (b ≡ 248 ∷ n ∷ []))
-SpellsSimple strict b n = ((n < 24) × (b ≡ (224 + n) ∷ [])) ⊎ ((24 ≤ n) × (n < 256) × (b ≡ 248 ∷ n ∷ []))
+SpellsSimple any b n = ((n < 24) × (b ≡ (0xe0 + n) ∷ [])) ⊎ ((n < 256) × (b ≡ 0xf8 ∷ n ∷ []))
+SpellsSimple strict b n =
+    ((n < 24) × (b ≡ (0xe0 + n) ∷ [])) ⊎ ((24 ≤ n) × (n < 256) × (b ≡ 0xf8 ∷ n ∷ []))
 
 -- the float's bits in 2, 4 or 8 bytes, big endian (RFC 7049 section 2.3)
 abbrev pub SpellsFloat : List ℕ → ℕ → FloatWidth → Type 0
 SpellsFloat b bits float_width.Unknown = ⊥
-SpellsFloat b bits float_width.Sixteen = FitsFloat float_width.Sixteen bits × (b ≡ 249 ∷ to_be_bytes w16 bits)
-SpellsFloat b bits float_width.ThirtyTwo = FitsFloat float_width.ThirtyTwo bits × (b ≡ 250 ∷ to_be_bytes w32 bits)
-SpellsFloat b bits float_width.SixtyFour = FitsFloat float_width.SixtyFour bits × (b ≡ 251 ∷ to_be_bytes w64 bits)
+SpellsFloat b bits float_width.Sixteen = FitsFloat float_width.Sixteen bits × (b ≡ 0xf9 ∷ to_be_bytes w16 bits)
+SpellsFloat b bits float_width.ThirtyTwo = FitsFloat float_width.ThirtyTwo bits × (b ≡ 0xfa ∷ to_be_bytes w32 bits)
+SpellsFloat b bits float_width.SixtyFour = FitsFloat float_width.SixtyFour bits × (b ≡ 0xfb ∷ to_be_bytes w64 bits)
 
 -- a head with the length, then the content, then such a rest
 abbrev pub ChunkThen : StringKind → Chunk → List ℕ → (List ℕ → Type 0) → Type 0
 ChunkThen kind c b Rest =
-    IsContent kind c.bytes × HeadThen (major_of kind) (length c.bytes) c.width b (λ r. (rest : List ℕ) × (r ≡ c.bytes ++ rest) × Rest rest)
+    IsContent kind c.bytes
+    × HeadThen (major_of kind) (length c.bytes) c.width b (λ r.
+    (rest : List ℕ) × (r ≡ c.bytes ++ rest) × Rest rest)
 
 -- the chunks of an indefinite string (RFC 7049 section 2.2.2): strings of definite length one after the
 -- other, and then the end
@@ -67,7 +72,8 @@ SpellsAtom rule b (simple n) = SpellsSimple rule b n
 
 -- a head with the count, then members and nothing else; or the opening byte, then members and the break
 -- (RFC 7049 sections 2.1 and 2.2.1)
-abbrev pub MembersThen : ℕ → ℕ → Option IntegerWidth → List ℕ → (List ℕ → List ℕ → Type 0) → Type 0
+abbrev pub MembersThen
+    : ℕ → ℕ → Option IntegerWidth → List ℕ → (List ℕ → List ℕ → Type 0) → Type 0
 MembersThen major n (Some w) b Members = HeadThen major n w b (λ rest. Members rest [])
 MembersThen major n None b Members = OpenThen major b (λ rest. Members rest (break_byte ∷ []))
 
@@ -76,8 +82,10 @@ MembersThen major n None b Members = OpenThen major b (λ rest. Members rest (br
 abbrev mutual
   pub Spells : Rule → ℕ → List ℕ → Item → Type 0
   Spells rule level b (atom a) = (level ≤ deepest) × SpellsAtom rule b a
-  Spells rule level b (array is w) = (level ≤ deepest) × MembersThen 4 (item_count is) w b (λ rest end. SpellsItems rule (level + 1) rest is end)
-  Spells rule level b (spec.map ps w) = (level ≤ deepest) × MembersThen 5 (pair_count ps) w b (λ rest end. SpellsPairs rule (level + 1) rest ps end)
+  Spells rule level b (array is w) = (level ≤ deepest)
+      × MembersThen 4 (item_count is) w b (λ rest end. SpellsItems rule (level + 1) rest is end)
+  Spells rule level b (spec.map ps w) = (level ≤ deepest)
+      × MembersThen 5 (pair_count ps) w b (λ rest end. SpellsPairs rule (level + 1) rest ps end)
   Spells rule level b (tagged t w i) = (level ≤ deepest) × HeadThen 6 t w b (λ rest. Spells rule (level + 1) rest i)
 
   -- the items one after the other, and then the end
@@ -90,4 +98,5 @@ abbrev mutual
   pub SpellsPairs : Rule → ℕ → List ℕ → Pairs → List ℕ → Type 0
   SpellsPairs rule level b no_pairs end = b ≡ end
   SpellsPairs rule level b (pair k v ps) end =
-      (x y rest : List ℕ) × (b ≡ x ++ (y ++ rest)) × Spells rule level x k × Spells rule level y v × SpellsPairs rule level rest ps end
+      (x y rest : List ℕ) × (b ≡ x ++ (y ++ rest))
+      × Spells rule level x k × Spells rule level y v × SpellsPairs rule level rest ps end

@@ -2,7 +2,8 @@
 use Rattle.std.specs.Prelude.{ℕ, List, ◌∷◌, codes, Some, None}
 use Rattle.cbor_diag.specs.declared.syntax.IntegerWidth.TheVariants.{Unknown, Zero, Eight}
 use Rattle.cbor_diag.specs.Item as spec
-use Rattle.cbor_diag.specs.Item.{Item, atom, array, tagged, integer, byte_string, text_string, byte_chunks, simple, no_items, item, no_pairs, pair}
+use Rattle.cbor_diag.specs.Item.{Item, atom, array, tagged, integer, byte_string, text_string, byte_chunks, simple}
+use Rattle.cbor_diag.specs.Item.{no_items, item, no_pairs, pair}
 
 abbrev pub small : ℕ → Item
 small n = atom (integer n Zero)

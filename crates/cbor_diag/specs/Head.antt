@@ -2,7 +2,8 @@
 use Rattle.std.specs.Prelude.{◌≡◌, ℕ, ◌+◌, ◌*◌, ◌^◌, ◌<◌, List, [], ◌∷◌, ◌++◌, nat_lt, if◌then◌else◌}
 use Rattle.std.specs.Int.{w8, w16, w32, w64, to_be_bytes}
 use Rattle.cbor_diag.specs.declared.syntax.IntegerWidth.{IntegerWidth}
-use Rattle.cbor_diag.specs.declared.syntax.IntegerWidth.TheVariants.{Unknown, Zero, Eight, Sixteen, ThirtyTwo, SixtyFour}
+use Rattle.cbor_diag.specs.declared.syntax.IntegerWidth.TheVariants.{Unknown, Zero, Eight, Sixteen, ThirtyTwo}
+use Rattle.cbor_diag.specs.declared.syntax.IntegerWidth.TheVariants.{SixtyFour}
 
 -- the number can be written in this width; an open width is the shortest that fits
 abbrev pub FitsWidth : IntegerWidth → ℕ → Type 0
@@ -19,12 +20,17 @@ FitsStated Unknown n = ⊥
 FitsStated w n = FitsWidth w n
 
 -- the first width that the number fits
-abbrev pub short : ℕ → IntegerWidth
-short n = if nat_lt n 24 then Zero else if nat_lt n (2 ^ 8) then Eight else if nat_lt n (2 ^ 16) then Sixteen else if nat_lt n (2 ^ 32) then ThirtyTwo else SixtyFour
+abbrev pub shortest : ℕ → IntegerWidth
+shortest n =
+    if nat_lt n 24 then Zero
+    else if nat_lt n (2 ^ 8) then Eight
+    else if nat_lt n (2 ^ 16) then Sixteen
+    else if nat_lt n (2 ^ 32) then ThirtyTwo
+    else SixtyFour
 
 -- the width that a number is written in
 abbrev pub stated : IntegerWidth → ℕ → IntegerWidth
-stated Unknown n = short n
+stated Unknown n = shortest n
 stated w n = w
 
 -- Three bits of major type, then five of info: the number itself up to 23, or 24 to 27 and the number
@@ -43,7 +49,7 @@ abbrev pub opening : ℕ → ℕ
 opening major = 32 * major + 31
 
 abbrev pub break_byte : ℕ
-break_byte = 255
+break_byte = 0xff
 
 -- the bytes are that head, and then such a rest
 abbrev pub HeadThen : ℕ → ℕ → IntegerWidth → List ℕ → (List ℕ → Type 0) → Type 0

@@ -6,24 +6,23 @@ use Rattle.hex.specs.Hex.{decode_of, is_hex_digit}
 use Rattle.cbor_diag.specs.declared.error.Error.{Error}
 use Rattle.cbor_diag.specs.declared.error.Error.TheVariants as refusal
 use Rattle.cbor_diag.specs.Item.{Item}
-use Rattle.cbor_diag.specs.Bytes.{any, Spells}
-use Rattle.cbor_diag.specs.Answer.{IsRefused}
+use Rattle.cbor_diag.specs.Facts.{IsItem, IsNoItem}
 
 -- of one line, what stands before its first `#`, without spaces
-abbrev pub kept : List ℕ → List ℕ
-kept line = filter (λ b. not (b == 32)) (before_first (λ b. b == 35) line)
+abbrev pub uncommented : List ℕ → List ℕ
+uncommented line = filter (λ b. not (b == 32)) (before_first (λ b. b == 35) line)
 
 -- What is kept of all lines. A line ends at a line feed, and one carriage return right before it belongs
 -- to the end.
 abbrev pub strip : List ℕ → List ℕ
-strip text = flat_map kept (lines text)
+strip text = flat_map uncommented (lines text)
 
 -- the digits are those of an item's bytes
 abbrev pub IsHexOf : List ℕ → Item → Type 0
-IsHexOf text i = (b : List ℕ) × (decode_of (strip text) ≡ Ok b) × Spells any 1 b i
+IsHexOf text i = (b : List ℕ) × (decode_of (strip text) ≡ Ok b) × IsItem b i
 
 -- why a text is not an item in hex: an odd number of digits, else what is no digit, else what its bytes are
 abbrev pub IsHexRefused : List ℕ → Error → Type 0
 IsHexRefused text refusal.OddHex = length (strip text) % 2 ≡ 1
 IsHexRefused text refusal.BadHex = (length (strip text) % 2 ≡ 0) × ¬ (AllPass is_hex_digit (strip text))
-IsHexRefused text e = (b : List ℕ) × (decode_of (strip text) ≡ Ok b) × IsRefused 1 b e
+IsHexRefused text e = (b : List ℕ) × (decode_of (strip text) ≡ Ok b) × IsNoItem b e

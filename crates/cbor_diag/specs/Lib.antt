@@ -8,5 +8,6 @@ pub mod Bytes
 pub mod Refused
 pub mod Reading
 pub mod Answer
+pub mod Facts
 pub mod HexText
 pub mod Examples

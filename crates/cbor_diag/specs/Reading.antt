@@ -1,7 +1,8 @@
 -- Reading from left to right, as the code of `parse/binary.rt` does: a function from bytes to a value and
 -- the rest, or the first refusal, `CutShort` where the bytes end. No public clause names it: proofs/
 -- shows that it agrees with `Spells`, `Cut` and `Fault`.
-use Rattle.std.specs.Prelude.{◌≡◌, ℕ, zero, suc, ◌/◌, ◌%◌, List, [], ◌∷◌, length, take, drop, Option, Some, None, Result, Ok, Err, nat_lt, ◌==◌, if◌then◌else◌}
+use Rattle.std.specs.Prelude.{◌≡◌, ℕ, zero, suc, ◌/◌, ◌%◌, List, [], ◌∷◌, length, take, drop, Option, Some, None}
+use Rattle.std.specs.Prelude.{Result, Ok, Err, nat_lt, ◌==◌, if◌then◌else◌}
 use Rattle.std.specs.Str.{is_utf8}
 use Rattle.std.specs.Int.{Width, w8, w16, w32, w64, byte_len, from_be_bytes}
 use Rattle.cbor_diag.specs.declared.syntax.IntegerWidth.{IntegerWidth}
@@ -11,10 +12,11 @@ use Rattle.cbor_diag.specs.declared.error.Error.{Error}
 use Rattle.cbor_diag.specs.declared.error.Error.TheVariants as refusal
 use Rattle.cbor_diag.specs.declared.parse.binary.head.Info.{Info}
 use Rattle.cbor_diag.specs.declared.parse.binary.head.Info.TheVariants as info
-use Rattle.cbor_diag.specs.declared.parse.binary.head.Head.{Head}
-use Rattle.cbor_diag.specs.declared.parse.binary.head.Head.TheVariants as kind
+use Rattle.cbor_diag.specs.declared.parse.binary.head.ItemHead.{ItemHead}
+use Rattle.cbor_diag.specs.declared.parse.binary.head.ItemHead.TheVariants as item_head
 use Rattle.cbor_diag.specs.Item as spec
-use Rattle.cbor_diag.specs.Item.{Chunk, integer, negative, byte_string, text_string, byte_chunks, text_chunks, float, simple, Item, atom, array, tagged, Items, no_items, item, Pairs, no_pairs, pair}
+use Rattle.cbor_diag.specs.Item.{Chunk, integer, negative, byte_string, text_string, byte_chunks, text_chunks, float}
+use Rattle.cbor_diag.specs.Item.{simple, Item, atom, array, tagged, Items, no_items, item, Pairs, no_pairs, pair}
 use Rattle.cbor_diag.specs.Head.{FitsStated, break_byte}
 use Rattle.cbor_diag.specs.Bytes.{StringKind, bytes_kind, text_kind, major_of}
 
@@ -38,7 +40,9 @@ Gives view (Ok x) read = read ≡ Ok (view x)
 Gives view (Err e) read = Fails e read
 
 abbrev pub number_at : Width → List ℕ → Read ℕ
-number_at w b = if nat_lt (length b) (byte_len w) then Err refusal.CutShort else Ok (from_be_bytes w (take (byte_len w) b), drop (byte_len w) b)
+number_at w b =
+    if nat_lt (length b) (byte_len w) then Err refusal.CutShort
+    else Ok (from_be_bytes w (take (byte_len w) b), drop (byte_len w) b)
 
 -- the number behind info 24 to 27
 unfoldable pub wide_at : Width → IntegerWidth → List ℕ → Read Info
@@ -61,37 +65,37 @@ FitsInfo (info.Number n w) = FitsStated w n
 FitsInfo info.Indefinite = Unit {0}
 
 -- in major type 7 a number of one byte is a simple value, and a wider one the bits of a float
-abbrev pub simple_or_float : ℕ → IntegerWidth → Head
-simple_or_float n Sixteen = kind.Float n float_width.Sixteen
-simple_or_float n ThirtyTwo = kind.Float n float_width.ThirtyTwo
-simple_or_float n SixtyFour = kind.Float n float_width.SixtyFour
-simple_or_float n w = kind.Simple n
+abbrev pub simple_or_float : ℕ → IntegerWidth → ItemHead
+simple_or_float n Sixteen = item_head.Float n float_width.Sixteen
+simple_or_float n ThirtyTwo = item_head.Float n float_width.ThirtyTwo
+simple_or_float n SixtyFour = item_head.Float n float_width.SixtyFour
+simple_or_float n w = item_head.Simple n
 
-unfoldable pub numbered : ℕ → ℕ → IntegerWidth → Head
+unfoldable pub numbered : ℕ → ℕ → IntegerWidth → ItemHead
 numbered major n w =
-    if major == 0 then kind.Integer n w
-    else if major == 1 then kind.Negative n w
-    else if major == 2 then kind.Bytes n w
-    else if major == 3 then kind.Text n w
-    else if major == 4 then kind.Array n w
-    else if major == 5 then kind.Map n w
-    else if major == 6 then kind.Tag n w
+    if major == 0 then item_head.Integer n w
+    else if major == 1 then item_head.Negative n w
+    else if major == 2 then item_head.Bytes n w
+    else if major == 3 then item_head.Text n w
+    else if major == 4 then item_head.Array n w
+    else if major == 5 then item_head.Map n w
+    else if major == 6 then item_head.Tag n w
     else simple_or_float n w
 
-unfoldable pub unnumbered : ℕ → Result Head Error
+unfoldable pub unnumbered : ℕ → Result ItemHead Error
 unnumbered major =
-    if major == 2 then Ok kind.OpenBytes
-    else if major == 3 then Ok kind.OpenText
-    else if major == 4 then Ok kind.OpenArray
-    else if major == 5 then Ok kind.OpenMap
-    else if major == 7 then Ok kind.Break
+    if major == 2 then Ok item_head.OpenBytes
+    else if major == 3 then Ok item_head.OpenText
+    else if major == 4 then Ok item_head.OpenArray
+    else if major == 5 then Ok item_head.OpenMap
+    else if major == 7 then Ok item_head.Break
     else Err refusal.Head
 
-abbrev pub head_of : ℕ → Info → Result Head Error
+abbrev pub head_of : ℕ → Info → Result ItemHead Error
 head_of major (info.Number n w) = Ok (numbered major n w)
 head_of major info.Indefinite = unnumbered major
 
-unfoldable pub head_at : List ℕ → Read Head
+unfoldable pub head_at : List ℕ → Read ItemHead
 head_at [] = Err refusal.CutShort
 head_at (first ∷ b) = info_at (first % 32) b >>= λ i. head_of (first / 32) i.0 >>= λ h. Ok (h, i.1)
 
@@ -102,7 +106,8 @@ split_at n b = if nat_lt (length b) n then Err refusal.CutShort else Ok (take n 
 -- a string of that length and its content
 unfoldable pub content_at : StringKind → ℕ → IntegerWidth → List ℕ → Read Chunk
 content_at bytes_kind n w b = split_at n b >>= λ s. Ok (record { bytes = s.0; width = w }, s.1)
-content_at text_kind n w b = split_at n b >>= λ s. if is_utf8 s.0 then Ok (record { bytes = s.0; width = w }, s.1) else Err refusal.Utf8
+content_at text_kind n w b = split_at n b >>= λ s.
+    if is_utf8 s.0 then Ok (record { bytes = s.0; width = w }, s.1) else Err refusal.Utf8
 
 -- the length in a chunk's head
 abbrev pub length_of : Info → List ℕ → Read (Option (ℕ × IntegerWidth))
@@ -165,36 +170,38 @@ unless_break (Some b) none read = Ok (none, b)
 -- the items up to the break, bounded as `chunks_at` is
 unfoldable pub open_items_at : (List ℕ → Read Item) → ℕ → List ℕ → Read Items
 open_items_at read zero b = Err refusal.CutShort
-open_items_at read (suc n) b = unless_break (break_at b) no_items (read b >>= λ i. open_items_at read n i.1 >>= λ is. Ok (item i.0 is.0, is.1))
+open_items_at read (suc n) b = unless_break (break_at b) no_items
+    (read b >>= λ i. open_items_at read n i.1 >>= λ is. Ok (item i.0 is.0, is.1))
 
 unfoldable pub open_pairs_at : (List ℕ → Read Item) → ℕ → List ℕ → Read Pairs
 open_pairs_at read zero b = Err refusal.CutShort
-open_pairs_at read (suc n) b = unless_break (break_at b) no_pairs (pair_at read b >>= λ p. open_pairs_at read n p.1 >>= λ ps. Ok (pair p.0.0 p.0.1 ps.0, ps.1))
+open_pairs_at read (suc n) b = unless_break (break_at b) no_pairs
+    (pair_at read b >>= λ p. open_pairs_at read n p.1 >>= λ ps. Ok (pair p.0.0 p.0.1 ps.0, ps.1))
 
 -- an item behind its head, the items in it read by `read`
-abbrev pub body_at : (List ℕ → Read Item) → Head → List ℕ → Read Item
-body_at read (kind.Integer n w) b = Ok (atom (integer n w), b)
-body_at read (kind.Negative n w) b = Ok (atom (negative n w), b)
-body_at read (kind.Bytes n w) b = content_at bytes_kind n w b >>= λ c. Ok (atom (byte_string c.0), c.1)
-body_at read (kind.Text n w) b = content_at text_kind n w b >>= λ c. Ok (atom (text_string c.0), c.1)
-body_at read (kind.Array n w) b = items_at read n b >>= λ is. Ok (array is.0 (Some w), is.1)
-body_at read (kind.Map n w) b = pairs_at read n b >>= λ ps. Ok (spec.map ps.0 (Some w), ps.1)
-body_at read (kind.Tag n w) b = read b >>= λ i. Ok (tagged n w i.0, i.1)
-body_at read (kind.Float bits w) b = Ok (atom (float bits w), b)
-body_at read (kind.Simple n) b = Ok (atom (simple n), b)
-body_at read kind.OpenBytes b = chunks_at (length b) bytes_kind b >>= λ cs. Ok (atom (byte_chunks cs.0), cs.1)
-body_at read kind.OpenText b = chunks_at (length b) text_kind b >>= λ cs. Ok (atom (text_chunks cs.0), cs.1)
-body_at read kind.OpenArray b = open_items_at read (length b) b >>= λ is. Ok (array is.0 None, is.1)
-body_at read kind.OpenMap b = open_pairs_at read (length b) b >>= λ ps. Ok (spec.map ps.0 None, ps.1)
-body_at read kind.Break b = Err refusal.Head
+abbrev pub body_at : (List ℕ → Read Item) → ItemHead → List ℕ → Read Item
+body_at read (item_head.Integer n w) b = Ok (atom (integer n w), b)
+body_at read (item_head.Negative n w) b = Ok (atom (negative n w), b)
+body_at read (item_head.Bytes n w) b = content_at bytes_kind n w b >>= λ c. Ok (atom (byte_string c.0), c.1)
+body_at read (item_head.Text n w) b = content_at text_kind n w b >>= λ c. Ok (atom (text_string c.0), c.1)
+body_at read (item_head.Array n w) b = items_at read n b >>= λ is. Ok (array is.0 (Some w), is.1)
+body_at read (item_head.Map n w) b = pairs_at read n b >>= λ ps. Ok (spec.map ps.0 (Some w), ps.1)
+body_at read (item_head.Tag n w) b = read b >>= λ i. Ok (tagged n w i.0, i.1)
+body_at read (item_head.Float bits w) b = Ok (atom (float bits w), b)
+body_at read (item_head.Simple n) b = Ok (atom (simple n), b)
+body_at read item_head.OpenBytes b = chunks_at (length b) bytes_kind b >>= λ cs. Ok (atom (byte_chunks cs.0), cs.1)
+body_at read item_head.OpenText b = chunks_at (length b) text_kind b >>= λ cs. Ok (atom (text_chunks cs.0), cs.1)
+body_at read item_head.OpenArray b = open_items_at read (length b) b >>= λ is. Ok (array is.0 None, is.1)
+body_at read item_head.OpenMap b = open_pairs_at read (length b) b >>= λ ps. Ok (spec.map ps.0 None, ps.1)
+body_at read item_head.Break b = Err refusal.Head
 
 -- what needs memory: a string, a container or a tag
-abbrev pub HoldsContent : Head → Type 0
-HoldsContent (kind.Integer n w) = ⊥
-HoldsContent (kind.Negative n w) = ⊥
-HoldsContent (kind.Float bits w) = ⊥
-HoldsContent (kind.Simple n) = ⊥
-HoldsContent kind.Break = ⊥
+abbrev pub HoldsContent : ItemHead → Type 0
+HoldsContent (item_head.Integer n w) = ⊥
+HoldsContent (item_head.Negative n w) = ⊥
+HoldsContent (item_head.Float bits w) = ⊥
+HoldsContent (item_head.Simple n) = ⊥
+HoldsContent item_head.Break = ⊥
 HoldsContent _ = Unit {0}
 
 -- no more levels are left, and an item is wanted

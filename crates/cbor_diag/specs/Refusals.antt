@@ -1,7 +1,8 @@
 -- What each refusal says, and its number.
 use Rattle.std.specs.Prelude.{ℕ, List, codes}
 use Rattle.cbor_diag.specs.declared.error.Error.{Error}
-use Rattle.cbor_diag.specs.declared.error.Error.TheVariants.{Memory, CutShort, Head, Utf8, TooDeep, Remaining, OddHex, BadHex, Notation, PastWidth}
+use Rattle.cbor_diag.specs.declared.error.Error.TheVariants.{Memory, CutShort, Head, Utf8, TooDeep, Remaining, OddHex}
+use Rattle.cbor_diag.specs.declared.error.Error.TheVariants.{BadHex, Notation, PastWidth}
 
 abbrev pub text_of : Error → List ℕ
 text_of Memory = codes "out of memory"

@@ -5,7 +5,9 @@ use Rattle.cbor_diag.specs.declared.syntax.IntegerWidth.{IntegerWidth}
 use Rattle.cbor_diag.specs.declared.syntax.FloatWidth.{FloatWidth}
 use Rattle.cbor_diag.specs.declared.syntax.FloatWidth.TheVariants as float_width
 use Rattle.cbor_diag.specs.Item as spec
-use Rattle.cbor_diag.specs.Item.{Chunk, Atom, integer, negative, byte_string, text_string, byte_chunks, text_chunks, float, simple, Item, atom, array, tagged, Items, no_items, item, Pairs, no_pairs, pair, item_count, pair_count}
+use Rattle.cbor_diag.specs.Item.{Chunk, Atom, integer, negative, byte_string, text_string, byte_chunks, text_chunks}
+use Rattle.cbor_diag.specs.Item.{float, simple, Item, atom, array, tagged, Items, no_items, item, Pairs, no_pairs}
+use Rattle.cbor_diag.specs.Item.{pair, item_count, pair_count}
 use Rattle.cbor_diag.specs.Head.{FitsWidth}
 
 -- the deepest level that an item may stand at; the outermost stands at level 1
@@ -31,15 +33,15 @@ FitsFloat float_width.ThirtyTwo bits = bits < 2 ^ 32
 FitsFloat float_width.SixtyFour bits = bits < 2 ^ 64
 
 -- the numbers of an item that holds no item fit their widths
-abbrev pub WellAtom : Atom → Type 0
-WellAtom (integer n w) = FitsWidth w n
-WellAtom (negative n w) = FitsWidth w n
-WellAtom (byte_string c) = IsByteChunk c
-WellAtom (text_string c) = IsTextChunk c
-WellAtom (byte_chunks cs) = AllByRecursion IsByteChunk cs
-WellAtom (text_chunks cs) = AllByRecursion IsTextChunk cs
-WellAtom (float bits w) = FitsFloat w bits
-WellAtom (simple n) = n < 256
+abbrev pub WellFormedAtom : Atom → Type 0
+WellFormedAtom (integer n w) = FitsWidth w n
+WellFormedAtom (negative n w) = FitsWidth w n
+WellFormedAtom (byte_string c) = IsByteChunk c
+WellFormedAtom (text_string c) = IsTextChunk c
+WellFormedAtom (byte_chunks cs) = AllByRecursion IsByteChunk cs
+WellFormedAtom (text_chunks cs) = AllByRecursion IsTextChunk cs
+WellFormedAtom (float bits w) = FitsFloat w bits
+WellFormedAtom (simple n) = n < 256
 
 -- a count fits its width; of an indefinite length there is none
 abbrev pub FitsCount : Option IntegerWidth → ℕ → Type 0
@@ -48,16 +50,17 @@ FitsCount (Some w) n = FitsWidth w n
 
 -- Each number, tag, length and count fits its width, and no item stands deeper than the deepest level.
 abbrev mutual
-  pub Well : ℕ → Item → Type 0
-  Well level (atom a) = (level ≤ deepest) × WellAtom a
-  Well level (array is w) = (level ≤ deepest) × FitsCount w (item_count is) × WellItems (level + 1) is
-  Well level (spec.map ps w) = (level ≤ deepest) × FitsCount w (pair_count ps) × WellPairs (level + 1) ps
-  Well level (tagged t w i) = (level ≤ deepest) × FitsWidth w t × Well (level + 1) i
+  pub WellFormed : ℕ → Item → Type 0
+  WellFormed level (atom a) = (level ≤ deepest) × WellFormedAtom a
+  WellFormed level (array is w) = (level ≤ deepest) × FitsCount w (item_count is) × WellFormedItems (level + 1) is
+  WellFormed level (spec.map ps w) =
+      (level ≤ deepest) × FitsCount w (pair_count ps) × WellFormedPairs (level + 1) ps
+  WellFormed level (tagged t w i) = (level ≤ deepest) × FitsWidth w t × WellFormed (level + 1) i
 
-  pub WellItems : ℕ → Items → Type 0
-  WellItems level no_items = Unit {0}
-  WellItems level (item i is) = Well level i × WellItems level is
+  pub WellFormedItems : ℕ → Items → Type 0
+  WellFormedItems level no_items = Unit {0}
+  WellFormedItems level (item i is) = WellFormed level i × WellFormedItems level is
 
-  pub WellPairs : ℕ → Pairs → Type 0
-  WellPairs level no_pairs = Unit {0}
-  WellPairs level (pair k v ps) = Well level k × Well level v × WellPairs level ps
+  pub WellFormedPairs : ℕ → Pairs → Type 0
+  WellFormedPairs level no_pairs = Unit {0}
+  WellFormedPairs level (pair k v ps) = WellFormed level k × WellFormed level v × WellFormedPairs level ps

@@ -6,68 +6,70 @@ use Rattle.cbor_diag.specs.declared.syntax.IntegerWidth.{IntegerWidth}
 use Rattle.cbor_diag.specs.declared.syntax.FloatWidth.{FloatWidth}
 use Rattle.cbor_diag.specs.declared.syntax.FloatWidth.TheVariants as float_width
 use Rattle.cbor_diag.specs.Item as spec
-use Rattle.cbor_diag.specs.Item.{Chunk, Atom, integer, negative, byte_string, text_string, byte_chunks, text_chunks, float, simple, Item, atom, array, tagged, Items, no_items, item, Pairs, no_pairs, pair, item_count, pair_count}
+use Rattle.cbor_diag.specs.Item.{Chunk, Atom, integer, negative, byte_string, text_string, byte_chunks, text_chunks}
+use Rattle.cbor_diag.specs.Item.{float, simple, Item, atom, array, tagged, Items, no_items, item, Pairs, no_pairs}
+use Rattle.cbor_diag.specs.Item.{pair, item_count, pair_count}
 use Rattle.cbor_diag.specs.Head.{stated, head, opening, break_byte}
 
 -- a head, an open width being the shortest that fits
-abbrev pub enc_head : ℕ → ℕ → IntegerWidth → List ℕ
-enc_head major n w = head major n (stated w n)
+abbrev pub encoded_head : ℕ → ℕ → IntegerWidth → List ℕ
+encoded_head major n w = head major n (stated w n)
 
 -- a string of definite length
-abbrev pub enc_chunk : ℕ → Chunk → List ℕ
-enc_chunk major c = enc_head major (length c.bytes) c.width ++ c.bytes
+abbrev pub encoded_chunk : ℕ → Chunk → List ℕ
+encoded_chunk major c = encoded_head major (length c.bytes) c.width ++ c.bytes
 
 -- an indefinite string: its chunks between the opening byte and the break
-abbrev pub enc_chunks : ℕ → List Chunk → List ℕ
-enc_chunks major cs = opening major ∷ (flat_map (enc_chunk major) cs ++ break_byte ∷ [])
+abbrev pub encoded_chunks : ℕ → List Chunk → List ℕ
+encoded_chunks major cs = opening major ∷ (flat_map (encoded_chunk major) cs ++ break_byte ∷ [])
 
 -- a float's bits, an open width being 64 bits
-abbrev pub enc_float : ℕ → FloatWidth → List ℕ
-enc_float bits float_width.Unknown = 251 ∷ to_be_bytes w64 bits
-enc_float bits float_width.Sixteen = 249 ∷ to_be_bytes w16 bits
-enc_float bits float_width.ThirtyTwo = 250 ∷ to_be_bytes w32 bits
-enc_float bits float_width.SixtyFour = 251 ∷ to_be_bytes w64 bits
+abbrev pub encoded_float : ℕ → FloatWidth → List ℕ
+encoded_float bits float_width.Unknown = 0xfb ∷ to_be_bytes w64 bits
+encoded_float bits float_width.Sixteen = 0xf9 ∷ to_be_bytes w16 bits
+encoded_float bits float_width.ThirtyTwo = 0xfa ∷ to_be_bytes w32 bits
+encoded_float bits float_width.SixtyFour = 0xfb ∷ to_be_bytes w64 bits
 
 -- a simple value in one byte where it is below 24, else in two
-abbrev pub enc_simple : ℕ → List ℕ
-enc_simple n = if nat_lt n 24 then (224 + n) ∷ [] else 248 ∷ n ∷ []
+abbrev pub encoded_simple : ℕ → List ℕ
+encoded_simple n = if nat_lt n 24 then (0xe0 + n) ∷ [] else 0xf8 ∷ n ∷ []
 
 -- the encoding of an item that holds no item
-abbrev pub enc_atom : Atom → List ℕ
-enc_atom (integer n w) = enc_head 0 n w
-enc_atom (negative n w) = enc_head 1 n w
-enc_atom (byte_string c) = enc_chunk 2 c
-enc_atom (text_string c) = enc_chunk 3 c
-enc_atom (byte_chunks cs) = enc_chunks 2 cs
-enc_atom (text_chunks cs) = enc_chunks 3 cs
-enc_atom (float bits w) = enc_float bits w
-enc_atom (simple n) = enc_simple n
+abbrev pub encoded_atom : Atom → List ℕ
+encoded_atom (integer n w) = encoded_head 0 n w
+encoded_atom (negative n w) = encoded_head 1 n w
+encoded_atom (byte_string c) = encoded_chunk 2 c
+encoded_atom (text_string c) = encoded_chunk 3 c
+encoded_atom (byte_chunks cs) = encoded_chunks 2 cs
+encoded_atom (text_chunks cs) = encoded_chunks 3 cs
+encoded_atom (float bits w) = encoded_float bits w
+encoded_atom (simple n) = encoded_simple n
 
 -- what stands before a container's members: a head with their count, or an opening byte
-abbrev pub enc_open : ℕ → ℕ → Option IntegerWidth → List ℕ
-enc_open major n (Some w) = enc_head major n w
-enc_open major n None = opening major ∷ []
+abbrev pub encoded_open : ℕ → ℕ → Option IntegerWidth → List ℕ
+encoded_open major n (Some w) = encoded_head major n w
+encoded_open major n None = opening major ∷ []
 
 -- what stands after them: nothing, or the break
-abbrev pub enc_close : Option IntegerWidth → List ℕ
-enc_close (Some w) = []
-enc_close None = break_byte ∷ []
+abbrev pub encoded_close : Option IntegerWidth → List ℕ
+encoded_close (Some w) = []
+encoded_close None = break_byte ∷ []
 
 -- The encoding of an item: each head in its width, or in the shortest that fits where it is open.
 abbrev mutual
-  pub enc : Item → List ℕ
-  enc (atom a) = enc_atom a
-  enc (array is w) = enc_open 4 (item_count is) w ++ (enc_items is ++ enc_close w)
-  enc (spec.map ps w) = enc_open 5 (pair_count ps) w ++ (enc_pairs ps ++ enc_close w)
-  enc (tagged t w i) = enc_head 6 t w ++ enc i
+  pub encoded : Item → List ℕ
+  encoded (atom a) = encoded_atom a
+  encoded (array is w) = encoded_open 4 (item_count is) w ++ (encoded_items is ++ encoded_close w)
+  encoded (spec.map ps w) = encoded_open 5 (pair_count ps) w ++ (encoded_pairs ps ++ encoded_close w)
+  encoded (tagged t w i) = encoded_head 6 t w ++ encoded i
 
-  pub enc_items : Items → List ℕ
-  enc_items no_items = []
-  enc_items (item i is) = enc i ++ enc_items is
+  pub encoded_items : Items → List ℕ
+  encoded_items no_items = []
+  encoded_items (item i is) = encoded i ++ encoded_items is
 
-  pub enc_pairs : Pairs → List ℕ
-  enc_pairs no_pairs = []
-  enc_pairs (pair k v ps) = enc k ++ (enc v ++ enc_pairs ps)
+  pub encoded_pairs : Pairs → List ℕ
+  encoded_pairs no_pairs = []
+  encoded_pairs (pair k v ps) = encoded k ++ (encoded v ++ encoded_pairs ps)
 
 -- a string with the width that its length is written in
 abbrev pub resolve_chunk : Chunk → Chunk

@@ -1,2 +1,3 @@
 //! Printers.
 mod bytes;
+mod head;

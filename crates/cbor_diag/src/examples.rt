@@ -1,11 +1,11 @@
 //! What the definitions of `specs/` say of a few inputs: each is computed, or shown by a witness,
 //! when the crate is checked, so that a wrong definition does not pass. Nothing calls these functions.
 ghost use Rattle.std.specs.Prelude.{◌≡◌, [], ◌∷◌, ◌++◌, codes};
-ghost use Rattle.cbor_diag.specs.declared.error.Error.TheVariants.{Head, TooDeep};
+ghost use Rattle.cbor_diag.specs.declared.error.Error.TheVariants.{Head, Utf8, TooDeep};
 ghost use Rattle.cbor_diag.specs.declared.syntax.IntegerWidth.TheVariants.{Unknown, Eight, Sixteen};
 ghost use Rattle.cbor_diag.specs.Item.{atom, simple, integer};
-ghost use Rattle.cbor_diag.specs.WellFormed.{Well};
-ghost use Rattle.cbor_diag.specs.Written.{enc, enc_open, resolve};
+ghost use Rattle.cbor_diag.specs.WellFormed.{WellFormed};
+ghost use Rattle.cbor_diag.specs.Written.{encoded, encoded_open, resolve};
 ghost use Rattle.cbor_diag.specs.Bytes.{any, strict, Spells};
 ghost use Rattle.cbor_diag.specs.Refused.{Cut, Fault};
 ghost use Rattle.cbor_diag.specs.HexText.{strip};
@@ -13,12 +13,12 @@ ghost use Rattle.cbor_diag.specs.Examples.{small, uri, uri_bytes, three, open_ma
 
 /// Items in bytes. A count of 255 takes one byte, and a simple value below 24 takes no second one.
 pub(crate) fn written()
-    ensures tagged { enc uri ≡ uri_bytes }
-    ensures counted { enc three ≡ 0x98 ∷ 3 ∷ 1 ∷ 2 ∷ 3 ∷ [] }
-    ensures broken { enc open_map ≡ 0xbf ∷ 1 ∷ 2 ∷ 0xff ∷ [] }
-    ensures shortest { enc_open 4 255 (Some Unknown) ≡ 0x98 ∷ 0xff ∷ [] }
-    ensures one_byte { enc (atom (simple 20)) ≡ 0xf4 ∷ [] }
-    ensures two_bytes { enc (atom (simple 24)) ≡ 0xf8 ∷ 24 ∷ [] }
+    ensures tagged { encoded uri ≡ uri_bytes }
+    ensures counted { encoded three ≡ 0x98 ∷ 3 ∷ 1 ∷ 2 ∷ 3 ∷ [] }
+    ensures broken { encoded open_map ≡ 0xbf ∷ 1 ∷ 2 ∷ 0xff ∷ [] }
+    ensures shortest { encoded_open 4 255 (Some Unknown) ≡ 0x98 ∷ 0xff ∷ [] }
+    ensures one_byte { encoded (atom (simple 20)) ≡ 0xf4 ∷ [] }
+    ensures two_bytes { encoded (atom (simple 24)) ≡ 0xf8 ∷ 24 ∷ [] }
     ensures resolved { resolve open_count ≡ resolved_count }
 {}
 
@@ -43,16 +43,17 @@ pub(crate) fn cut()
 pub(crate) fn faults()
     ensures stray { Fault 1 (0xff ∷ []) Head }
     ensures value { Fault 1 (0xbf ∷ 1 ∷ 2 ∷ 3 ∷ 0xff ∷ []) Head }
+    ensures text { Fault 1 (0x61 ∷ 0xff ∷ []) Utf8 }
     ensures chunk { Fault 1 (0x5f ∷ 0x41 ∷ 1 ∷ 0x61 ∷ []) Head }
     ensures deep { Fault 129 (1 ∷ []) TooDeep }
 {}
 
 /// A number fits its width, or its item has no encoding.
 pub(crate) fn well_formed()
-    ensures fits { Well 1 (atom (integer 300 Sixteen)) }
-    ensures past { ¬ (Well 1 (atom (integer 300 Eight))) }
-    ensures deepest { Well 128 (small 1) }
-    ensures deeper { ¬ (Well 129 (small 1)) }
+    ensures fits { WellFormed 1 (atom (integer 300 Sixteen)) }
+    ensures past { ¬ (WellFormed 1 (atom (integer 300 Eight))) }
+    ensures deepest { WellFormed 128 (small 1) }
+    ensures deeper { ¬ (WellFormed 129 (small 1)) }
 {}
 
 /// What is kept of texts with comments, with line ends of both kinds, with carriage returns that end no

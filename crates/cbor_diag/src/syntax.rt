@@ -2,6 +2,7 @@
 mod clone;
 mod tags;
 mod well_formed;
+mod width;
 
 /// The deepest level that an item may stand at; the outermost stands at level 1.
 pub(crate) const DEEPEST: u8 = 128;

@@ -7,7 +7,7 @@ pub mod Base32Padding
 pub mod Base58Digits
 pub mod Base58Lemmas
 pub mod Base64Digits
-mod BaseExamples
+pub mod Blanks
 pub mod DateTexts
 pub mod DateTimeTexts
 pub mod DecodedLineLemmas
@@ -15,5 +15,6 @@ pub mod ElementLemmas
 pub mod Groups
 pub mod HexLemmas
 pub mod Moments
+pub mod OneColumn
 pub mod Places
-mod TextExamples
+pub mod Trees

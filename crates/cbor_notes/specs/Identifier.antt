@@ -1,12 +1,21 @@
 -- The texts of a UUID. RFC 4122, section 4.1, says where its variant and version stand.
 use Rattle.std.specs.Prelude.{ℕ, false, Option, Some, None, List, [], ◌∷◌, ◌++◌, slice_index, codes, decimal}
 use Rattle.base64.specs.Rfc4648.{encode}
-use Rattle.uuid.specs.Parts.{variant_name, variant_of, version_of}
+use Rattle.uuid.specs.Parts.{variant_of, version_of}
 use Rattle.uuid.specs.Text.{hyphenated_text, lower}
 use Rattle.uuid.specs.Uuid.{version_num}
+use Rattle.uuid.specs.declared.Variant.{Variant}
+use Rattle.uuid.specs.declared.Variant.TheVariants.{NCS, RFC4122, Microsoft, Future}
 use Rattle.uuid.specs.declared.Version.{Version}
 use Rattle.uuid.specs.declared.Version.TheVariants.{Nil, Mac, Dce, Md5, Random, Sha1, SortMac, SortRand, Custom, Max}
 use Rattle.cbor_notes.specs.Base58.{base58_of}
+
+-- the name of a variant
+abbrev pub variant_name : Variant → List ℕ
+variant_name NCS = codes "NCS"
+variant_name RFC4122 = codes "RFC4122"
+variant_name Microsoft = codes "Microsoft"
+variant_name Future = codes "Future"
 
 -- the name of a version: `Nil` and `Max` belong to one UUID each, and a version without a name is
 -- `Unknown`

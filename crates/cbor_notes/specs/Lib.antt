@@ -3,10 +3,15 @@ pub mod AreBytes
 pub mod Base32
 pub mod Base58
 pub mod Base64
+pub mod Columns
 pub mod Date
 pub mod DateTime
 pub mod DecodedLines
 pub mod Element
 pub mod Identifier
+pub mod Layout
+pub mod LayoutExamples
+pub mod LineTree
+pub mod TagNames
 pub mod Text
 pub mod Url

@@ -7,7 +7,7 @@ ghost use Rattle.cbor_notes.specs.Identifier as spec;
 use crate::base58_text::push_base58;
 use base64::engine::general_purpose::STANDARD_NO_PAD;
 use std::alloc::{AllocError, Global};
-use uuid::{Uuid, Version};
+use uuid::{Uuid, Variant, Version};
 
 /// Four texts of the UUID of sixteen bytes, as in
 ///
@@ -39,10 +39,21 @@ pub fn uuid_lines(alloc: Global, bytes: &[u8; 16]) -> Result<Vec<String>, AllocE
 fn fields_line(alloc: Global, uuid: Uuid) -> Result<String, AllocError>
     ensures text { IfOk result (λ line. string_bytes line ≡ spec.fields_line uuid) }
 {
-    let variant = uuid.get_variant();
+    let variant = variant_name(uuid.get_variant());
     let number = uuid.get_version_num();
     let name = version_name(uuid.get_version());
     format!(in alloc; "uuid(variant({variant}), version({number}, {name}))")
+}
+
+fn variant_name(variant: Variant) -> &'static str
+    ensures name { result.now ≡ spec.variant_name variant }
+{
+    match variant {
+        Variant::NCS => "NCS",
+        Variant::RFC4122 => "RFC4122",
+        Variant::Microsoft => "Microsoft",
+        Variant::Future => "Future",
+    }
 }
 
 fn version_name(version: Option<Version>) -> &'static str

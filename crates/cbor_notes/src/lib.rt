@@ -1,6 +1,6 @@
 //! Texts that stand in comments beside CBOR data, and that know nothing of CBOR: base 32, base 58 and
-//! base 64, numbers in groups, escaped bytes and texts, addresses, UUIDs, dates,
-//! URLs and the elements of typed arrays.
+//! base 64, numbers in groups, escaped bytes and texts, addresses, UUIDs, dates, URLs and the elements
+//! of typed arrays.
 //!
 //! A call that allocates takes an allocator first and answers `AllocError` where a growth was refused;
 //! every other answer depends on its arguments alone.
@@ -13,7 +13,10 @@ mod base64_text;
 mod date;
 mod datetime;
 mod element;
+mod examples;
 mod identifier;
+mod line;
+mod tags;
 mod text;
 mod url_text;
 
@@ -25,5 +28,7 @@ pub use date::{date_of_epoch, epoch_of_date};
 pub use datetime::{datetime_of_epoch, epoch_of_datetime};
 pub use element::{element_size, element_text};
 pub use identifier::uuid_lines;
-pub use text::{escaped_text, grouped, quoted_bytes};
+pub use line::{Line, merge, put_line};
+pub use tags::tag_name;
+pub use text::{escaped_text, grouped, push_escaped_text, push_grouped, push_quoted_bytes, quoted_bytes};
 pub use url_text::url_verdict;

@@ -3,10 +3,9 @@ use Rattle.std.specs.Prelude.{◌≡◌, ℕ, List, IsUtf8, Result, Ok, Err, ◌
 use Rattle.cbor_diag.specs.declared.error.Error.{Error}
 use Rattle.cbor_diag.specs.declared.error.Error.TheVariants as refusal
 use Rattle.cbor_diag.specs.Item.{Item}
-use Rattle.cbor_diag.specs.Bytes.{any, Spells}
-use Rattle.cbor_diag.specs.Answer.{IsRefused}
+use Rattle.cbor_diag.specs.Facts.{IsItem, IsNoItem}
 use Rattle.cbor_diag.specs.HexText.{IsHexOf, IsHexRefused}
-use Rattle.cbor_diag.specs.Written.{enc}
+use Rattle.cbor_diag.specs.Written.{encoded}
 use Rattle.cbor_view.specs.declared.words.Source.{Source}
 use Rattle.cbor_view.specs.declared.words.Source.TheVariants as source
 use Rattle.cbor_view.specs.declared.words.To.{To}
@@ -14,18 +13,18 @@ use Rattle.cbor_view.specs.declared.words.To.TheVariants as target
 
 -- the input, all of it, is this item in that form
 abbrev pub Reads : Source → List ℕ → Item → Type 0
-Reads source.Bytes input i = Spells any 1 input i
+Reads source.Bytes input i = IsItem input i
 Reads source.Hex input i = IsUtf8 input × IsHexOf input i
 
 -- why the input is no item in that form
 abbrev pub Refuses : Source → List ℕ → Error → Type 0
-Refuses source.Bytes input e = IsRefused 1 input e
+Refuses source.Bytes input e = IsNoItem input e
 Refuses source.Hex input e =
     (¬ IsUtf8 input × (e ≡ refusal.Utf8)) ⊎ (IsUtf8 input × IsHexRefused input e)
 
 -- what is written of an item in that form
 abbrev pub output_of : To → Item → List ℕ
-output_of target.Bytes i = enc i
+output_of target.Bytes i = encoded i
 
 -- the output for the input: the item that it is, in its form; or why it is none
 abbrev pub IsOutput : Source → To → List ℕ → Result (List ℕ) Error → Type 0

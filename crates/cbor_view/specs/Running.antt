@@ -5,7 +5,7 @@ use Rattle.cbor_diag.specs.declared.error.Error.{Error}
 use Rattle.cbor_diag.specs.declared.error.Error.TheVariants as refusal
 use Rattle.cbor_view.specs.declared.counted.Counted.{Counted}
 use Rattle.cbor_view.specs.declared.error.ViewError.{ViewError}
-use Rattle.cbor_view.specs.declared.error.ViewError.TheVariants as fault
+use Rattle.cbor_view.specs.declared.error.ViewError.TheVariants as view_error
 use Rattle.cbor_view.specs.Counting.{inner_of, failures_of, moved_none, one_more}
 
 -- these are all the bytes that the reader had, where it tells them
@@ -28,7 +28,8 @@ IsReadOut remaining input = (moved_none input ≡ true) × IsAtEnd (remaining (i
 -- a call failed, or none did and the last write was of at least one byte and took none
 abbrev pub Stops : {T : Type 0} → Counted T → Counted T → Type 0
 Stops old new =
-    (failures_of new ≡ one_more (failures_of old)) ⊎ ((failures_of new ≡ failures_of old) × (moved_none new ≡ true))
+    (failures_of new ≡ one_more (failures_of old))
+    ⊎ ((failures_of new ≡ failures_of old) × (moved_none new ≡ true))
 
 -- one failure more, or none
 abbrev pub failures_then : Bool → ℕ → ℕ
@@ -37,27 +38,27 @@ failures_then false n = n
 
 -- a fact for the refusal of an item
 abbrev pub OnRefusal : {X : Type 0} → Result X ViewError → (Error → Type 0) → Type 0
-OnRefusal (Err (fault.Item e)) P = P e
+OnRefusal (Err (view_error.Item e)) P = P e
 OnRefusal _ P = ⊤
 
 -- whether a read failed
-abbrev pub is_read_fault : {X : Type 0} → Result X ViewError → Bool
-is_read_fault (Err fault.Read) = true
-is_read_fault _ = false
+abbrev pub is_read_error : {X : Type 0} → Result X ViewError → Bool
+is_read_error (Err view_error.Read) = true
+is_read_error _ = false
 
 -- whether a write failed, or took nothing
-abbrev pub is_write_fault : {X : Type 0} → Result X ViewError → Bool
-is_write_fault (Err fault.Write) = true
-is_write_fault _ = false
+abbrev pub is_write_error : {X : Type 0} → Result X ViewError → Bool
+is_write_error (Err view_error.Write) = true
+is_write_error _ = false
 
 -- a fact for every end but a read that failed and want of memory
 abbrev pub OnReadOut : {X : Type 0} → Result X ViewError → Type 0 → Type 0
-OnReadOut (Err fault.Read) P = ⊤
-OnReadOut (Err (fault.Item refusal.Memory)) P = ⊤
+OnReadOut (Err view_error.Read) P = ⊤
+OnReadOut (Err (view_error.Item refusal.Memory)) P = ⊤
 OnReadOut _ P = P
 
 -- a fact for the refusal of an item and for a read that failed
 abbrev pub OnUnwritten : {X : Type 0} → Result X ViewError → Type 0 → Type 0
-OnUnwritten (Err (fault.Item e)) P = P
-OnUnwritten (Err fault.Read) P = P
+OnUnwritten (Err (view_error.Item e)) P = P
+OnUnwritten (Err view_error.Read) P = P
 OnUnwritten _ P = ⊤

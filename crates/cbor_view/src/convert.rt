@@ -1,7 +1,7 @@
 //! From the bytes of an input to the bytes of its output.
 ghost use Rattle.std.specs.Prelude.{◌≡◌, Ok, Err, IfOk, IfErr};
 ghost use Rattle.cbor_diag.specs.View.{view};
-ghost use Rattle.cbor_diag.specs.WellFormed.{Well};
+ghost use Rattle.cbor_diag.specs.Facts.{IsWellFormed};
 ghost use Rattle.cbor_diag.specs.Answer.{RefusedSo};
 ghost use Rattle.cbor_view.specs.Output.{Reads, Refuses, output_of, IsOutput};
 
@@ -21,7 +21,7 @@ pub(crate) fn convert(alloc: Global, from: Source, to: To, input: &[u8]) -> Resu
 fn read_item(alloc: Global, from: Source, input: &[u8]) -> Result<DataItem, Error>
     ensures item { IfOk result (λ item. Reads from input.now (view item)) }
     ensures refused { RefusedSo result (Refuses from input.now) }
-    ensures well_formed { IfOk result (λ item. Well 1 (view item)) }
+    ensures well_formed { IfOk result (λ item. IsWellFormed (view item)) }
 {
     match from {
         Source::Bytes => parse_bytes(alloc, input),
@@ -32,8 +32,9 @@ fn read_item(alloc: Global, from: Source, input: &[u8]) -> Result<DataItem, Erro
     }
 }
 
-fn write_item(alloc: Global, to: To, item: &DataItem) -> Result<Vec<u8>, Error>
-    requires { Well 1 (view item.now) }
+/// The output of an item.
+pub(crate) fn write_item(alloc: Global, to: To, item: &DataItem) -> Result<Vec<u8>, Error>
+    requires { IsWellFormed (view item.now) }
     ensures written { IfOk result (λ output. output.items ≡ output_of to (view item.now)) }
     ensures memory { IfErr result (λ e. e ≡ Error.Memory) }
 {

@@ -5,7 +5,7 @@ ghost use Rattle.std.specs.Io.KnownBytes.{Consumes};
 ghost use Rattle.cbor_diag.specs.declared.error.Error.TheVariants as refusal;
 ghost use Rattle.cbor_view.specs.Counting.{inner_of, failures_of};
 ghost use Rattle.cbor_view.specs.Output.{IsOutput};
-ghost use Rattle.cbor_view.specs.Running.{HadAll, Gains, GainsPart, IsReadOut, Stops, OnRefusal, OnReadOut, OnUnwritten, is_read_fault, is_write_fault, failures_then};
+ghost use Rattle.cbor_view.specs.Running.{HadAll, Gains, GainsPart, IsReadOut, Stops, OnRefusal, OnReadOut, OnUnwritten, is_read_error, is_write_error, failures_then};
 
 use crate::convert::convert;
 use crate::counted::Counted;
@@ -36,7 +36,7 @@ pub fn run<R: Read, W: Write>(
         × HadAll R.remaining input.old all × IsOutput from to all (Err e)) }
 
     // Where a write failed, a beginning of the output was written, and nothing else.
-    ensures write { OnTrue (is_write_fault result) ((all bytes : List ℕ)
+    ensures write { OnTrue (is_write_error result) ((all bytes : List ℕ)
         × HadAll R.remaining input.old all × IsOutput from to all (Ok bytes)
         × GainsPart W.contents output.old output.new bytes) }
 
@@ -48,8 +48,8 @@ pub fn run<R: Read, W: Write>(
 
     // Any call that fails ends the run.
     ensures read_failures { failures_of input.new
-        ≡ failures_then (is_read_fault result) (failures_of input.old) }
-    ensures write_failures { MatchBool (is_write_fault result) (Stops output.old output.new)
+        ≡ failures_then (is_read_error result) (failures_of input.old) }
+    ensures write_failures { MatchBool (is_write_error result) (Stops output.old output.new)
         (failures_of output.new ≡ failures_of output.old) }
 {
     let all = read_to_end(alloc, input)?;
@@ -59,12 +59,15 @@ pub fn run<R: Read, W: Write>(
 }
 
 /// All that the reader has.
-fn read_to_end<R: Read>(alloc: Global, input: &mut Counted<R>) -> Result<Vec<u8>, ViewError>
+pub(crate) fn read_to_end<R: Read>(
+    alloc: Global,
+    input: &mut Counted<R>,
+) -> Result<Vec<u8>, ViewError>
     ensures all { IfOk result (λ bytes. HadAll R.remaining input.old bytes.items) }
     ensures read_out { OnOk result (IsReadOut R.remaining input.new) }
     ensures failures { failures_of input.new
-        ≡ failures_then (is_read_fault result) (failures_of input.old) }
-    ensures fault { IfErr result (λ e. (e ≡ ViewError.Read) ⊎ (e ≡ ViewError.Item refusal.Memory)) }
+        ≡ failures_then (is_read_error result) (failures_of input.old) }
+    ensures error { IfErr result (λ e. (e ≡ ViewError.Read) ⊎ (e ≡ ViewError.Item refusal.Memory)) }
 {
     let mut bytes = Vec::new(alloc);
     let mut filled = 0;
@@ -104,8 +107,8 @@ fn read_after<R: Read>(
         (R.remaining (inner_of input.new)) (take count (drop filled bytes.new))) }
     ensures end { IfOk result (λ count. count ≡ 0 → IsReadOut R.remaining input.new) }
     ensures failures { failures_of input.new
-        ≡ failures_then (is_read_fault result) (failures_of input.old) }
-    ensures fault { IfErr result (λ e. e ≡ ViewError.Read) }
+        ≡ failures_then (is_read_error result) (failures_of input.old) }
+    ensures error { IfErr result (λ e. e ≡ ViewError.Read) }
 {
     match input.read(&mut bytes[filled..]) {
         Ok(count) => Ok(count),
@@ -114,12 +117,12 @@ fn read_after<R: Read>(
 }
 
 /// Writes all of the bytes, or a beginning of them.
-fn write_whole<W: Write>(output: &mut Counted<W>, bytes: &[u8]) -> Result<(), ViewError>
+pub(crate) fn write_whole<W: Write>(output: &mut Counted<W>, bytes: &[u8]) -> Result<(), ViewError>
     ensures ok { OnOk result (Gains W.contents output.old output.new bytes.now) }
     ensures part { OnErr result (GainsPart W.contents output.old output.new bytes.now) }
-    ensures failures { MatchBool (is_write_fault result) (Stops output.old output.new)
+    ensures failures { MatchBool (is_write_error result) (Stops output.old output.new)
         (failures_of output.new ≡ failures_of output.old) }
-    ensures fault { IfErr result (λ e. e ≡ ViewError.Write) }
+    ensures error { IfErr result (λ e. e ≡ ViewError.Write) }
 {
     let mut written = 0;
     while written < bytes.len() {

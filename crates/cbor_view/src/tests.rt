@@ -23,11 +23,11 @@ d8 20                                        # uri, tag(32)
 
 /// Reads by one byte a call, and fails at one of its calls, counted from 1.
 #[derive(Drop)]
-struct Dripping<'a> {
-    bytes: &'a [u8],
-    calls: usize,
-    failing: usize,
-    kind: ErrorKind,
+pub(crate) struct Dripping<'a> {
+    pub(crate) bytes: &'a [u8],
+    pub(crate) calls: usize,
+    pub(crate) failing: usize,
+    pub(crate) kind: ErrorKind,
 }
 
 impl Read for Dripping<'_> {
@@ -43,11 +43,11 @@ impl Read for Dripping<'_> {
 
 /// Takes one byte a call, and fails at one of its calls, counted from 1.
 #[derive(Drop)]
-struct Sipping {
-    bytes: Vec<u8>,
-    calls: usize,
-    failing: usize,
-    kind: ErrorKind,
+pub(crate) struct Sipping {
+    pub(crate) bytes: Vec<u8>,
+    pub(crate) calls: usize,
+    pub(crate) failing: usize,
+    pub(crate) kind: ErrorKind,
 }
 
 impl Write for Sipping {
@@ -67,7 +67,7 @@ impl Write for Sipping {
 
 /// Takes nothing, and can't be flushed.
 #[derive(Drop)]
-struct Full;
+pub(crate) struct Full;
 
 impl Write for Full {
     fn write(&mut self, _buf: &[u8]) -> io::Result<usize> {
@@ -76,6 +76,48 @@ impl Write for Full {
 
     fn flush(&mut self) -> io::Result<()> {
         Err(io::Error::from(ErrorKind::StorageFull))
+    }
+}
+
+/// Keeps what each read or write was asked for, in their order, and counts the flushes.
+#[derive(Drop)]
+struct Noting {
+    asked: Vec<usize>,
+    written: Vec<u8>,
+    flushes: usize,
+}
+
+impl Noting {
+    fn new(alloc: Global) -> Noting {
+        Noting {
+            asked: Vec::new(alloc),
+            written: Vec::new(alloc),
+            flushes: 0,
+        }
+    }
+}
+
+impl Read for Noting {
+    fn read(&mut self, buf: &mut [u8]) -> io::Result<usize> {
+        self.asked
+            .push(buf.len())
+            .map_err(|_| io::Error::from(ErrorKind::OutOfMemory))?;
+        buf.fill(7);
+        Ok(buf.len())
+    }
+}
+
+impl Write for Noting {
+    fn write(&mut self, buf: &[u8]) -> io::Result<usize> {
+        self.asked
+            .push(buf.len())
+            .map_err(|_| io::Error::from(ErrorKind::OutOfMemory))?;
+        self.written.write(buf)
+    }
+
+    fn flush(&mut self) -> io::Result<()> {
+        self.flushes = self.flushes.saturating_add(1);
+        Ok(())
     }
 }
 
@@ -272,6 +314,32 @@ fn ends_at_a_writer_that_takes_nothing(rt: HostRuntime) {
     );
     assert_eq!(rt; end, Err(ViewError::Write));
     assert_eq!(rt; output.failures(), 0);
+}
+
+#[test]
+fn hands_each_read_on_whole_and_once(rt: HostRuntime) {
+    let mut input = Counted::new(Noting::new(rt.alloc()));
+    let mut buf = [0u8; 5];
+    assert_eq!(rt; input.read(&mut buf[..3]).ok(), Some(3));
+    assert_eq!(rt; buf, [7, 7, 7, 0, 0]);
+    assert_eq!(rt; input.read(&mut buf).ok(), Some(5));
+    assert_eq!(rt; buf, [7; 5]);
+    assert_eq!(rt; input.read(&mut []).ok(), Some(0));
+    assert_eq!(rt; input.into_inner().asked.as_slice(), [3, 5, 0].as_slice());
+}
+
+#[test]
+fn hands_each_write_and_flush_on_whole_and_once(rt: HostRuntime) {
+    let mut output = Counted::new(Noting::new(rt.alloc()));
+    assert_eq!(rt; output.write(b"abc").ok(), Some(3));
+    assert!(rt; output.flush().is_ok());
+    assert_eq!(rt; output.write(b"de").ok(), Some(2));
+    assert_eq!(rt; output.write(b"").ok(), Some(0));
+    assert!(rt; output.flush().is_ok());
+    let noted = output.into_inner();
+    assert_eq!(rt; noted.asked.as_slice(), [3, 2, 0].as_slice());
+    assert_eq!(rt; noted.written.as_slice(), b"abcde".as_slice());
+    assert_eq!(rt; noted.flushes, 2);
 }
 
 #[test]

@@ -6,19 +6,18 @@
 mod head;
 mod strings;
 
-ghost use Rattle.std.specs.Prelude.{◌≡◌, ◌≢◌, ℕ, ◌-◌, ◌<◌, ◌≤◌, List, ◌++◌, length, take, ◌↔◌, IfOk, IfSome, OnOk, option_map};
+ghost use Rattle.std.specs.Prelude.{◌≡◌, ◌≢◌, ℕ, ◌+◌, ◌-◌, ◌<◌, ◌≤◌, List, ◌++◌, length, take, ◌↔◌, IfOk, IfSome, OnOk, option_map};
 ghost use Rattle.cbor_diag.specs.Item.{Item};
-ghost use Rattle.cbor_diag.specs.Bytes.{any, strict, Spells};
-ghost use Rattle.cbor_diag.specs.Refused.{Cut, Fault};
 ghost use Rattle.cbor_diag.specs.View.{view, items_view, pairs_view};
-ghost use Rattle.cbor_diag.specs.WellFormed.{Well};
-ghost use Rattle.cbor_diag.specs.Written.{enc};
-ghost use Rattle.cbor_diag.specs.Answer.{Outcome, spelled, IsOutcome, OneOutcome, HasOutcome, HasAnswer, Gave, GaveItem, GaveRefusal, IsRefused, RefusedSo, MayWantMemory, size};
+ghost use Rattle.cbor_diag.specs.WellFormed.{deepest};
+ghost use Rattle.cbor_diag.specs.Written.{encoded};
+ghost use Rattle.cbor_diag.specs.Answer.{Outcome, spelled, HasOutcome, HasAnswer, Gave, GaveItem, GaveRefusal, RefusedSo, MayWantMemory, size};
+ghost use Rattle.cbor_diag.specs.Facts.{IsItem, IsStrictItem, BeginsWithItem, IsCut, HasFault, IsNoItem, BeginsSo, BeginsInOneWay, IsWellFormed};
 ghost use Rattle.cbor_diag.specs.Reading.{Gives, HoldsContent, break_at, too_deep_at, item_at, body_at, items_at, pair_at, pairs_at, open_items_at, open_pairs_at};
 
 use crate::error::{Error, Result};
 use crate::syntax::{DEEPEST, DataItem, Simple, Tag};
-use head::{Head, head_at};
+use head::{ItemHead, head_at};
 use std::alloc::Global;
 use strings::{byte_chunks_at, bytes_at, text_at, text_chunks_at};
 
@@ -47,8 +46,8 @@ fn no_level_left(bytes: &[u8]) -> Error
 /// The item at the front, which stands at `level`, from 1 to 129. At level 129 no item can stand.
 #[cycle(item)]
 fn item_at(alloc: Global, bytes: &[u8], level: u8) -> Result<(DataItem, &[u8])>
-    requires { level ≤ 129 }
-    ensures gives { Gives (λ x. (view x.0, x.1.now)) result (item_at (129 - level) bytes.now) }
+    requires { level ≤ deepest + 1 }
+    ensures gives { Gives (λ x. (view x.0, x.1.now)) result (item_at (deepest + 1 - level) bytes.now) }
     ensures shorter { IfOk result (λ x. length x.1.now < length bytes.now) }
     ensures memory { result ≡ Err Error.Memory → MayWantMemory bytes.now }
 {
@@ -61,35 +60,35 @@ fn item_at(alloc: Global, bytes: &[u8], level: u8) -> Result<(DataItem, &[u8])>
 
 /// The item behind its head; the items in it stand at `inner`, from 2 to 129.
 #[cycle(item)]
-fn body_at(alloc: Global, head: Head, bytes: &[u8], inner: u8) -> Result<(DataItem, &[u8])>
-    requires { inner ≤ 129 }
+fn body_at(alloc: Global, head: ItemHead, bytes: &[u8], inner: u8) -> Result<(DataItem, &[u8])>
+    requires { inner ≤ deepest + 1 }
     ensures gives { Gives (λ x. (view x.0, x.1.now)) result
-        (body_at (item_at (129 - inner)) head bytes.now) }
+        (body_at (item_at (deepest + 1 - inner)) head bytes.now) }
     ensures shorter { IfOk result (λ x. length x.1.now ≤ length bytes.now) }
     ensures memory { result ≡ Err Error.Memory → HoldsContent head }
 {
     match head {
-        Head::Integer(value, bitwidth) => Ok((DataItem::Integer { value, bitwidth }, bytes)),
-        Head::Negative(value, bitwidth) => Ok((DataItem::Negative { value, bitwidth }, bytes)),
-        Head::Bytes(count, bitwidth) => {
+        ItemHead::Integer(value, bitwidth) => Ok((DataItem::Integer { value, bitwidth }, bytes)),
+        ItemHead::Negative(value, bitwidth) => Ok((DataItem::Negative { value, bitwidth }, bytes)),
+        ItemHead::Bytes(count, bitwidth) => {
             let (string, rest) = bytes_at(alloc, count, bitwidth, bytes)?;
             Ok((DataItem::ByteString(string), rest))
         }
-        Head::Text(count, bitwidth) => {
+        ItemHead::Text(count, bitwidth) => {
             let (string, rest) = text_at(alloc, count, bitwidth, bytes)?;
             Ok((DataItem::TextString(string), rest))
         }
-        Head::Array(count, width) => {
+        ItemHead::Array(count, width) => {
             let (content, rest) = items_at(alloc, count, bytes, inner)?;
             let bitwidth = Some(width);
             Ok((DataItem::Array { content, bitwidth }, rest))
         }
-        Head::Map(count, width) => {
+        ItemHead::Map(count, width) => {
             let (content, rest) = pairs_at(alloc, count, bytes, inner)?;
             let bitwidth = Some(width);
             Ok((DataItem::Map { content, bitwidth }, rest))
         }
-        Head::Tag(number, bitwidth) => {
+        ItemHead::Tag(number, bitwidth) => {
             let (value, rest) = item_at(alloc, bytes, inner)?;
             let (tag, value) = (Tag(number), Box::new(alloc, value)?);
             Ok((
@@ -101,36 +100,36 @@ fn body_at(alloc: Global, head: Head, bytes: &[u8], inner: u8) -> Result<(DataIt
                 rest,
             ))
         }
-        Head::Float(bits, bitwidth) => Ok((DataItem::Float { bits, bitwidth }, bytes)),
-        Head::Simple(value) => Ok((DataItem::Simple(Simple(value)), bytes)),
-        Head::OpenBytes => {
+        ItemHead::Float(bits, bitwidth) => Ok((DataItem::Float { bits, bitwidth }, bytes)),
+        ItemHead::Simple(value) => Ok((DataItem::Simple(Simple(value)), bytes)),
+        ItemHead::OpenBytes => {
             let (chunks, rest) = byte_chunks_at(alloc, bytes)?;
             Ok((DataItem::IndefiniteByteString(chunks), rest))
         }
-        Head::OpenText => {
+        ItemHead::OpenText => {
             let (chunks, rest) = text_chunks_at(alloc, bytes)?;
             Ok((DataItem::IndefiniteTextString(chunks), rest))
         }
-        Head::OpenArray => {
+        ItemHead::OpenArray => {
             let (content, rest) = open_items_at(alloc, bytes, inner)?;
             let bitwidth = None;
             Ok((DataItem::Array { content, bitwidth }, rest))
         }
-        Head::OpenMap => {
+        ItemHead::OpenMap => {
             let (content, rest) = open_pairs_at(alloc, bytes, inner)?;
             let bitwidth = None;
             Ok((DataItem::Map { content, bitwidth }, rest))
         }
-        Head::Break => Err(Error::Head),
+        ItemHead::Break => Err(Error::Head),
     }
 }
 
 /// So many items, one after the other.
 #[cycle(item)]
 fn items_at(alloc: Global, count: u64, bytes: &[u8], level: u8) -> Result<(Vec<DataItem>, &[u8])>
-    requires { level ≤ 129 }
+    requires { level ≤ deepest + 1 }
     ensures gives { Gives (λ x. (items_view x.0.items, x.1.now)) result
-        (items_at (item_at (129 - level)) count bytes.now) }
+        (items_at (item_at (deepest + 1 - level)) count bytes.now) }
     ensures shorter { IfOk result (λ x. length x.1.now ≤ length bytes.now) }
 {
     let mut items = Vec::new(alloc);
@@ -151,9 +150,9 @@ fn pairs_at(
     bytes: &[u8],
     level: u8,
 ) -> Result<(Vec<(DataItem, DataItem)>, &[u8])>
-    requires { level ≤ 129 }
+    requires { level ≤ deepest + 1 }
     ensures gives { Gives (λ x. (pairs_view x.0.items, x.1.now)) result
-        (pairs_at (item_at (129 - level)) count bytes.now) }
+        (pairs_at (item_at (deepest + 1 - level)) count bytes.now) }
     ensures shorter { IfOk result (λ x. length x.1.now ≤ length bytes.now) }
 {
     let mut pairs = Vec::new(alloc);
@@ -169,9 +168,9 @@ fn pairs_at(
 /// A key and then its value.
 #[cycle(item)]
 fn pair_at(alloc: Global, bytes: &[u8], level: u8) -> Result<((DataItem, DataItem), &[u8])>
-    requires { level ≤ 129 }
+    requires { level ≤ deepest + 1 }
     ensures gives { Gives (λ x. ((view x.0.0, view x.0.1), x.1.now)) result
-        (pair_at (item_at (129 - level)) bytes.now) }
+        (pair_at (item_at (deepest + 1 - level)) bytes.now) }
     ensures shorter { IfOk result (λ x. length x.1.now < length bytes.now) }
 {
     let (key, rest) = item_at(alloc, bytes, level)?;
@@ -182,9 +181,9 @@ fn pair_at(alloc: Global, bytes: &[u8], level: u8) -> Result<((DataItem, DataIte
 /// The items up to a break.
 #[cycle(item)]
 fn open_items_at(alloc: Global, bytes: &[u8], level: u8) -> Result<(Vec<DataItem>, &[u8])>
-    requires { level ≤ 129 }
+    requires { level ≤ deepest + 1 }
     ensures gives { Gives (λ x. (items_view x.0.items, x.1.now)) result
-        (open_items_at (item_at (129 - level)) (length bytes.now) bytes.now) }
+        (open_items_at (item_at (deepest + 1 - level)) (length bytes.now) bytes.now) }
     ensures shorter { IfOk result (λ x. length x.1.now ≤ length bytes.now) }
 {
     let mut items = Vec::new(alloc);
@@ -206,9 +205,9 @@ fn open_pairs_at(
     bytes: &[u8],
     level: u8,
 ) -> Result<(Vec<(DataItem, DataItem)>, &[u8])>
-    requires { level ≤ 129 }
+    requires { level ≤ deepest + 1 }
     ensures gives { Gives (λ x. (pairs_view x.0.items, x.1.now)) result
-        (open_pairs_at (item_at (129 - level)) (length bytes.now) bytes.now) }
+        (open_pairs_at (item_at (deepest + 1 - level)) (length bytes.now) bytes.now) }
     ensures shorter { IfOk result (λ x. length x.1.now ≤ length bytes.now) }
 {
     let mut pairs = Vec::new(alloc);
@@ -227,7 +226,7 @@ fn open_pairs_at(
 /// `None` where the bytes end before the item does.
 fn front_at(alloc: Global, bytes: &[u8], level: u8) -> Result<Option<(DataItem, usize)>>
     requires from { 1 ≤ level }
-    requires to { level ≤ 129 }
+    requires to { level ≤ deepest + 1 }
     ensures outcome { HasOutcome level bytes.now result }
     ensures memory { result ≡ Err Error.Memory → MayWantMemory bytes.now }
 {
@@ -243,7 +242,7 @@ fn front_at(alloc: Global, bytes: &[u8], level: u8) -> Result<Option<(DataItem, 
 /// The one item that the bytes are, all of them, read from `level`.
 fn whole_at(alloc: Global, bytes: &[u8], level: u8) -> Result<DataItem>
     requires from { 1 ≤ level }
-    requires to { level ≤ 129 }
+    requires to { level ≤ deepest + 1 }
     ensures answer { HasAnswer level bytes.now result }
     ensures memory { result ≡ Err Error.Memory → MayWantMemory bytes.now }
 {
@@ -261,16 +260,23 @@ fn whole_at(alloc: Global, bytes: &[u8], level: u8) -> Result<DataItem>
 /// count takes no memory; an input that is empty, or whose first byte has major type 0, 1 or 7, takes
 /// none at all.
 pub fn parse_bytes(alloc: Global, bytes: &[u8]) -> Result<DataItem>
-    ensures ok { IfOk result (λ i. Spells any 1 bytes.now (view i)) }
-    ensures every_item { (i : Item) → Spells any 1 bytes.now i → GaveItem result i }
-    ensures refused { RefusedSo result (IsRefused 1 bytes.now) }
-    ensures every_refusal { (e : Error) → IsRefused 1 bytes.now e → GaveRefusal result e }
+    // The item that the bytes are, exactly where they are one.
+    ensures ok { IfOk result (λ i. IsItem bytes.now (view i)) }
+    ensures every_item { (i : Item) → IsItem bytes.now i → GaveItem result i }
+
+    // Each refusal, exactly where it is true.
+    ensures refused { RefusedSo result (IsNoItem bytes.now) }
+    ensures every_refusal { (e : Error) → IsNoItem bytes.now e → GaveRefusal result e }
+
+    // Memory, only where the first byte opens what needs some.
     ensures memory { result ≡ Err Error.Memory → MayWantMemory bytes.now }
-    ensures well_formed { IfOk result (λ i. Well 1 (view i)) }
+
+    // What else is known of an item that was read.
+    ensures well_formed { IfOk result (λ i. IsWellFormed (view i)) }
     ensures written_again { IfOk result (λ i.
-        (enc (view i) ≡ bytes.now) ↔ Spells strict 1 bytes.now (view i)) }
+        (encoded (view i) ≡ bytes.now) ↔ IsStrictItem bytes.now (view i)) }
     ensures items_bounded { IfOk result (λ i. size (view i) ≤ length bytes.now) }
-    ensures fronts_cut { OnOk result ((n : ℕ) → n < length bytes.now → Cut 1 (take n bytes.now)) }
+    ensures fronts_cut { OnOk result ((n : ℕ) → n < length bytes.now → IsCut (take n bytes.now)) }
 {
     whole_at(alloc, bytes, 1)
 }
@@ -282,16 +288,24 @@ pub fn parse_bytes(alloc: Global, bytes: &[u8]) -> Result<DataItem>
 /// Refuses with the first fault from the left: `Head`, `Utf8` or `TooDeep`. Memory is taken as by
 /// `parse_bytes`.
 pub fn parse_bytes_partial(alloc: Global, bytes: &[u8]) -> Result<Option<(DataItem, usize)>>
+    // Each of the three answers, only where it is true.
     ensures found { IfOk result (λ o. IfSome o (λ x.
-        (1 ≤ x.1) × (x.1 ≤ length bytes.now) × Spells any 1 (take x.1 bytes.now) (view x.0))) }
-    ensures cut { result ≡ Ok None → Cut 1 bytes.now }
-    ensures fault { RefusedSo result (Fault 1 bytes.now) }
-    ensures exact { (o : Outcome) → IsOutcome 1 bytes.now o → Gave result o }
-    ensures one_of_three { OneOutcome 1 bytes.now }
-    ensures well_formed { IfOk result (λ o. IfSome o (λ x. Well 1 (view x.0))) }
-    ensures fault_stays { RefusedSo result (λ e. (more : List ℕ) → Fault 1 (bytes.now ++ more) e) }
+        BeginsWithItem bytes.now (view x.0) x.1)) }
+    ensures cut { result ≡ Ok None → IsCut bytes.now }
+    ensures fault { RefusedSo result (HasFault bytes.now) }
+
+    // Bytes begin in exactly one of the three ways, and that is the one answered.
+    ensures exact { (o : Outcome) → BeginsSo bytes.now o → Gave result o }
+    ensures one_of_three { BeginsInOneWay bytes.now }
+
+    // Bytes that come later change no item and no fault.
     ensures found_stays { IfOk result (λ o. IfSome o (λ x.
-        (more : List ℕ) → IsOutcome 1 (bytes.now ++ more) (spelled (view x.0) x.1))) }
+        (more : List ℕ) → BeginsSo (bytes.now ++ more) (spelled (view x.0) x.1))) }
+    ensures fault_stays { RefusedSo result (λ e.
+        (more : List ℕ) → HasFault (bytes.now ++ more) e) }
+
+    // The item has an encoding, and memory is wanted as by `parse_bytes`.
+    ensures well_formed { IfOk result (λ o. IfSome o (λ x. IsWellFormed (view x.0))) }
     ensures memory { result ≡ Err Error.Memory → MayWantMemory bytes.now }
 {
     front_at(alloc, bytes, 1)

@@ -6,9 +6,9 @@ ghost use Rattle.std.specs.List.{AllPass};
 ghost use Rattle.hex.specs.Hex.{decode_of, is_hex_digit};
 ghost use Rattle.cbor_diag.specs.Item.{Item};
 ghost use Rattle.cbor_diag.specs.View.{view};
-ghost use Rattle.cbor_diag.specs.WellFormed.{Well};
+ghost use Rattle.cbor_diag.specs.Facts.{IsWellFormed};
 ghost use Rattle.cbor_diag.specs.Answer.{GaveItem, GaveRefusal, RefusedSo};
-ghost use Rattle.cbor_diag.specs.HexText.{kept, strip, IsHexOf, IsHexRefused};
+ghost use Rattle.cbor_diag.specs.HexText.{uncommented, strip, IsHexOf, IsHexRefused};
 
 use super::binary::parse_bytes;
 use crate::error::Error;
@@ -17,9 +17,9 @@ use hex::FromHexError;
 use std::alloc::{AllocError, Global};
 
 /// Writes what is kept of a line: the bytes before its first `#`, without spaces.
-#[tactic(auto, using(crate::proofs::HexLines::kept_steps))]
-fn push_kept(out: &mut Vec<u8>, line: &[u8]) -> Result<(), AllocError>
-    ensures { OnOk result (out.new.items ≡ out.old.items ++ kept line.now) }
+#[tactic(auto, using(crate::proofs::HexLines::uncommented_steps))]
+fn push_uncommented(out: &mut Vec<u8>, line: &[u8]) -> Result<(), AllocError>
+    ensures { OnOk result (out.new.items ≡ out.old.items ++ uncommented line.now) }
 {
     'line: for byte in line {
         if *byte == b'#' {
@@ -38,7 +38,7 @@ fn strip(alloc: Global, text: &str) -> Result<Vec<u8>, AllocError>
 {
     let mut digits = Vec::with_capacity(alloc, text.len())?;
     'lines: for line in text.lines() {
-        push_kept(&mut digits, line.as_bytes())?;
+        push_uncommented(&mut digits, line.as_bytes())?;
     }
     Ok(digits)
 }
@@ -73,7 +73,7 @@ pub fn parse_hex(alloc: Global, hex: &str) -> crate::Result<DataItem>
     ensures every_item { (i : Item) → IsHexOf hex.now i → GaveItem result i }
     ensures refused { RefusedSo result (IsHexRefused hex.now) }
     ensures every_refusal { (e : Error) → IsHexRefused hex.now e → GaveRefusal result e }
-    ensures well_formed { IfOk result (λ i. Well 1 (view i)) }
+    ensures well_formed { IfOk result (λ i. IsWellFormed (view i)) }
 {
     let digits = strip(alloc, hex)?;
     let bytes = decode(alloc, digits)?;

@@ -1,49 +1,12 @@
 //! Whether an item has an encoding: each number fits its width, and no level is deeper than 128.
 ghost use Rattle.std.specs.Prelude.{◌↔◌, IsTrue, map};
 ghost use Rattle.std.specs.List.{AllByRecursion};
-ghost use Rattle.cbor_diag.specs.Head.{FitsWidth};
 ghost use Rattle.cbor_diag.specs.View.{view, items_view, pairs_view, byte_chunk, text_chunk};
-ghost use Rattle.cbor_diag.specs.WellFormed.{Well, WellItems, WellPairs, FitsFloat, FitsCount, IsByteChunk, IsTextChunk};
+ghost use Rattle.cbor_diag.specs.Facts.{IsWellFormed};
+ghost use Rattle.cbor_diag.specs.WellFormed.{WellFormed, WellFormedItems, WellFormedPairs, IsByteChunk, IsTextChunk};
 
-use super::{ByteString, DEEPEST, DataItem, FloatWidth, IntegerWidth, TextString};
-
-impl IntegerWidth {
-    /// Whether the number can be written in this width; an open width takes any.
-    fn fits(self, number: u64) -> bool
-        ensures { IsTrue result ↔ FitsWidth self number }
-    {
-        match self {
-            IntegerWidth::Zero => number < 24,
-            IntegerWidth::Eight => number <= 0xff,
-            IntegerWidth::Sixteen => number <= 0xffff,
-            IntegerWidth::ThirtyTwo => number <= 0xffff_ffff,
-            IntegerWidth::Unknown | IntegerWidth::SixtyFour => true,
-        }
-    }
-}
-
-impl FloatWidth {
-    /// Whether the bits of a float can be written in this width; an open width takes 64 bits.
-    fn fits(self, bits: u64) -> bool
-        ensures { IsTrue result ↔ FitsFloat self bits }
-    {
-        match self {
-            FloatWidth::Sixteen => bits <= 0xffff,
-            FloatWidth::ThirtyTwo => bits <= 0xffff_ffff,
-            FloatWidth::Unknown | FloatWidth::SixtyFour => true,
-        }
-    }
-}
-
-/// Whether a count fits its width; an indefinite length has none to fit.
-fn count_fits(width: Option<IntegerWidth>, count: usize) -> bool
-    ensures { IsTrue result ↔ FitsCount width count }
-{
-    match width {
-        Some(width) => width.fits(count as u64),
-        None => true,
-    }
-}
+use super::width::count_fits;
+use super::{ByteString, DEEPEST, DataItem, TextString};
 
 impl ByteString {
     /// Whether the length fits its width.
@@ -81,9 +44,9 @@ fn text_chunks_fit(chunks: &[TextString]) -> bool
 
 /// Whether an item that stands at this level is well formed; what stands past the deepest level is
 /// not looked at.
-#[cycle(well)]
-fn well_at(item: &DataItem, level: u8) -> bool
-    ensures { IsTrue result ↔ Well level (view item.now) }
+#[cycle(well_formed)]
+fn well_formed_at(item: &DataItem, level: u8) -> bool
+    ensures { IsTrue result ↔ WellFormed level (view item.now) }
 {
     if level > DEEPEST {
         return false;
@@ -97,16 +60,16 @@ fn well_at(item: &DataItem, level: u8) -> bool
         DataItem::IndefiniteByteString(chunks) => byte_chunks_fit(chunks),
         DataItem::IndefiniteTextString(chunks) => text_chunks_fit(chunks),
         DataItem::Array { content, bitwidth } => {
-            count_fits(*bitwidth, content.len()) && items_well(content, level + 1)
+            count_fits(*bitwidth, content.len()) && items_well_formed(content, level + 1)
         }
         DataItem::Map { content, bitwidth } => {
-            count_fits(*bitwidth, content.len()) && pairs_well(content, level + 1)
+            count_fits(*bitwidth, content.len()) && pairs_well_formed(content, level + 1)
         }
         DataItem::Tag {
             tag,
             bitwidth,
             value,
-        } => bitwidth.fits(tag.0) && well_at(value, level + 1),
+        } => bitwidth.fits(tag.0) && well_formed_at(value, level + 1),
         DataItem::Float { bits, bitwidth } => bitwidth.fits(*bits),
         DataItem::Simple(simple) => {
             // Reading the number tells the proof that it is below 256.
@@ -117,12 +80,12 @@ fn well_at(item: &DataItem, level: u8) -> bool
 }
 
 /// Whether items that stand at this level are well formed.
-#[cycle(well)]
-fn items_well(items: &Vec<DataItem>, level: u8) -> bool
-    ensures { IsTrue result ↔ WellItems level (items_view items.now.items) }
+#[cycle(well_formed)]
+fn items_well_formed(items: &Vec<DataItem>, level: u8) -> bool
+    ensures { IsTrue result ↔ WellFormedItems level (items_view items.now.items) }
 {
     'items: for item in items {
-        if !well_at(item, level) {
+        if !well_formed_at(item, level) {
             return false;
         }
     }
@@ -130,12 +93,12 @@ fn items_well(items: &Vec<DataItem>, level: u8) -> bool
 }
 
 /// Whether keys and values that stand at this level are well formed.
-#[cycle(well)]
-fn pairs_well(pairs: &Vec<(DataItem, DataItem)>, level: u8) -> bool
-    ensures { IsTrue result ↔ WellPairs level (pairs_view pairs.now.items) }
+#[cycle(well_formed)]
+fn pairs_well_formed(pairs: &Vec<(DataItem, DataItem)>, level: u8) -> bool
+    ensures { IsTrue result ↔ WellFormedPairs level (pairs_view pairs.now.items) }
 {
     'pairs: for (key, value) in pairs {
-        if !(well_at(key, level) && well_at(value, level)) {
+        if !(well_formed_at(key, level) && well_formed_at(value, level)) {
             return false;
         }
     }
@@ -149,8 +112,8 @@ impl DataItem {
     ///
     /// It takes no memory, and looks at nothing below level 129.
     pub fn is_well_formed(&self) -> bool
-        ensures { IsTrue result ↔ Well 1 (view self.now) }
+        ensures { IsTrue result ↔ IsWellFormed (view self.now) }
     {
-        well_at(self, 1)
+        well_formed_at(self, 1)
     }
 }

@@ -18,7 +18,7 @@ pub(super) enum Info {
 
 /// What a head opens.
 #[derive(Clone, Copy)]
-pub(super) enum Head {
+pub(super) enum ItemHead {
     Integer(u64, IntegerWidth),
     Negative(u64, IntegerWidth),
     /// A byte string of that length.
@@ -116,77 +116,83 @@ pub(super) fn info_at(bits: u8, bytes: &[u8]) -> Result<(Info, &[u8])>
             let (number, rest) = u64_at(bytes)?;
             Ok((Info::Number(number, IntegerWidth::SixtyFour), rest))
         }
+        28..=30 => Err(Error::Head),
         31 => Ok((Info::Indefinite, bytes)),
-        _ => Err(Error::Head),
+        _ => unreachable!(),
     }
 }
 
-impl Head {
+impl ItemHead {
     /// What a head of that major type with that number opens.
     #[tactic(auto, unfolding(crate::specs::Reading::numbered))]
-    fn numbered(major: u8, number: u64, width: IntegerWidth) -> Head
-        requires { FitsStated width number }
+    fn numbered(major: u8, number: u64, width: IntegerWidth) -> ItemHead
+        requires major { major < 8 }
+        requires fits { FitsStated width number }
         ensures { result ≡ numbered major number width }
     {
         match major {
-            0 => Head::Integer(number, width),
-            1 => Head::Negative(number, width),
-            2 => Head::Bytes(number, width),
-            3 => Head::Text(number, width),
-            4 => Head::Array(number, width),
-            5 => Head::Map(number, width),
-            6 => Head::Tag(number, width),
-            _ => Head::simple_or_float(number, width),
+            0 => ItemHead::Integer(number, width),
+            1 => ItemHead::Negative(number, width),
+            2 => ItemHead::Bytes(number, width),
+            3 => ItemHead::Text(number, width),
+            4 => ItemHead::Array(number, width),
+            5 => ItemHead::Map(number, width),
+            6 => ItemHead::Tag(number, width),
+            7 => ItemHead::simple_or_float(number, width),
+            _ => unreachable!(),
         }
     }
 
     /// In major type 7 a number of up to 8 bits is a simple value, and a wider one the bits of a float.
-    fn simple_or_float(number: u64, width: IntegerWidth) -> Head
+    fn simple_or_float(number: u64, width: IntegerWidth) -> ItemHead
         requires { FitsStated width number }
         ensures { result ≡ simple_or_float number width }
     {
         match width {
-            IntegerWidth::Sixteen => Head::Float(number, FloatWidth::Sixteen),
-            IntegerWidth::ThirtyTwo => Head::Float(number, FloatWidth::ThirtyTwo),
-            IntegerWidth::SixtyFour => Head::Float(number, FloatWidth::SixtyFour),
-            IntegerWidth::Unknown | IntegerWidth::Zero | IntegerWidth::Eight => {
-                Head::Simple(number as u8)
-            }
+            IntegerWidth::Sixteen => ItemHead::Float(number, FloatWidth::Sixteen),
+            IntegerWidth::ThirtyTwo => ItemHead::Float(number, FloatWidth::ThirtyTwo),
+            IntegerWidth::SixtyFour => ItemHead::Float(number, FloatWidth::SixtyFour),
+            IntegerWidth::Zero | IntegerWidth::Eight => ItemHead::Simple(number as u8),
+            // A head states its width.
+            IntegerWidth::Unknown => unreachable!(),
         }
     }
 
     /// What a head of that major type without a number opens.
     #[tactic(auto, unfolding(crate::specs::Reading::unnumbered))]
-    fn unnumbered(major: u8) -> Result<Head>
+    fn unnumbered(major: u8) -> Result<ItemHead>
+        requires { major < 8 }
         ensures gives { result ≡ unnumbered major }
         ensures memory { result ≢ Err Error.Memory }
     {
         match major {
-            2 => Ok(Head::OpenBytes),
-            3 => Ok(Head::OpenText),
-            4 => Ok(Head::OpenArray),
-            5 => Ok(Head::OpenMap),
-            7 => Ok(Head::Break),
-            _ => Err(Error::Head),
+            0 | 1 | 6 => Err(Error::Head),
+            2 => Ok(ItemHead::OpenBytes),
+            3 => Ok(ItemHead::OpenText),
+            4 => Ok(ItemHead::OpenArray),
+            5 => Ok(ItemHead::OpenMap),
+            7 => Ok(ItemHead::Break),
+            _ => unreachable!(),
         }
     }
 
     /// What a head of that major type and info opens.
-    pub(super) fn new(major: u8, info: Info) -> Result<Head>
-        requires { FitsInfo info }
+    pub(super) fn new(major: u8, info: Info) -> Result<ItemHead>
+        requires major { major < 8 }
+        requires fits { FitsInfo info }
         ensures gives { result ≡ head_of major info }
         ensures memory { result ≢ Err Error.Memory }
     {
         match info {
-            Info::Number(number, width) => Ok(Head::numbered(major, number, width)),
-            Info::Indefinite => Head::unnumbered(major),
+            Info::Number(number, width) => Ok(ItemHead::numbered(major, number, width)),
+            Info::Indefinite => ItemHead::unnumbered(major),
         }
     }
 }
 
 /// The head at the front.
 #[tactic(auto, unfolding(crate::specs::Reading::head_at))]
-pub(super) fn head_at(bytes: &[u8]) -> Result<(Head, &[u8])>
+pub(super) fn head_at(bytes: &[u8]) -> Result<(ItemHead, &[u8])>
     ensures gives { Gives (λ x. (x.0, x.1.now)) result (head_at bytes.now) }
     ensures shorter { IfOk result (λ x. length x.1.now < length bytes.now) }
     ensures memory { result ≢ Err Error.Memory }
@@ -195,7 +201,7 @@ pub(super) fn head_at(bytes: &[u8]) -> Result<(Head, &[u8])>
         [] => Err(Error::CutShort),
         [first, rest @ ..] => {
             let (info, rest) = info_at(*first % 32, rest)?;
-            Ok((Head::new(*first / 32, info)?, rest))
+            Ok((ItemHead::new(*first / 32, info)?, rest))
         }
     }
 }

@@ -6,4 +6,5 @@ use Rattle.cbor_notes.proofs.identifier.fields_line.Goals as goal
 pub returns : goal.returns
 returns c =
     let name = c.version_name-name.ensures.name ∙ ap spec.version_name c.get_version.ensures in
-    record { text = simp append_assoc (simp (name, c.get_variant-variant.ensures, c.get_version_num-number.ensures) at c.format.ensures.ok) }
+    let variant = c.variant_name-variant.ensures.name ∙ ap spec.variant_name c.get_variant.ensures in
+    record { text = simp append_assoc (simp (variant, name, c.get_version_num-number.ensures) at c.format.ensures.ok) }

@@ -1,15 +1,15 @@
 use Rattle.std.proofs.Common.{◌≡◌, ℕ, ◌++◌, drop}
 use Rattle.cbor_diag.specs.View.{items_view, pairs_view}
-use Rattle.cbor_diag.specs.WellFormed.{WellItems, WellPairs}
-use Rattle.cbor_diag.specs.Written.{enc_items, enc_pairs}
+use Rattle.cbor_diag.specs.WellFormed.{WellFormedItems, WellFormedPairs}
+use Rattle.cbor_diag.specs.Written.{encoded_items, encoded_pairs}
 use Rattle.cbor_diag.proofs.encode.bytes.+push.Given as goal
 
 abbrev pub invariant-push_items-items : goal.invariant-push_items-items
 invariant-push_items-items l =
     let rest = items_view (drop l.item-index l.item-items) in
-    (l.out.items ++ enc_items rest ≡ l.fn.out.items ++ enc_items (items_view l.item-items)) × (level : ℕ) × WellItems level rest
+    (l.out.items ++ encoded_items rest ≡ l.fn.out.items ++ encoded_items (items_view l.item-items)) × (level : ℕ) × WellFormedItems level rest
 
 abbrev pub invariant-push_pairs-pairs : goal.invariant-push_pairs-pairs
 invariant-push_pairs-pairs l =
     let rest = pairs_view (drop l.key-index l.key-items) in
-    (l.out.items ++ enc_pairs rest ≡ l.fn.out.items ++ enc_pairs (pairs_view l.key-items)) × (level : ℕ) × WellPairs level rest
+    (l.out.items ++ encoded_pairs rest ≡ l.fn.out.items ++ encoded_pairs (pairs_view l.key-items)) × (level : ℕ) × WellFormedPairs level rest

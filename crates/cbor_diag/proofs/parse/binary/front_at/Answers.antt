@@ -1,7 +1,7 @@
 use Rattle.std.proofs.Common.{◌-◌, subst, arith}
 use Rattle.cbor_diag.specs.View.{view}
 use Rattle.cbor_diag.specs.Reading.{Fails, item_at}
-use Rattle.cbor_diag.proofs.Short.{cut_takes}
+use Rattle.cbor_diag.proofs.CutShort.{cut_takes}
 use Rattle.cbor_diag.proofs.Outcomes.{found_outcome, refusal_outcome}
 use Rattle.cbor_diag.proofs.parse.binary.front_at.Goals as goal
 

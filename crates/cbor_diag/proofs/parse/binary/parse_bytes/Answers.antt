@@ -1,6 +1,6 @@
 use Rattle.std.proofs.Common.{arith}
 use Rattle.cbor_diag.proofs.Three.{one_outcome}
-use Rattle.cbor_diag.proofs.Readers.{item_is, refusal_is, gave_item, gave_refused, fronts_are_cut, whole_well, written_as_read, size_bounded}
+use Rattle.cbor_diag.proofs.Readers.{item_is, refusal_is, gave_item, gave_refused, fronts_are_cut, whole_well_formed, written_as_read, size_bounded}
 use Rattle.cbor_diag.proofs.parse.binary.parse_bytes.Goals as goal
 
 pub returns-clause-ok : goal.returns-clause-ok
@@ -19,7 +19,7 @@ pub returns-clause-fronts_cut : goal.returns-clause-fronts_cut
 returns-clause-fronts_cut c = fronts_are_cut 1 c.args.bytes.now c.whole_at.result (λ i. omega (arith, c.type_inv.bytes i)) c.whole_at.ensures.answer
 
 pub returns-clause-well_formed : goal.returns-clause-well_formed
-returns-clause-well_formed c = whole_well 1 c.args.bytes.now c.whole_at.result (λ i. omega (arith, c.type_inv.bytes i)) c.whole_at.ensures.answer
+returns-clause-well_formed c = whole_well_formed 1 c.args.bytes.now c.whole_at.result (λ i. omega (arith, c.type_inv.bytes i)) c.whole_at.ensures.answer
 
 pub returns-clause-written_again : goal.returns-clause-written_again
 returns-clause-written_again c = written_as_read 1 c.args.bytes.now c.whole_at.result (λ i. omega (arith, c.type_inv.bytes i)) c.whole_at.ensures.answer

@@ -1,6 +1,6 @@
 use Rattle.std.proofs.Common.{arith}
 use Rattle.cbor_diag.proofs.Three.{one_outcome}
-use Rattle.cbor_diag.proofs.Readers.{found_is, cut_is, fault_is, exactly, fault_stays, found_stays, front_well}
+use Rattle.cbor_diag.proofs.Readers.{found_is, cut_is, fault_is, exactly, fault_stays, found_stays, front_well_formed}
 use Rattle.cbor_diag.proofs.parse.binary.parse_bytes_partial.Goals as goal
 
 pub returns-clause-found : goal.returns-clause-found
@@ -25,4 +25,4 @@ pub returns-clause-found_stays : goal.returns-clause-found_stays
 returns-clause-found_stays c = found_stays c.args.bytes.now c.front_at.result c.front_at.ensures.outcome
 
 pub returns-clause-well_formed : goal.returns-clause-well_formed
-returns-clause-well_formed c = front_well c.args.bytes.now c.front_at.result (λ i. omega (arith, c.type_inv.bytes i)) c.front_at.ensures.outcome
+returns-clause-well_formed c = front_well_formed c.args.bytes.now c.front_at.result (λ i. omega (arith, c.type_inv.bytes i)) c.front_at.ensures.outcome

@@ -1,0 +1,44 @@
+-- The facts that callers read: of bytes as a whole, and of an item that stands at the outermost level.
+use Rattle.std.specs.Prelude.{ℕ, ◌≤◌, List, length, take}
+use Rattle.cbor_diag.specs.declared.error.Error.{Error}
+use Rattle.cbor_diag.specs.Item.{Item}
+use Rattle.cbor_diag.specs.WellFormed.{WellFormed}
+use Rattle.cbor_diag.specs.Bytes.{any, strict, Spells}
+use Rattle.cbor_diag.specs.Refused.{Cut, Fault}
+use Rattle.cbor_diag.specs.Answer.{Outcome, IsOutcome, OneOutcome, IsRefused}
+
+-- the bytes, all of them, are this item
+abbrev pub IsItem : List ℕ → Item → Type 0
+IsItem b i = Spells any 1 b i
+
+-- the same, and no simple value below 24 takes two bytes
+abbrev pub IsStrictItem : List ℕ → Item → Type 0
+IsStrictItem b i = Spells strict 1 b i
+
+-- the first n bytes are this item, and n is at least 1
+abbrev pub BeginsWithItem : List ℕ → Item → ℕ → Type 0
+BeginsWithItem b i n = (1 ≤ n) × (n ≤ length b) × IsItem (take n b) i
+
+-- the bytes end before their item does, and before any fault
+abbrev pub IsCut : List ℕ → Type 0
+IsCut b = Cut 1 b
+
+-- no item begins so, and why
+abbrev pub HasFault : List ℕ → Error → Type 0
+HasFault b e = Fault 1 b e
+
+-- why the bytes are not one whole item
+abbrev pub IsNoItem : List ℕ → Error → Type 0
+IsNoItem b e = IsRefused 1 b e
+
+-- the bytes begin so: with an item, cut, or with a fault
+abbrev pub BeginsSo : List ℕ → Outcome → Type 0
+BeginsSo b o = IsOutcome 1 b o
+
+-- the bytes begin in exactly one of these ways
+abbrev pub BeginsInOneWay : List ℕ → Type 0
+BeginsInOneWay b = OneOutcome 1 b
+
+-- the item has an encoding
+abbrev pub IsWellFormed : Item → Type 0
+IsWellFormed i = WellFormed 1 i

@@ -1,0 +1,109 @@
+//! Heads as they are written (RFC 7049 section 2), and the opening byte and the break in their place.
+ghost use Rattle.std.specs.Prelude.{◌≡◌, ◌<◌, ◌++◌, OnOk};
+ghost use Rattle.cbor_diag.specs.Head.{FitsWidth};
+ghost use Rattle.cbor_diag.specs.WellFormed.{FitsFloat, FitsCount};
+ghost use Rattle.cbor_diag.specs.Written.{encoded_head, encoded_float, encoded_simple, encoded_open, encoded_close};
+
+use crate::syntax::{FloatWidth, IntegerWidth};
+use std::alloc::AllocError;
+
+/// Writes a head: the major type, below 8, and a number that fits its width.
+pub(crate) fn push_head(
+    out: &mut Vec<u8>,
+    major: u8,
+    number: u64,
+    width: IntegerWidth,
+) -> Result<(), AllocError>
+    requires major { major < 8 }
+    requires fits { FitsWidth width number }
+    ensures { OnOk result (out.new.items ≡ out.old.items ++ encoded_head major number width) }
+{
+    let first = major * 32;
+    match width.stated(number) {
+        IntegerWidth::Zero => out.push(first + number as u8)?,
+        IntegerWidth::Eight => {
+            out.push(first + 24)?;
+            out.push(number as u8)?;
+        }
+        IntegerWidth::Sixteen => {
+            out.push(first + 25)?;
+            out.extend_from_slice(&(number as u16).to_be_bytes())?;
+        }
+        IntegerWidth::ThirtyTwo => {
+            out.push(first + 26)?;
+            out.extend_from_slice(&(number as u32).to_be_bytes())?;
+        }
+        IntegerWidth::SixtyFour => {
+            out.push(first + 27)?;
+            out.extend_from_slice(&number.to_be_bytes())?;
+        }
+        // A stated width is never open.
+        IntegerWidth::Unknown => unreachable!(),
+    }
+    Ok(())
+}
+
+/// Writes a float by its bits.
+pub(crate) fn push_float(out: &mut Vec<u8>, bits: u64, width: FloatWidth) -> Result<(), AllocError>
+    requires { FitsFloat width bits }
+    ensures { OnOk result (out.new.items ≡ out.old.items ++ encoded_float bits width) }
+{
+    match width {
+        FloatWidth::Sixteen => {
+            out.push(0xf9)?;
+            out.extend_from_slice(&(bits as u16).to_be_bytes())?;
+        }
+        FloatWidth::ThirtyTwo => {
+            out.push(0xfa)?;
+            out.extend_from_slice(&(bits as u32).to_be_bytes())?;
+        }
+        FloatWidth::Unknown | FloatWidth::SixtyFour => {
+            out.push(0xfb)?;
+            out.extend_from_slice(&bits.to_be_bytes())?;
+        }
+    }
+    Ok(())
+}
+
+/// Writes a simple value.
+pub(crate) fn push_simple(out: &mut Vec<u8>, value: u8) -> Result<(), AllocError>
+    ensures { OnOk result (out.new.items ≡ out.old.items ++ encoded_simple value) }
+{
+    if value < 24 {
+        out.push(0xe0 + value)?;
+    } else {
+        out.push(0xf8)?;
+        out.push(value)?;
+    }
+    Ok(())
+}
+
+/// Writes what stands before the members of a container: a head with their count, or an opening byte.
+pub(crate) fn push_open(
+    out: &mut Vec<u8>,
+    major: u8,
+    count: usize,
+    width: Option<IntegerWidth>,
+) -> Result<(), AllocError>
+    requires major { major < 8 }
+    requires fits { FitsCount width count }
+    ensures { OnOk result (out.new.items ≡ out.old.items ++ encoded_open major count width) }
+{
+    match width {
+        Some(width) => push_head(out, major, count as u64, width),
+        None => {
+            out.push(major * 32 + 31)?;
+            Ok(())
+        }
+    }
+}
+
+/// Writes what stands after the members of a container: nothing, or the break.
+pub(crate) fn push_close(out: &mut Vec<u8>, width: Option<IntegerWidth>) -> Result<(), AllocError>
+    ensures { OnOk result (out.new.items ≡ out.old.items ++ encoded_close width) }
+{
+    if width.is_none() {
+        out.push(0xff)?;
+    }
+    Ok(())
+}
