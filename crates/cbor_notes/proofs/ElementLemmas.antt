@@ -1,5 +1,5 @@
 -- Numbers of bytes, and halves of their range.
-use Rattle.std.proofs.Common.{Bool, lit<, ◌/◌, zero, [], ◌∷◌, get_or, ◌≡◌, ℕ, suc, ◌+◌, ◌-◌, ◌*◌, ◌%◌, ◌^◌, ◌<◌, ◌≤◌, true, false, List, ◌++◌, length, take, refl, sym, ap, ◌∙◌, arith}
+use Rattle.std.proofs.Common.{Bool, Option, Some, None, lit<, ◌/◌, zero, [], ◌∷◌, get_or, ◌≡◌, ℕ, suc, ◌+◌, ◌-◌, ◌*◌, ◌%◌, ◌^◌, ◌<◌, ◌≤◌, true, false, List, ◌++◌, length, take, refl, sym, ap, ◌∙◌, arith}
 use Rattle.std.proofs.Math.Nat.{pow-le-pow_right, pow-suc, two-pow-succ}
 use Rattle.std.proofs.Math.Pow.{pow-lt}
 use Rattle.std.proofs.lemmas.Bool.Decides.{nat_tests}
@@ -7,7 +7,7 @@ use Rattle.std.proofs.lemmas.Int.Digits.{number_lt, number_more}
 use Rattle.std.specs.Int.Digits.{number_from_digits}
 use Rattle.std.proofs.lemmas.List.{length-reverse, length-take-le}
 use Rattle.std.proofs.lemmas.Nat.{pow-add}
-use Rattle.std.specs.Prelude.{nat_lt, if◌then◌else◌, reverse}
+use Rattle.std.specs.Prelude.{nat_lt, if◌then◌else◌, is_some, reverse, unwrap_or}
 use Rattle.cbor_notes.specs.AreBytes.{AreBytes}
 use Rattle.cbor_notes.specs.Element.{signed_text, size}
 use Rattle.cbor_notes.specs.Text.{grouped}
@@ -83,3 +83,12 @@ size_small tag = two_to (tag / 16 % 2 + tag % 4) (omega arith)
 pub length_either : (b : Bool) (xs : List ℕ) → length (if b then reverse xs else xs) ≡ length xs
 length_either true xs = length-reverse xs
 length_either false xs = refl
+
+-- an option, by whether it has a value and which
+pub some_is : (o : Option (List ℕ)) (xs : List ℕ) → true ≡ is_some o → xs ≡ unwrap_or o [] → Some xs ≡ o
+some_is None xs some is = cc
+some_is (Some ys) xs some is = ap Some is
+
+pub none_is : (o : Option (List ℕ)) → false ≡ is_some o → None ≡ o
+none_is None none = refl
+none_is (Some ys) none = cc

@@ -1,5 +1,5 @@
 -- Seconds as a day and a time of day.
-use Rattle.std.proofs.Common.{◌≡◌, ℕ, ◌+◌, ◌*◌, ◌/◌, ◌%◌, ◌<◌, ◌≤◌, ℤ, pos, negsuc, ◌+ℤ◌, ◌*ℤ◌, nat_abs, List, ◌++◌, codes, refl, sym, ap, ◌∙◌, arith}
+use Rattle.std.proofs.Common.{append_assoc, ◌≡◌, ℕ, ◌+◌, ◌*◌, ◌/◌, ◌%◌, ◌<◌, ◌≤◌, ℤ, pos, negsuc, ◌+ℤ◌, ◌*ℤ◌, nat_abs, List, ◌++◌, codes, refl, sym, ap, ◌∙◌, arith}
 use Rattle.std.specs.Int.{int_div_euclid, int_rem_euclid}
 use Rattle.jiff.proofs.SpanFacts.{signed_arith}
 use Rattle.jiff.specs.Types.{Date}
@@ -49,6 +49,6 @@ moment_only s date n text is n_in moment =
     let second : n % 60 ≡ moment.second = omega arith in
     rw (hour, minute, second, date_text_same date moment.date (sym same.0)) (sym moment.text_is)
 
--- four pieces, appended one after the other to nothing
-pub four_pieces : (t₁ t₂ t₃ t₄ a b c d : List ℕ) → t₁ ≡ a → t₂ ≡ t₁ ++ b → t₃ ≡ t₂ ++ c → t₄ ≡ t₃ ++ d → t₄ ≡ a ++ b ++ c ++ d
-four_pieces t₁ t₂ t₃ t₄ a b c d p q r s = rw (s, r, q, p) refl
+-- four pieces, appended one after the other
+pub four_pieces : (t₀ t₁ t₂ t₃ t₄ a b c d : List ℕ) → t₁ ≡ t₀ ++ a → t₂ ≡ t₁ ++ b → t₃ ≡ t₂ ++ c → t₄ ≡ t₃ ++ d → t₄ ≡ t₀ ++ (a ++ b ++ c ++ d)
+four_pieces t₀ t₁ t₂ t₃ t₄ a b c d p q r s = rw (s, r, q, p) (simp append_assoc)

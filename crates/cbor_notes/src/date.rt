@@ -49,7 +49,7 @@ pub fn epoch_of_date(alloc: Global, text: &str) -> Result<Option<String>, AllocE
         return Ok(None);
     };
     let day = day_of_date(date);
-    let mut text = String::new(alloc);
+    let mut text = String::with_capacity(alloc, 10)?;
     push_grouped(&mut text, u128::from(day.unsigned_abs()), day < 0)?;
     Ok(Some(text))
 }

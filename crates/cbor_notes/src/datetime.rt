@@ -63,7 +63,8 @@ pub fn epoch_of_datetime(alloc: Global, text: &str) -> Result<Option<String>, Al
     let Some((seconds, fraction)) = read_datetime(text.as_bytes()) else {
         return Ok(None);
     };
-    let mut answer = String::new(alloc);
+    // Eleven digits of seconds, and the sign, the dot and nine digits.
+    let mut answer = String::with_capacity(alloc, 22)?;
     write!(answer, "{seconds}")?;
     push_fraction(&mut answer, fraction)?;
     Ok(Some(answer))

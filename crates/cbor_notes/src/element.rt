@@ -1,6 +1,6 @@
 //! The elements of typed arrays: RFC 8746, section 2.
 
-ghost use Rattle.std.specs.Prelude.{◌≡◌, ◌++◌, ◌-◌, ◌<◌, ◌≤◌, ◌*◌, ◌^◌, drop, length, replicate, take, reverse, option_map, if◌then◌else◌, IfSome, IfNone, IfOk, OnOk, false, true};
+ghost use Rattle.std.specs.Prelude.{◌≡◌, [], ◌++◌, is_some, unwrap_or, ◌-◌, ◌<◌, ◌≤◌, ◌*◌, ◌^◌, drop, length, replicate, take, reverse, option_map, if◌then◌else◌, IfSome, IfNone, IfOk, OnOk, false, true};
 ghost use Rattle.std.specs.Int.{IsInRange};
 ghost use Rattle.std.specs.Int.Digits.{number_from_digits};
 ghost use Rattle.std.specs.String.{string_bytes};
@@ -41,19 +41,34 @@ pub fn element_text(alloc: Global, tag: u64, bytes: &[u8]) -> Result<Option<Stri
     ensures text { IfOk result
         (λ found. option_map string_bytes found ≡ spec.element_text tag bytes.now) }
 {
+    // No text of an element is longer.
+    let mut text = String::with_capacity(alloc, 40)?;
+    if push_element_text(&mut text, tag, bytes)? {
+        Ok(Some(text))
+    } else {
+        Ok(None)
+    }
+}
+
+/// Appends what [`element_text`] answers to `text`, and tells whether there is such a text. The only
+/// refusal is want of memory, and after it `text` may end with a part of what was to be appended.
+pub fn push_element_text(text: &mut String, tag: u64, bytes: &[u8]) -> Result<bool, AllocError>
+    ensures some { IfOk result (λ some. some ≡ is_some (spec.element_text tag bytes.now)) }
+    ensures text { OnOk result (string_bytes text.new
+        ≡ string_bytes text.old ++ unwrap_or (spec.element_text tag bytes.now) []) }
+{
     let Some(element) = Element::of_tag(tag) else {
-        return Ok(None);
+        return Ok(false);
     };
     if bytes.len() != element.size {
-        return Ok(None);
+        return Ok(false);
     }
     let ordered = element.ordered(bytes);
-    let mut text = String::new(alloc);
     text.push_str(element.kind.word())?;
     text.push('(')?;
-    push_value(&mut text, element.kind, &ordered[..bytes.len()])?;
+    push_value(text, element.kind, &ordered[..bytes.len()])?;
     text.push(')')?;
-    Ok(Some(text))
+    Ok(true)
 }
 
 impl Kind {

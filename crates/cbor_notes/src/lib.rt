@@ -26,7 +26,7 @@ pub use base58_text::base58;
 pub use base64_text::{base64_any_decode, base64_lines};
 pub use date::{date_of_epoch, epoch_of_date};
 pub use datetime::{datetime_of_epoch, epoch_of_datetime};
-pub use element::{element_size, element_text};
+pub use element::{element_size, element_text, push_element_text};
 pub use identifier::uuid_lines;
 pub use line::{Line, merge, put_line};
 pub use tags::tag_name;

@@ -1,4 +1,4 @@
-use Rattle.std.proofs.Common.{refl, ◌≡◌, ◌<◌, ◌∙◌, sym, ap, ℤ, pos, nat_abs, ◌+ℤ◌, ◌*ℤ◌, to_z, of_z, FitsSigned, w64, arith}
+use Rattle.std.proofs.Common.{[], refl, ◌≡◌, ◌<◌, ◌∙◌, sym, ap, ℤ, pos, nat_abs, ◌+ℤ◌, ◌*ℤ◌, to_z, of_z, FitsSigned, w64, arith}
 use Rattle.std.proofs.lemmas.Int.{to_z-of_z}
 use Rattle.std.specs.Int.{int_div_euclid, int_rem_euclid}
 use Rattle.std.specs.String.{string_bytes}
@@ -29,7 +29,7 @@ parts c =
     let second = rw (c.in_ok-push.ensures.ascii (omega arith)) at c.in_ok-push.ensures.bytes in
     let third = simp to_z-of_z at c.in_ok-push_clock.ensures.text in
     let fourth = rw (c.in_ok-push-2.ensures.ascii (omega arith)) at c.in_ok-push-2.ensures.bytes in
-    (rw day clock.0, clock.1, four_pieces _ _ _ _ _ _ _ _ first second third fourth)
+    (rw day clock.0, clock.1, four_pieces [] _ _ _ _ _ _ _ _ first second third fourth)
 
 pub returns-in_default-clause-only : goal.returns-in_default-clause-only
 returns-in_default-clause-only c = λ text is.

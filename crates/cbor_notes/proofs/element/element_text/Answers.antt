@@ -1,46 +1,15 @@
-use Rattle.std.proofs.Common.{◌≡◌, ◌==◌, ◌≤◌, ◌++◌, List, ℕ, [], ◌∷◌, length, false, true, refl, ap, Some, ◌∙◌, codes, arith}
-use Rattle.std.proofs.lemmas.Bool.Decides.{nat_tests}
+use Rattle.std.proofs.Common.{◌∙◌, sym}
 use Rattle.std.specs.String.{string_bytes}
-use Rattle.cbor_notes.specs.Element as spec
-use Rattle.cbor_notes.specs.Element.{element_text, is_typed_array, size}
-use Rattle.cbor_notes.proofs.ElementLemmas.{length_either, size_small}
-use Rattle.cbor_notes.proofs.Moments.{four_pieces}
+use Rattle.cbor_notes.proofs.ElementLemmas.{none_is, some_is}
+use Rattle.cbor_notes.specs.Element.{element_text}
 use Rattle.cbor_notes.proofs.element.element_text.Goals as goal
 
-pub returns-in_default : goal.returns-in_default
-unfolding element_text
-returns-in_default c = record { text = rw c.in_default.ensures.none refl }
+pub returns-then-branch : goal.returns-then-branch
+returns-then-branch c =
+    let appended = rw c.in_ok-text.ensures.bytes at c.in_ok-push_element_text.ensures.text in
+    let some = sym c.if-branch.true ∙ c.in_ok-push_element_text.ensures.some in
+    record { text = some_is (element_text c.args.tag c.args.bytes.now) (string_bytes c.push_element_text.new.text) some appended }
 
-pub returns-then-bytes-element : goal.returns-then-bytes-element
-unfolding element_text
-returns-then-bytes-element c =
-    let is = c.in-Some.ensures.found in
-    let other : (length c.args.bytes.now == size c.args.tag) ≡ false = grind (arith, nat_tests) in
-    record { text = rw (is.0, other) refl }
-
-pub ordered-ordered-requires : goal.ordered-ordered-requires
-ordered-ordered-requires c =
-    let is = c.in-Some.ensures.found in
-    let small = size_small c.args.tag in
-    omega arith
-
-pub push_value-requires : goal.push_value-requires
-push_value-requires c =
-    let is = c.in-Some.ensures.found in
-    let small = size_small c.args.tag in
-    let long = ap (length {A = ℕ}) c.ordered-ordered.ensures ∙ length_either c.in-Some.element.little_endian c.args.bytes.now in
-    (omega arith, omega arith)
-
-pub returns : goal.returns
-unfolding element_text
-returns c =
-    let is = c.in-Some.ensures.found in
-    let tag = c.args.tag in
-    let bytes = c.args.bytes.now in
-    let same : (length bytes == size tag) ≡ true = grind (arith, nat_tests) in
-    let ordered = rw is.2 at c.ordered-ordered.ensures in
-    let first = rw (c.new-text.ensures.bytes, c.word.ensures.word, is.1) at c.in_ok-push_str.ensures.bytes in
-    let second = rw (c.in_ok-push.ensures.ascii (omega arith)) at c.in_ok-push.ensures.bytes in
-    let third = rw (is.1, ordered) at c.in_ok-push_value.ensures.text in
-    let fourth = rw (c.in_ok-push-2.ensures.ascii (omega arith)) at c.in_ok-push-2.ensures.bytes in
-    record { text = rw (is.0, same) (ap Some (four_pieces _ _ _ _ _ _ _ _ first second third fourth)) }
+pub returns-else-branch : goal.returns-else-branch
+returns-else-branch c =
+    record { text = none_is (element_text c.args.tag c.args.bytes.now) (sym c.if-branch.false ∙ c.in_ok-push_element_text.ensures.some) }
