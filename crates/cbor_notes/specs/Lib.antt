@@ -4,7 +4,10 @@ pub mod Base32
 pub mod Base58
 pub mod Base64
 pub mod Columns
+pub mod Date
+pub mod DateTime
 pub mod DecodedLines
+pub mod Element
 pub mod Identifier
 pub mod Layout
 pub mod LayoutExamples
@@ -13,3 +16,4 @@ pub mod TagNames
 pub mod Text
 pub mod Token
 pub mod TokenReading
+pub mod Url

@@ -1,6 +1,6 @@
 //! What the definitions of `specs/` say of a few inputs: each is computed when the crate is checked, so
 //! that a wrong definition does not pass. Nothing calls these functions.
-ghost use Rattle.std.specs.Prelude.{◌≡◌, [], ◌∷◌, ◌++◌, map, replicate, codes, true, false, Some, None, ◌+◌, ◌^◌, List, ℕ};
+ghost use Rattle.std.specs.Prelude.{◌≡◌, [], ◌∷◌, ◌++◌, map, replicate, codes, true, false, Some, None, ◌+◌, ◌^◌, List, ℕ, pos, negsuc, neg_ℤ};
 ghost use Rattle.cbor_notes.specs.Address.{ipv4_text, ipv6_text, mac_text};
 ghost use Rattle.cbor_notes.specs.Base32.{base32, base32hex};
 ghost use Rattle.cbor_notes.specs.Base58.{base58_of};
@@ -13,6 +13,12 @@ ghost use Rattle.cbor_notes.specs.LayoutExamples.{bare, deep, head, number};
 ghost use Rattle.cbor_notes.specs.TagNames.{tag_name};
 ghost use Rattle.cbor_notes.specs.Text.{escaped_text, grouped, quoted_bytes};
 ghost use Rattle.cbor_notes.specs.Token.{Blank, DigitsBetween, IsLongest, IsNumber, IsSomeNumber, capped, in_quotes};
+ghost use Rattle.jiff.specs.Types.{Date};
+ghost use Rattle.jiff.specs.Words.{IsYmd, epoch_day};
+ghost use Rattle.cbor_notes.specs.Date.{civil_seconds, clock_text, date_text, grouped_signed};
+ghost use Rattle.cbor_notes.specs.DateTime.{IsZone, epoch_text, fraction_text};
+ghost use Rattle.cbor_notes.specs.Element.{element_size, element_text};
+ghost use Rattle.cbor_notes.specs.Url.{is_url};
 
 /// The test vectors of RFC 4648, section 10.
 pub(crate) fn base32_vectors()
@@ -165,4 +171,63 @@ pub(crate) fn spaced()
     ensures blanks_alone { (digits : List ℕ) → ¬ (DigitsBetween true (codes " //") digits) }
     ensures open_comment { (digits : List ℕ) → ¬ (DigitsBetween true (codes "0/1") digits) }
     ensures quote { (digits : List ℕ) → ¬ (DigitsBetween false (codes "0'1") digits) }
+{}
+
+/// Bytes between quotes, and characters that can stand there: of U+0000, U+0085, U+00E9 and U+2028 the
+
+/// An IPv4 address of RFC 5737, a MAC address of RFC 7042, and IPv6 addresses as RFC 5952 has them: the
+
+/// A tag with a note, the lines of an empty string, and no lines: the width is that of the farthest
+
+/// Dates as texts and as days, the first of them the example of RFC 8943, section 1.1, and a time of day.
+pub(crate) fn dates()
+    ensures text { (date : Date) → IsYmd (pos 1940) (pos 10) (pos 9) date → date_text date ≡ codes "1940-10-09" }
+    ensures day { (date : Date) → IsYmd (pos 1940) (pos 10) (pos 9) date
+        → grouped_signed (epoch_day date) ≡ codes "-10,676" }
+    ensures leap_day { (date : Date) → IsYmd (pos 2000) (pos 2) (pos 29) date → epoch_day date ≡ pos 11016 }
+    ensures before_year_0 { (date : Date) → IsYmd (negsuc 0) (pos 12) (pos 31) date
+        → date_text date ≡ codes "-0001-12-31" }
+    ensures seconds { (date : Date) → IsYmd (pos 2013) (pos 3) (pos 21) date
+        → civil_seconds date 20 4 0 ≡ pos 1363896240 }
+    ensures clock { clock_text 20 4 0 ≡ codes "20:04:00" }
+{}
+
+/// Offsets from UTC, of clocks ahead of it and behind it.
+pub(crate) fn zones()
+    ensures utc { IsZone (codes "z") (pos 0) }
+    ensures ahead { IsZone (codes "+01:30") (pos 5400) }
+    ensures behind { IsZone (codes "-08:00") (neg_ℤ (pos 28800)) }
+    ensures past { ¬ (IsZone (codes "+0130") (pos 5400)) }
+{}
+
+/// A fraction takes three, six or nine digits, is cut after the ninth, and is left out where it is zero.
+pub(crate) fn fractions()
+    ensures three { epoch_text (negsuc 0) (codes "5") ≡ codes "-1.500" }
+    ensures six { fraction_text (codes "0001") ≡ codes ".000100" }
+    ensures nine { fraction_text (codes "1234567") ≡ codes ".123456700" }
+    ensures cut { fraction_text (codes "1230000009") ≡ codes ".123" }
+    ensures zero { fraction_text (codes "0000000009") ≡ [] }
+    ensures without { epoch_text (pos 1363896240) [] ≡ codes "1363896240" }
+{}
+
+/// The sizes of the table in RFC 8746, section 2.1, the tag 76 that has none, and elements of both orders.
+pub(crate) fn elements()
+    ensures unsigned_sizes { map element_size (64 ∷ 65 ∷ 66 ∷ 67 ∷ 68 ∷ 69 ∷ 70 ∷ 71 ∷ [])
+        ≡ map Some (1 ∷ 2 ∷ 4 ∷ 8 ∷ 1 ∷ 2 ∷ 4 ∷ 8 ∷ []) }
+    ensures signed_sizes { map element_size (72 ∷ 73 ∷ 74 ∷ 75 ∷ 77 ∷ 78 ∷ 79 ∷ [])
+        ≡ map Some (1 ∷ 2 ∷ 4 ∷ 8 ∷ 2 ∷ 4 ∷ 8 ∷ []) }
+    ensures float_sizes { map element_size (80 ∷ 81 ∷ 82 ∷ 83 ∷ 84 ∷ 85 ∷ 86 ∷ 87 ∷ [])
+        ≡ map Some (2 ∷ 4 ∷ 8 ∷ 16 ∷ 2 ∷ 4 ∷ 8 ∷ 16 ∷ []) }
+    ensures no_sizes { map element_size (63 ∷ 76 ∷ 88 ∷ []) ≡ None ∷ None ∷ None ∷ [] }
+    ensures negative { element_text 72 (0xff ∷ []) ≡ Some (codes "signed(-1)") }
+    ensures least { element_text 73 (0x80 ∷ 0 ∷ []) ≡ Some (codes "signed(-32,768)") }
+    ensures turned { element_text 70 (0xe8 ∷ 3 ∷ 0 ∷ 0 ∷ []) ≡ Some (codes "unsigned(1,000)") }
+    ensures float { element_text 84 (0 ∷ 0x3c ∷ []) ≡ Some (codes "float(3c00)") }
+    ensures too_long { element_text 64 (1 ∷ 2 ∷ []) ≡ None }
+{}
+
+/// A URL wants a scheme.
+pub(crate) fn urls()
+    ensures absolute { is_url (codes "http://www.example.com") ≡ true }
+    ensures relative { is_url (codes "www.example.com") ≡ false }
 {}

@@ -1,5 +1,6 @@
 //! Texts that stand in comments beside CBOR data, and that know nothing of CBOR: base 32, base 58 and
-//! base 64, numbers in groups, escaped bytes and texts, addresses and UUIDs.
+//! base 64, numbers in groups, escaped bytes and texts, addresses, UUIDs, dates, URLs and the elements
+//! of typed arrays.
 //!
 //! A call that allocates takes an allocator first and answers `AllocError` where a growth was refused;
 //! every other answer depends on its arguments alone.
@@ -9,17 +10,24 @@ mod address;
 mod base32;
 mod base58_text;
 mod base64_text;
+mod date;
+mod datetime;
+mod element;
 mod examples;
 mod identifier;
 mod line;
 mod tags;
 mod text;
 mod token;
+mod url_text;
 
 pub use address::{ipv4_text, ipv6_text, mac_text};
 pub use base32::{base32_decode, base32hex_decode};
 pub use base58_text::base58;
 pub use base64_text::{base64_any_decode, base64_lines};
+pub use date::{date_of_epoch, epoch_of_date};
+pub use datetime::{datetime_of_epoch, epoch_of_datetime};
+pub use element::{element_size, element_text, push_element_text};
 pub use identifier::uuid_lines;
 pub use line::{Line, merge, put_line};
 pub use tags::tag_name;
@@ -27,3 +35,4 @@ pub use text::{
     escaped_text, grouped, push_escaped_text, push_grouped, push_quoted_bytes, quoted_bytes,
 };
 pub use token::{blank_end, digits_at, number_at, quoted_at};
+pub use url_text::url_verdict;

@@ -14,6 +14,10 @@ mod malformed;
 #[cfg(test)]
 mod notes_base;
 #[cfg(test)]
+mod notes_dates;
+#[cfg(test)]
+mod notes_elements;
+#[cfg(test)]
 mod notes_lines;
 #[cfg(test)]
 mod notes_text;

@@ -1,0 +1,171 @@
+//! The elements of typed arrays: RFC 8746, section 2.
+
+ghost use Rattle.std.specs.Prelude.{◌≡◌, [], ◌++◌, is_some, unwrap_or, ◌-◌, ◌<◌, ◌≤◌, ◌*◌, ◌^◌, drop, length, replicate, take, reverse, option_map, if◌then◌else◌, IfSome, IfNone, IfOk, OnOk, false, true};
+ghost use Rattle.std.specs.Int.{IsInRange};
+ghost use Rattle.std.specs.Int.Digits.{number_from_digits};
+ghost use Rattle.std.specs.String.{string_bytes};
+ghost use Rattle.cbor_notes.specs.Element as spec;
+
+use crate::text::{push_grouped, push_hex_digits};
+use std::alloc::{AllocError, Global};
+
+/// What the elements of a typed array are.
+#[derive(Clone, Copy)]
+enum Kind {
+    Unsigned,
+    Signed,
+    Float,
+}
+
+/// How a typed array holds an element.
+#[derive(Clone, Copy)]
+struct Element {
+    kind: Kind,
+    little_endian: bool,
+    size: usize,
+}
+
+/// The bytes of one element of the typed array that `tag` stands before: 1 to 16 for the tags 64 to 75
+/// and 77 to 87, and `None` for every other tag.
+pub fn element_size(tag: u64) -> Option<usize>
+    ensures size { result ≡ spec.element_size tag }
+{
+    Some(Element::of_tag(tag)?.size)
+}
+
+/// One element of the typed array that `tag` stands before: `unsigned(1,000)`, `signed(-1)`, or
+/// `float(3c00)`, with numbers grouped and the bits of a float in hex, the highest first, whatever the
+/// order of the bytes. `None` for a tag of no typed array, and for bytes that are not as many as one
+/// element has. The only refusal is want of memory.
+pub fn element_text(alloc: Global, tag: u64, bytes: &[u8]) -> Result<Option<String>, AllocError>
+    ensures text { IfOk result
+        (λ found. option_map string_bytes found ≡ spec.element_text tag bytes.now) }
+{
+    // No text of an element is longer.
+    let mut text = String::with_capacity(alloc, 40)?;
+    if push_element_text(&mut text, tag, bytes)? {
+        Ok(Some(text))
+    } else {
+        Ok(None)
+    }
+}
+
+/// Appends what [`element_text`] answers to `text`, and tells whether there is such a text. The only
+/// refusal is want of memory, and after it `text` may end with a part of what was to be appended.
+pub fn push_element_text(text: &mut String, tag: u64, bytes: &[u8]) -> Result<bool, AllocError>
+    ensures some { IfOk result (λ some. some ≡ is_some (spec.element_text tag bytes.now)) }
+    ensures text { OnOk result (string_bytes text.new
+        ≡ string_bytes text.old ++ unwrap_or (spec.element_text tag bytes.now) []) }
+{
+    let Some(element) = Element::of_tag(tag) else {
+        return Ok(false);
+    };
+    if bytes.len() != element.size {
+        return Ok(false);
+    }
+    let ordered = element.ordered(bytes);
+    text.push_str(element.kind.word())?;
+    text.push('(')?;
+    push_value(text, element.kind, &ordered[..bytes.len()])?;
+    text.push(')')?;
+    Ok(true)
+}
+
+impl Kind {
+    /// What an element is called.
+    fn word(self) -> &'static str
+        ensures word { result.now ≡ spec.word self }
+    {
+        match self {
+            Kind::Unsigned => "unsigned",
+            Kind::Signed => "signed",
+            Kind::Float => "float",
+        }
+    }
+}
+
+impl Element {
+    /// How the typed array of a tag holds its elements.
+    fn of_tag(tag: u64) -> Option<Element>
+        ensures found { IfSome result (λ element. (spec.is_typed_array tag ≡ true)
+            × (element.kind ≡ spec.kind tag)
+            × (element.little_endian ≡ spec.is_little_endian tag)
+            × (element.size ≡ spec.size tag)) }
+        ensures none { IfNone result (spec.is_typed_array tag ≡ false) }
+    {
+        let (kind, little_endian) = match tag {
+            64..=67 => (Kind::Unsigned, false),
+            68..=71 => (Kind::Unsigned, true),
+            72..=75 => (Kind::Signed, false),
+            77..=79 => (Kind::Signed, true),
+            80..=83 => (Kind::Float, false),
+            84..=87 => (Kind::Float, true),
+            _ => return None,
+        };
+        let exponent = match kind {
+            Kind::Float => tag % 4 + 1,
+            _ => tag % 4,
+        };
+        Some(Element {
+            kind,
+            little_endian,
+            size: 1 << exponent,
+        })
+    }
+
+    /// The bytes of an element, the highest first, and then zeros up to sixteen bytes.
+    fn ordered(self, bytes: &[u8]) -> [u8; 16]
+        requires { length bytes.now ≤ 16 }
+        ensures { take (length bytes.now) result
+            ≡ (if self.little_endian then reverse bytes.now else bytes.now) }
+    {
+        let mut wide = [0; 16];
+        let start = &mut wide[..bytes.len()];
+        start.copy_from_slice(bytes);
+        if self.little_endian {
+            start.reverse();
+        }
+        wide
+    }
+}
+
+/// Appends an element, whose highest byte comes first. After a refusal `text` may end with a part of it.
+fn push_value(text: &mut String, kind: Kind, bytes: &[u8]) -> Result<(), AllocError>
+    requires { IsInRange 1 16 (length bytes.now) }
+    ensures text { OnOk result
+        (string_bytes text.new ≡ string_bytes text.old ++ spec.value kind bytes.now) }
+{
+    match kind {
+        Kind::Unsigned => push_grouped(text, number(bytes), false),
+        Kind::Signed => push_signed(text, bytes),
+        Kind::Float => push_hex_digits(text, bytes),
+    }
+}
+
+/// The number that at most sixteen bytes are, the highest first.
+fn number(bytes: &[u8]) -> u128
+    requires { length bytes.now ≤ 16 }
+    ensures value { result ≡ number_from_digits 256 bytes.now }
+    ensures bound { result < 2 ^ (8 * length bytes.now) }
+{
+    let mut number = 0;
+    for byte in bytes {
+        number = number * 256 + u128::from(*byte);
+    }
+    number
+}
+
+/// Appends a number in two's complement, grouped: from half of its range on it is negative.
+fn push_signed(text: &mut String, bytes: &[u8]) -> Result<(), AllocError>
+    requires { IsInRange 1 16 (length bytes.now) }
+    ensures text { OnOk result (string_bytes text.new ≡ string_bytes text.old
+        ++ spec.signed_text (length bytes.now) (number_from_digits 256 bytes.now)) }
+{
+    let number = number(bytes);
+    let half = 1u128 << (8 * bytes.len() - 1);
+    if number < half {
+        push_grouped(text, number, false)
+    } else {
+        push_grouped(text, half - (number - half), true)
+    }
+}

@@ -1,0 +1,19 @@
+//! Whether a text is a URL.
+
+ghost use Rattle.std.specs.Prelude.{◌≡◌, IfOk};
+ghost use Rattle.cbor_notes.specs.Url.{is_url};
+
+use std::alloc::{AllocError, Global};
+use url::{ParseError, Url};
+
+/// Whether the parser of the URL Standard reads the text as a URL, without a base. The only refusal
+/// is want of memory, which is also answered for a URL of 4 GB or more.
+pub fn url_verdict(alloc: Global, text: &str) -> Result<bool, AllocError>
+    ensures verdict { IfOk result (λ verdict. verdict ≡ is_url text.now) }
+{
+    match Url::parse(alloc, text) {
+        Ok(_) => Ok(true),
+        Err(ParseError::OutOfMemory | ParseError::Overflow) => Err(AllocError),
+        Err(_) => Ok(false),
+    }
+}
