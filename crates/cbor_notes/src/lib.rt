@@ -22,4 +22,4 @@ pub use base64_text::{base64_any_decode, base64_lines};
 pub use identifier::uuid_lines;
 pub use line::{Line, merge, put_line};
 pub use tags::tag_name;
-pub use text::{escaped_text, grouped, push_escaped_text, push_grouped, push_quoted_bytes, quoted_bytes};
+pub use text::{escaped_text, grouped, push_escaped_text, push_grouped, push_hex, push_quoted_bytes, quoted_bytes};

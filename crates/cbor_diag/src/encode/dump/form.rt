@@ -1,0 +1,1 @@
+//! How the bytes of a line are shown.
