@@ -19,5 +19,8 @@ pub mod Readers
 pub mod Strict
 pub mod Resolved
 pub mod Sizes
+pub mod Cuts
+pub mod Digits
+pub mod Walks
 pub mod HexLines
 pub mod HexDigits

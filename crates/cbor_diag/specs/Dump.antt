@@ -1,6 +1,6 @@
 -- The lines of the dump of an item: what its bytes are, in their order, each with a comment. How the lines
 -- are laid out is no matter of the item.
-use Rattle.std.specs.Prelude.{ℕ, ◌+◌, List, [], ◌∷◌, ◌++◌, length, map, Option, Some, None, codes}
+use Rattle.std.specs.Prelude.{ℕ, ◌+◌, List, [], ◌∷◌, ◌++◌, length, map, Option, Some, None, codes, nat_le, take, drop, if◌then◌else◌}
 use Rattle.std.specs.List.{flat_map}
 use Rattle.hex.specs.Hex.{encode_lower}
 use Rattle.cbor_notes.specs.Layout.{DumpLine, layout}
@@ -16,11 +16,11 @@ use Rattle.cbor_diag.specs.Comments.{unsigned_comment, negative_comment, float_c
 use Rattle.cbor_diag.specs.Comments.{tag_comment, bytes_comment, text_comment, empty_comment, break_comment, encoding_below}
 use Rattle.cbor_diag.specs.Pieces.{byte_pieces, text_pieces}
 
--- the digits of a head: its first byte, a blank, and the bytes that follow it
+-- the digits of a head: its first byte, and behind a blank the bytes that follow it, if any do
 abbrev pub head_hex : List ℕ → List ℕ
-head_hex [] = []
-head_hex (first ∷ []) = encode_lower (first ∷ [])
-head_hex (first ∷ next ∷ rest) = encode_lower (first ∷ []) ++ codes " " ++ encode_lower (next ∷ rest)
+head_hex bytes =
+    if nat_le (length bytes) 1 then encode_lower bytes
+    else encode_lower (take 1 bytes) ++ codes " " ++ encode_lower (drop 1 bytes)
 
 abbrev pub head_line : ℕ → List ℕ → List ℕ → DumpLine
 head_line depth bytes comment = record { depth = depth; hex = head_hex bytes; comment = comment }

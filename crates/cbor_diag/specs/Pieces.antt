@@ -1,5 +1,5 @@
 -- The pieces of a string, each of which has a line of its own.
-use Rattle.std.specs.Prelude.{ℕ, zero, suc, nat_lt, nat_le, ◌||◌, Bool, List, [], ◌∷◌, length, max, take, drop, slice_index, if◌then◌else◌}
+use Rattle.std.specs.Prelude.{ℕ, zero, suc, nat_lt, nat_le, ◌||◌, Bool, List, [], ◌∷◌, length, min, max, take, drop, slice_index, if◌then◌else◌}
 
 -- cut off a front again and again, at most n times, where `cut` says
 abbrev pub pieces_of : (List ℕ → ℕ) → ℕ → List ℕ → List (List ℕ)
@@ -13,7 +13,7 @@ abbrev pub piece_size : ℕ
 piece_size = 16
 
 abbrev pub byte_pieces : List ℕ → List (List ℕ)
-byte_pieces bytes = pieces_of (λ rest. piece_size) (length bytes) bytes
+byte_pieces bytes = pieces_of (λ rest. min (length rest) piece_size) (length bytes) bytes
 
 -- a byte of UTF-8 that begins a character
 abbrev pub begins_character : ℕ → Bool

@@ -1,6 +1,5 @@
 //! How the bytes of a byte string are shown.
-
-
+ghost use Rattle.std.specs.Prelude.{◌≡◌};
 
 /// An encoding of bytes as text (RFC 4648).
 #[derive(Clone, Copy)]

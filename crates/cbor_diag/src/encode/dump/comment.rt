@@ -1,6 +1,7 @@
 //! The comments of a dump, written at the end of a text.
-ghost use Rattle.std.specs.Prelude.{◌≡◌, ◌++◌, OnOk, decimal};
+ghost use Rattle.std.specs.Prelude.{◌≡◌, ◌++◌, OnOk, codes, decimal};
 ghost use Rattle.std.specs.String.{string_bytes};
+ghost use Rattle.cbor_notes.specs.Base64.{encoding};
 ghost use Rattle.cbor_notes.specs.TagNames.{tag_name};
 ghost use Rattle.cbor_diag.specs.Comments as spec;
 ghost use Rattle.cbor_diag.specs.Parts.{comment_text};
@@ -11,6 +12,7 @@ use cbor_notes::{push_escaped_text, push_grouped, push_hex, push_quoted_bytes, t
 use std::alloc::AllocError;
 
 /// What a line of a dump says of its digits.
+#[derive(Clone, Copy)]
 pub(super) enum Comment<'a> {
     /// An unsigned integer.
     Unsigned(u64),
@@ -149,15 +151,27 @@ fn push_bytes(
             push_hex(out, piece)?;
             out.push('\'')
         }
-        Some(Encoding::Base64) => {
-            out.push_str("b64'")?;
-            STANDARD.encode_string(whole, out)?;
-            out.push('\'')
-        }
-        Some(Encoding::Base64Url) => {
-            out.push_str("b64'")?;
-            URL_SAFE_NO_PAD.encode_string(whole, out)?;
-            out.push('\'')
-        }
+        Some(Encoding::Base64) => push_base64(out, false, whole),
+        Some(Encoding::Base64Url) => push_base64(out, true, whole),
+    }
+}
+
+/// Appends bytes in base 64 between quotes, in the alphabet that is safe in URLs if `url` is set.
+fn push_base64(out: &mut String, url: bool, bytes: &[u8]) -> Result<(), AllocError>
+    ensures { OnOk result (string_bytes out.new
+        ≡ string_bytes out.old ++ (codes "b64'" ++ encoding url bytes.now ++ codes "'")) }
+{
+    out.push_str("b64'")?;
+    push_base64_digits(out, url, bytes)?;
+    out.push('\'')
+}
+
+fn push_base64_digits(out: &mut String, url: bool, bytes: &[u8]) -> Result<(), AllocError>
+    ensures { OnOk result (string_bytes out.new ≡ string_bytes out.old ++ encoding url bytes.now) }
+{
+    if url {
+        URL_SAFE_NO_PAD.encode_string(bytes, out)
+    } else {
+        STANDARD.encode_string(bytes, out)
     }
 }

@@ -1,14 +1,13 @@
 //! What takes the lines of a dump.
-ghost use Rattle.std.specs.Prelude.{◌≡◌, ◌≤◌, ℕ, ◌+◌, ◌++◌, List, max, OnOk, ◌×◌};
+ghost use Rattle.std.specs.Prelude.{◌≡◌, ◌≤◌, ℕ, ◌+◌, ◌++◌, List, max, OnOk};
 ghost use Rattle.std.specs.String.{string_bytes};
 ghost use Rattle.cbor_notes.specs.Layout.{DumpLine, reach, line_text};
-ghost use Rattle.cbor_notes.specs.LineTree.{IsFit};
-ghost use Rattle.cbor_diag.specs.Parts.{shown_line};
+ghost use Rattle.cbor_diag.specs.Parts.{shown_line, Takes, most_width};
 
 use super::comment::Comment;
 use super::form::Form;
-use cbor_notes::{push_hex, put_line};
-use std::alloc::{AllocError, Global};
+use cbor_notes::put_line;
+use std::alloc::AllocError;
 
 /// What takes the lines of a dump, one after the other.
 pub(super) trait Sink {
@@ -17,7 +16,8 @@ pub(super) trait Sink {
     ghost step: { View → DumpLine → View };
     ghost room: { Self → ℕ };
 
-    /// A line at a depth: bytes, shown as the form says, and what is said of them.
+    /// A line at a depth: bytes, shown as the form says, and what is said of them. Refused is it for want
+    /// of memory alone.
     fn line(
         &mut self,
         depth: usize,
@@ -25,8 +25,7 @@ pub(super) trait Sink {
         bytes: &[u8],
         comment: &Comment<'_>,
     ) -> Result<(), AllocError>
-        requires fit { IsFit (shown_line depth form bytes.now comment.now) }
-        requires room { reach (shown_line depth form bytes.now comment.now) ≤ room self.old }
+        requires { Takes (room self.old) (shown_line depth form bytes.now comment.now) }
         ensures step { OnOk result (view self.new
             ≡ step (view self.old) (shown_line depth form bytes.now comment.now)) }
         ensures room { OnOk result (room self.new ≡ room self.old) };
@@ -34,15 +33,14 @@ pub(super) trait Sink {
 
 /// How far the digits of any line reach.
 pub(super) struct Widest {
-    /// Three for each depth, and the digits and blanks of the line that reaches farthest.
     pub(super) width: usize,
 }
 
 impl Sink for Widest {
     ghost View = { ℕ };
     ghost view = { λ widest. widest.width };
-    ghost step = { λ width line. max (reach line) width };
-    ghost room = { λ _. 484 };
+    ghost step = { λ width line. max width (reach line) };
+    ghost room = { λ _. most_width };
 
     fn line(
         &mut self,
@@ -51,18 +49,45 @@ impl Sink for Widest {
         bytes: &[u8],
         _comment: &Comment<'_>,
     ) -> Result<(), AllocError> {
-        if !bytes.is_empty() {
-            self.width = self.width.max(3 * depth + form.len(bytes.len()));
+        let digits = form.len(bytes);
+        if digits > 0 {
+            self.width = self.width.max(3 * depth + digits);
         }
         Ok(())
     }
 }
 
-/// The text of the lines so far, and the width of their left column.
-pub(super) struct Writer<'a> {
-    pub(super) out: &'a mut String,
+/// The text of the lines so far.
+#[derive(Drop)]
+pub(super) struct Writer {
+    /// The text.
+    pub(super) out: String,
+    /// The width of its left column.
     pub(super) width: usize,
-    /// The digits of one line, and its comment.
+    /// Room for the digits of one line.
     pub(super) hex: String,
+    /// Room for its comment.
     pub(super) comment: String,
+    ghost narrow: { width ≤ most_width },
+}
+
+impl Sink for Writer {
+    ghost View = { ℕ × List ℕ };
+    ghost view = { λ writer. (writer.width, string_bytes writer.out) };
+    ghost step = { λ written line. (written.0, written.1 ++ line_text written.0 line) };
+    ghost room = { λ writer. writer.width };
+
+    fn line(
+        &mut self,
+        depth: usize,
+        form: Form,
+        bytes: &[u8],
+        comment: &Comment<'_>,
+    ) -> Result<(), AllocError> {
+        self.hex.clear();
+        form.push(&mut self.hex, bytes)?;
+        self.comment.clear();
+        comment.push(&mut self.comment)?;
+        put_line(&mut self.out, self.width, depth, &self.hex, &self.comment)
+    }
 }

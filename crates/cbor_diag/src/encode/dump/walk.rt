@@ -1,0 +1,246 @@
+//! The walk over an item, which hands its lines to a sink.
+ghost use Rattle.std.specs.Prelude.{◌≡◌, ◌<◌, ◌≤◌, ◌+◌, ◌++◌, ◌^◌, ℕ, List, [], ◌∷◌, length, map, Option, Some, None, OnOk, codes};
+ghost use Rattle.std.specs.List.{AllByRecursion, flat_map};
+ghost use Rattle.cbor_diag.specs.Head.{FitsWidth};
+ghost use Rattle.cbor_diag.specs.View.{view, items_view, pairs_view, byte_chunk, text_chunk};
+ghost use Rattle.cbor_diag.specs.WellFormed.{WellFormed, WellFormedItems, WellFormedPairs, FitsCount, FitsFloat, IsByteChunk, IsTextChunk};
+ghost use Rattle.cbor_diag.specs.Written.{encoded_head, encoded_float, encoded_simple};
+ghost use Rattle.cbor_diag.specs.Comments.{bytes_comment, encoding_below, float_comment, text_comment, simple_comment};
+ghost use Rattle.cbor_diag.specs.Pieces.{byte_pieces, text_pieces};
+ghost use Rattle.cbor_diag.specs.Dump as spec;
+ghost use Rattle.cbor_diag.specs.Parts.{comment_text, Takes, taken};
+
+use super::comment::Comment;
+use super::form::Form;
+use super::sink::Sink;
+use crate::encode::encoding::Encoding;
+use crate::encode::head::{push_float, push_head, push_open, push_simple};
+use crate::syntax::{ByteString, DataItem, FloatWidth, IntegerWidth, TextString};
+use std::alloc::AllocError;
+
+/// The line of a head with a number.
+fn number_line<S: Sink>(
+    sink: &mut S,
+    head: &mut Vec<u8>,
+    depth: usize,
+    major: u8,
+    number: u64,
+    width: IntegerWidth,
+    comment: &Comment<'_>,
+) -> Result<(), AllocError>
+    requires major { major < 8 }
+    requires fits { FitsWidth width number }
+    requires takes { Takes (S.room sink.old)
+        (spec.head_line depth (encoded_head major number width) (comment_text comment.now)) }
+    ensures step { OnOk result (S.view sink.new ≡ S.step (S.view sink.old)
+        (spec.head_line depth (encoded_head major number width) (comment_text comment.now))) }
+    ensures room { OnOk result (S.room sink.new ≡ S.room sink.old) }
+{
+    head.clear();
+    push_head(head, major, number, width)?;
+    sink.line(depth, Form::Head, head, comment)
+}
+
+fn float_line<S: Sink>(
+    sink: &mut S,
+    head: &mut Vec<u8>,
+    depth: usize,
+    bits: u64,
+    width: FloatWidth,
+) -> Result<(), AllocError>
+    requires fits { FitsFloat width bits }
+    requires takes { Takes (S.room sink.old)
+        (spec.head_line depth (encoded_float bits width) (float_comment (encoded_float bits width))) }
+    ensures step { OnOk result (S.view sink.new ≡ S.step (S.view sink.old)
+        (spec.head_line depth (encoded_float bits width) (float_comment (encoded_float bits width)))) }
+    ensures room { OnOk result (S.room sink.new ≡ S.room sink.old) }
+{
+    head.clear();
+    push_float(head, bits, width)?;
+    sink.line(depth, Form::Head, head, &Comment::Float(head))
+}
+
+fn simple_line<S: Sink>(
+    sink: &mut S,
+    head: &mut Vec<u8>,
+    depth: usize,
+    value: u8,
+) -> Result<(), AllocError>
+    requires { Takes (S.room sink.old) (spec.head_line depth (encoded_simple value) (simple_comment value)) }
+    ensures step { OnOk result (S.view sink.new ≡ S.step (S.view sink.old)
+        (spec.head_line depth (encoded_simple value) (simple_comment value))) }
+    ensures room { OnOk result (S.room sink.new ≡ S.room sink.old) }
+{
+    head.clear();
+    push_simple(head, value)?;
+    sink.line(depth, Form::Head, head, &Comment::Simple(value))
+}
+
+/// The line of an indefinite string's opening byte.
+fn open_line<S: Sink>(
+    sink: &mut S,
+    depth: usize,
+    major: u8,
+    name: &'static str,
+) -> Result<(), AllocError>
+    requires major { major < 7 }
+    requires takes { Takes (S.room sink.old) (spec.open_line depth major name.now) }
+    ensures step { OnOk result (S.view sink.new ≡ S.step (S.view sink.old) (spec.open_line depth major name.now)) }
+    ensures room { OnOk result (S.room sink.new ≡ S.room sink.old) }
+{
+    sink.line(depth, Form::Head, &[32 * major + 31], &Comment::Counted(name, None))
+}
+
+/// The line of a break.
+fn break_line<S: Sink>(sink: &mut S, depth: usize) -> Result<(), AllocError>
+    requires { Takes (S.room sink.old) (spec.break_line depth) }
+    ensures step { OnOk result (S.view sink.new ≡ S.step (S.view sink.old) (spec.break_line depth)) }
+    ensures room { OnOk result (S.room sink.new ≡ S.room sink.old) }
+{
+    sink.line(depth, Form::Head, &[0xff], &Comment::Break)
+}
+
+/// The line before the members of a container.
+fn container_line<S: Sink>(
+    sink: &mut S,
+    head: &mut Vec<u8>,
+    depth: usize,
+    major: u8,
+    name: &'static str,
+    count: usize,
+    width: Option<IntegerWidth>,
+) -> Result<(), AllocError>
+    requires major { major < 7 }
+    requires fits { FitsCount width count }
+    requires takes { Takes (S.room sink.old) (spec.container_line depth major name.now count width) }
+    ensures step { OnOk result (S.view sink.new ≡ S.step (S.view sink.old)
+        (spec.container_line depth major name.now count width)) }
+    ensures room { OnOk result (S.room sink.new ≡ S.room sink.old) }
+{
+    head.clear();
+    push_open(head, major, count, width)?;
+    let definite = if width.is_some() { Some(count) } else { None };
+    sink.line(depth, Form::Head, head, &Comment::Counted(name, definite))
+}
+
+/// The line after them, if there is one.
+fn close_lines<S: Sink>(
+    sink: &mut S,
+    depth: usize,
+    width: Option<IntegerWidth>,
+) -> Result<(), AllocError>
+    requires { AllByRecursion (Takes (S.room sink.old)) (spec.close_lines depth width) }
+    ensures step { OnOk result (S.view sink.new ≡ taken S.step (S.view sink.old) (spec.close_lines depth width)) }
+    ensures room { OnOk result (S.room sink.new ≡ S.room sink.old) }
+{
+    match width {
+        Some(_) => Ok(()),
+        None => break_line(sink, depth),
+    }
+}
+
+/// The line of a piece of a string.
+fn piece_line<S: Sink>(
+    sink: &mut S,
+    depth: usize,
+    piece: &[u8],
+    comment: &Comment<'_>,
+) -> Result<(), AllocError>
+    requires { Takes (S.room sink.old) (spec.piece_line depth piece.now (comment_text comment.now)) }
+    ensures step { OnOk result (S.view sink.new ≡ S.step (S.view sink.old)
+        (spec.piece_line depth piece.now (comment_text comment.now))) }
+    ensures room { OnOk result (S.room sink.new ≡ S.room sink.old) }
+{
+    sink.line(depth, Form::Content, piece, comment)
+}
+
+/// The content of a byte string, a line for each piece.
+fn bytes_content<S: Sink>(
+    sink: &mut S,
+    depth: usize,
+    encoding: Option<Encoding>,
+    bytes: &[u8],
+) -> Result<(), AllocError>
+    requires { AllByRecursion (Takes (S.room sink.old))
+        (spec.content_lines depth (bytes_comment encoding bytes.now) (byte_pieces bytes.now)) }
+    ensures step { OnOk result (S.view sink.new ≡ taken S.step (S.view sink.old)
+        (spec.content_lines depth (bytes_comment encoding bytes.now) (byte_pieces bytes.now))) }
+    ensures room { OnOk result (S.room sink.new ≡ S.room sink.old) }
+{
+    if bytes.is_empty() {
+        return piece_line(sink, depth, bytes, &Comment::Empty);
+    }
+    let mut rest = bytes;
+    'pieces: while !rest.is_empty() {
+        let (piece, after) = rest.split_at(rest.len().min(16));
+        piece_line(sink, depth, piece, &Comment::Bytes(encoding, bytes, piece))?;
+        rest = after;
+    }
+    Ok(())
+}
+
+/// The content of a text, in one line or a line for each piece.
+fn text_content<S: Sink>(sink: &mut S, depth: usize, text: &str) -> Result<(), AllocError>
+    requires { AllByRecursion (Takes (S.room sink.old))
+        (spec.content_lines depth text_comment (text_pieces text.now)) }
+    ensures step { OnOk result (S.view sink.new ≡ taken S.step (S.view sink.old)
+        (spec.content_lines depth text_comment (text_pieces text.now))) }
+    ensures room { OnOk result (S.room sink.new ≡ S.room sink.old) }
+{
+    if text.is_empty() {
+        return piece_line(sink, depth, text.as_bytes(), &Comment::Empty);
+    }
+    if text.len() <= 24 {
+        return piece_line(sink, depth, text.as_bytes(), &Comment::Text(text));
+    }
+    let mut rest = text;
+    'pieces: while !rest.is_empty() {
+        let (piece, after) = rest.split_at(rest.floor_char_boundary(16));
+        piece_line(sink, depth, piece.as_bytes(), &Comment::Text(piece))?;
+        rest = after;
+    }
+    Ok(())
+}
+
+/// A byte string of definite length.
+fn byte_string<S: Sink>(
+    sink: &mut S,
+    head: &mut Vec<u8>,
+    depth: usize,
+    encoding: Option<Encoding>,
+    string: &ByteString,
+) -> Result<(), AllocError>
+    requires room_for_depth { depth < 2 ^ 32 }
+    requires well_formed { IsByteChunk (byte_chunk string.now) }
+    requires takes { AllByRecursion (Takes (S.room sink.old))
+        (spec.byte_string_lines depth encoding (byte_chunk string.now)) }
+    ensures step { OnOk result (S.view sink.new ≡ taken S.step (S.view sink.old)
+        (spec.byte_string_lines depth encoding (byte_chunk string.now))) }
+    ensures room { OnOk result (S.room sink.new ≡ S.room sink.old) }
+{
+    let length = string.content.len();
+    let comment = Comment::Counted("bytes", Some(length));
+    number_line(sink, head, depth, 2, length as u64, string.bitwidth, &comment)?;
+    bytes_content(sink, depth + 1, encoding, &string.content)
+}
+
+/// A text string of definite length.
+fn text_string<S: Sink>(
+    sink: &mut S,
+    head: &mut Vec<u8>,
+    depth: usize,
+    string: &TextString,
+) -> Result<(), AllocError>
+    requires room_for_depth { depth < 2 ^ 32 }
+    requires well_formed { IsTextChunk (text_chunk string.now) }
+    requires takes { AllByRecursion (Takes (S.room sink.old))
+        (spec.text_string_lines depth (text_chunk string.now)) }
+    ensures step { OnOk result (S.view sink.new ≡ taken S.step (S.view sink.old)
+        (spec.text_string_lines depth (text_chunk string.now))) }
+    ensures room { OnOk result (S.room sink.new ≡ S.room sink.old) }
+{
+    let length = string.content.len();
+    let comment = Comment::Counted("text", Some(length));
+    number_line(sink, head, depth, 3, length as u64, string.bitwidth, &comment)?;
+    text_content(sink, depth + 1, &string.content)
+}
