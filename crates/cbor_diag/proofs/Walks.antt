@@ -1,6 +1,9 @@
 -- What the walk over an item does with the pieces of a string, and with one line after the other.
-use Rattle.std.proofs.Common.{◌≡◌, ℕ, suc, ◌+◌, ◌<◌, ◌≤◌, List, [], ◌∷◌, ◌++◌, map, length, take, drop, refl, sym, ap, subst, ◌∙◌, arith}
-use Rattle.std.specs.List.{AllByRecursion}
+use Rattle.std.proofs.Common.{◌≡◌, ℕ, suc, ◌+◌, ◌<◌, ◌≤◌, List, [], ◌∷◌, ◌++◌, map, length, take, drop, get_or, refl, sym, ap, subst, ◌∙◌, append_assoc, arith}
+use Rattle.std.specs.List.{AllByRecursion, flat_map}
+use Rattle.std.proofs.lemmas.List.{drop_more}
+use Rattle.cbor_notes.proofs.Trees.{all_front, all_back}
+use Rattle.cbor_diag.specs.Item.{Chunk}
 use Rattle.cbor_notes.specs.Layout.{DumpLine}
 use Rattle.cbor_diag.specs.Dump.{content_lines, piece_line}
 use Rattle.cbor_diag.specs.Pieces.{pieces_of}
@@ -41,3 +44,28 @@ module _ (line : List ℕ → DumpLine) (cut : List ℕ → ℕ) (cuts : Cuts cu
       → taken step view (lines_of line cut rest) ≡ whole → taken step now (lines_of line cut after) ≡ whole
   pieces_taken step view now whole is all =
       ap (λ v. taken step v (lines_of line cut after)) is ∙ sym (ap (taken step view) split) ∙ all
+
+-- The lines that are left are those of a part, and others.
+module _ (left here others : List DumpLine) (split : left ≡ here ++ others) where
+  pub part_here : (room : ℕ) → AllByRecursion (Takes room) left → AllByRecursion (Takes room) here
+  part_here room all = all_front (Takes room) here others (subst (AllByRecursion (Takes room)) split all)
+
+  pub part_left : (room now : ℕ) → now ≡ room → AllByRecursion (Takes room) left → AllByRecursion (Takes now) others
+  part_left room now same all = rw same (all_back (Takes room) here others (subst (AllByRecursion (Takes room)) split all))
+
+  pub part_taken : {View : Type 0} (step : View → DumpLine → View) (view now whole : View) → now ≡ taken step view here → taken step view left ≡ whole → taken step now others ≡ whole
+  part_taken step view now whole is all =
+      ap (λ v. taken step v others) is ∙ sym (taken-append step view here others) ∙ sym (ap (taken step view) split) ∙ all
+
+-- A loop over chunks stands at its i-th one.
+module _ {X : Type 0} (chunk_of : X → Chunk) (chunks : List X) (i : ℕ) (chunk : X) (is : chunk ≡ get_or chunks i chunk) (inside : i < length chunks) where
+  chunks_split : drop i chunks ≡ chunk ∷ drop (i + 1) chunks
+  chunks_split = drop_more chunks i chunk inside ∙ ap (λ c. c ∷ drop (i + 1) chunks) (sym is)
+
+  pub chunk_lines : (lines : Chunk → List DumpLine) (end : List DumpLine)
+      → flat_map lines (map chunk_of (drop i chunks)) ++ end ≡ lines (chunk_of chunk) ++ (flat_map lines (map chunk_of (drop (i + 1) chunks)) ++ end)
+  chunk_lines lines end =
+      ap (λ cs. flat_map lines (map chunk_of cs) ++ end) chunks_split ∙ append_assoc (lines (chunk_of chunk)) (flat_map lines (map chunk_of (drop (i + 1) chunks))) end
+
+  pub chunks_after : (P : Chunk → Type 0) → AllByRecursion P (map chunk_of (drop i chunks)) → AllByRecursion P (map chunk_of (drop (i + 1) chunks))
+  chunks_after P all = (subst (λ cs. AllByRecursion P (map chunk_of cs)) chunks_split all).1

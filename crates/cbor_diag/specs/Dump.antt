@@ -52,15 +52,22 @@ open_line depth major name = head_line depth (opening major ∷ []) (counted_com
 abbrev pub break_line : ℕ → DumpLine
 break_line depth = head_line depth (break_byte ∷ []) break_comment
 
+-- an indefinite string: its chunks between the two
+abbrev pub byte_chunks_lines : ℕ → Option Encoding → List Chunk → List DumpLine
+byte_chunks_lines depth encoding cs =
+    open_line depth 2 (codes "bytes") ∷ (flat_map (byte_string_lines (depth + 1) encoding) cs ++ break_line (depth + 1) ∷ [])
+
+abbrev pub text_chunks_lines : ℕ → List Chunk → List DumpLine
+text_chunks_lines depth cs =
+    open_line depth 3 (codes "text") ∷ (flat_map (text_string_lines (depth + 1)) cs ++ break_line (depth + 1) ∷ [])
+
 abbrev pub atom_lines : ℕ → Option Encoding → Atom → List DumpLine
 atom_lines depth encoding (integer n w) = head_line depth (encoded_head 0 n w) (unsigned_comment n) ∷ []
 atom_lines depth encoding (negative n w) = head_line depth (encoded_head 1 n w) (negative_comment n) ∷ []
 atom_lines depth encoding (byte_string c) = byte_string_lines depth encoding c
 atom_lines depth encoding (text_string c) = text_string_lines depth c
-atom_lines depth encoding (byte_chunks cs) =
-    open_line depth 2 (codes "bytes") ∷ flat_map (byte_string_lines (depth + 1) encoding) cs ++ break_line (depth + 1) ∷ []
-atom_lines depth encoding (text_chunks cs) =
-    open_line depth 3 (codes "text") ∷ flat_map (text_string_lines (depth + 1)) cs ++ break_line (depth + 1) ∷ []
+atom_lines depth encoding (byte_chunks cs) = byte_chunks_lines depth encoding cs
+atom_lines depth encoding (text_chunks cs) = text_chunks_lines depth cs
 atom_lines depth encoding (float bits w) = head_line depth (encoded_float bits w) (float_comment (encoded_float bits w)) ∷ []
 atom_lines depth encoding (simple n) = head_line depth (encoded_simple n) (simple_comment n) ∷ []
 
@@ -82,9 +89,9 @@ abbrev mutual
   pub item_lines : ℕ → Option Encoding → Item → List DumpLine
   item_lines depth encoding (atom a) = atom_lines depth encoding a
   item_lines depth encoding (array is w) =
-      container_line depth 4 (codes "array") (item_count is) w ∷ items_lines (depth + 1) encoding is ++ close_lines (depth + 1) w
+      container_line depth 4 (codes "array") (item_count is) w ∷ (items_lines (depth + 1) encoding is ++ close_lines (depth + 1) w)
   item_lines depth encoding (spec.map ps w) =
-      container_line depth 5 (codes "map") (pair_count ps) w ∷ pairs_lines (depth + 1) encoding ps ++ close_lines (depth + 1) w
+      container_line depth 5 (codes "map") (pair_count ps) w ∷ (pairs_lines (depth + 1) encoding ps ++ close_lines (depth + 1) w)
   item_lines depth encoding (tagged t w i) =
       head_line depth (encoded_head 6 t w) (tag_comment t) ∷ item_lines (depth + 1) (encoding_below t encoding) i
 

@@ -7,6 +7,8 @@ ghost use Rattle.cbor_diag.specs.WellFormed.{WellFormed, WellFormedItems, WellFo
 ghost use Rattle.cbor_diag.specs.Written.{encoded_head, encoded_float, encoded_simple};
 ghost use Rattle.cbor_diag.specs.Comments.{bytes_comment, encoding_below, float_comment, text_comment, simple_comment};
 ghost use Rattle.cbor_diag.specs.Pieces.{byte_pieces, text_pieces};
+ghost use Rattle.cbor_diag.specs.Pieces.{text_cut as cut_of};
+ghost use Rattle.std.specs.Str.{IsCharBoundary};
 ghost use Rattle.cbor_diag.specs.Dump as spec;
 ghost use Rattle.cbor_diag.specs.Parts.{comment_text, Takes, taken};
 
@@ -179,6 +181,15 @@ fn bytes_content<S: Sink>(
     Ok(())
 }
 
+/// After how many bytes a text is cut: at most 16, before a character.
+fn text_cut(rest: &str) -> usize
+    requires { 0 < length rest.now }
+    ensures cut { result ≡ cut_of rest.now }
+    ensures boundary { IsCharBoundary rest.now result }
+{
+    rest.floor_char_boundary(16)
+}
+
 /// The content of a text, in one line or a line for each piece.
 fn text_content<S: Sink>(sink: &mut S, depth: usize, text: &str) -> Result<(), AllocError>
     requires { AllByRecursion (Takes (S.room sink.old))
@@ -195,7 +206,7 @@ fn text_content<S: Sink>(sink: &mut S, depth: usize, text: &str) -> Result<(), A
     }
     let mut rest = text;
     'pieces: while !rest.is_empty() {
-        let (piece, after) = rest.split_at(rest.floor_char_boundary(16));
+        let (piece, after) = rest.split_at(text_cut(rest));
         piece_line(sink, depth, piece.as_bytes(), &Comment::Text(piece))?;
         rest = after;
     }
@@ -243,4 +254,49 @@ fn text_string<S: Sink>(
     let comment = Comment::Counted("text", Some(length));
     number_line(sink, head, depth, 3, length as u64, string.bitwidth, &comment)?;
     text_content(sink, depth + 1, &string.content)
+}
+
+/// A byte string in chunks.
+fn byte_chunks<S: Sink>(
+    sink: &mut S,
+    head: &mut Vec<u8>,
+    depth: usize,
+    encoding: Option<Encoding>,
+    chunks: &[ByteString],
+) -> Result<(), AllocError>
+    requires room_for_depth { depth < 2 ^ 31 }
+    requires well_formed { AllByRecursion IsByteChunk (map byte_chunk chunks.now) }
+    requires takes { AllByRecursion (Takes (S.room sink.old))
+        (spec.byte_chunks_lines depth encoding (map byte_chunk chunks.now)) }
+    ensures step { OnOk result (S.view sink.new ≡ taken S.step (S.view sink.old)
+        (spec.byte_chunks_lines depth encoding (map byte_chunk chunks.now))) }
+    ensures room { OnOk result (S.room sink.new ≡ S.room sink.old) }
+{
+    open_line(sink, depth, 2, "bytes")?;
+    'chunks: for chunk in chunks {
+        byte_string(sink, head, depth + 1, encoding, chunk)?;
+    }
+    break_line(sink, depth + 1)
+}
+
+/// A text string in chunks.
+fn text_chunks<S: Sink>(
+    sink: &mut S,
+    head: &mut Vec<u8>,
+    depth: usize,
+    chunks: &[TextString],
+) -> Result<(), AllocError>
+    requires room_for_depth { depth < 2 ^ 31 }
+    requires well_formed { AllByRecursion IsTextChunk (map text_chunk chunks.now) }
+    requires takes { AllByRecursion (Takes (S.room sink.old))
+        (spec.text_chunks_lines depth (map text_chunk chunks.now)) }
+    ensures step { OnOk result (S.view sink.new ≡ taken S.step (S.view sink.old)
+        (spec.text_chunks_lines depth (map text_chunk chunks.now))) }
+    ensures room { OnOk result (S.room sink.new ≡ S.room sink.old) }
+{
+    open_line(sink, depth, 3, "text")?;
+    'chunks: for chunk in chunks {
+        text_string(sink, head, depth + 1, chunk)?;
+    }
+    break_line(sink, depth + 1)
 }
