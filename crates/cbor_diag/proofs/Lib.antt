@@ -22,5 +22,6 @@ pub mod Sizes
 pub mod Cuts
 pub mod Digits
 pub mod Walks
+pub mod Members
 pub mod HexLines
 pub mod HexDigits

@@ -2,7 +2,53 @@
 //!
 //! One walk over the item hands its lines, one after the other, to a sink. A first walk finds how wide the
 //! column of the digits is, and a second one writes each line at once.
+ghost use Rattle.std.specs.Prelude.{◌≡◌, ◌+◌, IfOk, IfErr};
+ghost use Rattle.std.specs.List.{AllByRecursion};
+ghost use Rattle.std.specs.String.{string_bytes};
+ghost use Rattle.hex.specs.Hex.{encode_lower};
+ghost use Rattle.cbor_notes.specs.Columns.{IsColumn, Lacks};
+ghost use Rattle.cbor_notes.specs.Layout.{width_of};
+ghost use Rattle.cbor_diag.specs.View.{view};
+ghost use Rattle.cbor_diag.specs.Facts.{IsWellFormed};
+ghost use Rattle.cbor_diag.specs.Written.{encoded, resolve};
+ghost use Rattle.cbor_diag.specs.HexText.{strip, IsHexOf};
+ghost use Rattle.cbor_diag.specs.Dump as spec;
+
 mod comment;
 mod form;
 mod sink;
 mod walk;
+
+use crate::error::Error;
+use crate::syntax::DataItem;
+use sink::{Widest, Writer};
+use std::alloc::Global;
+use walk::walk_item;
+
+impl DataItem {
+    /// The item as a dump: its bytes in hex, as `to_bytes` writes them, each line with a comment (docs/DUMP.md).
+    /// `parse_hex` reads it back, with open widths resolved.
+    ///
+    /// The item has to be well formed, which `is_well_formed` tells. Refuses with `Memory` alone.
+    pub fn to_hex(&self, alloc: Global) -> crate::Result<String>
+        requires { IsWellFormed (view self.now) }
+        ensures text { IfOk result (λ t. string_bytes t ≡ spec.dump (view self.now)) }
+        // Without its comments the dump is the item's encoding in hex.
+        ensures digits { IfOk result (λ t. strip (string_bytes t) ≡ encode_lower (encoded (view self.now))) }
+        // So it is read back as the item with its open widths resolved.
+        ensures read_back { IfOk result (λ t. IsHexOf (string_bytes t) (resolve (view self.now))) }
+        // No comment has a line feed, whatever the item carries.
+        ensures one_line { AllByRecursion (λ line. Lacks 10 line.comment) (spec.lines (view self.now)) }
+        // The first `#` of every line stands in one column.
+        ensures one_column { IfOk result (λ t.
+            IsColumn (width_of (spec.lines (view self.now)) + 1) (string_bytes t)) }
+        ensures refused { IfErr result (λ e. e ≡ Error.Memory) }
+    {
+        let mut head = Vec::with_capacity(alloc, 9)?;
+        let mut widest = Widest { width: 0 };
+        walk_item(&mut widest, &mut head, 0, None, self)?;
+        let mut writer = Writer::new(alloc, widest.width);
+        walk_item(&mut writer, &mut head, 0, None, self)?;
+        Ok(writer.into_text())
+    }
+}

@@ -1,5 +1,5 @@
 //! What takes the lines of a dump.
-ghost use Rattle.std.specs.Prelude.{◌≡◌, ◌≤◌, ℕ, ◌+◌, ◌++◌, List, max, OnOk};
+ghost use Rattle.std.specs.Prelude.{◌≡◌, ◌≤◌, ℕ, ◌++◌, List, [], max, OnOk};
 ghost use Rattle.std.specs.String.{string_bytes};
 ghost use Rattle.cbor_notes.specs.Layout.{DumpLine, reach, line_text};
 ghost use Rattle.cbor_diag.specs.Parts.{shown_line, Takes, most_width};
@@ -7,7 +7,7 @@ ghost use Rattle.cbor_diag.specs.Parts.{shown_line, Takes, most_width};
 use super::comment::Comment;
 use super::form::Form;
 use cbor_notes::put_line;
-use std::alloc::AllocError;
+use std::alloc::{AllocError, Global};
 
 /// What takes the lines of a dump, one after the other.
 pub(super) trait Sink {
@@ -32,6 +32,7 @@ pub(super) trait Sink {
 }
 
 /// How far the digits of any line reach.
+#[derive(Drop)]
 pub(super) struct Widest {
     pub(super) width: usize,
 }
@@ -69,6 +70,29 @@ pub(super) struct Writer {
     /// Room for its comment.
     pub(super) comment: String,
     ghost narrow: { width ≤ most_width },
+}
+
+impl Writer {
+    /// No text yet, and a left column of that width.
+    pub(super) fn new(alloc: Global, width: usize) -> Writer
+        requires { width ≤ most_width }
+        ensures out { string_bytes result.out ≡ [] }
+        ensures width { result.width ≡ width }
+    {
+        Writer {
+            out: String::new(alloc),
+            width,
+            hex: String::new(alloc),
+            comment: String::new(alloc),
+        }
+    }
+
+    /// The text.
+    pub(super) fn into_text(self) -> String
+        ensures { string_bytes result ≡ string_bytes self.out }
+    {
+        self.out
+    }
 }
 
 impl Sink for Writer {

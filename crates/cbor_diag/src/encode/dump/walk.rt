@@ -15,7 +15,7 @@ ghost use Rattle.cbor_diag.specs.Parts.{comment_text, Takes, taken};
 use super::comment::Comment;
 use super::form::Form;
 use super::sink::Sink;
-use crate::encode::encoding::Encoding;
+use crate::encode::encoding::{Encoding, encoding_below};
 use crate::encode::head::{push_float, push_head, push_open, push_simple};
 use crate::syntax::{ByteString, DataItem, FloatWidth, IntegerWidth, TextString};
 use std::alloc::AllocError;
@@ -299,4 +299,98 @@ fn text_chunks<S: Sink>(
         text_string(sink, head, depth + 1, chunk)?;
     }
     break_line(sink, depth + 1)
+}
+
+/// An item at a depth, its byte strings shown in an encoding, or quoted if there is none.
+#[cycle(walk)]
+pub(super) fn walk_item<S: Sink>(
+    sink: &mut S,
+    head: &mut Vec<u8>,
+    depth: usize,
+    encoding: Option<Encoding>,
+    item: &DataItem,
+) -> Result<(), AllocError>
+    requires well_formed { (level : ℕ) × (depth < level) × WellFormed level (view item.now) }
+    requires takes { AllByRecursion (Takes (S.room sink.old)) (spec.item_lines depth encoding (view item.now)) }
+    ensures step { OnOk result (S.view sink.new
+        ≡ taken S.step (S.view sink.old) (spec.item_lines depth encoding (view item.now))) }
+    ensures room { OnOk result (S.room sink.new ≡ S.room sink.old) }
+{
+    match item {
+        DataItem::Integer { value, bitwidth } => {
+            number_line(sink, head, depth, 0, *value, *bitwidth, &Comment::Unsigned(*value))
+        }
+        DataItem::Negative { value, bitwidth } => {
+            number_line(sink, head, depth, 1, *value, *bitwidth, &Comment::Negative(*value))
+        }
+        DataItem::ByteString(string) => byte_string(sink, head, depth, encoding, string),
+        DataItem::TextString(string) => text_string(sink, head, depth, string),
+        DataItem::IndefiniteByteString(chunks) => byte_chunks(sink, head, depth, encoding, chunks),
+        DataItem::IndefiniteTextString(chunks) => text_chunks(sink, head, depth, chunks),
+        DataItem::Array { content, bitwidth } => {
+            container_line(sink, head, depth, 4, "array", content.len(), *bitwidth)?;
+            walk_items(sink, head, depth + 1, encoding, content)?;
+            close_lines(sink, depth + 1, *bitwidth)
+        }
+        DataItem::Map { content, bitwidth } => {
+            container_line(sink, head, depth, 5, "map", content.len(), *bitwidth)?;
+            walk_pairs(sink, head, depth + 1, encoding, content)?;
+            close_lines(sink, depth + 1, *bitwidth)
+        }
+        DataItem::Tag {
+            tag,
+            bitwidth,
+            value,
+        } => {
+            number_line(sink, head, depth, 6, tag.0, *bitwidth, &Comment::Tag(tag.0))?;
+            walk_item(sink, head, depth + 1, encoding_below(tag.0, encoding), value)
+        }
+        DataItem::Float { bits, bitwidth } => float_line(sink, head, depth, *bits, *bitwidth),
+        DataItem::Simple(simple) => simple_line(sink, head, depth, simple.0),
+    }
+}
+
+/// Items one after the other.
+#[cycle(walk)]
+fn walk_items<S: Sink>(
+    sink: &mut S,
+    head: &mut Vec<u8>,
+    depth: usize,
+    encoding: Option<Encoding>,
+    items: &Vec<DataItem>,
+) -> Result<(), AllocError>
+    requires well_formed { (level : ℕ) × (depth < level) × WellFormedItems level (items_view items.now.items) }
+    requires takes { AllByRecursion (Takes (S.room sink.old))
+        (spec.items_lines depth encoding (items_view items.now.items)) }
+    ensures step { OnOk result (S.view sink.new ≡ taken S.step (S.view sink.old)
+        (spec.items_lines depth encoding (items_view items.now.items))) }
+    ensures room { OnOk result (S.room sink.new ≡ S.room sink.old) }
+{
+    'items: for item in items {
+        walk_item(sink, head, depth, encoding, item)?;
+    }
+    Ok(())
+}
+
+/// Keys and values in turn.
+#[cycle(walk)]
+fn walk_pairs<S: Sink>(
+    sink: &mut S,
+    head: &mut Vec<u8>,
+    depth: usize,
+    encoding: Option<Encoding>,
+    pairs: &Vec<(DataItem, DataItem)>,
+) -> Result<(), AllocError>
+    requires well_formed { (level : ℕ) × (depth < level) × WellFormedPairs level (pairs_view pairs.now.items) }
+    requires takes { AllByRecursion (Takes (S.room sink.old))
+        (spec.pairs_lines depth encoding (pairs_view pairs.now.items)) }
+    ensures step { OnOk result (S.view sink.new ≡ taken S.step (S.view sink.old)
+        (spec.pairs_lines depth encoding (pairs_view pairs.now.items))) }
+    ensures room { OnOk result (S.room sink.new ≡ S.room sink.old) }
+{
+    'pairs: for (key, value) in pairs {
+        walk_item(sink, head, depth, encoding, key)?;
+        walk_item(sink, head, depth, encoding, value)?;
+    }
+    Ok(())
 }
