@@ -23,5 +23,6 @@ pub mod Cuts
 pub mod Digits
 pub mod Walks
 pub mod Members
+pub mod DumpFits
 pub mod HexLines
 pub mod HexDigits
