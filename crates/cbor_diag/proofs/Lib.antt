@@ -19,5 +19,10 @@ pub mod Readers
 pub mod Strict
 pub mod Resolved
 pub mod Sizes
+pub mod Cuts
+pub mod Digits
+pub mod Walks
+pub mod Members
+pub mod DumpFits
 pub mod HexLines
 pub mod HexDigits

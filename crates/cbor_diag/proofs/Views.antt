@@ -1,8 +1,8 @@
 -- A data item, level by level, beside the item that it is.
-use Rattle.std.proofs.Common.{◌≡◌, suc, List, [], ◌∷◌, Option, Vec, Global, Box, length, refl, ap, rules}
+use Rattle.std.proofs.Common.{◌≡◌, ℕ, suc, List, [], ◌∷◌, Option, Vec, Global, Box, length, refl, ap, rules}
 use Rattle.cbor_diag.specs.declared.syntax.IntegerWidth.{IntegerWidth}
 use Rattle.cbor_diag.specs.declared.syntax.Tag as declared
-use Rattle.cbor_diag.specs.declared.syntax.DataItem.{DataItem, Array, Map, Tag, the_lemmas}
+use Rattle.cbor_diag.specs.declared.syntax.DataItem.{DataItem, Integer, Negative, Array, Map, Tag, the_lemmas}
 use Rattle.cbor_diag.specs.Item as spec
 use Rattle.cbor_diag.specs.Item.{item_count, pair_count}
 use Rattle.cbor_diag.specs.View.{view, items_view, pairs_view}
@@ -23,3 +23,9 @@ item_count_view (v ∷ vs) = ap suc (item_count_view vs)
 pub pair_count_view : (vs : List (DataItem × DataItem)) → pair_count (pairs_view vs) ≡ length vs
 pair_count_view [] = refl
 pair_count_view (v ∷ vs) = ap suc (pair_count_view vs)
+
+pub view-Integer : (n : ℕ) (w : IntegerWidth) → view (Integer n w) ≡ spec.atom (spec.integer n w)
+view-Integer n w = search (rules, the_lemmas)
+
+pub view-Negative : (n : ℕ) (w : IntegerWidth) → view (Negative n w) ≡ spec.atom (spec.negative n w)
+view-Negative n w = search (rules, the_lemmas)

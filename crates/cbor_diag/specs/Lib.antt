@@ -11,3 +11,7 @@ pub mod Answer
 pub mod Facts
 pub mod HexText
 pub mod Examples
+pub mod Comments
+pub mod Pieces
+pub mod Dump
+pub mod Parts

@@ -1,3 +1,5 @@
 //! Printers.
 mod bytes;
+mod dump;
+mod encoding;
 mod head;

@@ -81,7 +81,7 @@ fill_places k digits n is = elim (cases_lt k (length digits)) [
       let split : k ≡ length digits + (k - length digits) = omega arith in
       let left : take n digits ++ drop n (replicate k 48) ≡ digits ++ replicate (k - length digits) 48 = rw (all, take_all (length digits) digits (omega arith), drop-replicate {X = ℕ} (length digits) k 48) refl in
       let right : take k (digits ++ replicate k 48) ≡ digits ++ replicate (k - length digits) 48 =
-        ap (λ m. take m (digits ++ replicate k 48)) split ∙ take-append-add digits (replicate k 48) (k - length digits) ∙ ap (λ t. digits ++ t) (take-replicate {X = ℕ} (k - length digits) k 48 (omega arith)) in
+      ap (λ m. take m (digits ++ replicate k 48)) split ∙ take-append-add digits (replicate k 48) (k - length digits) ∙ ap (λ t. digits ++ t) (take-replicate {X = ℕ} (k - length digits) k 48 (omega arith)) in
       left ∙ sym right
 ]
 

@@ -4,7 +4,7 @@ ghost use Rattle.std.specs.Prelude.{◌≡◌, IfOk};
 ghost use Rattle.std.specs.String.{string_bytes};
 ghost use Rattle.cbor_notes.specs.Address as spec;
 
-use crate::text::push_hex;
+use crate::text::push_hex_byte;
 use std::alloc::{AllocError, Global};
 use std::net::{Ipv4Addr, Ipv6Addr};
 
@@ -36,10 +36,10 @@ pub fn mac_text(alloc: Global, octets: &[u8; 6]) -> Result<String, AllocError>
     ensures text { IfOk result (λ text. string_bytes text ≡ spec.mac_text octets.now) }
 {
     let mut text = String::with_capacity(alloc, 17)?;
-    push_hex(&mut text, octets[0])?;
+    push_hex_byte(&mut text, octets[0])?;
     for octet in &octets[1..] {
         text.push(':')?;
-        push_hex(&mut text, *octet)?;
+        push_hex_byte(&mut text, *octet)?;
     }
     Ok(text)
 }

@@ -77,9 +77,7 @@ fn decoded_line(alloc: Global, piece: &[u8], width: usize) -> Result<String, All
 {
     // Enough where each byte is written as it is.
     let mut line = String::with_capacity(alloc, width + piece.len() + 5)?;
-    'digits: for byte in piece {
-        push_hex(&mut line, *byte)?;
-    }
+    push_hex(&mut line, piece)?;
     'blanks: for _ in 2 * piece.len()..width {
         line.push(' ')?;
     }

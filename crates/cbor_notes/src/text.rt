@@ -50,13 +50,24 @@ fn push_escaped_byte(text: &mut String, byte: u8) -> Result<(), AllocError>
         b' '..=b'~' => text.push(char::from(byte)),
         _ => {
             text.push_str("\\x")?;
-            push_hex(text, byte)
+            push_hex_byte(text, byte)
         }
     }
 }
 
+/// Appends the hex digits of `bytes` to `text`, two for each, in lower case. The only refusal is want of
+/// memory, and after it `text` may end with some of them.
+pub fn push_hex(text: &mut String, bytes: &[u8]) -> Result<(), AllocError>
+    ensures { OnOk result (string_bytes text.new ≡ string_bytes text.old ++ encode_lower bytes.now) }
+{
+    for byte in bytes {
+        push_hex_byte(text, *byte)?;
+    }
+    Ok(())
+}
+
 /// Appends the two hex digits of `byte` to `text`, in lower case.
-pub(crate) fn push_hex(text: &mut String, byte: u8) -> Result<(), AllocError>
+pub(crate) fn push_hex_byte(text: &mut String, byte: u8) -> Result<(), AllocError>
     ensures text { OnOk result
         (string_bytes text.new ≡ string_bytes text.old ++ encode_lower (byte ∷ [])) }
 {

@@ -91,9 +91,9 @@ returns-clause-found c =
       | else-separator-ne84-via-else-separator-ne84 w ↦ inl (ap (λ s. s ∷ []) w.if-separator-ne84.false)
     ] in
     let first : text ≡ date_text c.in_ok-date-2.date ++ c.in_ok-date.rest.now =
-      sym (take-append-drop 10 text) ∙ ap (λ t. t ++ drop 10 text) (sym chunk.0 ∙ day.1) ∙ ap (λ t. date_text c.in_ok-date-2.date ++ t) (sym chunk.1) in
+    sym (take-append-drop 10 text) ∙ ap (λ t. t ++ drop 10 text) (sym chunk.0 ∙ day.1) ∙ ap (λ t. date_text c.in_ok-date-2.date ++ t) (sym chunk.1) in
     let third : c.in_ok-separator.rest.now ≡ clock_text clock.0 clock.1 clock.2 ++ c.in_ok-clock.rest.now =
-      sym (take-append-drop 8 c.in_ok-separator.rest.now) ∙ ap (λ t. t ++ drop 8 c.in_ok-separator.rest.now) (sym after.0 ∙ clock.6) ∙ ap (λ t. clock_text clock.0 clock.1 clock.2 ++ t) (sym after.1) in
+    sym (take-append-drop 8 c.in_ok-separator.rest.now) ∙ ap (λ t. t ++ drop 8 c.in_ok-separator.rest.now) (sym after.0 ∙ clock.6) ∙ ap (λ t. clock_text clock.0 clock.1 clock.2 ++ t) (sym after.1) in
     record {
       date = c.in_ok-date-2.date;
       hour = clock.0;

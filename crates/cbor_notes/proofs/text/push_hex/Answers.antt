@@ -1,16 +1,11 @@
-use Rattle.std.proofs.Common.{◌≡◌, ◌<◌, [], ◌∷◌, get_or, arith}
-use Rattle.std.proofs.lemmas.Grind.{common_steps}
-use Rattle.std.specs.Str.{IsAscii}
-use Rattle.hex.specs.Hex.{encode_lower}
-use Rattle.cbor_notes.proofs.HexLemmas.{IsAscii-encode_lower, encode_lower-byte}
+use Rattle.std.proofs.Common.{◌∙◌, ◌++◌, ap, sym, append-nil, append_assoc, string_bytes, refl}
+use Rattle.cbor_notes.proofs.DecodedLineLemmas.{encode_lower_more, encode_lower_none}
 use Rattle.cbor_notes.proofs.text.push_hex.Goals as goal
 
-pub returns : goal.returns
-returns c =
-    let digits = c.encode_to_slice.new.output in
-    let written : digits ≡ encode_lower (c.args.byte ∷ []) = grind (arith, common_steps) in
-    let ascii : IsAscii digits = rw written (IsAscii-encode_lower (c.args.byte ∷ [])) in
-    let first : get_or digits 0 0 < 128 = ascii 0 in
-    let second : get_or digits 1 0 < 128 = ascii 1 in
-    let two = encode_lower-byte c.args.byte digits written in
-    grind (arith, common_steps)
+pub loop-byte-init : goal.loop-byte-init
+loop-byte-init c = rw (encode_lower_none, append-nil) refl
+
+pub loop-byte-preserved : goal.loop-byte-preserved
+loop-byte-preserved c =
+    c.in_ok-push_hex_byte.ensures.text
+    ∙ rw (c.loop-byte.invariant, encode_lower_more c.args.bytes.now c.loop-byte.byte-index c.loop-byte-test.true, append_assoc) refl

@@ -1,0 +1,221 @@
+-- The lines of a dump can be laid out: they are not too deep, and their digits not too long.
+use Rattle.std.proofs.Common.{◌≡◌, ℕ, zero, suc, ◌+◌, ◌*◌, ◌<◌, ◌≤◌, Bool, true, false, cond, min, max, List, [], ◌∷◌, ◌++◌, map, length, take, drop, slice_index, nat_le, inl, inr, codes, Option, Some, None, refl, sym, ap, subst, ◌∙◌, arith, length-append, append_assoc, append-nil}
+use Rattle.std.specs.List.{AllByRecursion, flat_map}
+use Rattle.std.specs.Int.{w8, w16, w32, w64}
+use Rattle.std.specs.Str.{IsAscii}
+use Rattle.std.proofs.lemmas.Bool.Decides.{nat_tests}
+use Rattle.std.proofs.lemmas.Bool.{cases_lt}
+use Rattle.std.proofs.lemmas.Str.{IsAscii-append}
+use Rattle.std.proofs.lemmas.List.{length-take}
+use Rattle.hex.specs.Hex.{encode_lower}
+use Rattle.cbor_notes.specs.Layout.{DumpLine, line_text, reach, width_of}
+use Rattle.cbor_notes.specs.LineTree.{IsFit}
+use Rattle.cbor_notes.proofs.HexLemmas.{IsAscii-encode_lower, IsAscii-from_test}
+use Rattle.cbor_notes.proofs.Trees.{all_both}
+use Rattle.cbor_diag.specs.declared.syntax.IntegerWidth.{IntegerWidth}
+use Rattle.cbor_diag.specs.declared.syntax.IntegerWidth.TheVariants as width
+use Rattle.cbor_diag.specs.declared.syntax.FloatWidth.{FloatWidth}
+use Rattle.cbor_diag.specs.declared.syntax.FloatWidth.TheVariants as float_width
+use Rattle.cbor_diag.specs.declared.encode.encoding.Encoding.{Encoding}
+use Rattle.cbor_diag.specs.Item as spec
+use Rattle.cbor_diag.specs.Item.{Chunk, Atom, integer, negative, byte_string, text_string, byte_chunks, text_chunks}
+use Rattle.cbor_diag.specs.Item.{float, simple, Item, atom, array, tagged, Items, no_items, item, Pairs, no_pairs, pair, item_count, pair_count}
+use Rattle.cbor_diag.specs.Head.{head, stated, opening, break_byte}
+use Rattle.cbor_diag.specs.WellFormed.{WellFormed, WellFormedItems, WellFormedPairs, deepest}
+use Rattle.cbor_diag.specs.Written.{encoded_head, encoded_float, encoded_simple, encoded_open}
+use Rattle.cbor_diag.specs.Comments.{bytes_comment, text_comment, encoding_below}
+use Rattle.cbor_diag.specs.Pieces.{pieces_of, byte_pieces, text_pieces, last_start, text_cut, begins_character, piece_size, short_text}
+use Rattle.cbor_diag.specs.Dump.{head_hex, head_line, piece_line, content_lines, byte_string_lines, text_string_lines, byte_chunks_lines}
+use Rattle.cbor_diag.specs.Dump.{text_chunks_lines, open_line, break_line, atom_lines, container_line, close_lines, item_lines, items_lines, pairs_lines}
+use Rattle.cbor_diag.specs.Parts.{Takes, taken, most_width}
+use Rattle.cbor_diag.proofs.Digits.{head_short, head_long, length-hex, length-head_short, length-head_long}
+use Rattle.cbor_diag.proofs.Cuts.{byte_cut, text_short, text_long}
+
+ascii_head : (bytes : List ℕ) → IsAscii (head_hex bytes)
+ascii_head bytes =
+    elim (nat_le (length bytes) 1) as (λ v. IsAscii (cond v (encode_lower bytes) ((encode_lower (take 1 bytes) ++ codes " ") ++ encode_lower (drop 1 bytes)))) [
+      | true ↦ IsAscii-encode_lower bytes
+      | false ↦
+          IsAscii-append (encode_lower (take 1 bytes) ++ codes " ") (encode_lower (drop 1 bytes))
+          (IsAscii-append (encode_lower (take 1 bytes)) (codes " ") (IsAscii-encode_lower (take 1 bytes)) (IsAscii-from_test (codes " ") refl)) (IsAscii-encode_lower (drop 1 bytes))
+    ]
+
+head_fits : (bytes : List ℕ) → length bytes ≤ 9 → length (head_hex bytes) ≤ 64
+head_fits bytes few =
+    elim (cases_lt 1 (length bytes)) [
+      | inl long ↦ let digits = length-head_long bytes long in omega arith
+      | inr short ↦ let digits = length-head_short bytes short in omega arith
+    ]
+
+-- a head at a depth that isn't too deep
+fit_head : (depth : ℕ) (bytes comment : List ℕ) → depth < 140 → length bytes ≤ 9 → IsFit (head_line depth bytes comment)
+fit_head depth bytes comment low few = record { level = low; short = head_fits bytes few; ascii = ascii_head bytes }
+
+fit_piece : (depth : ℕ) (piece comment : List ℕ) → depth < 140 → length piece ≤ 24 → IsFit (piece_line depth piece comment)
+fit_piece depth piece comment low few = record { level = low; short = (let digits = length-hex piece in omega arith); ascii = IsAscii-encode_lower piece }
+
+head_length : (major n : ℕ) (w : IntegerWidth) → length (head major n w) ≤ 9
+head_length major n width.Unknown = omega arith
+head_length major n width.Zero = omega arith
+head_length major n width.Eight = omega arith
+head_length major n width.Sixteen = omega arith
+head_length major n width.ThirtyTwo = omega arith
+head_length major n width.SixtyFour = omega arith
+
+float_length : (bits : ℕ) (w : FloatWidth) → length (encoded_float bits w) ≤ 9
+float_length bits float_width.Unknown = omega arith
+float_length bits float_width.Sixteen = omega arith
+float_length bits float_width.ThirtyTwo = omega arith
+float_length bits float_width.SixtyFour = omega arith
+
+simple_length : (n : ℕ) → length (encoded_simple n) ≤ 9
+simple_length n = grind (arith, nat_tests)
+
+open_length : (major n : ℕ) (w : Option IntegerWidth) → length (encoded_open major n w) ≤ 9
+open_length major n (Some w) = head_length major n (stated w n)
+open_length major n None = omega arith
+
+-- no piece is longer than a cut
+pieces_few : (cut : List ℕ → ℕ) → ((bytes : List ℕ) → cut bytes ≤ 16) → (n : ℕ) (bytes : List ℕ) → AllByRecursion (λ p. length p ≤ 24) (pieces_of cut n bytes)
+pieces_few cut small zero [] = tt
+pieces_few cut small (suc n) [] = tt
+pieces_few cut small zero (b ∷ bytes) = tt
+pieces_few cut small (suc n) (b ∷ bytes) =
+    let k = small (b ∷ bytes) in
+    let long = length-take (cut (b ∷ bytes)) (b ∷ bytes) in
+    (omega arith, pieces_few cut small n (drop (cut (b ∷ bytes)) (b ∷ bytes)))
+
+last_low : (text : List ℕ) (n : ℕ) → last_start text n ≤ n
+last_low text zero = omega arith
+last_low text (suc n) =
+    let below = last_low text n in
+    elim (begins_character (slice_index text (suc n))) as (λ v. cond v (suc n) (last_start text n) ≤ suc n) [
+      | true ↦ omega arith
+      | false ↦ omega arith
+    ]
+
+text_cut_low : (text : List ℕ) → text_cut text ≤ 16
+text_cut_low text = let last = last_low text piece_size in grind (arith, nat_tests)
+
+text_few : (text : List ℕ) → AllByRecursion (λ p. length p ≤ 24) (text_pieces text)
+text_few [] = tt
+text_few (b ∷ text) =
+    elim (cases_lt 24 (length (b ∷ text))) [
+      | inl long ↦ subst (AllByRecursion (λ p. length p ≤ 24)) (sym (text_long (b ∷ text) long)) (pieces_few text_cut text_cut_low (length (b ∷ text)) (b ∷ text))
+      | inr short ↦ subst (AllByRecursion (λ p. length p ≤ 24)) (sym (text_short (b ∷ text) (omega arith) short)) (short, tt)
+    ]
+
+lines_fit : (depth : ℕ) (comment : List ℕ → List ℕ) (pieces : List (List ℕ)) → depth < 140 → AllByRecursion (λ p. length p ≤ 24) pieces
+    → AllByRecursion IsFit (map (λ p. piece_line depth p (comment p)) pieces)
+lines_fit depth comment [] low few = tt
+lines_fit depth comment (p ∷ ps) low few = (fit_piece depth p (comment p) low few.0, lines_fit depth comment ps low few.1)
+
+content_fits : (depth : ℕ) (comment : List ℕ → List ℕ) (pieces : List (List ℕ)) → depth < 140 → AllByRecursion (λ p. length p ≤ 24) pieces
+    → AllByRecursion IsFit (content_lines depth comment pieces)
+content_fits depth comment [] low few = (fit_piece depth [] (codes "\"\"") low (omega arith), tt)
+content_fits depth comment (p ∷ ps) low few = lines_fit depth comment (p ∷ ps) low few
+
+bytes_fit : (depth : ℕ) (encoding : Option Encoding) (c : Chunk) → depth + 1 < 140 → AllByRecursion IsFit (byte_string_lines depth encoding c)
+bytes_fit depth encoding c low = (
+  fit_head depth (encoded_head 2 (length c.bytes) c.width) _ (omega arith) (head_length 2 (length c.bytes) (stated c.width (length c.bytes))),
+  content_fits (depth + 1) (bytes_comment encoding c.bytes) (byte_pieces c.bytes) low (pieces_few byte_cut (λ bytes. omega arith) (length c.bytes) c.bytes),
+)
+
+text_fits : (depth : ℕ) (c : Chunk) → depth + 1 < 140 → AllByRecursion IsFit (text_string_lines depth c)
+text_fits depth c low = (
+  fit_head depth (encoded_head 3 (length c.bytes) c.width) _ (omega arith) (head_length 3 (length c.bytes) (stated c.width (length c.bytes))),
+  content_fits (depth + 1) text_comment (text_pieces c.bytes) low (text_few c.bytes),
+)
+
+byte_chunks_fit : (depth : ℕ) (encoding : Option Encoding) (cs : List Chunk) → depth + 1 < 140 → AllByRecursion IsFit (flat_map (byte_string_lines depth encoding) cs)
+byte_chunks_fit depth encoding [] low = tt
+byte_chunks_fit depth encoding (c ∷ cs) low =
+    all_both IsFit (byte_string_lines depth encoding c) (flat_map (byte_string_lines depth encoding) cs) (bytes_fit depth encoding c low) (byte_chunks_fit depth encoding cs low)
+
+text_chunks_fit : (depth : ℕ) (cs : List Chunk) → depth + 1 < 140 → AllByRecursion IsFit (flat_map (text_string_lines depth) cs)
+text_chunks_fit depth [] low = tt
+text_chunks_fit depth (c ∷ cs) low =
+    all_both IsFit (text_string_lines depth c) (flat_map (text_string_lines depth) cs) (text_fits depth c low) (text_chunks_fit depth cs low)
+
+break_fits : (depth : ℕ) → depth < 140 → AllByRecursion IsFit (break_line depth ∷ [])
+break_fits depth low = (fit_head depth (break_byte ∷ []) _ low (omega arith), tt)
+
+close_fits : (depth : ℕ) (w : Option IntegerWidth) → depth < 140 → AllByRecursion IsFit (close_lines depth w)
+close_fits depth (Some w) low = tt
+close_fits depth None low = break_fits depth low
+
+atom_fits : (depth : ℕ) (encoding : Option Encoding) (a : Atom) → depth < 128 → AllByRecursion IsFit (atom_lines depth encoding a)
+atom_fits depth encoding (integer n w) low = (fit_head depth (encoded_head 0 n w) _ (omega arith) (head_length 0 n (stated w n)), tt)
+atom_fits depth encoding (negative n w) low = (fit_head depth (encoded_head 1 n w) _ (omega arith) (head_length 1 n (stated w n)), tt)
+atom_fits depth encoding (byte_string c) low = bytes_fit depth encoding c (omega arith)
+atom_fits depth encoding (text_string c) low = text_fits depth c (omega arith)
+atom_fits depth encoding (byte_chunks cs) low = (
+  fit_head depth (opening 2 ∷ []) _ (omega arith) (omega arith),
+  all_both IsFit (flat_map (byte_string_lines (depth + 1) encoding) cs) (break_line (depth + 1) ∷ []) (byte_chunks_fit (depth + 1) encoding cs (omega arith)) (break_fits (depth + 1) (omega arith)),
+)
+atom_fits depth encoding (text_chunks cs) low = (
+  fit_head depth (opening 3 ∷ []) _ (omega arith) (omega arith),
+  all_both IsFit (flat_map (text_string_lines (depth + 1)) cs) (break_line (depth + 1) ∷ []) (text_chunks_fit (depth + 1) cs (omega arith)) (break_fits (depth + 1) (omega arith)),
+)
+atom_fits depth encoding (float bits w) low = (fit_head depth (encoded_float bits w) _ (omega arith) (float_length bits w), tt)
+atom_fits depth encoding (simple n) low = (fit_head depth (encoded_simple n) _ (omega arith) (simple_length n), tt)
+
+open_fits : (depth major : ℕ) (name : List ℕ) (n : ℕ) (w : Option IntegerWidth) → depth < 140 → IsFit (container_line depth major name n w)
+open_fits depth major name n w low = fit_head depth (encoded_open major n w) _ low (open_length major n w)
+
+-- where a line below stands
+low_here : (depth level : ℕ) → depth < level → level ≤ deepest → depth < 128
+low_here depth level below few = omega arith
+
+low_below : (depth level : ℕ) → depth < level → depth + 1 < level + 1
+low_below depth level below = omega arith
+
+low_end : (depth level : ℕ) → depth < level → level ≤ deepest → depth + 1 < 140
+low_end depth level below few = omega arith
+
+low_first : (depth level : ℕ) → depth < level → level ≤ deepest → depth < 140
+low_first depth level below few = omega arith
+
+mutual
+  pub item_fits : (depth level : ℕ) (encoding : Option Encoding) (i : Item) → depth < level → WellFormed level i → AllByRecursion IsFit (item_lines depth encoding i)
+  item_fits depth level encoding (atom a) below well = atom_fits depth encoding a (low_here depth level below well.0)
+  item_fits depth level encoding (array is w) below well = (
+    open_fits depth 4 (codes "array") (item_count is) w (low_first depth level below well.0),
+    all_both IsFit (items_lines (depth + 1) encoding is) (close_lines (depth + 1) w) (items_fit (depth + 1) (level + 1) encoding is (low_below depth level below) well.2) (close_fits (depth + 1) w (low_end depth level below well.0)),
+  )
+  item_fits depth level encoding (spec.map ps w) below well = (
+    open_fits depth 5 (codes "map") (pair_count ps) w (low_first depth level below well.0),
+    all_both IsFit (pairs_lines (depth + 1) encoding ps) (close_lines (depth + 1) w) (pairs_fit (depth + 1) (level + 1) encoding ps (low_below depth level below) well.2) (close_fits (depth + 1) w (low_end depth level below well.0)),
+  )
+  item_fits depth level encoding (tagged t w i) below well = (
+    fit_head depth (encoded_head 6 t w) _ (low_first depth level below well.0) (head_length 6 t (stated w t)),
+    item_fits (depth + 1) (level + 1) (encoding_below t encoding) i (low_below depth level below) well.2,
+  )
+
+  items_fit : (depth level : ℕ) (encoding : Option Encoding) (is : Items) → depth < level → WellFormedItems level is → AllByRecursion IsFit (items_lines depth encoding is)
+  items_fit depth level encoding no_items below well = tt
+  items_fit depth level encoding (item i is) below well =
+      all_both IsFit (item_lines depth encoding i) (items_lines depth encoding is) (item_fits depth level encoding i below well.0) (items_fit depth level encoding is below well.1)
+
+  pairs_fit : (depth level : ℕ) (encoding : Option Encoding) (ps : Pairs) → depth < level → WellFormedPairs level ps → AllByRecursion IsFit (pairs_lines depth encoding ps)
+  pairs_fit depth level encoding no_pairs below well = tt
+  pairs_fit depth level encoding (pair k v ps) below well =
+      all_both IsFit (item_lines depth encoding k) (item_lines depth encoding v ++ pairs_lines depth encoding ps) (item_fits depth level encoding k below well.0)
+      (all_both IsFit (item_lines depth encoding v) (pairs_lines depth encoding ps) (item_fits depth level encoding v below well.1) (pairs_fit depth level encoding ps below well.2))
+
+-- lines that fit, and do not reach past the room
+pub takes_all : (room : ℕ) (lines : List DumpLine) → AllByRecursion IsFit lines → width_of lines ≤ room → AllByRecursion (Takes room) lines
+takes_all room [] fit wide = tt
+takes_all room (line ∷ lines) fit wide = (record { fit = fit.0; reach = (omega arith) }, takes_all room lines fit.1 (omega arith))
+
+-- what the first walk finds
+pub widest_is : (width : ℕ) (lines : List DumpLine) → taken (λ w line. max w (reach line)) width lines ≡ max width (width_of lines)
+widest_is width [] = omega arith
+widest_is width (line ∷ lines) = let rest = widest_is (max width (reach line)) lines in omega arith
+
+-- what the second walk writes
+pub written_is : (width : ℕ) (text : List ℕ) (lines : List DumpLine)
+    → taken {View = ℕ × List ℕ} (λ written line. (written.0, written.1 ++ line_text written.0 line)) (width, text) lines ≡ (width, text ++ flat_map (line_text width) lines)
+written_is width text [] = ap (λ (t : List ℕ). (width, t)) (sym (append-nil text))
+written_is width text (line ∷ lines) =
+    written_is width (text ++ line_text width line) lines ∙ ap (λ (t : List ℕ). (width, t)) (append_assoc text (line_text width line) (flat_map (line_text width) lines))

@@ -1,0 +1,45 @@
+//! Writes an item as a dump: annotated hex.
+//!
+//! One walk over the item hands its lines, one after the other, to a sink. A first walk finds how wide the
+//! column of the digits is, and a second one writes each line at once.
+ghost use Rattle.std.specs.Prelude.{◌≡◌, ◌+◌, IfOk, IfErr};
+ghost use Rattle.std.specs.List.{AllByRecursion};
+ghost use Rattle.std.specs.String.{string_bytes};
+ghost use Rattle.hex.specs.Hex.{encode_lower};
+ghost use Rattle.cbor_notes.specs.Columns.{IsColumn, Lacks};
+ghost use Rattle.cbor_notes.specs.Layout.{width_of};
+ghost use Rattle.cbor_diag.specs.View.{view};
+ghost use Rattle.cbor_diag.specs.Facts.{IsWellFormed};
+ghost use Rattle.cbor_diag.specs.Written.{encoded, resolve};
+ghost use Rattle.cbor_diag.specs.HexText.{strip, IsHexOf};
+ghost use Rattle.cbor_diag.specs.Dump as spec;
+
+mod comment;
+mod form;
+mod sink;
+mod walk;
+
+use crate::error::Error;
+use crate::syntax::DataItem;
+use sink::{Widest, Writer};
+use std::alloc::Global;
+use walk::walk_item;
+
+impl DataItem {
+    /// The item as a dump: its bytes in hex, as `to_bytes` writes them, each line with a comment (docs/DUMP.md).
+    /// `parse_hex` reads it back, with open widths resolved.
+    ///
+    /// The item has to be well formed, which `is_well_formed` tells. Refuses with `Memory` alone.
+    pub fn to_hex(&self, alloc: Global) -> crate::Result<String>
+        requires { IsWellFormed (view self.now) }
+        ensures text { IfOk result (λ t. string_bytes t ≡ spec.dump (view self.now)) }
+        ensures refused { IfErr result (λ e. e ≡ Error.Memory) }
+    {
+        let mut head = Vec::with_capacity(alloc, 9)?;
+        let mut widest = Widest { width: 0 };
+        walk_item(&mut widest, &mut head, 0, None, self)?;
+        let mut writer = Writer::new(alloc, widest.width);
+        walk_item(&mut writer, &mut head, 0, None, self)?;
+        Ok(writer.into_text())
+    }
+}

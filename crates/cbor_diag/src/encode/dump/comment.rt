@@ -1,0 +1,177 @@
+//! The comments of a dump, written at the end of a text.
+ghost use Rattle.std.specs.Prelude.{◌≡◌, ◌++◌, OnOk, codes, decimal};
+ghost use Rattle.std.specs.String.{string_bytes};
+ghost use Rattle.cbor_notes.specs.Base64.{encoding};
+ghost use Rattle.cbor_notes.specs.TagNames.{tag_name};
+ghost use Rattle.cbor_diag.specs.Comments as spec;
+ghost use Rattle.cbor_diag.specs.Parts.{comment_text};
+
+use crate::encode::encoding::Encoding;
+use base64::engine::general_purpose::{STANDARD, URL_SAFE_NO_PAD};
+use cbor_notes::{push_escaped_text, push_grouped, push_hex, push_quoted_bytes, tag_name};
+use std::alloc::AllocError;
+
+/// What a line of a dump says of its digits.
+#[derive(Clone, Copy)]
+pub(super) enum Comment<'a> {
+    /// An unsigned integer.
+    Unsigned(u64),
+    /// A negative integer, by the number that is encoded.
+    Negative(u64),
+    /// A float, by its encoding.
+    Float(&'a [u8]),
+    /// A simple value.
+    Simple(u8),
+    /// A string or a container with its length or count, or none where that is indefinite.
+    Counted(&'static str, Option<usize>),
+    /// A break.
+    Break,
+    /// A tag.
+    Tag(u64),
+    /// A string without content.
+    Empty,
+    /// A piece of a byte string, and the whole string.
+    Bytes(Option<Encoding>, &'a [u8], &'a [u8]),
+    /// A piece of a text.
+    Text(&'a str),
+}
+
+impl Comment<'_> {
+    /// Appends the comment to a text.
+    pub(super) fn push(&self, out: &mut String) -> Result<(), AllocError>
+        ensures { OnOk result (string_bytes out.new ≡ string_bytes out.old ++ comment_text self.now) }
+    {
+        match self {
+            Comment::Unsigned(number) => {
+                out.push_str("unsigned(")?;
+                push_grouped(out, u128::from(*number), false)?;
+                out.push(')')
+            }
+            Comment::Negative(number) => {
+                out.push_str("negative(")?;
+                push_grouped(out, u128::from(*number) + 1, true)?;
+                out.push(')')
+            }
+            Comment::Float(bytes) => push_float(out, bytes),
+            Comment::Simple(value) => push_simple(out, *value),
+            Comment::Counted(name, count) => push_counted(out, name, *count),
+            Comment::Break => out.push_str("break"),
+            Comment::Tag(number) => push_tag(out, *number),
+            Comment::Empty => out.push_str("\"\""),
+            Comment::Bytes(encoding, whole, piece) => push_bytes(out, *encoding, whole, piece),
+            Comment::Text(piece) => {
+                out.push('"')?;
+                push_escaped_text(out, piece)?;
+                out.push('"')
+            }
+        }
+    }
+}
+
+/// Appends a number in decimal digits.
+fn push_decimal(out: &mut String, number: u64) -> Result<(), AllocError>
+    ensures { OnOk result (string_bytes out.new ≡ string_bytes out.old ++ decimal number) }
+{
+    let mut digits = itoa::Buffer::new();
+    out.push_str(digits.format(number))
+}
+
+fn push_float(out: &mut String, bytes: &[u8]) -> Result<(), AllocError>
+    ensures { OnOk result (string_bytes out.new ≡ string_bytes out.old ++ spec.float_comment bytes.now) }
+{
+    out.push_str("float(")?;
+    push_hex(out, &bytes[bytes.len().min(1)..])?;
+    out.push(')')
+}
+
+fn push_simple(out: &mut String, value: u8) -> Result<(), AllocError>
+    ensures { OnOk result (string_bytes out.new ≡ string_bytes out.old ++ spec.simple_comment value) }
+{
+    let kind = match value {
+        20 => "false, ",
+        21 => "true, ",
+        22 => "null, ",
+        23 => "undefined, ",
+        24..=32 => "reserved, ",
+        _ => "unassigned, ",
+    };
+    out.push_str(kind)?;
+    out.push_str("simple(")?;
+    push_decimal(out, u64::from(value))?;
+    out.push(')')
+}
+
+fn push_counted(out: &mut String, name: &str, count: Option<usize>) -> Result<(), AllocError>
+    ensures { OnOk result (string_bytes out.new ≡ string_bytes out.old ++ spec.counted_comment name.now count) }
+{
+    out.push_str(name)?;
+    out.push('(')?;
+    match count {
+        Some(count) => push_decimal(out, count as u64)?,
+        None => out.push('*')?,
+    }
+    out.push(')')
+}
+
+/// Appends the name of a tag, if it has one, and a comma.
+fn push_name(out: &mut String, number: u64) -> Result<(), AllocError>
+    ensures { OnOk result (string_bytes out.new ≡ string_bytes out.old ++ spec.name_before (tag_name number)) }
+{
+    match tag_name(number) {
+        Some(name) => {
+            out.push_str(name)?;
+            out.push_str(", ")
+        }
+        None => Ok(()),
+    }
+}
+
+fn push_tag(out: &mut String, number: u64) -> Result<(), AllocError>
+    ensures { OnOk result (string_bytes out.new ≡ string_bytes out.old ++ spec.tag_comment number) }
+{
+    push_name(out, number)?;
+    out.push_str("tag(")?;
+    push_decimal(out, number)?;
+    out.push(')')
+}
+
+fn push_bytes(
+    out: &mut String,
+    encoding: Option<Encoding>,
+    whole: &[u8],
+    piece: &[u8],
+) -> Result<(), AllocError>
+    ensures { OnOk result (string_bytes out.new
+        ≡ string_bytes out.old ++ spec.bytes_comment encoding whole.now piece.now) }
+{
+    match encoding {
+        None => push_quoted_bytes(out, piece),
+        Some(Encoding::Base16) => {
+            out.push_str("h'")?;
+            push_hex(out, piece)?;
+            out.push('\'')
+        }
+        Some(Encoding::Base64) => push_base64(out, false, whole),
+        Some(Encoding::Base64Url) => push_base64(out, true, whole),
+    }
+}
+
+/// Appends bytes in base 64 between quotes, in the alphabet that is safe in URLs if `url` is set.
+fn push_base64(out: &mut String, url: bool, bytes: &[u8]) -> Result<(), AllocError>
+    ensures { OnOk result (string_bytes out.new
+        ≡ string_bytes out.old ++ (codes "b64'" ++ encoding url bytes.now ++ codes "'")) }
+{
+    out.push_str("b64'")?;
+    push_base64_digits(out, url, bytes)?;
+    out.push('\'')
+}
+
+fn push_base64_digits(out: &mut String, url: bool, bytes: &[u8]) -> Result<(), AllocError>
+    ensures { OnOk result (string_bytes out.new ≡ string_bytes out.old ++ encoding url bytes.now) }
+{
+    if url {
+        URL_SAFE_NO_PAD.encode_string(bytes, out)
+    } else {
+        STANDARD.encode_string(bytes, out)
+    }
+}
