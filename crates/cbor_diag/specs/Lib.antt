@@ -11,3 +11,9 @@ pub mod Answer
 pub mod Facts
 pub mod HexText
 pub mod Examples
+pub mod Embedded
+pub mod Estimate
+pub mod NotationText
+pub mod Compact
+pub mod Pretty
+pub mod Normal

@@ -1,3 +1,4 @@
 //! Printers.
 mod bytes;
 mod head;
+mod notation;
