@@ -21,3 +21,5 @@ pub mod Resolved
 pub mod Sizes
 pub mod HexLines
 pub mod HexDigits
+pub mod NotationTexts
+pub mod EmbeddedItems

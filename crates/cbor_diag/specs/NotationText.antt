@@ -40,15 +40,27 @@ indicator width.SixtyFour = codes "_3"
 abbrev pub number : ℕ → IntegerWidth → List ℕ
 number n w = decimal n ++ indicator w
 
+-- what stands before the quotes of bytes
+abbrev pub prefix : Encoding → List ℕ
+prefix Base16 = codes "h"
+prefix Base64 = codes "b64"
+prefix Base64Url = codes "b64"
+
+abbrev pub encoded_bytes : Encoding → List ℕ → List ℕ
+encoded_bytes Base16 b = encode_lower b
+encoded_bytes Base64 b = standard b
+encoded_bytes Base64Url b = url_safe b
+
 -- bytes between quotes, in the encoding that is in force
 abbrev pub quoted : Encoding → List ℕ → List ℕ
-quoted Base16 b = codes "h'" ++ (encode_lower b ++ codes "'")
-quoted Base64 b = codes "b64'" ++ (standard b ++ codes "'")
-quoted Base64Url b = codes "b64'" ++ (url_safe b ++ codes "'")
+quoted e b = prefix e ++ (codes "'" ++ (encoded_bytes e b ++ codes "'"))
 
--- a quote or a backslash stands behind a backslash
+-- a quote or a backslash, which stands behind a backslash
+abbrev pub is_escaped : ℕ → Bool
+is_escaped b = (b == 34) || (b == 92)
+
 abbrev pub escaped : ℕ → List ℕ
-escaped b = if (b == 34) || (b == 92) then 92 ∷ b ∷ [] else b ∷ []
+escaped b = if is_escaped b then 92 ∷ b ∷ [] else b ∷ []
 
 -- a text between quotes
 abbrev pub text : List ℕ → List ℕ
@@ -88,6 +100,16 @@ abbrev pub members_layout : Listing → Layout
 members_layout Joined = Compact
 members_layout (Row indent) = Pretty indent
 members_layout (Lines indent) = Pretty (indent + 4)
+
+-- the indent of a layout, which is a number of blanks that the code can count
+abbrev pub indent_of : Layout → ℕ
+indent_of Compact = 0
+indent_of (Pretty indent) = indent
+
+abbrev pub listing_indent : Listing → ℕ
+listing_indent Joined = 0
+listing_indent (Row indent) = indent
+listing_indent (Lines indent) = indent
 
 -- what stands before the first member, and before each other one
 abbrev pub start : Listing → Bool → List ℕ
@@ -135,6 +157,10 @@ rest_gap (Pretty indent) = codes " "
 
 -- ---- where an item stands
 
+-- at the beginning of a text
+abbrev pub in_encoding : Layout → Encoding → Context
+in_encoding l e = record { layout = l; encoding = e; content = content.Bytes }
+
 -- tag 21 asks for base 64 that is safe in URLs, tag 22 for base 64, tag 23 for hex (RFC 7049 section
 -- 2.4.4.2); it holds for all that is nested below, until another of them
 abbrev pub encoding_below : ℕ → Encoding → Encoding
@@ -150,7 +176,7 @@ below t c = record { layout = c.layout; encoding = encoding_below t c.encoding; 
 
 -- in a container, or embedded in a byte string
 abbrev pub inside : Layout → Context → Context
-inside l c = record { layout = l; encoding = c.encoding; content = content.Bytes }
+inside l c = in_encoding l c.encoding
 
 -- ---- items, the items in them written by `write`
 

@@ -1,0 +1,70 @@
+-- Embedded items: what a reader answers is what `embedded` and `sequence` say.
+use Rattle.std.proofs.Common.{◌≡◌, ◌≢◌, ℕ, zero, suc, ◌+◌, ◌-◌, ◌<◌, ◌≤◌, List, [], ◌∷◌, ◌++◌, length, take, drop, Some, None, Ok, Err, refl, sym, ap, ◌∙◌, arith}
+use Rattle.std.proofs.lemmas.List.{append-nil, length-drop}
+use Rattle.cbor_diag.specs.declared.error.Error.{Error}
+use Rattle.cbor_diag.specs.declared.error.Error.TheVariants as refusal
+use Rattle.cbor_diag.specs.declared.syntax.DataItem.{DataItem}
+use Rattle.cbor_diag.specs.Item.{Item, Items, no_items, item}
+use Rattle.cbor_diag.specs.View.{view, items_view}
+use Rattle.cbor_diag.specs.Bytes.{any, Spells}
+use Rattle.cbor_diag.specs.Answer.{spelled, cut, fault, IsOutcome, HasOutcome, IsRefused}
+use Rattle.cbor_diag.specs.Reading.{Read, item_at}
+use Rattle.cbor_diag.specs.Embedded.{if_whole, embedded_at, before, and_then, sequence_of, sequence_at}
+use Rattle.cbor_diag.proofs.Found.{item_again}
+use Rattle.cbor_diag.proofs.Three.{outcome_reads}
+use Rattle.cbor_diag.proofs.Loops.{joined, joined-none, item_joins}
+
+-- ---- one item
+
+pub whole_item : (level : ℕ) (b : List ℕ) (i : Item) → level ≤ 129 → Spells any level b i → embedded_at (129 - level) b ≡ Some i
+whole_item level b i le s =
+    ap if_whole (ap (item_at (129 - level)) (sym (append-nil b)) ∙ item_again level (129 - level) b i [] (omega arith) s)
+
+bytes_after : (i : Item) (r : List ℕ) → r ≢ [] → if_whole (Ok (i, r)) ≡ None
+bytes_after i [] h = absurd (h refl)
+bytes_after i (x ∷ r) h = refl
+
+pub no_whole_item : (level : ℕ) (b : List ℕ) (e : Error) → level ≤ 129 → IsRefused level b e → embedded_at (129 - level) b ≡ None
+no_whole_item level b refusal.CutShort le h = ap if_whole (outcome_reads level (129 - level) b cut (omega arith) h)
+no_whole_item level b refusal.Head le h = ap if_whole (outcome_reads level (129 - level) b (fault refusal.Head) (omega arith) h)
+no_whole_item level b refusal.Utf8 le h = ap if_whole (outcome_reads level (129 - level) b (fault refusal.Utf8) (omega arith) h)
+no_whole_item level b refusal.TooDeep le h = ap if_whole (outcome_reads level (129 - level) b (fault refusal.TooDeep) (omega arith) h)
+no_whole_item level b refusal.Remaining le h =
+    let more : drop h.1 b ≢ [] = λ e. omega (arith, length-drop h.1 b, ap length e, h.2) in
+    ap if_whole (outcome_reads level (129 - level) b (spelled h.0 h.1) (omega arith) (omega (arith, h.2), h.3)) ∙ bytes_after h.0 (drop h.1 b) more
+no_whole_item level b refusal.Memory le h = absurd h
+no_whole_item level b refusal.OddHex le h = absurd h
+no_whole_item level b refusal.BadHex le h = absurd h
+no_whole_item level b refusal.Notation le h = absurd h
+no_whole_item level b refusal.PastWidth le h = absurd h
+
+-- ---- a sequence
+
+-- items before a sequence
+abbrev pub onto : Items → Items × List ℕ → Items × List ℕ
+onto is s = (joined is s.0, s.1)
+
+-- an item more was read
+pub sequence_more : (left steps used : ℕ) (vs : List DataItem) (v : DataItem) (b : List ℕ) (whole : Items × List ℕ) → item_at left b ≡ Ok (view v, drop used b) → length b ≤ steps → 1 ≤ used → used ≤ length b
+    → onto (items_view vs) (sequence_of (item_at left) steps b) ≡ whole
+    → (m : ℕ) × (length (drop used b) ≤ m) × (onto (items_view (vs ++ v ∷ [])) (sequence_of (item_at left) m (drop used b)) ≡ whole)
+unfolding sequence_of
+sequence_more left zero used vs v b whole e enough some within h = absurd (omega arith)
+sequence_more left (suc m) used vs v b whole e enough some within h =
+    let s = sequence_of (item_at left) m (drop used b) in
+    let here : onto (items_view vs) (before (view v) s) ≡ whole = rw e at h in
+    (m, omega (arith, length-drop used b), ap (λ is. (is, s.1)) (sym (item_joins vs v s.0)) ∙ here)
+
+-- no item more can be read
+pub sequence_end : (left steps : ℕ) (is : Items) (b : List ℕ) (e : Error) (whole : Items × List ℕ) → item_at left b ≡ Err e
+    → onto is (sequence_of (item_at left) steps b) ≡ whole → (is, b) ≡ whole
+unfolding sequence_of
+sequence_end left zero is b e whole ends h = ap (λ js. (js, b)) (sym (joined-none is)) ∙ h
+sequence_end left (suc n) is b e whole ends h =
+    let here : onto is (no_items, b) ≡ whole = rw ends at h in
+    ap (λ js. (js, b)) (sym (joined-none is)) ∙ here
+
+-- the front of an input is at fault, where a reader refuses it for another reason than memory
+pub fault_is : (level : ℕ) (b : List ℕ) (e : Error) → e ≢ refusal.Memory → HasOutcome level b (Err e) → IsOutcome level b (fault e)
+fault_is level b refusal.Memory other h = absurd (other refl)
+fault_is level b _ other h = h
