@@ -1,15 +1,20 @@
 -- Embedded items: what a reader answers is what `embedded` and `sequence` say.
 use Rattle.std.proofs.Common.{◌≡◌, ◌≢◌, ℕ, zero, suc, ◌+◌, ◌-◌, ◌<◌, ◌≤◌, List, [], ◌∷◌, ◌++◌, length, take, drop, Some, None, Ok, Err, refl, sym, ap, ◌∙◌, arith}
-use Rattle.std.proofs.lemmas.List.{append-nil, length-drop}
+use Rattle.std.proofs.lemmas.List.{append-nil, length-drop, length-take}
 use Rattle.cbor_diag.specs.declared.error.Error.{Error}
 use Rattle.cbor_diag.specs.declared.error.Error.TheVariants as refusal
 use Rattle.cbor_diag.specs.declared.syntax.DataItem.{DataItem}
 use Rattle.cbor_diag.specs.Item.{Item, Items, no_items, item}
 use Rattle.cbor_diag.specs.View.{view, items_view}
 use Rattle.cbor_diag.specs.Bytes.{any, Spells}
-use Rattle.cbor_diag.specs.Answer.{spelled, cut, fault, IsOutcome, HasOutcome, IsRefused}
+use Rattle.cbor_diag.specs.Answer.{spelled, cut, fault, IsOutcome, HasOutcome, HasAnswer, IsRefused}
 use Rattle.cbor_diag.specs.Reading.{Read, item_at}
 use Rattle.cbor_diag.specs.Embedded.{if_whole, embedded_at, before, and_then, sequence_of, sequence_at}
+use Rattle.cbor_diag.specs.Refused.{Cut}
+use Rattle.cbor_diag.specs.WellFormed.{WellFormed, WellFormedItems}
+use Rattle.cbor_diag.proofs.Heads.{IsBytes, IsBytes-drop, IsBytes-take}
+use Rattle.cbor_diag.proofs.Readers.{whole_well}
+use Rattle.cbor_diag.proofs.Sizes.{one_byte}
 use Rattle.cbor_diag.proofs.Found.{item_again}
 use Rattle.cbor_diag.proofs.Three.{outcome_reads}
 use Rattle.cbor_diag.proofs.Loops.{joined, joined-none, item_joins}
@@ -68,3 +73,43 @@ sequence_end left (suc n) is b e whole ends h =
 pub fault_is : (level : ℕ) (b : List ℕ) (e : Error) → e ≢ refusal.Memory → HasOutcome level b (Err e) → IsOutcome level b (fault e)
 fault_is level b refusal.Memory other h = absurd (other refl)
 fault_is level b _ other h = h
+
+-- a whole input is refused, where a reader refuses it for another reason than memory
+pub refused_is : (level : ℕ) (b : List ℕ) (e : Error) → e ≢ refusal.Memory → HasAnswer level b (Err e) → IsRefused level b e
+refused_is level b refusal.Memory other h = absurd (other refl)
+refused_is level b _ other h = h
+
+-- ---- what the loop over a sequence keeps
+
+well_push : (level : ℕ) (vs : List DataItem) (v : DataItem) → WellFormedItems level (items_view vs) → WellFormed level (view v) → WellFormedItems level (items_view (vs ++ v ∷ []))
+well_push level [] v h w = (w, tt)
+well_push level (x ∷ vs) v h w = (h.0, well_push level vs v h.1 w)
+
+-- the items so far and those of the rest are the whole sequence
+pub record SoFar (level : ℕ) (vs : List DataItem) (b : List ℕ) (whole : Items × List ℕ) : Type 0 where
+  pub steps : ℕ
+  pub enough : length b ≤ steps
+  pub same : onto (items_view vs) (sequence_of (item_at (129 - level)) steps b) ≡ whole
+  pub well_formed : WellFormedItems level (items_view vs)
+  pub bytes : IsBytes b
+
+pub at_first : (level : ℕ) (b : List ℕ) → IsBytes b → SoFar level [] b (sequence_at (129 - level) b)
+at_first level b fits = record { steps = length b; enough = omega arith; same = refl; well_formed = tt; bytes = fits }
+
+pub one_more : (level used : ℕ) (vs : List DataItem) (v : DataItem) (b : List ℕ) (whole : Items × List ℕ) → level ≤ 129 → IsOutcome level b (spelled (view v) used) → SoFar level vs b whole
+    → SoFar level (vs ++ v ∷ []) (drop used b) whole × (length (drop used b) < length b)
+one_more level used vs v b whole le h s =
+    let within : used ≤ length b = h.0 in
+    let some : 1 ≤ used = omega (arith, one_byte level (take used b) (view v) h.1, length-take used b) in
+    let more = sequence_more (129 - level) s.steps used vs v b whole (outcome_reads level (129 - level) b (spelled (view v) used) (omega arith) h) s.enough some within s.same in
+    let well = whole_well level (take used b) (Ok v) (IsBytes-take used b s.bytes) h.1 in
+    (record { steps = more.0; enough = more.1; same = more.2; well_formed = well_push level vs v s.well_formed well; bytes = IsBytes-drop used b s.bytes }, omega (arith, length-drop used b))
+
+pub no_more : (level : ℕ) (vs : List DataItem) (b : List ℕ) (e : Error) (whole : Items × List ℕ) → item_at (129 - level) b ≡ Err e → SoFar level vs b whole → (items_view vs, b) ≡ whole
+no_more level vs b e whole ends s = sequence_end (129 - level) s.steps (items_view vs) b e whole ends s.same
+
+pub cut_ends : (level : ℕ) (b : List ℕ) → level ≤ 129 → Cut level b → item_at (129 - level) b ≡ Err refusal.CutShort
+cut_ends level b le h = outcome_reads level (129 - level) b cut (omega arith) h
+
+pub fault_ends : (level : ℕ) (b : List ℕ) (e : Error) → level ≤ 129 → IsOutcome level b (fault e) → item_at (129 - level) b ≡ Err e
+fault_ends level b e le h = outcome_reads level (129 - level) b (fault e) (omega arith) h

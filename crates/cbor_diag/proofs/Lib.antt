@@ -23,3 +23,5 @@ pub mod HexLines
 pub mod HexDigits
 pub mod NotationTexts
 pub mod EmbeddedItems
+pub mod Rooms
+pub mod TextParts

@@ -7,17 +7,17 @@ mod estimate;
 mod members;
 mod scalars;
 
-ghost use Rattle.std.specs.Prelude.{◌≡◌, ◌+◌, ◌-◌, ◌*◌, ◌<◌, ◌≤◌, ◌++◌, ℕ, OnOk, IfOk, IfErr, codes, map};
+ghost use Rattle.std.specs.Prelude.{◌≡◌, true, ◌+◌, ◌-◌, ◌*◌, ◌<◌, ◌≤◌, ◌++◌, ℕ, OnOk, IfOk, IfErr, codes, map};
 ghost use Rattle.std.specs.String.{string_bytes};
 ghost use Rattle.cbor_diag.specs.declared.encode.notation.context.Encoding.TheVariants.{Base16};
 ghost use Rattle.cbor_diag.specs.View.{view, items_view, pairs_view, byte_chunk, text_chunk};
 ghost use Rattle.cbor_diag.specs.WellFormed.{WellFormed, WellFormedItems, WellFormedPairs};
-ghost use Rattle.cbor_diag.specs.NotationText.{indent_of, listing_indent, quoted, text, members, chunks_text, colon, item_texts, pair_texts, embedded_text, rest_text, sequence_text, content_text, text_at};
+ghost use Rattle.cbor_diag.specs.NotationText.{indent_of, listing_indent, members, members_layout, inside, colon, item_texts, pair_texts, embedded_text, rest_text, sequence_text, content_text, text_at};
 ghost use Rattle.cbor_diag.specs.Embedded.{embedded_at, sequence_at};
 ghost use Rattle.cbor_diag.specs.Compact.{compact};
 ghost use Rattle.cbor_diag.specs.Pretty.{pretty};
 
-use crate::error::Result;
+use crate::error::{Error, Result};
 use crate::syntax::DataItem;
 use context::{Content, Context, Layout, Listing};
 use embedded::{embedded, sequence};

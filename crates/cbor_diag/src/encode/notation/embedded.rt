@@ -20,8 +20,10 @@ pub(crate) fn embedded(alloc: Global, bytes: &[u8], level: u8) -> Result<Option<
 {
     match whole_at(alloc, bytes, level) {
         Ok(item) => Ok(Some(item)),
-        Err(Error::Memory) => Err(Error::Memory),
-        Err(_) => Ok(None),
+        Err(error) => match error {
+            Error::Memory => Err(error),
+            _ => Ok(None),
+        },
     }
 }
 
@@ -40,10 +42,14 @@ pub(crate) fn sequence(alloc: Global, bytes: &[u8], level: u8) -> Result<(Vec<Da
         match front_at(alloc, rest, level) {
             Ok(Some((item, used))) => {
                 items.push(item)?;
-                rest = &rest[used..];
+                let (_, after) = rest.split_at(used);
+                rest = after;
             }
-            Err(Error::Memory) => return Err(Error::Memory),
-            Ok(None) | Err(_) => return Ok((items, rest)),
+            Ok(None) => return Ok((items, rest)),
+            Err(error) => match error {
+                Error::Memory => return Err(error),
+                _ => return Ok((items, rest)),
+            },
         }
     }
 }

@@ -23,5 +23,5 @@ returns c =
     let none : drop c.chunks.chunk-index all ≡ [] = drop_all c.chunks.chunk-index all c.chunks-test.false in
     let f : Chunk → List ℕ = λ s. quoted c.args.encoding s.bytes in
     let whole = members_end c.args.listing c.chunks.first (string_bytes c.chunks.out) _ (rw none at c.chunks.invariant) in
-    on_ok_weaker c.push_closing.result (λ e. chunks_written c.args.listing (codes "\'\'_") f byte_chunk all (string_bytes c.args.out.now) (string_bytes c.push_opening.new.out) (string_bytes c.chunks.out) (string_bytes c.push_closing.new.out)
+    on_ok_weaker c.push_closing.result (λ e. chunks_written c.args.listing (codes "''_") f byte_chunk all (string_bytes c.args.out.now) (string_bytes c.push_opening.new.out) (string_bytes c.chunks.out) (string_bytes c.push_closing.new.out)
     (sym c.is_empty.ensures ∙ c.if-is_empty.false) c.in_ok-push_opening.ensures whole e) c.push_closing.ensures
