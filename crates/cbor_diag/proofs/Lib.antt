@@ -25,3 +25,6 @@ pub mod NotationTexts
 pub mod EmbeddedItems
 pub mod Rooms
 pub mod TextParts
+pub mod NormalForm
+pub mod NormalWell
+pub mod NormalText

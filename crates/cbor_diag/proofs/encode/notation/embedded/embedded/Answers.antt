@@ -1,5 +1,5 @@
 use Rattle.std.proofs.Common.{Ok, sym, arith}
-use Rattle.cbor_diag.proofs.Readers.{whole_well}
+use Rattle.cbor_diag.proofs.Readers.{whole_well_formed}
 use Rattle.cbor_diag.proofs.EmbeddedItems.{whole_item, no_whole_item, refused_is}
 use Rattle.cbor_diag.proofs.encode.notation.embedded.embedded.Goals as goal
 
@@ -7,7 +7,7 @@ pub returns-in-Ok-clause-item : goal.returns-in-Ok-clause-item
 returns-in-Ok-clause-item c = sym (whole_item c.args.level c.args.bytes.now _ c.requires.to c.in-Ok.ensures.answer)
 
 pub returns-in-Ok-clause-well_formed : goal.returns-in-Ok-clause-well_formed
-returns-in-Ok-clause-well_formed c = whole_well c.args.level c.args.bytes.now (Ok c.in-Ok.item) (λ i. omega (arith, c.type_inv.bytes i)) c.in-Ok.ensures.answer
+returns-in-Ok-clause-well_formed c = whole_well_formed c.args.level c.args.bytes.now (Ok c.in-Ok.item) (λ i. omega (arith, c.type_inv.bytes i)) c.in-Ok.ensures.answer
 
 pub returns-in_default : goal.returns-in_default
 returns-in_default c =
