@@ -8,7 +8,6 @@ pub mod Bytes
 pub mod Refused
 pub mod Reading
 pub mod Answer
-pub mod Facts
 pub mod HexText
 pub mod Examples
 pub mod Embedded
@@ -17,3 +16,4 @@ pub mod NotationText
 pub mod Compact
 pub mod Pretty
 pub mod Normal
+pub mod Facts

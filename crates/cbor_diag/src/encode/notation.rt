@@ -9,15 +9,11 @@ mod scalars;
 
 ghost use Rattle.std.specs.Prelude.{◌≡◌, true, ◌+◌, ◌-◌, ◌*◌, ◌<◌, ◌≤◌, ◌++◌, ℕ, OnOk, IfOk, IfErr, codes, map};
 ghost use Rattle.std.specs.String.{string_bytes};
-ghost use Rattle.cbor_diag.specs.declared.encode.notation.context.Encoding.TheVariants.{Base16};
 ghost use Rattle.cbor_diag.specs.View.{view, items_view, pairs_view, byte_chunk, text_chunk};
-ghost use Rattle.cbor_diag.specs.Facts.{IsWellFormed};
+ghost use Rattle.cbor_diag.specs.Facts.{IsWellFormed, diag_of, pretty_of, normal_of};
 ghost use Rattle.cbor_diag.specs.WellFormed.{WellFormed, WellFormedItems, WellFormedPairs};
 ghost use Rattle.cbor_diag.specs.NotationText.{indent_of, listing_indent, members, members_layout, inside, colon, item_texts, pair_texts, embedded_text, rest_text, sequence_text, content_text, text_at};
 ghost use Rattle.cbor_diag.specs.Embedded.{embedded_at, sequence_at};
-ghost use Rattle.cbor_diag.specs.Compact.{compact};
-ghost use Rattle.cbor_diag.specs.Normal.{normal};
-ghost use Rattle.cbor_diag.specs.Pretty.{pretty};
 
 use crate::error::{Error, Result};
 use crate::syntax::DataItem;
@@ -227,10 +223,10 @@ impl DataItem {
     /// The item has to be well formed, which `is_well_formed` tells. Refuses with `Memory` alone.
     pub fn to_diag(&self, alloc: Global) -> Result<String>
         requires { IsWellFormed (view self.now) }
-        ensures text { IfOk result (λ s. string_bytes s ≡ compact Base16 1 (view self.now)) }
+        ensures text { IfOk result (λ s. string_bytes s ≡ diag_of (view self.now)) }
         // The text tells the normal form: it is that of the normal form, whose normal form is itself.
-        ensures of_normal { compact Base16 1 (normal 1 (view self.now)) ≡ compact Base16 1 (view self.now) }
-        ensures normal_once { normal 1 (normal 1 (view self.now)) ≡ normal 1 (view self.now) }
+        ensures of_normal { diag_of (normal_of (view self.now)) ≡ diag_of (view self.now) }
+        ensures normal_once { normal_of (normal_of (view self.now)) ≡ normal_of (view self.now) }
         ensures refused { IfErr result (λ e. e ≡ Error.Memory) }
     {
         let mut out = String::new(alloc);
@@ -243,7 +239,7 @@ impl DataItem {
     /// The item has to be well formed, which `is_well_formed` tells. Refuses with `Memory` alone.
     pub fn to_diag_pretty(&self, alloc: Global) -> Result<String>
         requires { IsWellFormed (view self.now) }
-        ensures text { IfOk result (λ s. string_bytes s ≡ pretty Base16 1 0 (view self.now)) }
+        ensures text { IfOk result (λ s. string_bytes s ≡ pretty_of (view self.now)) }
         ensures refused { IfErr result (λ e. e ≡ Error.Memory) }
     {
         let mut out = String::new(alloc);
