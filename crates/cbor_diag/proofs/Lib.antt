@@ -26,3 +26,10 @@ pub mod Members
 pub mod DumpFits
 pub mod HexLines
 pub mod HexDigits
+pub mod NotationTexts
+pub mod EmbeddedItems
+pub mod Rooms
+pub mod TextParts
+pub mod NormalForm
+pub mod NormalWell
+pub mod NormalText

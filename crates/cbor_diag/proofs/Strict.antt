@@ -111,7 +111,7 @@ mutual
   strict_any level b (spec.map ps w) h = (h.0, members_map 5 (pair_count ps) w b _ _ h.1 (λ rest end s. pairs_any (level + 1) rest ps end s))
   strict_any level b (tagged t w i) h = (h.0, (h.1.0, h.1.1, h.1.2, strict_any (level + 1) h.1.1 i h.1.3))
 
-  items_any : (level : ℕ) (b : List ℕ) (is : Items) (end : List ℕ) → SpellsItems strict level b is end → SpellsItems any level b is end
+  pub items_any : (level : ℕ) (b : List ℕ) (is : Items) (end : List ℕ) → SpellsItems strict level b is end → SpellsItems any level b is end
   items_any level b no_items end h = h
   items_any level b (item i is) end h = (h.0, h.1, h.2, strict_any level h.0 i h.3, items_any level h.1 is end h.4)
 
@@ -177,7 +177,7 @@ mutual
       (h.0, rw (pair_count-resolve ps) (members_enc 5 (pair_count ps) w (encoded_pairs ps) (λ rest end. SpellsPairs strict (level + 1) rest (resolve_pairs ps) end) h.1 (λ end. pairs_enc (level + 1) ps end h.2)))
   strict_encoded level (tagged t w i) h = (h.0, (stated_fits w t h.1, encoded i, refl, strict_encoded (level + 1) i h.2))
 
-  items_enc : (level : ℕ) (is : Items) (end : List ℕ) → WellFormedItems level is → SpellsItems strict level (encoded_items is ++ end) (resolve_items is) end
+  pub items_enc : (level : ℕ) (is : Items) (end : List ℕ) → WellFormedItems level is → SpellsItems strict level (encoded_items is ++ end) (resolve_items is) end
   items_enc level no_items end h = refl
   items_enc level (item i is) end h = (encoded i, encoded_items is ++ end, append_assoc (encoded i) (encoded_items is) end, strict_encoded level i h.0, items_enc level is end h.1)
 

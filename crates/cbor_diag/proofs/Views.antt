@@ -1,11 +1,15 @@
 -- A data item, level by level, beside the item that it is.
-use Rattle.std.proofs.Common.{◌≡◌, ℕ, suc, List, [], ◌∷◌, Option, Vec, Global, Box, length, refl, ap, rules}
+use Rattle.std.proofs.Common.{◌≡◌, ℕ, suc, map, List, [], ◌∷◌, Option, Vec, Global, Box, length, refl, ap, rules}
 use Rattle.cbor_diag.specs.declared.syntax.IntegerWidth.{IntegerWidth}
+use Rattle.cbor_diag.specs.declared.syntax.FloatWidth.{FloatWidth}
 use Rattle.cbor_diag.specs.declared.syntax.Tag as declared
-use Rattle.cbor_diag.specs.declared.syntax.DataItem.{DataItem, Integer, Negative, Array, Map, Tag, the_lemmas}
+use Rattle.cbor_diag.specs.declared.syntax.ByteString as byte_string
+use Rattle.cbor_diag.specs.declared.syntax.TextString as text_string
+use Rattle.cbor_diag.specs.declared.syntax.Simple as simple
+use Rattle.cbor_diag.specs.declared.syntax.DataItem.{DataItem, Integer, Negative, ByteString, TextString, IndefiniteByteString, IndefiniteTextString, Array, Map, Tag, Float, Simple, the_lemmas}
 use Rattle.cbor_diag.specs.Item as spec
 use Rattle.cbor_diag.specs.Item.{item_count, pair_count}
-use Rattle.cbor_diag.specs.View.{view, items_view, pairs_view}
+use Rattle.cbor_diag.specs.View.{view, items_view, pairs_view, byte_chunk, text_chunk}
 
 pub view-Array : (v : Vec DataItem Global) (w : Option IntegerWidth) → view (Array v w) ≡ spec.array (items_view v.items) w
 view-Array v w = search (rules, the_lemmas)
@@ -29,3 +33,21 @@ view-Integer n w = search (rules, the_lemmas)
 
 pub view-Negative : (n : ℕ) (w : IntegerWidth) → view (Negative n w) ≡ spec.atom (spec.negative n w)
 view-Negative n w = search (rules, the_lemmas)
+
+pub view-ByteString : (s : byte_string.ByteString) → view (ByteString s) ≡ spec.atom (spec.byte_string (byte_chunk s))
+view-ByteString s = search (rules, the_lemmas)
+
+pub view-TextString : (s : text_string.TextString) → view (TextString s) ≡ spec.atom (spec.text_string (text_chunk s))
+view-TextString s = search (rules, the_lemmas)
+
+pub view-IndefiniteByteString : (v : Vec byte_string.ByteString Global) → view (IndefiniteByteString v) ≡ spec.atom (spec.byte_chunks (map byte_chunk v.items))
+view-IndefiniteByteString v = search (rules, the_lemmas)
+
+pub view-IndefiniteTextString : (v : Vec text_string.TextString Global) → view (IndefiniteTextString v) ≡ spec.atom (spec.text_chunks (map text_chunk v.items))
+view-IndefiniteTextString v = search (rules, the_lemmas)
+
+pub view-Float : (n : ℕ) (w : FloatWidth) → view (Float n w) ≡ spec.atom (spec.float n w)
+view-Float n w = search (rules, the_lemmas)
+
+pub view-Simple : (s : simple.Simple) → view (Simple s) ≡ spec.atom (spec.simple s.0)
+view-Simple s = search (rules, the_lemmas)

@@ -1,8 +1,8 @@
 -- A few items and their bytes, for which the definitions are computed.
-use Rattle.std.specs.Prelude.{ℕ, List, ◌∷◌, codes, Some, None}
+use Rattle.std.specs.Prelude.{ℕ, zero, suc, List, [], ◌∷◌, codes, Some, None}
 use Rattle.cbor_diag.specs.declared.syntax.IntegerWidth.TheVariants.{Unknown, Zero, Eight}
 use Rattle.cbor_diag.specs.Item as spec
-use Rattle.cbor_diag.specs.Item.{Item, atom, array, tagged, integer, byte_string, text_string, byte_chunks, simple}
+use Rattle.cbor_diag.specs.Item.{Item, Items, atom, array, tagged, integer, byte_string, text_string, byte_chunks, simple}
 use Rattle.cbor_diag.specs.Item.{no_items, item, no_pairs, pair}
 
 abbrev pub small : ℕ → Item
@@ -28,3 +28,29 @@ open_count = array (item (small 0) no_items) (Some Unknown)
 
 abbrev pub resolved_count : Item
 resolved_count = array (item (small 0) no_items) (Some Zero)
+
+-- a byte string of these bytes, its length in the first byte
+abbrev pub bytes : List ℕ → Item
+bytes b = atom (byte_string (record { bytes = b; width = Zero }))
+
+-- a tag of one byte over these bytes
+abbrev pub over_bytes : ℕ → List ℕ → Item
+over_bytes tag b = tagged tag Eight (bytes b)
+
+-- Tag 24 over the bytes of tag 24 over the two bytes of a simple value that has a byte of its own, and the
+-- bytes of its normal form: the length needs no byte of its own, and the value has one.
+abbrev pub nested_tag : Item
+nested_tag = over_bytes 24 (0xd8 ∷ 0x18 ∷ 0x58 ∷ 0x02 ∷ 0xf8 ∷ 0x14 ∷ [])
+
+-- tag 21 over bytes, tag 24 over the same bytes as an item, and tag 23 over them
+abbrev pub encodings : Item
+encodings =
+    tagged 21 Zero (array (item (bytes (255 ∷ [])) (item (over_bytes 24 (0x41 ∷ 255 ∷ [])) (item (tagged 23 Zero (bytes (255 ∷ []))) no_items))) (Some Zero))
+
+-- an array of so many ones
+abbrev pub repeated : ℕ → Item → Items
+repeated zero i = no_items
+repeated (suc n) i = item i (repeated n i)
+
+abbrev pub ones : ℕ → Item
+ones n = array (repeated n (small 1)) (Some Zero)

@@ -5,6 +5,10 @@ use Rattle.cbor_diag.specs.Item.{Item}
 use Rattle.cbor_diag.specs.WellFormed.{WellFormed}
 use Rattle.cbor_diag.specs.Bytes.{any, strict, Spells}
 use Rattle.cbor_diag.specs.Refused.{Cut, Fault}
+use Rattle.cbor_diag.specs.declared.encode.notation.context.Encoding.TheVariants.{Base16}
+use Rattle.cbor_diag.specs.Compact.{compact}
+use Rattle.cbor_diag.specs.Pretty.{pretty}
+use Rattle.cbor_diag.specs.Normal.{normal}
 use Rattle.cbor_diag.specs.Answer.{Outcome, IsOutcome, OneOutcome, IsRefused}
 
 -- the bytes, all of them, are this item
@@ -42,3 +46,14 @@ BeginsInOneWay b = OneOutcome 1 b
 -- the item has an encoding
 abbrev pub IsWellFormed : Item → Type 0
 IsWellFormed i = WellFormed 1 i
+
+-- the item in diagnostic notation, on one line and over several
+abbrev pub diag_of : Item → List ℕ
+diag_of i = compact Base16 1 i
+
+abbrev pub pretty_of : Item → List ℕ
+pretty_of i = pretty Base16 1 0 i
+
+-- what these texts tell of the item
+abbrev pub normal_of : Item → Item
+normal_of i = normal 1 i

@@ -8,10 +8,16 @@ pub mod Bytes
 pub mod Refused
 pub mod Reading
 pub mod Answer
-pub mod Facts
 pub mod HexText
 pub mod Examples
 pub mod Comments
 pub mod Pieces
 pub mod Dump
 pub mod Parts
+pub mod Embedded
+pub mod Estimate
+pub mod NotationText
+pub mod Compact
+pub mod Pretty
+pub mod Normal
+pub mod Facts

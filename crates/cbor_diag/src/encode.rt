@@ -3,3 +3,4 @@ mod bytes;
 mod dump;
 mod encoding;
 mod head;
+mod notation;

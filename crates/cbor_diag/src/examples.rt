@@ -2,14 +2,19 @@
 //! when the crate is checked, so that a wrong definition does not pass. Nothing calls these functions.
 ghost use Rattle.std.specs.Prelude.{◌≡◌, [], ◌∷◌, ◌++◌, codes};
 ghost use Rattle.cbor_diag.specs.declared.error.Error.TheVariants.{Head, Utf8, TooDeep};
-ghost use Rattle.cbor_diag.specs.declared.syntax.IntegerWidth.TheVariants.{Unknown, Eight, Sixteen};
-ghost use Rattle.cbor_diag.specs.Item.{atom, simple, integer};
+ghost use Rattle.cbor_diag.specs.declared.syntax.IntegerWidth.TheVariants.{Unknown, Zero, Eight, Sixteen};
+ghost use Rattle.cbor_diag.specs.Item.{atom, array, simple, integer, byte_chunks, item, no_items};
 ghost use Rattle.cbor_diag.specs.WellFormed.{WellFormed};
 ghost use Rattle.cbor_diag.specs.Written.{encoded, encoded_open, resolve};
 ghost use Rattle.cbor_diag.specs.Bytes.{any, strict, Spells};
 ghost use Rattle.cbor_diag.specs.Refused.{Cut, Fault};
+ghost use Rattle.cbor_diag.specs.declared.encode.notation.context.Encoding.TheVariants.{Base16};
+ghost use Rattle.cbor_diag.specs.Compact.{compact};
+ghost use Rattle.cbor_diag.specs.Estimate.{full};
+ghost use Rattle.cbor_diag.specs.Normal.{normal};
+ghost use Rattle.cbor_diag.specs.Pretty.{pretty};
 ghost use Rattle.cbor_diag.specs.HexText.{strip};
-ghost use Rattle.cbor_diag.specs.Examples.{small, uri, uri_bytes, three, open_map, open_count, resolved_count};
+ghost use Rattle.cbor_diag.specs.Examples.{small, uri, uri_bytes, three, open_map, open_count, resolved_count, over_bytes, nested_tag, encodings, ones};
 
 /// Items in bytes. A count of 255 takes one byte, and a simple value below 24 takes no second one.
 pub(crate) fn written()
@@ -69,4 +74,39 @@ pub(crate) fn hex_text()
     ensures tab { strip (codes "01" ++ 9 ∷ codes "02") ≡ codes "01" ++ 9 ∷ codes "02" }
     ensures spaces { strip (codes "  0 1  02 ") ≡ codes "0102" }
     ensures nothing { strip [] ≡ [] }
+{}
+
+/// Embedded items in texts: one in the bytes of another, a sequence with a rest, bytes that are an item
+/// at level 128 and none at level 129, and encodings that hold through an embedded item, each up to the
+/// next tag that states one.
+pub(crate) fn embedded_text()
+    ensures nested { compact Base16 1 nested_tag ≡ codes "24_0(<<24_0(<<false>>)>>)" }
+    ensures rest { compact Base16 1 (over_bytes 63 (1 ∷ 255 ∷ [])) ≡ codes "63_0(<<1>>h'ff')" }
+    ensures pretty_rest { pretty Base16 1 0 (over_bytes 63 (1 ∷ 255 ∷ [])) ≡ codes "63_0(<<1>> h'ff')" }
+    ensures nothing { compact Base16 1 (over_bytes 24 []) ≡ codes "24_0(<<>>)" }
+    ensures no_items { compact Base16 1 (over_bytes 63 []) ≡ codes "63_0(<<>>)" }
+    ensures deepest { compact Base16 126 (over_bytes 24 (1 ∷ [])) ≡ codes "24_0(<<1>>)" }
+    ensures deeper { compact Base16 127 (over_bytes 24 (1 ∷ [])) ≡ codes "24_0(h'01')" }
+    ensures encoding { compact Base16 1 encodings ≡ codes "21([b64'_w',24_0(<<b64'_w'>>),23(h'ff')])" }
+{}
+
+/// Normal forms: embedded items are encoded anew, and where they are none the bytes stay.
+pub(crate) fn normal_form()
+    ensures nested { encoded (normal 1 nested_tag)
+        ≡ 0xd8 ∷ 0x18 ∷ 0x44 ∷ 0xd8 ∷ 0x18 ∷ 0x41 ∷ 0xf4 ∷ [] }
+    ensures rest { encoded (normal 1 (over_bytes 63 (0x81 ∷ 1 ∷ 255 ∷ [])))
+        ≡ 0xd8 ∷ 0x3f ∷ 0x43 ∷ 0x81 ∷ 1 ∷ 255 ∷ [] }
+    ensures length { normal 1 three ≡ array (item (small 1) (item (small 2) (item (small 3) no_items))) (Some Unknown) }
+    ensures open { normal 1 (atom (integer 23 Unknown)) ≡ small 23 }
+    ensures past { normal 1 (atom (integer 24 Unknown)) ≡ atom (integer 24 Unknown) }
+{}
+
+/// Pretty text: what is 59 long stands in one line, what is longer has a line for each member.
+pub(crate) fn pretty_text()
+    ensures estimate { full (ones 11) ≡ 59 }
+    ensures row { pretty Base16 1 0 (ones 11) ≡ codes "[1, 1, 1, 1, 1, 1, 1, 1, 1, 1, 1]" }
+    ensures lines { pretty Base16 1 0 (array (item (ones 12) no_items) (Some Zero))
+        ≡ codes "[\n    [\n        1,\n        1,\n        1,\n        1,\n        1,\n        1,\n        1,\n        1,\n        1,\n        1,\n        1,\n        1,\n    ],\n]" }
+    ensures open { pretty Base16 1 0 open_map ≡ codes "{_ 1: 2}" }
+    ensures empty { pretty Base16 1 0 (atom (byte_chunks [])) ≡ codes "''_" }
 {}

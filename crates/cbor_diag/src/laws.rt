@@ -1,7 +1,10 @@
 //! Laws of the definitions of `specs/` alone: what holds of all bytes, whoever reads them. Nothing
 //! calls these functions.
-ghost use Rattle.std.specs.Prelude.{ℕ, ◌+◌, ◌<◌, ◌≤◌, List, slice_index};
+ghost use Rattle.std.specs.Prelude.{◌≡◌, ◌↔◌, ℕ, ◌+◌, ◌++◌, ◌<◌, ◌≤◌, List, slice_index};
 ghost use Rattle.cbor_diag.specs.WellFormed.{deepest};
+ghost use Rattle.cbor_diag.specs.Item.{Item};
+ghost use Rattle.cbor_diag.specs.Bytes.{any, Spells, SpellsItems};
+ghost use Rattle.cbor_diag.specs.Embedded.{embedded, sequence};
 ghost use Rattle.cbor_diag.specs.Answer.{OneOutcome};
 
 /// Of any bytes, read from any level from 1 to 129, exactly one of three holds: some first bytes spell
@@ -9,4 +12,17 @@ ghost use Rattle.cbor_diag.specs.Answer.{OneOutcome};
 pub(crate) fn one_of_three()
     ensures { (level : ℕ) (b : List ℕ) → 1 ≤ level → level ≤ deepest + 1
         → ((i : ℕ) → slice_index b i < 256) → OneOutcome level b }
+{}
+
+/// Which items are embedded in bytes: the one that they spell, and the longest list of items that are
+/// spelled one after the other, behind which the rest begins with none.
+pub(crate) fn embedded_items()
+    ensures item { (level : ℕ) (b : List ℕ) (e : Item) → 1 ≤ level → level ≤ deepest + 1
+        → ((i : ℕ) → slice_index b i < 256) → (embedded level b ≡ Some e) ↔ Spells any level b e }
+    ensures sequence { (level : ℕ) (b : List ℕ) → 1 ≤ level → level ≤ deepest + 1
+        → ((i : ℕ) → slice_index b i < 256)
+        → SpellsItems any level b (sequence level b).0 (sequence level b).1 }
+    ensures longest { (level : ℕ) (b x rest : List ℕ) (e : Item) → 1 ≤ level → level ≤ deepest + 1
+        → ((i : ℕ) → slice_index b i < 256) → (sequence level b).1 ≡ x ++ rest
+        → ¬ (Spells any level x e) }
 {}

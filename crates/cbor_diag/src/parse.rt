@@ -2,5 +2,6 @@
 mod binary;
 mod hex_text;
 
+pub(crate) use binary::{front_at, whole_at};
 pub use binary::{parse_bytes, parse_bytes_partial};
 pub use hex_text::parse_hex;

@@ -12,6 +12,8 @@ mod make;
 #[cfg(test)]
 mod malformed;
 #[cfg(test)]
+mod notation_written;
+#[cfg(test)]
 mod notes_base;
 #[cfg(test)]
 mod notes_dates;

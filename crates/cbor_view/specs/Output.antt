@@ -1,9 +1,9 @@
 -- What a conversion answers for an input.
-use Rattle.std.specs.Prelude.{◌≡◌, ℕ, List, IsUtf8, Result, Ok, Err, ◌⊎◌}
+use Rattle.std.specs.Prelude.{◌≡◌, ℕ, List, [], ◌∷◌, ◌++◌, IsUtf8, Result, Ok, Err, ◌⊎◌}
 use Rattle.cbor_diag.specs.declared.error.Error.{Error}
 use Rattle.cbor_diag.specs.declared.error.Error.TheVariants as refusal
 use Rattle.cbor_diag.specs.Item.{Item}
-use Rattle.cbor_diag.specs.Facts.{IsItem, IsNoItem}
+use Rattle.cbor_diag.specs.Facts.{IsItem, IsNoItem, diag_of, pretty_of}
 use Rattle.cbor_diag.specs.HexText.{IsHexOf, IsHexRefused}
 use Rattle.cbor_diag.specs.Written.{encoded}
 use Rattle.cbor_view.specs.declared.words.Source.{Source}
@@ -25,6 +25,8 @@ Refuses source.Hex input e =
 -- what is written of an item in that form
 abbrev pub output_of : To → Item → List ℕ
 output_of target.Bytes i = encoded i
+output_of target.Diag i = diag_of i ++ 10 ∷ []
+output_of target.Pretty i = pretty_of i ++ 10 ∷ []
 
 -- the output for the input: the item that it is, in its form; or why it is none
 abbrev pub IsOutput : Source → To → List ℕ → Result (List ℕ) Error → Type 0

@@ -1,5 +1,6 @@
 //! From the bytes of an input to the bytes of its output.
-ghost use Rattle.std.specs.Prelude.{◌≡◌, Ok, Err, IfOk, IfErr};
+ghost use Rattle.std.specs.Prelude.{◌≡◌, [], ◌∷◌, ◌++◌, Ok, Err, IfOk, IfErr};
+ghost use Rattle.std.specs.String.{string_bytes};
 ghost use Rattle.cbor_diag.specs.View.{view};
 ghost use Rattle.cbor_diag.specs.Facts.{IsWellFormed};
 ghost use Rattle.cbor_diag.specs.Answer.{RefusedSo};
@@ -40,5 +41,17 @@ pub(crate) fn write_item(alloc: Global, to: To, item: &DataItem) -> Result<Vec<u
 {
     match to {
         To::Bytes => item.to_bytes(alloc),
+        To::Diag => ended_line(item.to_diag(alloc)?),
+        To::Pretty => ended_line(item.to_diag_pretty(alloc)?),
     }
+}
+
+/// The bytes of a text and a line feed.
+fn ended_line(text: String) -> Result<Vec<u8>, Error>
+    ensures line { IfOk result (λ output. output.items ≡ string_bytes text ++ 10 ∷ []) }
+    ensures memory { IfErr result (λ e. e ≡ Error.Memory) }
+{
+    let mut line = text.into_bytes();
+    line.push(b'\n')?;
+    Ok(line)
 }

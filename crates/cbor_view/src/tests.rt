@@ -134,6 +134,8 @@ fn words_name_forms(rt: HostRuntime) {
     assert_eq!(rt; from_word("bytes"), Some(Source::Bytes));
     assert_eq!(rt; from_word("hex"), Some(Source::Hex));
     assert_eq!(rt; to_word("bytes"), Some(To::Bytes));
+    assert_eq!(rt; to_word("diag"), Some(To::Diag));
+    assert_eq!(rt; to_word("pretty"), Some(To::Pretty));
     for word in ["", "byte", "bytes ", "Bytes", "HEX", "hex\n", "-", "seq"] {
         assert_eq!(rt; from_word(word), None, "at {word:?}");
         assert_eq!(rt; to_word(word), None, "at {word:?}");
@@ -157,6 +159,18 @@ fn converts(rt: HostRuntime) -> Result<(), Fail> {
             "bytes",
             b"18 64 # x".as_slice(),
             b"\x18\x64".as_slice(),
+        ),
+        (
+            "hex",
+            "diag",
+            b"83 01 02 03".as_slice(),
+            b"[1,2,3]\n".as_slice(),
+        ),
+        (
+            "hex",
+            "pretty",
+            b"83 01 5f ff 7f ff".as_slice(),
+            b"[1, ''_, \"\"_]\n".as_slice(),
         ),
     ];
     for (from, to, input, wanted) in rows {

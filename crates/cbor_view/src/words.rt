@@ -16,6 +16,10 @@ pub enum Source {
 pub enum To {
     /// The bytes of the item.
     Bytes,
+    /// Diagnostic notation on one line, and a line feed.
+    Diag,
+    /// Diagnostic notation over several lines, and a line feed.
+    Pretty,
 }
 
 /// The form that a word names for the input: `bytes` or `hex`. Any other word names none.
@@ -30,13 +34,15 @@ pub fn from_word(word: &str) -> Option<Source>
     }
 }
 
-/// The form that a word names for the output: `bytes`. Any other word names none.
+/// The form that a word names for the output: `bytes`, `diag` or `pretty`. Any other word names none.
 pub fn to_word(word: &str) -> Option<To>
     ensures named { IfSome result (λ target. word.now ≡ target_word target) }
     ensures each_word { (target : To) → word.now ≡ target_word target → result ≡ Some target }
 {
     match word {
         "bytes" => Some(To::Bytes),
+        "diag" => Some(To::Diag),
+        "pretty" => Some(To::Pretty),
         _ => None,
     }
 }

@@ -224,7 +224,7 @@ fn open_pairs_at(
 
 /// What stands at the front of the bytes, read from `level`: an item and how many bytes it takes, or
 /// `None` where the bytes end before the item does.
-fn front_at(alloc: Global, bytes: &[u8], level: u8) -> Result<Option<(DataItem, usize)>>
+pub(crate) fn front_at(alloc: Global, bytes: &[u8], level: u8) -> Result<Option<(DataItem, usize)>>
     requires from { 1 ≤ level }
     requires to { level ≤ deepest + 1 }
     ensures outcome { HasOutcome level bytes.now result }
@@ -240,7 +240,7 @@ fn front_at(alloc: Global, bytes: &[u8], level: u8) -> Result<Option<(DataItem, 
 }
 
 /// The one item that the bytes are, all of them, read from `level`.
-fn whole_at(alloc: Global, bytes: &[u8], level: u8) -> Result<DataItem>
+pub(crate) fn whole_at(alloc: Global, bytes: &[u8], level: u8) -> Result<DataItem>
     requires from { 1 ≤ level }
     requires to { level ≤ deepest + 1 }
     ensures answer { HasAnswer level bytes.now result }

@@ -1,0 +1,84 @@
+-- Texts that are written piece by piece: hex digits, and escaped text.
+use Rattle.std.proofs.Common.{◌≡◌, ℕ, ◌+◌, ◌-◌, ◌/◌, ◌%◌, ◌<◌, ◌≤◌, Bool, true, false, Result, Ok, Err, eqb, eqb-true, List, [], ◌∷◌, ◌++◌, length, map, codes, Option, Some, None, slice_index, get_or, take, drop, refl, sym, ap, ◌∙◌, append_assoc, arith, rules}
+use Rattle.std.specs.List.{flat_map}
+use Rattle.std.specs.Result.{MatchResult, IsOk}
+use Rattle.std.proofs.lemmas.List.{length-take, take_more, drop_more, drop-append-le, drop-take, drop_at, append-nil}
+use Rattle.std.proofs.lemmas.Grind.{flat_map-append}
+use Rattle.std.proofs.lemmas.Bool.Decides.{nat_tests}
+use Rattle.hex.specs.Hex.{encode_lower, encode_with, lower_digits}
+use Rattle.cbor_diag.specs.NotationText.{is_escaped, escaped, start, end, members, last_line, opened, chunks_text}
+use Rattle.cbor_diag.specs.declared.encode.notation.context.Listing.{Listing}
+
+hex_append : (t xs ys : List ℕ) → encode_with t (xs ++ ys) ≡ encode_with t xs ++ encode_with t ys
+unfolding encode_with
+hex_append t [] ys = refl
+hex_append t (x ∷ xs) ys = ap (λ r. slice_index t (x / 16) ∷ slice_index t (x % 16) ∷ r) (hex_append t xs ys)
+
+-- a piece more is written
+pub hex_more : (out piece after rest whole : List ℕ) → piece ++ after ≡ rest → out ++ encode_lower rest ≡ whole → (out ++ encode_lower piece) ++ encode_lower after ≡ whole
+hex_more out piece after rest whole parts h =
+    append_assoc out (encode_lower piece) (encode_lower after) ∙ ap (λ x. out ++ x) (sym (hex_append lower_digits piece after)) ∙ ap (λ x. out ++ encode_lower x) parts ∙ h
+
+-- all is written
+pub hex_end : (out rest whole : List ℕ) → eqb (length rest) 0 ≡ true → out ++ encode_lower rest ≡ whole → out ≡ whole
+unfolding encode_with
+hex_end out [] whole none h = sym (append-nil out) ∙ h
+hex_end out (x ∷ rest) whole none h = absurd (omega (arith, eqb-true (length (x ∷ rest)) 0 none))
+
+-- a test of UTF-8 passes
+pub utf8_passes : {T E U : Type 0} (P : T → Type 0) (Q : E → Type 0) (r : Result T E) → MatchResult r P (λ e. (¬ U) × Q e) → U → IsOk r
+utf8_passes P Q (Ok x) h u = refl
+utf8_passes P Q (Err e) h u = absurd (h.0 u)
+
+-- a byte that stands behind a backslash is a character
+pub escaped_ascii : (b : ℕ) → is_escaped b ≡ true → b < 128
+escaped_ascii b h = grind (arith, nat_tests)
+
+-- ---- escaped text: `out` is what is written, and the bytes from `done` to `place` are still to be written
+
+bytes_more : (s : List ℕ) (done place : ℕ) → done ≤ place → place < length s → drop done (take (place + 1) s) ≡ drop done (take place s) ++ get_or s place 0 ∷ []
+bytes_more s done place order here =
+    ap (drop done) (take_more s place 0 here) ∙ drop-append-le done (take place s) (get_or s place 0 ∷ []) (omega (arith, length-take place s))
+
+escaped_more : (s : List ℕ) (place : ℕ) → place < length s → flat_map escaped (take (place + 1) s) ≡ flat_map escaped (take place s) ++ escaped (get_or s place 0)
+escaped_more s place here = ap (flat_map escaped) (take_more s place 0 here) ∙ simp (flat_map-append, append-nil)
+
+pub plain_more : (s : List ℕ) (done place : ℕ) (out old : List ℕ) → done ≤ place → place < length s → is_escaped (get_or s place 0) ≡ false
+    → out ++ drop done (take place s) ≡ old ++ flat_map escaped (take place s) → out ++ drop done (take (place + 1) s) ≡ old ++ flat_map escaped (take (place + 1) s)
+plain_more s done place out old order here plain h =
+    let b : escaped (get_or s place 0) ≡ get_or s place 0 ∷ [] = rw plain refl in
+    rw (bytes_more s done place order here, escaped_more s place here, b) (sym (append_assoc out (drop done (take place s)) (get_or s place 0 ∷ [])) ∙ ap (λ x. x ++ get_or s place 0 ∷ []) h ∙ append_assoc old (flat_map escaped (take place s)) (get_or s place 0 ∷ []))
+
+pub special_more : (s : List ℕ) (done place : ℕ) (out old plain out' : List ℕ) → done ≤ place → place < length s → is_escaped (get_or s place 0) ≡ true
+    → plain ≡ drop done (take place s) → out' ≡ (out ++ plain) ++ 92 ∷ []
+    → out ++ drop done (take place s) ≡ old ++ flat_map escaped (take place s) → out' ++ drop place (take (place + 1) s) ≡ old ++ flat_map escaped (take (place + 1) s)
+special_more s done place out old plain out' order here special is written h =
+    let b : escaped (get_or s place 0) ≡ 92 ∷ get_or s place 0 ∷ [] = rw special refl in
+    let last : drop place (take (place + 1) s) ≡ get_or s place 0 ∷ [] = ap (drop place) (take_more s place 0 here) ∙ drop_at (take place s) (get_or s place 0 ∷ []) place (omega (arith, length-take place s)) in
+    rw (last, escaped_more s place here, b, written, is) (ap (λ x. (x ++ 92 ∷ []) ++ get_or s place 0 ∷ []) h ∙ simp append_assoc)
+
+-- ---- members
+
+-- what is left of a list begins with the item at hand
+pub drop_here : {X : Type 0} (xs : List X) (i : ℕ) (x : X) → i < length xs → x ≡ get_or xs i x → drop i xs ≡ x ∷ drop (i + 1) xs
+drop_here xs i x here is = drop_more xs i x here ∙ ap (λ y. y ∷ drop (i + 1) xs) (sym is)
+
+-- a member more is written
+pub member_more : (l : Listing) (first : Bool) (m : List ℕ) (ms : List (List ℕ)) (out started written ended whole : List ℕ) → started ≡ out ++ start l first → written ≡ started ++ m → ended ≡ written ++ end l
+    → out ++ members l first (m ∷ ms) ≡ whole → ended ++ members l false ms ≡ whole
+unfolding members
+member_more l first m ms out started written ended whole p q r h =
+    ap (λ x. x ++ members l false ms) (r ∙ ap (λ x. x ++ end l) (q ∙ ap (λ x. x ++ m) p)) ∙ simp append_assoc h
+
+-- all members are written
+pub members_end : (l : Listing) (first : Bool) (out whole : List ℕ) → out ++ members l first [] ≡ whole → out ≡ whole
+unfolding members
+members_end l first out whole h = sym (append-nil out) ∙ h
+
+-- the chunks of a string that has some
+pub chunks_written : {X Y : Type 0} (l : Listing) (empty : List ℕ) (f : Y → List ℕ) (g : X → Y) (xs : List X) (out started written ended : List ℕ) → eqb (length xs) 0 ≡ false
+    → started ≡ out ++ opened l (codes "(") None → written ≡ started ++ members l true (map f (map g xs)) → ended ≡ written ++ (last_line l ++ codes ")")
+    → ended ≡ out ++ chunks_text l empty (map f (map g xs))
+chunks_written l empty f g [] out started written ended some p q r = absurd cc
+chunks_written l empty f g (x ∷ xs) out started written ended some p q r =
+    r ∙ ap (λ y. y ++ (last_line l ++ codes ")")) (q ∙ ap (λ y. y ++ members l true (map f (map g (x ∷ xs)))) p) ∙ simp append_assoc

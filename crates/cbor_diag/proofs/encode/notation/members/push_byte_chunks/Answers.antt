@@ -1,0 +1,27 @@
+use Rattle.std.proofs.Common.{◌≡◌, ◌+◌, List, ℕ, [], ◌∷◌, ◌++◌, map, codes, length, drop, sym, ap, ◌∙◌, arith}
+use Rattle.std.proofs.lemmas.List.{drop_all}
+use Rattle.std.proofs.lemmas.Result.{on_ok_weaker}
+use Rattle.std.specs.String.{string_bytes}
+use Rattle.cbor_diag.specs.Item.{Chunk}
+use Rattle.cbor_diag.specs.View.{byte_chunk}
+use Rattle.cbor_diag.specs.NotationText.{quoted, members}
+use Rattle.cbor_diag.proofs.NotationTexts.{drop_here, member_more, members_end, chunks_written}
+use Rattle.cbor_diag.proofs.encode.notation.members.push_byte_chunks.Goals as goal
+
+pub chunks-preserved : goal.chunks-preserved
+chunks-preserved c =
+    let all = c.args.chunks.now in
+    let i = c.chunks.chunk-index in
+    let here : drop i all ≡ c.chunk-item.result ∷ drop (i + 1) all = drop_here all i c.chunk-item.result c.chunks-test.true c.chunk-item.is in
+    let written = c.in_ok-push_quoted.ensures ∙ ap (λ b. string_bytes c.push_start.new.out ++ quoted c.args.encoding b) c.deref.ensures.value in
+    member_more c.args.listing c.chunks.first _ _ (string_bytes c.chunks.out) (string_bytes c.push_start.new.out) (string_bytes c.push_quoted.new.out) (string_bytes c.push_end.new.out) _ c.in_ok-push_start.ensures written c.in_ok-push_end.ensures
+    (rw here at c.chunks.invariant)
+
+pub returns : goal.returns
+returns c =
+    let all = c.args.chunks.now in
+    let none : drop c.chunks.chunk-index all ≡ [] = drop_all c.chunks.chunk-index all c.chunks-test.false in
+    let f : Chunk → List ℕ = λ s. quoted c.args.encoding s.bytes in
+    let whole = members_end c.args.listing c.chunks.first (string_bytes c.chunks.out) _ (rw none at c.chunks.invariant) in
+    on_ok_weaker c.push_closing.result (λ e. chunks_written c.args.listing (codes "''_") f byte_chunk all (string_bytes c.args.out.now) (string_bytes c.push_opening.new.out) (string_bytes c.chunks.out) (string_bytes c.push_closing.new.out)
+    (sym c.is_empty.ensures ∙ c.if-is_empty.false) c.in_ok-push_opening.ensures whole e) c.push_closing.ensures

@@ -1,0 +1,255 @@
+-- Diagnostic notation as it is written (RFC 7049 section 6): what compact and pretty text have in common.
+-- They differ in their `Layout` alone.
+use Rattle.std.specs.Prelude.{ℕ, zero, suc, ◌+◌, ◌<◌, List, [], ◌∷◌, ◌++◌, map, replicate, codes, Bool, true, false, Option, Some, None, nat_lt, ◌==◌, ◌||◌, if◌then◌else◌}
+use Rattle.std.specs.List.{flat_map}
+use Rattle.std.specs.Fmt.{decimal}
+use Rattle.std.specs.Int.{w16, w32, w64, to_be_bytes}
+use Rattle.hex.specs.Hex.{encode_lower}
+use Rattle.cbor_notes.specs.Base64.{standard, url_safe}
+use Rattle.cbor_diag.specs.declared.syntax.IntegerWidth.{IntegerWidth}
+use Rattle.cbor_diag.specs.declared.syntax.IntegerWidth.TheVariants as width
+use Rattle.cbor_diag.specs.declared.syntax.FloatWidth.{FloatWidth}
+use Rattle.cbor_diag.specs.declared.syntax.FloatWidth.TheVariants as float_width
+use Rattle.cbor_diag.specs.declared.encode.notation.context.Encoding.{Encoding}
+use Rattle.cbor_diag.specs.declared.encode.notation.context.Encoding.TheVariants.{Base16, Base64, Base64Url}
+use Rattle.cbor_diag.specs.declared.encode.notation.context.Content.{Content}
+use Rattle.cbor_diag.specs.declared.encode.notation.context.Content.TheVariants as content
+use Rattle.cbor_diag.specs.declared.encode.notation.context.Layout.{Layout}
+use Rattle.cbor_diag.specs.declared.encode.notation.context.Layout.TheVariants.{Compact, Pretty}
+use Rattle.cbor_diag.specs.declared.encode.notation.context.Listing.{Listing}
+use Rattle.cbor_diag.specs.declared.encode.notation.context.Listing.TheVariants.{Joined, Row, Lines}
+use Rattle.cbor_diag.specs.declared.encode.notation.context.Context.{Context}
+use Rattle.cbor_diag.specs.Item as spec
+use Rattle.cbor_diag.specs.Item.{Chunk, Atom, integer, negative, byte_string, text_string, byte_chunks, text_chunks, float, simple, Item, atom, array, tagged, Items, no_items, item, Pairs, no_pairs, pair}
+use Rattle.cbor_diag.specs.Reading.{Read, item_at}
+use Rattle.cbor_diag.specs.Embedded.{embedded_at, sequence_at}
+use Rattle.cbor_diag.specs.Estimate.{full_atom, full, long}
+
+-- ---- numbers, strings, floats, simple values
+
+-- the encoding indicator of a width
+abbrev pub indicator : IntegerWidth → List ℕ
+indicator width.Unknown = []
+indicator width.Zero = []
+indicator width.Eight = codes "_0"
+indicator width.Sixteen = codes "_1"
+indicator width.ThirtyTwo = codes "_2"
+indicator width.SixtyFour = codes "_3"
+
+-- a number or a tag
+abbrev pub number : ℕ → IntegerWidth → List ℕ
+number n w = decimal n ++ indicator w
+
+-- what stands before the quotes of bytes
+abbrev pub prefix : Encoding → List ℕ
+prefix Base16 = codes "h"
+prefix Base64 = codes "b64"
+prefix Base64Url = codes "b64"
+
+abbrev pub encoded_bytes : Encoding → List ℕ → List ℕ
+encoded_bytes Base16 b = encode_lower b
+encoded_bytes Base64 b = standard b
+encoded_bytes Base64Url b = url_safe b
+
+-- bytes between quotes, in the encoding that is in force
+abbrev pub quoted : Encoding → List ℕ → List ℕ
+quoted e b = prefix e ++ (codes "'" ++ (encoded_bytes e b ++ codes "'"))
+
+-- a quote or a backslash, which stands behind a backslash
+abbrev pub is_escaped : ℕ → Bool
+is_escaped b = (b == 34) || (b == 92)
+
+abbrev pub escaped : ℕ → List ℕ
+escaped b = if is_escaped b then 92 ∷ b ∷ [] else b ∷ []
+
+-- a text between quotes
+abbrev pub text : List ℕ → List ℕ
+text b = codes "\"" ++ (flat_map escaped b ++ codes "\"")
+
+-- a float by its bits, an open width being 64 bits
+abbrev pub float_bits : ℕ → FloatWidth → List ℕ
+float_bits n float_width.Unknown = to_be_bytes w64 n
+float_bits n float_width.Sixteen = to_be_bytes w16 n
+float_bits n float_width.ThirtyTwo = to_be_bytes w32 n
+float_bits n float_width.SixtyFour = to_be_bytes w64 n
+
+abbrev pub float_text : ℕ → FloatWidth → List ℕ
+float_text n w = codes "float'" ++ (encode_lower (float_bits n w) ++ codes "'")
+
+abbrev pub simple_text : ℕ → List ℕ
+simple_text n =
+    if n == 20 then codes "false"
+    else if n == 21 then codes "true"
+    else if n == 22 then codes "null"
+    else if n == 23 then codes "undefined"
+    else codes "simple(" ++ (decimal n ++ codes ")")
+
+-- ---- members of containers
+
+-- a new line with so many blanks
+abbrev pub line : ℕ → List ℕ
+line indent = 10 ∷ replicate indent 32
+
+-- one line or several, as pretty text has it: one where the container is short
+abbrev pub listing : Layout → ℕ → Listing
+listing Compact size = Joined
+listing (Pretty indent) size = if nat_lt size long then Row indent else Lines indent
+
+-- the layout of what stands in the members
+abbrev pub members_layout : Listing → Layout
+members_layout Joined = Compact
+members_layout (Row indent) = Pretty indent
+members_layout (Lines indent) = Pretty (indent + 4)
+
+-- the indent of a layout, which is a number of blanks that the code can count
+abbrev pub indent_of : Layout → ℕ
+indent_of Compact = 0
+indent_of (Pretty indent) = indent
+
+abbrev pub listing_indent : Listing → ℕ
+listing_indent Joined = 0
+listing_indent (Row indent) = indent
+listing_indent (Lines indent) = indent
+
+-- what stands before the first member, and before each other one
+abbrev pub start : Listing → Bool → List ℕ
+start Joined first = if first then [] else codes ","
+start (Row indent) first = if first then [] else codes ", "
+start (Lines indent) first = line (indent + 4)
+
+-- what stands behind each member
+abbrev pub end : Listing → List ℕ
+end (Lines indent) = codes ","
+end _ = []
+
+-- the members, each already written
+unfoldable pub members : Listing → Bool → List (List ℕ) → List ℕ
+members l first [] = []
+members l first (m ∷ ms) = start l first ++ (m ++ (end l ++ members l false ms))
+
+-- what stands before the closing bracket
+abbrev pub last_line : Listing → List ℕ
+last_line (Lines indent) = line indent
+last_line _ = []
+
+-- members between brackets
+abbrev pub bracketed : Listing → List ℕ → List (List ℕ) → List ℕ → List ℕ
+bracketed l opening ms closing = opening ++ (members l true ms ++ (last_line l ++ closing))
+
+-- an indefinite length has an underscore behind its bracket, and in a row a blank
+abbrev pub mark : Listing → List ℕ
+mark (Row indent) = codes "_ "
+mark _ = codes "_"
+
+abbrev pub opened : Listing → List ℕ → Option IntegerWidth → List ℕ
+opened l bracket (Some w) = bracket
+opened l bracket None = bracket ++ mark l
+
+-- between a key and its value
+abbrev pub colon : Listing → List ℕ
+colon Joined = codes ":"
+colon _ = codes ": "
+
+-- between a sequence and its rest
+abbrev pub rest_gap : Layout → List ℕ
+rest_gap Compact = []
+rest_gap (Pretty indent) = codes " "
+
+-- ---- where an item stands
+
+-- at the beginning of a text
+abbrev pub in_encoding : Layout → Encoding → Context
+in_encoding l e = record { layout = l; encoding = e; content = content.Bytes }
+
+-- tag 21 asks for base 64 that is safe in URLs, tag 22 for base 64, tag 23 for hex (RFC 7049 section
+-- 2.4.4.2); it holds for all that is nested below, until another of them
+abbrev pub encoding_below : ℕ → Encoding → Encoding
+encoding_below t e = if t == 21 then Base64Url else if t == 22 then Base64 else if t == 23 then Base16 else e
+
+-- the bytes right below tag 24 are an item, and those right below tag 63 a sequence of items
+abbrev pub content_below : ℕ → Content
+content_below t = if t == 24 then content.Item else if t == 63 then content.Sequence else content.Bytes
+
+-- right below a tag
+abbrev pub below : ℕ → Context → Context
+below t c = record { layout = c.layout; encoding = encoding_below t c.encoding; content = content_below t }
+
+-- in a container, or embedded in a byte string
+abbrev pub inside : Layout → Context → Context
+inside l c = in_encoding l c.encoding
+
+-- ---- items, the items in them written by `write`
+
+abbrev pub item_texts : (Item → List ℕ) → Items → List (List ℕ)
+item_texts write no_items = []
+item_texts write (item i is) = write i ∷ item_texts write is
+
+abbrev pub pair_texts : (Item → List ℕ) → List ℕ → Pairs → List (List ℕ)
+pair_texts write between no_pairs = []
+pair_texts write between (pair k v ps) = (write k ++ (between ++ write v)) ∷ pair_texts write between ps
+
+-- the one item that bytes are, or the bytes
+abbrev pub item_text : (Context → Item → List ℕ) → Context → List ℕ → Option Item → List ℕ
+item_text write c b (Some e) = codes "<<" ++ (write (inside c.layout c) e ++ codes ">>")
+item_text write c b None = quoted c.encoding b
+
+abbrev pub embedded_text : (Context → Item → List ℕ) → Context → List ℕ → Option Item → List ℕ
+embedded_text write c [] e = codes "<<>>"
+embedded_text write c b e = item_text write c b e
+
+-- what can't be read as an item follows a sequence as bytes
+abbrev pub rest_text : Context → List ℕ → List ℕ
+rest_text c [] = []
+rest_text c b = rest_gap c.layout ++ quoted c.encoding b
+
+-- items between brackets
+abbrev pub items_text : (Context → Item → List ℕ) → Context → Listing → List ℕ → Items → List ℕ → List ℕ
+items_text write c l opening is closing = bracketed l opening (item_texts (write (inside (members_layout l) c)) is) closing
+
+abbrev pub pairs_text : (Context → Item → List ℕ) → Context → Listing → List ℕ → Pairs → List ℕ → List ℕ
+pairs_text write c l opening ps closing = bracketed l opening (pair_texts (write (inside (members_layout l) c)) (colon l) ps) closing
+
+-- A sequence is laid out as an array of its items.
+abbrev pub sequence_text : (Context → Item → List ℕ) → Context → Items × List ℕ → List ℕ
+sequence_text write c s =
+    items_text write c (listing c.layout (full (array s.0 None))) (codes "<<") s.0 (codes ">>") ++ rest_text c s.1
+
+-- The bytes of a byte string of definite length, so many levels being left below it.
+abbrev pub content_text : ℕ → (Context → Item → List ℕ) → Content → Context → List ℕ → List ℕ
+content_text left write content.Bytes c b = quoted c.encoding b
+content_text left write content.Item c b = embedded_text write c b (embedded_at left b)
+content_text left write content.Sequence c b = sequence_text write c (sequence_at left b)
+
+-- The chunks of an indefinite string; where there are none, `empty` keeps their kind (RFC 8949 section 8.1).
+abbrev pub chunks_text : Listing → List ℕ → List (List ℕ) → List ℕ
+chunks_text l empty [] = empty
+chunks_text l empty ms = bracketed l (opened l (codes "(") None) ms (codes ")")
+
+abbrev pub atom_text : ℕ → (Context → Item → List ℕ) → Context → Atom → List ℕ
+atom_text left write c (integer n w) = number n w
+atom_text left write c (negative n w) = codes "-" ++ number (n + 1) w
+atom_text left write c (byte_string s) = content_text left write c.content c s.bytes
+atom_text left write c (text_string s) = text s.bytes
+atom_text left write c (byte_chunks cs) = chunks_text (listing c.layout (full_atom (byte_chunks cs))) (codes "''_") (map (λ s. quoted c.encoding s.bytes) cs)
+atom_text left write c (text_chunks cs) = chunks_text (listing c.layout (full_atom (text_chunks cs))) (codes "\"\"_") (map (λ s. text s.bytes) cs)
+atom_text left write c (float n w) = float_text n w
+atom_text left write c (simple n) = simple_text n
+
+abbrev pub array_text : (Context → Item → List ℕ) → Context → Listing → Items → Option IntegerWidth → List ℕ
+array_text write c l is w = items_text write c l (opened l (codes "[") w) is (codes "]")
+
+abbrev pub map_text : (Context → Item → List ℕ) → Context → Listing → Pairs → Option IntegerWidth → List ℕ
+map_text write c l ps w = pairs_text write c l (opened l (codes "{") w) ps (codes "}")
+
+-- an item, so many levels being left below it, and the items in it written by `write`
+abbrev pub text_with : ℕ → (Context → Item → List ℕ) → Context → Item → List ℕ
+text_with left write c (atom a) = atom_text left write c a
+text_with left write c (array is w) = array_text write c (listing c.layout (full (array is w))) is w
+text_with left write c (spec.map ps w) = map_text write c (listing c.layout (full (spec.map ps w))) ps w
+text_with left write c (tagged t w i) = number t w ++ (codes "(" ++ (write (below t c) i ++ codes ")"))
+
+-- An item with so many levels left for it and what is nested in it, embedded items included: 129 less the
+-- level that it stands at. Where none is left there is no item.
+unfoldable pub text_at : ℕ → Context → Item → List ℕ
+text_at zero c i = []
+text_at (suc left) c i = text_with left (text_at left) c i

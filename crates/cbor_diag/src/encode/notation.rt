@@ -1,0 +1,250 @@
+//! Writes an item as diagnostic notation (RFC 7049 section 6), each part once, at the end of one text.
+//!
+//! Compact and pretty text are written by the same functions: they differ in their `Layout` alone.
+mod context;
+mod embedded;
+mod estimate;
+mod members;
+mod scalars;
+
+ghost use Rattle.std.specs.Prelude.{◌≡◌, true, ◌+◌, ◌-◌, ◌*◌, ◌<◌, ◌≤◌, ◌++◌, ℕ, OnOk, IfOk, IfErr, codes, map};
+ghost use Rattle.std.specs.String.{string_bytes};
+ghost use Rattle.cbor_diag.specs.View.{view, items_view, pairs_view, byte_chunk, text_chunk};
+ghost use Rattle.cbor_diag.specs.Facts.{IsWellFormed, diag_of, pretty_of, normal_of};
+ghost use Rattle.cbor_diag.specs.WellFormed.{WellFormed, WellFormedItems, WellFormedPairs};
+ghost use Rattle.cbor_diag.specs.NotationText.{indent_of, listing_indent, members, members_layout, inside, colon, item_texts, pair_texts, embedded_text, rest_text, sequence_text, content_text, text_at};
+ghost use Rattle.cbor_diag.specs.Embedded.{embedded_at, sequence_at};
+
+use crate::error::{Error, Result};
+use crate::syntax::DataItem;
+use context::{Content, Context, Layout, Listing};
+use embedded::{embedded, sequence};
+use members::{
+    push_byte_chunks, push_closing, push_colon, push_end, push_opening, push_rest, push_start,
+    push_text_chunks,
+};
+use scalars::{push_float, push_negative, push_number, push_quoted, push_simple, push_text};
+use std::alloc::Global;
+
+/// Writes an item that stands at `level`, from 1 to 128.
+#[cycle(text)]
+fn push_item(
+    out: &mut String,
+    alloc: Global,
+    item: &DataItem,
+    context: Context,
+    level: u8,
+) -> Result<()>
+    requires well_formed { WellFormed level (view item.now) }
+    requires indent { indent_of context.layout ≤ 4 * level }
+    ensures text { OnOk result (string_bytes out.new
+        ≡ string_bytes out.old ++ text_at (129 - level) context (view item.now)) }
+    ensures refused { IfErr result (λ e. e ≡ Error.Memory) }
+{
+    match item {
+        DataItem::Integer { value, bitwidth } => push_number(out, *value, *bitwidth)?,
+        DataItem::Negative { value, bitwidth } => push_negative(out, *value, *bitwidth)?,
+        DataItem::ByteString(string) => {
+            push_content(out, alloc, &string.content, context, level + 1)?;
+        }
+        DataItem::TextString(string) => push_text(out, string.content.as_str())?,
+        DataItem::IndefiniteByteString(chunks) => {
+            push_byte_chunks(out, chunks, context.encoding, context.layout.listing(item))?;
+        }
+        DataItem::IndefiniteTextString(chunks) => {
+            push_text_chunks(out, chunks, context.layout.listing(item))?;
+        }
+        DataItem::Array { content, bitwidth } => {
+            let listing = context.layout.listing(item);
+            push_opening(out, '[', *bitwidth, listing)?;
+            push_items(out, alloc, content, listing, context, level + 1)?;
+            push_closing(out, listing, "]")?;
+        }
+        DataItem::Map { content, bitwidth } => {
+            let listing = context.layout.listing(item);
+            push_opening(out, '{', *bitwidth, listing)?;
+            push_pairs(out, alloc, content, listing, context, level + 1)?;
+            push_closing(out, listing, "}")?;
+        }
+        DataItem::Tag {
+            tag,
+            bitwidth,
+            value,
+        } => {
+            push_number(out, tag.0, *bitwidth)?;
+            out.push('(')?;
+            push_item(out, alloc, value, context.below(*tag), level + 1)?;
+            out.push(')')?;
+        }
+        DataItem::Float { bits, bitwidth } => push_float(out, *bits, *bitwidth)?,
+        DataItem::Simple(simple) => push_simple(out, *simple)?,
+    }
+    Ok(())
+}
+
+/// Writes the items of a container that stand at `level`, from 2 to 129.
+#[cycle(text)]
+fn push_items(
+    out: &mut String,
+    alloc: Global,
+    items: &Vec<DataItem>,
+    listing: Listing,
+    context: Context,
+    level: u8,
+) -> Result<()>
+    requires level { (1 ≤ level) × (level ≤ 129) }
+    requires well_formed { WellFormedItems level (items_view items.now.items) }
+    requires indent { listing_indent listing + 4 ≤ 4 * level }
+    ensures text { OnOk result (string_bytes out.new ≡ string_bytes out.old ++ members listing true
+        (item_texts (text_at (129 - level) (inside (members_layout listing) context)) (items_view items.now.items))) }
+    ensures refused { IfErr result (λ e. e ≡ Error.Memory) }
+{
+    let inner = context.inside(listing.members_layout());
+    let mut first = true;
+    'items: for item in items {
+        push_start(out, listing, first)?;
+        push_item(out, alloc, item, inner, level)?;
+        push_end(out, listing)?;
+        first = false;
+    }
+    Ok(())
+}
+
+/// Writes the keys and values of a map that stand at `level`, from 2 to 129.
+#[cycle(text)]
+fn push_pairs(
+    out: &mut String,
+    alloc: Global,
+    pairs: &Vec<(DataItem, DataItem)>,
+    listing: Listing,
+    context: Context,
+    level: u8,
+) -> Result<()>
+    requires level { (1 ≤ level) × (level ≤ 129) }
+    requires well_formed { WellFormedPairs level (pairs_view pairs.now.items) }
+    requires indent { listing_indent listing + 4 ≤ 4 * level }
+    ensures text { OnOk result (string_bytes out.new ≡ string_bytes out.old ++ members listing true
+        (pair_texts (text_at (129 - level) (inside (members_layout listing) context)) (colon listing) (pairs_view pairs.now.items))) }
+    ensures refused { IfErr result (λ e. e ≡ Error.Memory) }
+{
+    let inner = context.inside(listing.members_layout());
+    let mut first = true;
+    'pairs: for (key, value) in pairs {
+        push_start(out, listing, first)?;
+        push_item(out, alloc, key, inner, level)?;
+        push_colon(out, listing)?;
+        push_item(out, alloc, value, inner, level)?;
+        push_end(out, listing)?;
+        first = false;
+    }
+    Ok(())
+}
+
+/// Writes the bytes of a byte string, or the items that they are where these are wanted and can be read
+/// from `level`, from 2 to 129.
+#[cycle(text)]
+fn push_content(
+    out: &mut String,
+    alloc: Global,
+    bytes: &[u8],
+    context: Context,
+    level: u8,
+) -> Result<()>
+    requires level { (1 ≤ level) × (level ≤ 129) }
+    requires indent { indent_of context.layout + 4 ≤ 4 * level }
+    ensures text { OnOk result (string_bytes out.new ≡ string_bytes out.old
+        ++ content_text (129 - level) (text_at (129 - level)) context.content context bytes.now) }
+    ensures refused { IfErr result (λ e. e ≡ Error.Memory) }
+{
+    match context.content {
+        Content::Bytes => {
+            push_quoted(out, bytes, context.encoding)?;
+            Ok(())
+        }
+        Content::Item => push_embedded(out, alloc, bytes, context, level),
+        Content::Sequence => push_sequence(out, alloc, bytes, context, level),
+    }
+}
+
+/// Writes the item that the bytes are, read from `level`, or the bytes.
+#[cycle(text)]
+fn push_embedded(
+    out: &mut String,
+    alloc: Global,
+    bytes: &[u8],
+    context: Context,
+    level: u8,
+) -> Result<()>
+    requires level { (1 ≤ level) × (level ≤ 129) }
+    requires indent { indent_of context.layout + 4 ≤ 4 * level }
+    ensures text { OnOk result (string_bytes out.new ≡ string_bytes out.old
+        ++ embedded_text (text_at (129 - level)) context bytes.now (embedded_at (129 - level) bytes.now)) }
+    ensures refused { IfErr result (λ e. e ≡ Error.Memory) }
+{
+    if bytes.is_empty() {
+        out.push_str("<<>>")?;
+    } else if let Some(item) = embedded(alloc, bytes, level)? {
+        out.push_str("<<")?;
+        push_item(out, alloc, &item, context.inside(context.layout), level)?;
+        out.push_str(">>")?;
+    } else {
+        push_quoted(out, bytes, context.encoding)?;
+    }
+    Ok(())
+}
+
+/// Writes as many items as can be read one after the other from `level`, and the rest as bytes.
+#[cycle(text)]
+fn push_sequence(
+    out: &mut String,
+    alloc: Global,
+    bytes: &[u8],
+    context: Context,
+    level: u8,
+) -> Result<()>
+    requires level { (1 ≤ level) × (level ≤ 129) }
+    requires indent { indent_of context.layout + 4 ≤ 4 * level }
+    ensures text { OnOk result (string_bytes out.new ≡ string_bytes out.old
+        ++ sequence_text (text_at (129 - level)) context (sequence_at (129 - level) bytes.now)) }
+    ensures refused { IfErr result (λ e. e ≡ Error.Memory) }
+{
+    let (items, rest) = sequence(alloc, bytes, level)?;
+    let listing = context.layout.sequence_listing(&items);
+    out.push_str("<<")?;
+    push_items(out, alloc, &items, listing, context, level)?;
+    push_closing(out, listing, ">>")?;
+    push_rest(out, rest, context)?;
+    Ok(())
+}
+
+impl DataItem {
+    /// The item in diagnostic notation on one line, without blanks (RFC 7049 section 6).
+    ///
+    /// The item has to be well formed, which `is_well_formed` tells. Refuses with `Memory` alone.
+    pub fn to_diag(&self, alloc: Global) -> Result<String>
+        requires { IsWellFormed (view self.now) }
+        ensures text { IfOk result (λ s. string_bytes s ≡ diag_of (view self.now)) }
+        // The text tells the normal form: it is that of the normal form, whose normal form is itself.
+        ensures of_normal { diag_of (normal_of (view self.now)) ≡ diag_of (view self.now) }
+        ensures normal_once { normal_of (normal_of (view self.now)) ≡ normal_of (view self.now) }
+        ensures refused { IfErr result (λ e. e ≡ Error.Memory) }
+    {
+        let mut out = String::new(alloc);
+        push_item(&mut out, alloc, self, Context::new(Layout::Compact), 1)?;
+        Ok(out)
+    }
+
+    /// The item in diagnostic notation over several lines (RFC 7049 section 6).
+    ///
+    /// The item has to be well formed, which `is_well_formed` tells. Refuses with `Memory` alone.
+    pub fn to_diag_pretty(&self, alloc: Global) -> Result<String>
+        requires { IsWellFormed (view self.now) }
+        ensures text { IfOk result (λ s. string_bytes s ≡ pretty_of (view self.now)) }
+        ensures refused { IfErr result (λ e. e ≡ Error.Memory) }
+    {
+        let mut out = String::new(alloc);
+        let layout = Layout::Pretty { indent: 0 };
+        push_item(&mut out, alloc, self, Context::new(layout), 1)?;
+        Ok(out)
+    }
+}

@@ -1,0 +1,150 @@
+//! What stands round the members of containers and the chunks of strings, as their `Listing` has it.
+ghost use Rattle.std.specs.Prelude.{◌≡◌, ◌∷◌, [], ◌++◌, ◌<◌, ◌^◌, OnOk, map, codes, replicate};
+ghost use Rattle.std.specs.String.{string_bytes};
+ghost use Rattle.cbor_diag.specs.View.{byte_chunk, text_chunk};
+ghost use Rattle.cbor_diag.specs.NotationText.{line, start, end, last_line, mark, opened, colon, listing_indent, members, quoted, text, chunks_text, rest_text};
+
+use super::context::{Context, Encoding, Layout, Listing};
+use super::scalars::{push_quoted, push_text};
+use crate::syntax::{ByteString, IntegerWidth, TextString};
+use std::alloc::AllocError;
+
+/// Begins a new line with so many blanks.
+fn push_line(out: &mut String, indent: usize) -> Result<(), AllocError>
+    ensures { OnOk result (string_bytes out.new ≡ string_bytes out.old ++ line indent) }
+{
+    out.push('\n')?;
+    'blanks: for _ in 0..indent {
+        out.push(' ')?;
+    }
+    Ok(())
+}
+
+/// Writes an opening bracket, and what tells that a length is indefinite.
+pub(crate) fn push_opening(
+    out: &mut String,
+    bracket: char,
+    width: Option<IntegerWidth>,
+    listing: Listing,
+) -> Result<(), AllocError>
+    requires { bracket < 128 }
+    ensures { OnOk result
+        (string_bytes out.new ≡ string_bytes out.old ++ opened listing (bracket ∷ []) width) }
+{
+    out.push(bracket)?;
+    match (width, listing) {
+        (Some(_), _) => Ok(()),
+        (None, Listing::Row { .. }) => out.push_str("_ "),
+        (None, _) => out.push('_'),
+    }
+}
+
+/// Writes what stands before a member.
+pub(crate) fn push_start(out: &mut String, listing: Listing, first: bool) -> Result<(), AllocError>
+    requires { listing_indent listing < 2 ^ 32 }
+    ensures { OnOk result (string_bytes out.new ≡ string_bytes out.old ++ start listing first) }
+{
+    match listing {
+        Listing::Lines { indent } => push_line(out, indent + 4),
+        _ if first => Ok(()),
+        Listing::Joined => out.push(','),
+        Listing::Row { .. } => out.push_str(", "),
+    }
+}
+
+/// Writes what stands behind a member.
+pub(crate) fn push_end(out: &mut String, listing: Listing) -> Result<(), AllocError>
+    ensures { OnOk result (string_bytes out.new ≡ string_bytes out.old ++ end listing) }
+{
+    match listing {
+        Listing::Lines { .. } => out.push(','),
+        _ => Ok(()),
+    }
+}
+
+/// Writes what stands between a key and its value.
+pub(crate) fn push_colon(out: &mut String, listing: Listing) -> Result<(), AllocError>
+    ensures { OnOk result (string_bytes out.new ≡ string_bytes out.old ++ colon listing) }
+{
+    match listing {
+        Listing::Joined => out.push(':'),
+        _ => out.push_str(": "),
+    }
+}
+
+/// Writes a closing bracket, on a line of its own where the members are on lines.
+pub(crate) fn push_closing(
+    out: &mut String,
+    listing: Listing,
+    bracket: &str,
+) -> Result<(), AllocError>
+    ensures { OnOk result
+        (string_bytes out.new ≡ string_bytes out.old ++ (last_line listing ++ bracket.now)) }
+{
+    if let Listing::Lines { indent } = listing {
+        push_line(out, indent)?;
+    }
+    out.push_str(bracket)
+}
+
+/// Writes the chunks of an indefinite byte string; one of no chunks keeps its kind.
+pub(crate) fn push_byte_chunks(
+    out: &mut String,
+    chunks: &[ByteString],
+    encoding: Encoding,
+    listing: Listing,
+) -> Result<(), AllocError>
+    requires { listing_indent listing < 2 ^ 32 }
+    ensures { OnOk result (string_bytes out.new ≡ string_bytes out.old ++ chunks_text listing
+        (codes "''_") (map (λ s. quoted encoding s.bytes) (map byte_chunk chunks.now))) }
+{
+    if chunks.is_empty() {
+        return out.push_str("''_");
+    }
+    push_opening(out, '(', None, listing)?;
+    let mut first = true;
+    'chunks: for chunk in chunks {
+        push_start(out, listing, first)?;
+        push_quoted(out, &chunk.content, encoding)?;
+        push_end(out, listing)?;
+        first = false;
+    }
+    push_closing(out, listing, ")")
+}
+
+/// Writes the chunks of an indefinite text string; one of no chunks keeps its kind.
+pub(crate) fn push_text_chunks(
+    out: &mut String,
+    chunks: &[TextString],
+    listing: Listing,
+) -> Result<(), AllocError>
+    requires { listing_indent listing < 2 ^ 32 }
+    ensures { OnOk result (string_bytes out.new ≡ string_bytes out.old ++ chunks_text listing
+        (codes "\"\"_") (map (λ s. text s.bytes) (map text_chunk chunks.now))) }
+{
+    if chunks.is_empty() {
+        return out.push_str("\"\"_");
+    }
+    push_opening(out, '(', None, listing)?;
+    let mut first = true;
+    'chunks: for chunk in chunks {
+        push_start(out, listing, first)?;
+        push_text(out, chunk.content.as_str())?;
+        push_end(out, listing)?;
+        first = false;
+    }
+    push_closing(out, listing, ")")
+}
+
+/// Writes what of a sequence can't be read as an item.
+pub(crate) fn push_rest(out: &mut String, rest: &[u8], context: Context) -> Result<(), AllocError>
+    ensures { OnOk result (string_bytes out.new ≡ string_bytes out.old ++ rest_text context rest.now) }
+{
+    if rest.is_empty() {
+        return Ok(());
+    }
+    if let Layout::Pretty { .. } = context.layout {
+        out.push(' ')?;
+    }
+    push_quoted(out, rest, context.encoding)
+}

@@ -1,0 +1,184 @@
+//! What holds no item: numbers, strings, floats and simple values (RFC 7049 section 6).
+ghost use Rattle.std.specs.Prelude.{◌≡◌, ◌<◌, ◌≤◌, ◌+◌, ◌++◌, codes, length, OnOk};
+ghost use Rattle.std.specs.List.{flat_map};
+ghost use Rattle.std.specs.String.{string_bytes};
+ghost use Rattle.hex.specs.Hex.{encode_lower};
+ghost use Rattle.cbor_diag.specs.WellFormed.{FitsFloat};
+ghost use Rattle.cbor_diag.specs.NotationText.{indicator, number, prefix, encoded_bytes, quoted, is_escaped, escaped, text, float_text, simple_text};
+
+use super::context::Encoding;
+use crate::syntax::{FloatWidth, IntegerWidth, Simple};
+use base64::engine::general_purpose::{STANDARD, URL_SAFE_NO_PAD};
+use std::alloc::AllocError;
+
+impl IntegerWidth {
+    /// The encoding indicator of a number of this width.
+    fn indicator(self) -> &'static str
+        ensures { result.now ≡ indicator self }
+    {
+        match self {
+            IntegerWidth::Unknown | IntegerWidth::Zero => "",
+            IntegerWidth::Eight => "_0",
+            IntegerWidth::Sixteen => "_1",
+            IntegerWidth::ThirtyTwo => "_2",
+            IntegerWidth::SixtyFour => "_3",
+        }
+    }
+}
+
+/// Writes a number or a tag.
+pub(crate) fn push_number(
+    out: &mut String,
+    value: u64,
+    width: IntegerWidth,
+) -> Result<(), AllocError>
+    ensures { OnOk result (string_bytes out.new ≡ string_bytes out.old ++ number value width) }
+{
+    let mut digits = itoa::Buffer::new();
+    out.push_str(digits.format(value))?;
+    out.push_str(width.indicator())
+}
+
+/// Writes a negative integer by its encoded number, which is one less than what is written.
+pub(crate) fn push_negative(
+    out: &mut String,
+    value: u64,
+    width: IntegerWidth,
+) -> Result<(), AllocError>
+    ensures { OnOk result
+        (string_bytes out.new ≡ string_bytes out.old ++ (codes "-" ++ number (value + 1) width)) }
+{
+    let mut digits = itoa::Buffer::new();
+    out.push('-')?;
+    out.push_str(digits.format(u128::from(value) + 1))?;
+    out.push_str(width.indicator())
+}
+
+impl Encoding {
+    /// What stands before the quotes.
+    fn prefix(self) -> &'static str
+        ensures { result.now ≡ prefix self }
+    {
+        match self {
+            Encoding::Base16 => "h",
+            Encoding::Base64 | Encoding::Base64Url => "b64",
+        }
+    }
+}
+
+/// Writes bytes between quotes.
+pub(crate) fn push_quoted(
+    out: &mut String,
+    bytes: &[u8],
+    encoding: Encoding,
+) -> Result<(), AllocError>
+    ensures { OnOk result (string_bytes out.new ≡ string_bytes out.old ++ quoted encoding bytes.now) }
+{
+    out.push_str(encoding.prefix())?;
+    out.push('\'')?;
+    push_encoded(out, bytes, encoding)?;
+    out.push('\'')
+}
+
+/// Writes bytes as what stands between the quotes.
+fn push_encoded(out: &mut String, bytes: &[u8], encoding: Encoding) -> Result<(), AllocError>
+    ensures { OnOk result
+        (string_bytes out.new ≡ string_bytes out.old ++ encoded_bytes encoding bytes.now) }
+{
+    match encoding {
+        Encoding::Base16 => push_hex(out, bytes),
+        Encoding::Base64 => STANDARD.encode_string(bytes, out),
+        Encoding::Base64Url => URL_SAFE_NO_PAD.encode_string(bytes, out),
+    }
+}
+
+/// Writes hex digits in lower case.
+fn push_hex(out: &mut String, bytes: &[u8]) -> Result<(), AllocError>
+    ensures { OnOk result (string_bytes out.new ≡ string_bytes out.old ++ encode_lower bytes.now) }
+{
+    let mut rest = bytes;
+    'pieces: while !rest.is_empty() {
+        let (piece, after) = rest.split_at(rest.len().min(PIECE));
+        push_hex_piece(out, piece)?;
+        rest = after;
+    }
+    Ok(())
+}
+
+/// How many bytes are made hex digits at once.
+const PIECE: usize = 32;
+
+/// Writes the hex digits of a few bytes.
+fn push_hex_piece(out: &mut String, piece: &[u8]) -> Result<(), AllocError>
+    requires { length piece.now ≤ PIECE }
+    ensures { OnOk result (string_bytes out.new ≡ string_bytes out.old ++ encode_lower piece.now) }
+{
+    let mut buffer = [0; 2 * PIECE];
+    let digits = &mut buffer[..2 * piece.len()];
+    hex::encode_to_slice(piece, digits).unwrap();
+    out.push_str(str::from_utf8(digits).unwrap())
+}
+
+/// Writes a text between quotes, with a backslash before each quote and each backslash.
+pub(crate) fn push_text(out: &mut String, content: &str) -> Result<(), AllocError>
+    ensures { OnOk result (string_bytes out.new ≡ string_bytes out.old ++ text content.now) }
+{
+    out.push('"')?;
+    push_escaped(out, content)?;
+    out.push('"')
+}
+
+/// Whether the byte stands behind a backslash in a text.
+fn is_escaped(byte: u8) -> bool
+    ensures { result ≡ is_escaped byte }
+{
+    byte == b'"' || byte == b'\\'
+}
+
+/// Writes a text with a backslash before each quote and each backslash.
+fn push_escaped(out: &mut String, content: &str) -> Result<(), AllocError>
+    ensures { OnOk result
+        (string_bytes out.new ≡ string_bytes out.old ++ flat_map escaped content.now) }
+{
+    let mut done = 0;
+    'bytes: for (place, byte) in content.as_bytes().iter().enumerate() {
+        if is_escaped(*byte) {
+            out.push_str(&content[done..place])?;
+            out.push('\\')?;
+            done = place;
+        }
+    }
+    out.push_str(&content[done..])
+}
+
+/// Writes a float by its bits, as hex digits of its width; an open width has 64 bits.
+pub(crate) fn push_float(out: &mut String, bits: u64, width: FloatWidth) -> Result<(), AllocError>
+    requires { FitsFloat width bits }
+    ensures { OnOk result (string_bytes out.new ≡ string_bytes out.old ++ float_text bits width) }
+{
+    out.push_str("float'")?;
+    match width {
+        FloatWidth::Sixteen => push_hex(out, &(bits as u16).to_be_bytes())?,
+        FloatWidth::ThirtyTwo => push_hex(out, &(bits as u32).to_be_bytes())?,
+        FloatWidth::Unknown | FloatWidth::SixtyFour => push_hex(out, &bits.to_be_bytes())?,
+    }
+    out.push('\'')
+}
+
+/// Writes a simple value, by its name where it has one.
+pub(crate) fn push_simple(out: &mut String, simple: Simple) -> Result<(), AllocError>
+    ensures { OnOk result (string_bytes out.new ≡ string_bytes out.old ++ simple_text simple.0) }
+{
+    match simple {
+        Simple::FALSE => out.push_str("false"),
+        Simple::TRUE => out.push_str("true"),
+        Simple::NULL => out.push_str("null"),
+        Simple::UNDEFINED => out.push_str("undefined"),
+        Simple(value) => {
+            let mut digits = itoa::Buffer::new();
+            out.push_str("simple(")?;
+            out.push_str(digits.format(value))?;
+            out.push(')')
+        }
+    }
+}
