@@ -1,6 +1,11 @@
 pub mod Utf8
 pub mod Views
 pub mod Loops
+pub mod Frames
+pub mod Counting
+pub mod ChunkLoops
+pub mod Uncounted
+pub mod Turning
 pub mod MemberLoops
 pub mod Heads
 pub mod Chunks
