@@ -6,6 +6,9 @@ pub mod Counting
 pub mod ChunkLoops
 pub mod Uncounted
 pub mod Turning
+pub mod ItemTurns
+pub mod Spent
+pub mod FrontTurns
 pub mod MemberLoops
 pub mod Heads
 pub mod Chunks

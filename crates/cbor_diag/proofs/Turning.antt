@@ -144,5 +144,5 @@ opened_level left outer inner top under b h g rest bottom e parts is =
     rw (is, parts) (omega (arith, o.1))
 
 pub some_depth : (outer : List Frame) (top : Option Frame) → IsSome top → 0 < depth_of outer top
-some_depth outer None h = absurd h
+some_depth outer None h = absurd cc
 some_depth outer (Some f) h = omega arith

@@ -97,7 +97,7 @@ array_end is w b = ap (λ js. Ok (array js w, b)) (sym (joined-none is))
 map_end : (ps : Pairs) (w : Option IntegerWidth) (b : List ℕ) → read_as (spec.map ps w) b ≡ a_map ps w (Ok (no_pairs, b))
 map_end ps w b = ap (λ qs. Ok (spec.map qs w, b)) (sym (joined_pairs-none ps))
 
-break_cases : (o : Option (List ℕ)) → ((after : List ℕ) × (o ≡ Some after)) ⊎ (o ≡ None)
+pub break_cases : (o : Option (List ℕ)) → ((after : List ℕ) × (o ≡ Some after)) ⊎ (o ≡ None)
 break_cases (Some after) = inl (after, refl)
 break_cases None = inr refl
 

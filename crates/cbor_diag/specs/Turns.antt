@@ -17,24 +17,24 @@ atom_turns _ = 1
 
 -- the turns of a whole item: two for a container or a tag, its head and its end, and those of all in it
 abbrev mutual
-  pub turns : Item → ℕ
-  turns (atom a) = atom_turns a
-  turns (array is w) = 2 + items_turns is
-  turns (spec.map ps w) = 2 + pairs_turns ps
-  turns (tagged t w i) = 2 + turns i
+  pub item_turns : Item → ℕ
+  item_turns (atom a) = atom_turns a
+  item_turns (array is w) = 2 + items_turns is
+  item_turns (spec.map ps w) = 2 + pairs_turns ps
+  item_turns (tagged t w i) = 2 + item_turns i
 
   pub items_turns : Items → ℕ
   items_turns no_items = 0
-  items_turns (item i is) = turns i + items_turns is
+  items_turns (item i is) = item_turns i + items_turns is
 
   pub pairs_turns : Pairs → ℕ
   pairs_turns no_pairs = 0
-  pairs_turns (pair k v ps) = turns k + (turns v + pairs_turns ps)
+  pairs_turns (pair k v ps) = item_turns k + (item_turns v + pairs_turns ps)
 
 -- the turns of whole parts one after the other
 abbrev pub parts_turns : (level k : ℕ) (b : List ℕ) → SpelledParts level k b → ℕ
 parts_turns level zero b spelled = 0
-parts_turns level (suc k) b spelled = turns spelled.2 + parts_turns level k spelled.1 spelled.5
+parts_turns level (suc k) b spelled = item_turns spelled.2 + parts_turns level k spelled.1 spelled.5
 
 -- one for the head of a container that is not whole, and those of the whole parts in it
 abbrev pub front_turns : {level : ℕ} {b rest : List ℕ} {next : Next} → Inside level b rest next → ℕ

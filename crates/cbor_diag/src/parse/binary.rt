@@ -13,7 +13,8 @@ ghost use Rattle.cbor_diag.specs.Item.{Item};
 ghost use Rattle.cbor_diag.specs.View.{view};
 ghost use Rattle.cbor_diag.specs.WellFormed.{deepest};
 ghost use Rattle.cbor_diag.specs.Written.{encoded};
-ghost use Rattle.cbor_diag.specs.Answer.{Outcome, spelled, HasOutcome, HasAnswer, Gave, GaveItem, GaveRefusal, RefusedSo, MayWantMemory, size};
+ghost use Rattle.cbor_diag.specs.Answer.{Outcome, spelled, HasOutcome, HasAnswer, Gave, GaveItem, GaveRefusal, RefusedSo, MayWantMemory, HasTurns, size};
+ghost use Rattle.cbor_diag.specs.Turns.{item_turns, cut_spent, fault_spent};
 ghost use Rattle.cbor_diag.specs.Facts.{IsItem, IsStrictItem, BeginsWithItem, IsCut, HasFault, IsNoItem, BeginsSo, BeginsInOneWay, IsWellFormed};
 ghost use Rattle.cbor_diag.specs.Reading.{Gives, HoldsContent, too_deep_at};
 ghost use Rattle.cbor_diag.specs.Counting.{Runs, Stops, IsStack, later, wanted_at, atom_at, counted_item};
@@ -166,19 +167,37 @@ fn item_at<'a>(
 
 /// What stands at the front of the bytes, read from `level`: an item and how many bytes it takes, or
 /// `None` where the bytes end before the item does.
-fn front_at(alloc: Global, bytes: &[u8], level: u8) -> Result<Option<(DataItem, usize)>>
+fn counted_front_at(
+    alloc: Global,
+    bytes: &[u8],
+    level: u8,
+    turns: &mut Turns,
+) -> Result<Option<(DataItem, usize)>>
     requires from { 1 ≤ level }
     requires to { level ≤ deepest + 1 }
+    requires room { turns.old ≤ 2 ^ 64 }
     ensures outcome { HasOutcome level bytes.now result }
+    ensures counted { HasTurns level bytes.now turns.old turns.new result }
+    ensures few { turns.new ≤ turns.old + 2 * length bytes.now + 1 }
     ensures memory { result ≡ Err Error.Memory → MayWantMemory bytes.now }
 {
-    match item_at(alloc, bytes, level, &mut Turns::new()) {
+    match item_at(alloc, bytes, level, turns) {
         Ok((item, rest)) => Ok(Some((item, bytes.len() - rest.len()))),
         Err(error) => match error {
             Error::CutShort => Ok(None),
             _ => Err(error),
         },
     }
+}
+
+/// The same, with turns that nobody asks for.
+fn front_at(alloc: Global, bytes: &[u8], level: u8) -> Result<Option<(DataItem, usize)>>
+    requires from { 1 ≤ level }
+    requires to { level ≤ deepest + 1 }
+    ensures outcome { HasOutcome level bytes.now result }
+    ensures memory { result ≡ Err Error.Memory → MayWantMemory bytes.now }
+{
+    counted_front_at(alloc, bytes, level, &mut Turns::new())
 }
 
 /// The one item that the bytes are, all of them, read from `level`.
@@ -250,5 +269,54 @@ pub fn parse_bytes_partial(alloc: Global, bytes: &[u8]) -> Result<Option<(DataIt
     ensures well_formed { IfOk result (λ o. IfSome o (λ x. IsWellFormed (view x.0))) }
     ensures memory { result ≡ Err Error.Memory → MayWantMemory bytes.now }
 {
-    front_at(alloc, bytes, 1)
+    parse_bytes_counted(alloc, bytes, &mut Turns::new())
+}
+
+/// Reads as `parse_bytes_partial` does, with the same answers, and adds its turns to those that were
+/// counted before, which may be up to 2^64.
+///
+/// A turn reads a head, with the content of a string, reads a chunk or a break, or closes a container that
+/// is full; the one that meets the end of the bytes or a fault counts, too. So work is bounded by the length
+/// of the input, whatever it claims.
+pub fn parse_bytes_counted(
+    alloc: Global,
+    bytes: &[u8],
+    turns: &mut Turns,
+) -> Result<Option<(DataItem, usize)>>
+    requires { turns.old ≤ 2 ^ 64 }
+    // Each of the three answers, only where it is true.
+    ensures found { IfOk result (λ o. IfSome o (λ x.
+        BeginsWithItem bytes.now (view x.0) x.1)) }
+    ensures cut { result ≡ Ok None → IsCut bytes.now }
+    ensures fault { RefusedSo result (HasFault bytes.now) }
+
+    // Bytes begin in exactly one of the three ways, and that is the one answered.
+    ensures exact { (o : Outcome) → BeginsSo bytes.now o → Gave result o }
+    ensures one_of_three { BeginsInOneWay bytes.now }
+
+    // Bytes that come later change no item and no fault.
+    ensures found_stays { IfOk result (λ o. IfSome o (λ x.
+        (more : List ℕ) → BeginsSo (bytes.now ++ more) (spelled (view x.0) x.1))) }
+    ensures fault_stays { RefusedSo result (λ e.
+        (more : List ℕ) → HasFault (bytes.now ++ more) e) }
+
+    // The item has an encoding, and memory is wanted as by `parse_bytes`.
+    ensures well_formed { IfOk result (λ o. IfSome o (λ x. IsWellFormed (view x.0))) }
+    ensures memory { result ≡ Err Error.Memory → MayWantMemory bytes.now }
+
+    // An item takes its own turns, at most two for each of its bytes.
+    ensures turns_of_item { IfOk result (λ o. IfSome o (λ x.
+        turns.new ≡ turns.old + item_turns (view x.0))) }
+    ensures twice_its_bytes { IfOk result (λ o. IfSome o (λ x. item_turns (view x.0) ≤ 2 * x.1)) }
+
+    // A cut or a fault takes the turns of what is whole before it, and the one that fails.
+    ensures turns_of_cut { result ≡ Ok None
+        → (c : IsCut bytes.now) → turns.new ≡ turns.old + (cut_spent c + 1) }
+    ensures turns_of_fault { RefusedSo result (λ e.
+        (f : HasFault bytes.now e) → turns.new ≡ turns.old + (fault_spent f + 1)) }
+
+    // Whatever the answer is, two turns for each byte, and one.
+    ensures turns_bounded { turns.new ≤ turns.old + 2 * length bytes.now + 1 }
+{
+    counted_front_at(alloc, bytes, 1, turns)
 }
