@@ -1,6 +1,5 @@
 pub mod Utf8
 pub mod Views
-pub mod Loops
 pub mod Frames
 pub mod Counting
 pub mod ChunkLoops
@@ -9,7 +8,6 @@ pub mod Turning
 pub mod ItemTurns
 pub mod Spent
 pub mod FrontTurns
-pub mod MemberLoops
 pub mod Heads
 pub mod Chunks
 pub mod Shorter

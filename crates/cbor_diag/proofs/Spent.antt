@@ -19,6 +19,7 @@ use Rattle.cbor_diag.proofs.StringRefusals.{ContentRefusal, content_refuses, Chu
 use Rattle.cbor_diag.proofs.MemberRefusals.{break_none}
 use Rattle.cbor_diag.proofs.Refusals.{cut_no_break}
 use Rattle.cbor_diag.proofs.CutShort.{cut_again}
+use Rattle.cbor_diag.proofs.Faults.{left_at, fault_level}
 use Rattle.cbor_diag.proofs.Found.{spelled_begins, no_break_at}
 use Rattle.cbor_diag.proofs.Counting.{Shortens, parts_more}
 use Rattle.cbor_diag.proofs.Uncounted.{item_shortens}
@@ -187,3 +188,24 @@ fault_turns level (suc left) b e levels (bad_chunk_text rest le inside h) = stri
 fault_turns level zero b e levels (bad_part next rest le inside no_break f) = absurd (omega arith)
 fault_turns level (suc left) b e levels (bad_part next rest le inside no_break f) =
     one_more (front_turns inside) (fault_spent f) e _ (inside_spent level left (fault_spent f + 1) next b rest e levels inside no_break (fault_turns (level + 1) left rest e (omega arith) f))
+
+-- ---- one count, however it is shown
+
+cut_level : {level : ℕ} {b : List ℕ} → Cut level b → level ≤ 129
+cut_level (nothing le) = omega arith
+cut_level (in_head le h) = omega arith
+cut_level (in_content kind le h) = omega arith
+cut_level (in_chunk kind rest le inside h) = omega arith
+cut_level (in_part next rest le inside c) = omega arith
+
+pub one_cut_spent : (level : ℕ) (b : List ℕ) (c d : Cut level b) → cut_spent c ≡ cut_spent d
+one_cut_spent level b c d =
+    let at = left_at level (cut_level c) in
+    let same : cut_spent c + 1 ≡ cut_spent d + 1 = ap (λ (x : Counted Item). x.0) (sym (cut_turns level at.0 b at.1 c) ∙ cut_turns level at.0 b at.1 d) in
+    omega arith
+
+pub one_fault_spent : (level : ℕ) (b : List ℕ) (e : Error) (f g : Fault level b e) → fault_spent f ≡ fault_spent g
+one_fault_spent level b e f g =
+    let at = left_at level (fault_level f) in
+    let same : fault_spent f + 1 ≡ fault_spent g + 1 = ap (λ (x : Counted Item). x.0) (sym (fault_turns level at.0 b e at.1 f) ∙ fault_turns level at.0 b e at.1 g) in
+    omega arith

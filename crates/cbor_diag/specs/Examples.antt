@@ -1,5 +1,5 @@
 -- A few items and their bytes, for which the definitions are computed.
-use Rattle.std.specs.Prelude.{ℕ, List, ◌∷◌, codes, Some, None}
+use Rattle.std.specs.Prelude.{ℕ, zero, suc, List, [], ◌∷◌, codes, Some, None}
 use Rattle.cbor_diag.specs.declared.syntax.IntegerWidth.TheVariants.{Unknown, Zero, Eight}
 use Rattle.cbor_diag.specs.Item as spec
 use Rattle.cbor_diag.specs.Item.{Item, atom, array, tagged, integer, byte_string, text_string, byte_chunks, simple}
@@ -28,3 +28,16 @@ open_count = array (item (small 0) no_items) (Some Unknown)
 
 abbrev pub resolved_count : Item
 resolved_count = array (item (small 0) no_items) (Some Zero)
+
+-- an indefinite byte string of two chunks
+abbrev pub two_chunks : Item
+two_chunks = atom (byte_chunks (record { bytes = 1 ∷ []; width = Zero } ∷ record { bytes = 2 ∷ []; width = Zero } ∷ []))
+
+-- so many arrays of one member, one in the other, and then 1; and as bytes
+abbrev pub nested : ℕ → Item
+nested zero = small 1
+nested (suc n) = array (item (nested n) no_items) (Some Zero)
+
+abbrev pub nested_bytes : ℕ → List ℕ
+nested_bytes zero = 1 ∷ []
+nested_bytes (suc n) = 0x81 ∷ nested_bytes n

@@ -2,14 +2,15 @@
 //! when the crate is checked, so that a wrong definition does not pass. Nothing calls these functions.
 ghost use Rattle.std.specs.Prelude.{◌≡◌, [], ◌∷◌, ◌++◌, codes};
 ghost use Rattle.cbor_diag.specs.declared.error.Error.TheVariants.{Head, Utf8, TooDeep};
-ghost use Rattle.cbor_diag.specs.declared.syntax.IntegerWidth.TheVariants.{Unknown, Eight, Sixteen};
-ghost use Rattle.cbor_diag.specs.Item.{atom, simple, integer};
+ghost use Rattle.cbor_diag.specs.declared.syntax.IntegerWidth.TheVariants.{Unknown, Zero, Eight, Sixteen};
+ghost use Rattle.cbor_diag.specs.Item.{atom, simple, integer, array, no_items};
 ghost use Rattle.cbor_diag.specs.WellFormed.{WellFormed};
 ghost use Rattle.cbor_diag.specs.Written.{encoded, encoded_open, resolve};
 ghost use Rattle.cbor_diag.specs.Bytes.{any, strict, Spells};
 ghost use Rattle.cbor_diag.specs.Refused.{Cut, Fault};
+ghost use Rattle.cbor_diag.specs.Turns.{item_turns, cut_spent, fault_spent};
 ghost use Rattle.cbor_diag.specs.HexText.{strip};
-ghost use Rattle.cbor_diag.specs.Examples.{small, uri, uri_bytes, three, open_map, open_count, resolved_count};
+ghost use Rattle.cbor_diag.specs.Examples.{small, uri, uri_bytes, three, open_map, open_count, resolved_count, two_chunks, nested, nested_bytes};
 
 /// Items in bytes. A count of 255 takes one byte, and a simple value below 24 takes no second one.
 pub(crate) fn written()
@@ -46,6 +47,18 @@ pub(crate) fn faults()
     ensures text { Fault 1 (0x61 ∷ 0xff ∷ []) Utf8 }
     ensures chunk { Fault 1 (0x5f ∷ 0x41 ∷ 1 ∷ 0x61 ∷ []) Head }
     ensures deep { Fault 129 (1 ∷ []) TooDeep }
+{}
+
+/// Turns of items, and of what is whole before the bytes end or a fault comes.
+pub(crate) fn turns_taken()
+    ensures tagged { item_turns uri ≡ 3 }
+    ensures empty { item_turns (array no_items (Some Zero)) ≡ 2 }
+    ensures members { item_turns three ≡ 5 }
+    ensures chunks { item_turns two_chunks ≡ 4 }
+    ensures deepest { item_turns (nested 127) ≡ 255 }
+    ensures nothing { (c : Cut 1 []) × (cut_spent c ≡ 0) }
+    ensures member { (c : Cut 1 (0x82 ∷ 0x81 ∷ 1 ∷ [])) × (cut_spent c ≡ 4) }
+    ensures too_deep { (f : Fault 1 (nested_bytes 128) TooDeep) × (fault_spent f ≡ 128) }
 {}
 
 /// A number fits its width, or its item has no encoding.
