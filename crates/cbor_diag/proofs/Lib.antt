@@ -1,6 +1,7 @@
 pub mod Utf8
 pub mod Views
 pub mod Frames
+pub mod Tops
 pub mod Counting
 pub mod ChunkLoops
 pub mod Uncounted

@@ -1,5 +1,5 @@
 -- The containers that an `Open` and a `Stack` are, in the words of `specs/Counting.antt`.
-use Rattle.std.specs.Prelude.{◌≡◌, ℕ, ◌+◌, ◌-◌, List, length, map, Option, Some, None, option_map, Ok}
+use Rattle.std.specs.Prelude.{◌≡◌, ℕ, ◌+◌, ◌-◌, List, [], ◌∷◌, length, map, Option, Some, None, option_map, Ok}
 use Rattle.cbor_diag.specs.declared.parse.binary.open.Length.{Length}
 use Rattle.cbor_diag.specs.declared.parse.binary.open.Length.TheVariants.{Definite, Indefinite}
 use Rattle.cbor_diag.specs.declared.parse.binary.open.Open.{Open}
@@ -23,11 +23,22 @@ frame (open_item.Map content (Some key) len) =
 frame (open_item.Tag tag width None) = tag_of tag.0 width
 frame (open_item.Tag tag width (Some value)) = tagged_with tag.0 width (view value)
 
+-- the last of a list, and those before it
+abbrev pub last_of : List Open → Option Open
+last_of [] = None
+last_of (x ∷ []) = Some x
+last_of (x ∷ y ∷ xs) = last_of (y ∷ xs)
+
+abbrev pub before_last : List Open → List Open
+before_last [] = []
+before_last (x ∷ []) = []
+before_last (x ∷ y ∷ xs) = x ∷ before_last (y ∷ xs)
+
 abbrev pub outer_of : Stack → List Frame
-outer_of s = map frame s.outer.items
+outer_of s = map frame (before_last s.open.items)
 
 abbrev pub top_of : Stack → Option Frame
-top_of s = option_map frame s.top
+top_of s = option_map frame (last_of s.open.items)
 
 abbrev pub depth : Stack → ℕ
 depth s = depth_of (outer_of s) (top_of s)

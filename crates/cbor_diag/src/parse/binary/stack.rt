@@ -9,11 +9,10 @@ use crate::error::{Error, Result};
 use crate::syntax::DataItem;
 use std::alloc::Global;
 
-/// The innermost container that is open, if any is, and those round it, the outermost first.
+/// The containers that are open, the outermost first.
 #[derive(Drop)]
 pub(super) struct Stack {
-    outer: Vec<Open>,
-    top: Option<Open>,
+    open: Vec<Open>,
 }
 
 impl Stack {
@@ -23,8 +22,7 @@ impl Stack {
         ensures top { top_of result ≡ None }
     {
         Stack {
-            outer: Vec::new(alloc),
-            top: None,
+            open: Vec::new(alloc),
         }
     }
 
@@ -32,10 +30,7 @@ impl Stack {
     pub(super) fn depth(&self) -> usize
         ensures { result ≡ depth self.now }
     {
-        match self.top {
-            None => 0,
-            Some(_) => self.outer.len() + 1,
-        }
+        self.open.len()
     }
 
     /// The bytes behind the innermost container, where it ends here.
@@ -43,9 +38,9 @@ impl Stack {
         ensures { option_map (λ x. x.now) result
             ≡ option_and_then (λ f. end_at f bytes.now) (top_of self.now) }
     {
-        match &self.top {
+        match self.open.last() {
             None => None,
-            Some(open) => open.end_at(bytes),
+            Some(top) => top.end_at(bytes),
         }
     }
 
@@ -55,9 +50,7 @@ impl Stack {
         ensures top { OnOk result (top_of self.new ≡ Some (frame container)) }
         ensures memory { IfErr result (λ e. e ≡ Error.Memory) }
     {
-        if let Some(outer) = self.top.replace(container) {
-            self.outer.push(outer)?;
-        }
+        self.open.push(container)?;
         Ok(())
     }
 
@@ -69,9 +62,8 @@ impl Stack {
         ensures bottom { IsStack (outer_of self.new) (top_of self.new) }
         ensures memory { IfErr result (λ e. e ≡ Error.Memory) }
     {
-        let outer = self.outer.pop();
-        match std::mem::replace(&mut self.top, outer) {
-            Some(open) => open.close(alloc),
+        match self.open.pop() {
+            Some(top) => top.close(alloc),
             None => unreachable!(),
         }
     }
@@ -83,12 +75,12 @@ impl Stack {
         ensures outer { outer_of self.new ≡ outer_of self.old }
         ensures memory { IfErr result (λ e. (e ≡ Error.Memory) × IsSome (top_of self.old)) }
     {
-        match &mut self.top {
-            None => Ok(Some(item)),
-            Some(open) => {
-                open.put(item)?;
-                Ok(None)
-            }
+        let count = self.open.len();
+        if count == 0 {
+            return Ok(Some(item));
         }
+        let top = &mut self.open[count - 1];
+        top.put(item)?;
+        Ok(None)
     }
 }
