@@ -50,7 +50,7 @@ fault_refuses level (suc left) b e levels (bad_part next rest le inside no_break
 -- ---- bytes that follow
 
 -- the level of a fault, and how many levels are left there
-fault_level : {level : ℕ} {b : List ℕ} {e : Error} → Fault level b e → level ≤ 129
+pub fault_level : {level : ℕ} {b : List ℕ} {e : Error} → Fault level b e → level ≤ 129
 fault_level (too_deep deep) = omega arith
 fault_level (bad_head le h) = omega arith
 fault_level (bad_text le h) = omega arith

@@ -1,7 +1,14 @@
 pub mod Utf8
 pub mod Views
-pub mod Loops
-pub mod MemberLoops
+pub mod Frames
+pub mod Tops
+pub mod Counting
+pub mod ChunkLoops
+pub mod Uncounted
+pub mod Turning
+pub mod ItemTurns
+pub mod Spent
+pub mod FrontTurns
 pub mod Heads
 pub mod Chunks
 pub mod Shorter

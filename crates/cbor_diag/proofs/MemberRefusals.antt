@@ -32,7 +32,7 @@ pub record Stops (level : ℕ) (read : List ℕ → Read Item) (next : Next) (k 
 no_break_from : (b : List ℕ) → break_at b ≡ None → ¬ (BeginsWithBreak b)
 no_break_from b e starts = let f : break_at (break_byte ∷ starts.0) ≡ None = rw starts.1 at e in absurd cc
 
-break_none : (b : List ℕ) → ¬ (BeginsWithBreak b) → break_at b ≡ None
+pub break_none : (b : List ℕ) → ¬ (BeginsWithBreak b) → break_at b ≡ None
 break_none b other =
     elim (break_ways b) [
       | inl starts ↦ absurd (other (starts.0, starts.1))

@@ -17,7 +17,7 @@ chunks_bound kind (c ∷ cs) b end h =
     let p = chunk_parts kind b c (λ rest. SpellsChunks kind rest cs end) h in
     omega (arith, p.shorter, chunks_bound kind cs p.rest end p.holds)
 
-open_bound : (kind : StringKind) (major : ℕ) (cs : List Chunk) (b : List ℕ) → OpenThen major b (λ rest. SpellsChunks kind rest cs (break_byte ∷ [])) → 1 + length cs ≤ length b
+pub open_bound : (kind : StringKind) (major : ℕ) (cs : List Chunk) (b : List ℕ) → OpenThen major b (λ rest. SpellsChunks kind rest cs (break_byte ∷ [])) → 1 + length cs ≤ length b
 open_bound kind major cs b h = omega (arith, ap length h.1, chunks_bound kind cs h.0 (break_byte ∷ []) h.2)
 
 pub one_byte : (level : ℕ) (b : List ℕ) (i : Item) → Spells any level b i → 1 ≤ length b

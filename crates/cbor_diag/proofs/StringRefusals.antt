@@ -208,7 +208,7 @@ chunks_stop (suc n) kind b e fits bound h =
       | inr c ↦ stop_later n kind b c.0.1 c.0.0 e fits c.1 c.2 (λ left_fits less more. chunks_stop n kind c.0.1 e left_fits (omega arith) more)
     ]
 
-empty_refused : (kind : StringKind) (b : List ℕ) (e : Error) → length b ≤ 0 → chunk_at kind b ≡ Err e → refusal.CutShort ≡ e
+pub empty_refused : (kind : StringKind) (b : List ℕ) (e : Error) → length b ≤ 0 → chunk_at kind b ≡ Err e → refusal.CutShort ≡ e
 unfolding chunk_at
 empty_refused kind [] e bound h = cc
 empty_refused kind (first ∷ b) e bound h = absurd (omega arith)

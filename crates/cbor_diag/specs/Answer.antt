@@ -10,6 +10,7 @@ use Rattle.cbor_diag.specs.Item.{Pairs, no_pairs, pair}
 use Rattle.cbor_diag.specs.View.{view}
 use Rattle.cbor_diag.specs.Bytes.{any, Spells}
 use Rattle.cbor_diag.specs.Refused.{Cut, Fault}
+use Rattle.cbor_diag.specs.Turns.{item_turns, cut_spent, fault_spent}
 
 -- what the front of an input is: an item, and how many bytes it takes; cut before an item is whole and
 -- before any fault; or at fault, and why
@@ -43,6 +44,14 @@ HasOutcome level b (Ok (Some x)) = IsOutcome level b (spelled (view x.0) x.1)
 HasOutcome level b (Ok None) = IsOutcome level b cut
 HasOutcome level b (Err refusal.Memory) = Unit {0}
 HasOutcome level b (Err e) = IsOutcome level b (fault e)
+
+-- What a reader of the front of an input gave tells how far a count of turns rose, want of memory aside: by
+-- the turns of the item, or by those of what is whole before a cut or a fault, and the one that failed.
+abbrev pub HasTurns : ℕ → List ℕ → ℕ → ℕ → Result (Option (DataItem × ℕ)) Error → Type 0
+HasTurns level b old new (Ok (Some x)) = new ≡ old + item_turns (view x.0)
+HasTurns level b old new (Ok None) = (c : Cut level b) → new ≡ old + (cut_spent c + 1)
+HasTurns level b old new (Err refusal.Memory) = Unit {0}
+HasTurns level b old new (Err e) = (f : Fault level b e) → new ≡ old + (fault_spent f + 1)
 
 -- why an input is not one whole item
 abbrev pub IsRefused : ℕ → List ℕ → Error → Type 0

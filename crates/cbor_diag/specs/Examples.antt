@@ -54,3 +54,15 @@ repeated (suc n) i = item i (repeated n i)
 
 abbrev pub ones : ℕ → Item
 ones n = array (repeated n (small 1)) (Some Zero)
+-- an indefinite byte string of two chunks
+abbrev pub two_chunks : Item
+two_chunks = atom (byte_chunks (record { bytes = 1 ∷ []; width = Zero } ∷ record { bytes = 2 ∷ []; width = Zero } ∷ []))
+
+-- so many arrays of one member, one in the other, and then 1; and as bytes
+abbrev pub nested : ℕ → Item
+nested zero = small 1
+nested (suc n) = array (item (nested n) no_items) (Some Zero)
+
+abbrev pub nested_bytes : ℕ → List ℕ
+nested_bytes zero = 1 ∷ []
+nested_bytes (suc n) = 0x81 ∷ nested_bytes n

@@ -6,7 +6,10 @@ pub mod WellFormed
 pub mod Written
 pub mod Bytes
 pub mod Refused
+pub mod Turns
 pub mod Reading
+pub mod Counting
+pub mod Stack
 pub mod Answer
 pub mod HexText
 pub mod Examples

@@ -14,7 +14,8 @@ ghost use Rattle.cbor_diag.specs.Estimate.{full};
 ghost use Rattle.cbor_diag.specs.Normal.{normal};
 ghost use Rattle.cbor_diag.specs.Pretty.{pretty};
 ghost use Rattle.cbor_diag.specs.HexText.{strip};
-ghost use Rattle.cbor_diag.specs.Examples.{small, uri, uri_bytes, three, open_map, open_count, resolved_count, over_bytes, nested_tag, encodings, ones};
+ghost use Rattle.cbor_diag.specs.Examples.{small, uri, uri_bytes, three, open_map, open_count, resolved_count, over_bytes, nested_tag, encodings, ones, two_chunks, nested, nested_bytes};
+ghost use Rattle.cbor_diag.specs.Turns.{item_turns, cut_spent, fault_spent};
 
 /// Items in bytes. A count of 255 takes one byte, and a simple value below 24 takes no second one.
 pub(crate) fn written()
@@ -44,6 +45,7 @@ pub(crate) fn cut()
 {}
 
 /// Bytes that no item begins with: a break in no container, one in a value's place, a text that is not
+
 /// UTF-8, a text among the chunks of a byte string, and anything below the deepest level.
 pub(crate) fn faults()
     ensures stray { Fault 1 (0xff ∷ []) Head }
@@ -62,6 +64,7 @@ pub(crate) fn well_formed()
 {}
 
 /// What is kept of texts with comments, with line ends of both kinds, with carriage returns that end no
+
 /// line, with a tab and with spaces.
 pub(crate) fn hex_text()
     ensures comment { strip (codes "01 # 02 # 03") ≡ codes "01" }
@@ -77,7 +80,9 @@ pub(crate) fn hex_text()
 {}
 
 /// Embedded items in texts: one in the bytes of another, a sequence with a rest, bytes that are an item
+
 /// at level 128 and none at level 129, and encodings that hold through an embedded item, each up to the
+
 /// next tag that states one.
 pub(crate) fn embedded_text()
     ensures nested { compact Base16 1 nested_tag ≡ codes "24_0(<<24_0(<<false>>)>>)" }
@@ -109,4 +114,16 @@ pub(crate) fn pretty_text()
         ≡ codes "[\n    [\n        1,\n        1,\n        1,\n        1,\n        1,\n        1,\n        1,\n        1,\n        1,\n        1,\n        1,\n        1,\n    ],\n]" }
     ensures open { pretty Base16 1 0 open_map ≡ codes "{_ 1: 2}" }
     ensures empty { pretty Base16 1 0 (atom (byte_chunks [])) ≡ codes "''_" }
+{}
+
+/// Turns of items, and of what is whole before the bytes end or a fault comes.
+pub(crate) fn turns_taken()
+    ensures tagged { item_turns uri ≡ 3 }
+    ensures empty { item_turns (array no_items (Some Zero)) ≡ 2 }
+    ensures members { item_turns three ≡ 5 }
+    ensures chunks { item_turns two_chunks ≡ 4 }
+    ensures deepest { item_turns (nested 127) ≡ 255 }
+    ensures nothing { (c : Cut 1 []) × (cut_spent c ≡ 0) }
+    ensures member { (c : Cut 1 (0x82 ∷ 0x81 ∷ 1 ∷ [])) × (cut_spent c ≡ 4) }
+    ensures too_deep { (f : Fault 1 (nested_bytes 128) TooDeep) × (fault_spent f ≡ 128) }
 {}

@@ -6,8 +6,12 @@ ghost use Rattle.cbor_diag.specs.Item.{Item};
 ghost use Rattle.cbor_diag.specs.Bytes.{any, Spells, SpellsItems};
 ghost use Rattle.cbor_diag.specs.Embedded.{embedded, sequence};
 ghost use Rattle.cbor_diag.specs.Answer.{OneOutcome};
+ghost use Rattle.cbor_diag.specs.declared.error.Error.{Error};
+ghost use Rattle.cbor_diag.specs.Refused.{Cut, Fault};
+ghost use Rattle.cbor_diag.specs.Turns.{cut_spent, fault_spent};
 
 /// Of any bytes, read from any level from 1 to 129, exactly one of three holds: some first bytes spell
+
 /// one item, they are cut, or they have one fault.
 pub(crate) fn one_of_three()
     ensures { (level : ℕ) (b : List ℕ) → 1 ≤ level → level ≤ deepest + 1
@@ -15,6 +19,7 @@ pub(crate) fn one_of_three()
 {}
 
 /// Which items are embedded in bytes: the one that they spell, and the longest list of items that are
+
 /// spelled one after the other, behind which the rest begins with none.
 pub(crate) fn embedded_items()
     ensures item { (level : ℕ) (b : List ℕ) (e : Item) → 1 ≤ level → level ≤ deepest + 1
@@ -25,4 +30,13 @@ pub(crate) fn embedded_items()
     ensures longest { (level : ℕ) (b x rest : List ℕ) (e : Item) → 1 ≤ level → level ≤ deepest + 1
         → ((i : ℕ) → slice_index b i < 256) → (sequence level b).1 ≡ x ++ rest
         → ¬ (Spells any level x e) }
+{}
+
+/// What is whole of bytes that are cut or have a fault is one number of turns, however it is shown that
+
+/// they are or have.
+pub(crate) fn one_count_of_turns()
+    ensures cut { (level : ℕ) (b : List ℕ) (c d : Cut level b) → cut_spent c ≡ cut_spent d }
+    ensures fault { (level : ℕ) (b : List ℕ) (e : Error) (f g : Fault level b e)
+        → fault_spent f ≡ fault_spent g }
 {}

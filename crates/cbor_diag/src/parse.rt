@@ -1,7 +1,9 @@
 //! Readers.
 mod binary;
 mod hex_text;
+mod turns;
 
 pub(crate) use binary::{front_at, whole_at};
-pub use binary::{parse_bytes, parse_bytes_partial};
+pub use binary::{parse_bytes, parse_bytes_counted, parse_bytes_partial};
 pub use hex_text::parse_hex;
+pub use turns::Turns;

@@ -32,4 +32,6 @@ mod standard;
 #[cfg(test)]
 mod tags;
 #[cfg(test)]
+mod turns;
+#[cfg(test)]
 mod written;

@@ -21,21 +21,18 @@ pub(crate) fn push_head(
     let first = major * 32;
     match width.stated(number) {
         IntegerWidth::Zero => out.push(first + number as u8)?,
-        IntegerWidth::Eight => {
-            out.push(first + 24)?;
-            out.push(number as u8)?;
-        }
+        IntegerWidth::Eight => out.extend_from_slice(&[first + 24, number as u8])?,
         IntegerWidth::Sixteen => {
-            out.push(first + 25)?;
-            out.extend_from_slice(&(number as u16).to_be_bytes())?;
+            let [a, b] = (number as u16).to_be_bytes();
+            out.extend_from_slice(&[first + 25, a, b])?;
         }
         IntegerWidth::ThirtyTwo => {
-            out.push(first + 26)?;
-            out.extend_from_slice(&(number as u32).to_be_bytes())?;
+            let [a, b, c, d] = (number as u32).to_be_bytes();
+            out.extend_from_slice(&[first + 26, a, b, c, d])?;
         }
         IntegerWidth::SixtyFour => {
-            out.push(first + 27)?;
-            out.extend_from_slice(&number.to_be_bytes())?;
+            let [a, b, c, d, e, f, g, h] = number.to_be_bytes();
+            out.extend_from_slice(&[first + 27, a, b, c, d, e, f, g, h])?;
         }
         // A stated width is never open.
         IntegerWidth::Unknown => unreachable!(),

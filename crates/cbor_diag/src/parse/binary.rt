@@ -4,32 +4,30 @@
 //! the first refusal from the left, `CutShort` where the bytes end. What a head claims is never
 //! believed: no memory is taken for a length or a count, only for the bytes and members that are there.
 mod head;
+mod open;
+mod stack;
 mod strings;
 
-ghost use Rattle.std.specs.Prelude.{◌≡◌, ◌≢◌, ℕ, ◌+◌, ◌-◌, ◌<◌, ◌≤◌, List, ◌++◌, length, take, ◌↔◌, IfOk, IfSome, OnOk, option_map};
+ghost use Rattle.std.specs.Prelude.{◌≡◌, ◌≢◌, ℕ, ◌+◌, ◌-◌, ◌*◌, ◌^◌, ◌<◌, ◌≤◌, List, ◌++◌, length, take, ◌↔◌, IfOk, IfErr, IfSome, OnOk, option_map};
 ghost use Rattle.cbor_diag.specs.Item.{Item};
-ghost use Rattle.cbor_diag.specs.View.{view, items_view, pairs_view};
+ghost use Rattle.cbor_diag.specs.View.{view};
 ghost use Rattle.cbor_diag.specs.WellFormed.{deepest};
 ghost use Rattle.cbor_diag.specs.Written.{encoded};
-ghost use Rattle.cbor_diag.specs.Answer.{Outcome, spelled, HasOutcome, HasAnswer, Gave, GaveItem, GaveRefusal, RefusedSo, MayWantMemory, size};
+ghost use Rattle.cbor_diag.specs.Answer.{Outcome, spelled, HasOutcome, HasAnswer, Gave, GaveItem, GaveRefusal, RefusedSo, MayWantMemory, HasTurns, size};
+ghost use Rattle.cbor_diag.specs.Turns.{item_turns, cut_spent, fault_spent};
 ghost use Rattle.cbor_diag.specs.Facts.{IsItem, IsStrictItem, BeginsWithItem, IsCut, HasFault, IsNoItem, BeginsSo, BeginsInOneWay, IsWellFormed};
-ghost use Rattle.cbor_diag.specs.Reading.{Gives, HoldsContent, break_at, too_deep_at, item_at, body_at, items_at, pair_at, pairs_at, open_items_at, open_pairs_at};
+ghost use Rattle.cbor_diag.specs.Reading.{Gives, HoldsContent, too_deep_at};
+ghost use Rattle.cbor_diag.specs.Counting.{Runs, Stops, IsStack, later, wanted_at, atom_at, counted_item};
+ghost use Rattle.cbor_diag.specs.Stack.{outer_of, top_of, depth, resumed, resumed_with};
 
 use crate::error::{Error, Result};
+use crate::parse::turns::Turns;
 use crate::syntax::{DEEPEST, DataItem, Simple, Tag};
 use head::{ItemHead, head_at};
+use open::Open;
 use std::alloc::Global;
+use stack::Stack;
 use strings::{byte_chunks_at, bytes_at, text_at, text_chunks_at};
-
-/// The bytes behind the break at the front, where one stands there.
-fn after_break(bytes: &[u8]) -> Option<&[u8]>
-    ensures { option_map (λ x. x.now) result ≡ break_at bytes.now }
-{
-    match bytes {
-        [0xff, rest @ ..] => Some(rest),
-        _ => None,
-    }
-}
 
 /// Why no item can stand below the deepest level: there are bytes for one, or there are none.
 fn no_level_left(bytes: &[u8]) -> Error
@@ -43,33 +41,39 @@ fn no_level_left(bytes: &[u8]) -> Error
     }
 }
 
-/// The item at the front, which stands at `level`, from 1 to 129. At level 129 no item can stand.
-#[cycle(item)]
-fn item_at(alloc: Global, bytes: &[u8], level: u8) -> Result<(DataItem, &[u8])>
+/// The head of an item that stands at `level`, from 1 to 129. At level 129 no item can stand.
+fn wanted_head_at(bytes: &[u8], level: usize) -> Result<(ItemHead, &[u8])>
     requires { level ≤ deepest + 1 }
-    ensures gives { Gives (λ x. (view x.0, x.1.now)) result (item_at (deepest + 1 - level) bytes.now) }
+    ensures gives { Gives (λ x. (x.0, x.1.now)) result (wanted_at (deepest + 1 - level) bytes.now) }
     ensures shorter { IfOk result (λ x. length x.1.now < length bytes.now) }
-    ensures memory { result ≡ Err Error.Memory → MayWantMemory bytes.now }
+    ensures memory { result ≢ Err Error.Memory }
 {
-    if level > DEEPEST {
+    if level > usize::from(DEEPEST) {
         return Err(no_level_left(bytes));
     }
-    let (head, rest) = head_at(bytes)?;
-    body_at(alloc, head, rest, level + 1)
+    head_at(bytes)
 }
 
-/// The item behind its head; the items in it stand at `inner`, from 2 to 129.
-#[cycle(item)]
-fn body_at(alloc: Global, head: ItemHead, bytes: &[u8], inner: u8) -> Result<(DataItem, &[u8])>
-    requires { inner ≤ deepest + 1 }
-    ensures gives { Gives (λ x. (view x.0, x.1.now)) result
-        (body_at (item_at (deepest + 1 - inner)) head bytes.now) }
-    ensures shorter { IfOk result (λ x. length x.1.now ≤ length bytes.now) }
+/// The item without parts behind its head.
+fn atom_at<'a>(
+    alloc: Global,
+    head: ItemHead,
+    bytes: &'a [u8],
+    turns: &mut Turns,
+) -> Result<(DataItem, &'a [u8])>
+    requires { turns.old + 2 * length bytes.now < 2 ^ 126 }
+    ensures gives { Runs (λ x. (view x.0, x.1.now)) turns.old turns.new result (atom_at head bytes.now) }
+    ensures falls { IfOk result (λ x.
+        turns.new + 2 * length x.1.now ≤ turns.old + 2 * length bytes.now) }
+    ensures few { turns.new ≤ turns.old + 2 * length bytes.now + 1 }
+    ensures rises { turns.old ≤ turns.new }
     ensures memory { result ≡ Err Error.Memory → HoldsContent head }
 {
     match head {
         ItemHead::Integer(value, bitwidth) => Ok((DataItem::Integer { value, bitwidth }, bytes)),
         ItemHead::Negative(value, bitwidth) => Ok((DataItem::Negative { value, bitwidth }, bytes)),
+        ItemHead::Float(bits, bitwidth) => Ok((DataItem::Float { bits, bitwidth }, bytes)),
+        ItemHead::Simple(value) => Ok((DataItem::Simple(Simple(value)), bytes)),
         ItemHead::Bytes(count, bitwidth) => {
             let (string, rest) = bytes_at(alloc, count, bitwidth, bytes)?;
             Ok((DataItem::ByteString(string), rest))
@@ -78,165 +82,122 @@ fn body_at(alloc: Global, head: ItemHead, bytes: &[u8], inner: u8) -> Result<(Da
             let (string, rest) = text_at(alloc, count, bitwidth, bytes)?;
             Ok((DataItem::TextString(string), rest))
         }
-        ItemHead::Array(count, width) => {
-            let (content, rest) = items_at(alloc, count, bytes, inner)?;
-            let bitwidth = Some(width);
-            Ok((DataItem::Array { content, bitwidth }, rest))
-        }
-        ItemHead::Map(count, width) => {
-            let (content, rest) = pairs_at(alloc, count, bytes, inner)?;
-            let bitwidth = Some(width);
-            Ok((DataItem::Map { content, bitwidth }, rest))
-        }
-        ItemHead::Tag(number, bitwidth) => {
-            let (value, rest) = item_at(alloc, bytes, inner)?;
-            let (tag, value) = (Tag(number), Box::new(alloc, value)?);
-            Ok((
-                DataItem::Tag {
-                    tag,
-                    bitwidth,
-                    value,
-                },
-                rest,
-            ))
-        }
-        ItemHead::Float(bits, bitwidth) => Ok((DataItem::Float { bits, bitwidth }, bytes)),
-        ItemHead::Simple(value) => Ok((DataItem::Simple(Simple(value)), bytes)),
         ItemHead::OpenBytes => {
-            let (chunks, rest) = byte_chunks_at(alloc, bytes)?;
+            let (chunks, rest) = byte_chunks_at(alloc, bytes, turns)?;
             Ok((DataItem::IndefiniteByteString(chunks), rest))
         }
         ItemHead::OpenText => {
-            let (chunks, rest) = text_chunks_at(alloc, bytes)?;
+            let (chunks, rest) = text_chunks_at(alloc, bytes, turns)?;
             Ok((DataItem::IndefiniteTextString(chunks), rest))
         }
-        ItemHead::OpenArray => {
-            let (content, rest) = open_items_at(alloc, bytes, inner)?;
-            let bitwidth = None;
-            Ok((DataItem::Array { content, bitwidth }, rest))
-        }
-        ItemHead::OpenMap => {
-            let (content, rest) = open_pairs_at(alloc, bytes, inner)?;
-            let bitwidth = None;
-            Ok((DataItem::Map { content, bitwidth }, rest))
-        }
-        ItemHead::Break => Err(Error::Head),
+        _ => Err(Error::Head),
     }
 }
 
-/// So many items, one after the other.
-#[cycle(item)]
-fn items_at(alloc: Global, count: u64, bytes: &[u8], level: u8) -> Result<(Vec<DataItem>, &[u8])>
-    requires { level ≤ deepest + 1 }
-    ensures gives { Gives (λ x. (items_view x.0.items, x.1.now)) result
-        (items_at (item_at (deepest + 1 - level)) count bytes.now) }
-    ensures shorter { IfOk result (λ x. length x.1.now ≤ length bytes.now) }
-{
-    let mut items = Vec::new(alloc);
-    let mut rest = bytes;
-    'items: for _ in 0..count {
-        let (item, after) = item_at(alloc, rest, level)?;
-        items.push(item)?;
-        rest = after;
-    }
-    Ok((items, rest))
-}
-
-/// So many pairs, each a key and then its value.
-#[cycle(item)]
-fn pairs_at(
+/// One turn: closes the innermost container where it ends, or else reads the head that stands next, with
+/// the content of a string. Gives the item that is whole with it, if one is, and the bytes that are left;
+/// the outermost item stands at `level`.
+fn turn<'a>(
     alloc: Global,
-    count: u64,
-    bytes: &[u8],
+    stack: &mut Stack,
+    bytes: &'a [u8],
     level: u8,
-) -> Result<(Vec<(DataItem, DataItem)>, &[u8])>
-    requires { level ≤ deepest + 1 }
-    ensures gives { Gives (λ x. (pairs_view x.0.items, x.1.now)) result
-        (pairs_at (item_at (deepest + 1 - level)) count bytes.now) }
-    ensures shorter { IfOk result (λ x. length x.1.now ≤ length bytes.now) }
+    turns: &mut Turns,
+) -> Result<(Option<DataItem>, &'a [u8])>
+    requires level { level + depth stack.old ≤ deepest + 1 }
+    requires bottom { IsStack (outer_of stack.old) (top_of stack.old) }
+    requires room { turns.old + 2 * length bytes.now < 2 ^ 120 }
+    ensures gives { IfOk result (λ x. later turns.old (resumed (deepest + 1 - level) stack.old bytes.now)
+        ≡ later turns.new (resumed_with (deepest + 1 - level) stack.new (option_map view x.0) x.1.now)) }
+    ensures stops { IfErr result (λ e. Stops e turns.new
+        (later turns.old (resumed (deepest + 1 - level) stack.old bytes.now))) }
+    ensures level { IfOk result (λ x. level + depth stack.new ≤ deepest + 1) }
+    ensures bottom { IfOk result (λ x. IsStack (outer_of stack.new) (top_of stack.new)) }
+    ensures falls { IfOk result (λ x. turns.new + 2 * length x.1.now + depth stack.new
+        ≤ turns.old + 2 * length bytes.now + depth stack.old) }
+    ensures few { turns.new ≤ turns.old + 2 * length bytes.now + 1 }
+    ensures rises { turns.old < turns.new }
+    ensures memory { result ≡ Err Error.Memory → depth stack.old ≡ 0 → MayWantMemory bytes.now }
+    ensures opens { IfOk result (λ x. 0 < depth stack.new → depth stack.old ≡ 0 → MayWantMemory bytes.now) }
+    ensures held { IfOk result (λ x. x.0 ≡ None → 0 < depth stack.new) }
 {
-    let mut pairs = Vec::new(alloc);
-    let mut rest = bytes;
-    'pairs: for _ in 0..count {
-        let (pair, after) = pair_at(alloc, rest, level)?;
-        pairs.push(pair)?;
-        rest = after;
+    turns.rise();
+    if let Some(rest) = stack.end_at(bytes) {
+        return Ok((Some(stack.close(alloc)?), rest));
     }
-    Ok((pairs, rest))
-}
-
-/// A key and then its value.
-#[cycle(item)]
-fn pair_at(alloc: Global, bytes: &[u8], level: u8) -> Result<((DataItem, DataItem), &[u8])>
-    requires { level ≤ deepest + 1 }
-    ensures gives { Gives (λ x. ((view x.0.0, view x.0.1), x.1.now)) result
-        (pair_at (item_at (deepest + 1 - level)) bytes.now) }
-    ensures shorter { IfOk result (λ x. length x.1.now < length bytes.now) }
-{
-    let (key, rest) = item_at(alloc, bytes, level)?;
-    let (value, rest) = item_at(alloc, rest, level)?;
-    Ok(((key, value), rest))
-}
-
-/// The items up to a break.
-#[cycle(item)]
-fn open_items_at(alloc: Global, bytes: &[u8], level: u8) -> Result<(Vec<DataItem>, &[u8])>
-    requires { level ≤ deepest + 1 }
-    ensures gives { Gives (λ x. (items_view x.0.items, x.1.now)) result
-        (open_items_at (item_at (deepest + 1 - level)) (length bytes.now) bytes.now) }
-    ensures shorter { IfOk result (λ x. length x.1.now ≤ length bytes.now) }
-{
-    let mut items = Vec::new(alloc);
-    let mut rest = bytes;
-    'items: loop {
-        if let Some(after) = after_break(rest) {
-            return Ok((items, after));
+    let (head, rest) = wanted_head_at(bytes, usize::from(level) + stack.depth())?;
+    match Open::new(alloc, head, rest.len())? {
+        Some(container) => {
+            stack.open(container)?;
+            Ok((None, rest))
         }
-        let (item, after) = item_at(alloc, rest, level)?;
-        items.push(item)?;
-        rest = after;
+        None => {
+            let (item, rest) = atom_at(alloc, head, rest, turns)?;
+            Ok((Some(item), rest))
+        }
     }
 }
 
-/// The pairs up to a break, which may stand in a key's place.
-#[cycle(item)]
-fn open_pairs_at(
+/// The item at the front, which stands at `level`, from 1 to 129.
+fn item_at<'a>(
     alloc: Global,
-    bytes: &[u8],
+    bytes: &'a [u8],
     level: u8,
-) -> Result<(Vec<(DataItem, DataItem)>, &[u8])>
-    requires { level ≤ deepest + 1 }
-    ensures gives { Gives (λ x. (pairs_view x.0.items, x.1.now)) result
-        (open_pairs_at (item_at (deepest + 1 - level)) (length bytes.now) bytes.now) }
-    ensures shorter { IfOk result (λ x. length x.1.now ≤ length bytes.now) }
+    turns: &mut Turns,
+) -> Result<(DataItem, &'a [u8])>
+    requires level { level ≤ deepest + 1 }
+    requires room { turns.old + 2 * length bytes.now < 2 ^ 110 }
+    ensures gives { Runs (λ x. (view x.0, x.1.now)) turns.old turns.new result
+        (counted_item (deepest + 1 - level) bytes.now) }
+    ensures few { turns.new ≤ turns.old + 2 * length bytes.now + 1 }
+    ensures memory { result ≡ Err Error.Memory → MayWantMemory bytes.now }
 {
-    let mut pairs = Vec::new(alloc);
+    let mut stack = Stack::new(alloc);
     let mut rest = bytes;
-    'pairs: loop {
-        if let Some(after) = after_break(rest) {
-            return Ok((pairs, after));
-        }
-        let (pair, after) = pair_at(alloc, rest, level)?;
-        pairs.push(pair)?;
+    'turns: loop {
+        let (whole, after) = turn(alloc, &mut stack, rest, level, turns)?;
         rest = after;
+        if let Some(item) = whole {
+            if let Some(outermost) = stack.put(item)? {
+                return Ok((outermost, rest));
+            }
+        }
     }
 }
 
 /// What stands at the front of the bytes, read from `level`: an item and how many bytes it takes, or
 /// `None` where the bytes end before the item does.
-pub(crate) fn front_at(alloc: Global, bytes: &[u8], level: u8) -> Result<Option<(DataItem, usize)>>
+fn counted_front_at(
+    alloc: Global,
+    bytes: &[u8],
+    level: u8,
+    turns: &mut Turns,
+) -> Result<Option<(DataItem, usize)>>
     requires from { 1 ≤ level }
     requires to { level ≤ deepest + 1 }
+    requires room { turns.old ≤ 2 ^ 64 }
     ensures outcome { HasOutcome level bytes.now result }
+    ensures counted { HasTurns level bytes.now turns.old turns.new result }
+    ensures few { turns.new ≤ turns.old + 2 * length bytes.now + 1 }
     ensures memory { result ≡ Err Error.Memory → MayWantMemory bytes.now }
 {
-    match item_at(alloc, bytes, level) {
+    match item_at(alloc, bytes, level, turns) {
         Ok((item, rest)) => Ok(Some((item, bytes.len() - rest.len()))),
         Err(error) => match error {
             Error::CutShort => Ok(None),
             _ => Err(error),
         },
     }
+}
+
+/// The same, with turns that nobody asks for.
+pub(crate) fn front_at(alloc: Global, bytes: &[u8], level: u8) -> Result<Option<(DataItem, usize)>>
+    requires from { 1 ≤ level }
+    requires to { level ≤ deepest + 1 }
+    ensures outcome { HasOutcome level bytes.now result }
+    ensures memory { result ≡ Err Error.Memory → MayWantMemory bytes.now }
+{
+    counted_front_at(alloc, bytes, level, &mut Turns::new())
 }
 
 /// The one item that the bytes are, all of them, read from `level`.
@@ -308,5 +269,54 @@ pub fn parse_bytes_partial(alloc: Global, bytes: &[u8]) -> Result<Option<(DataIt
     ensures well_formed { IfOk result (λ o. IfSome o (λ x. IsWellFormed (view x.0))) }
     ensures memory { result ≡ Err Error.Memory → MayWantMemory bytes.now }
 {
-    front_at(alloc, bytes, 1)
+    parse_bytes_counted(alloc, bytes, &mut Turns::new())
+}
+
+/// Reads as `parse_bytes_partial` does, with the same answers, and adds its turns to those that were
+/// counted before, which may be up to 2^64.
+///
+/// A turn reads a head, with the content of a string, reads a chunk or a break, or closes a container that
+/// is full; the one that meets the end of the bytes or a fault counts, too. So work is bounded by the length
+/// of the input, whatever it claims.
+pub fn parse_bytes_counted(
+    alloc: Global,
+    bytes: &[u8],
+    turns: &mut Turns,
+) -> Result<Option<(DataItem, usize)>>
+    requires { turns.old ≤ 2 ^ 64 }
+    // Each of the three answers, only where it is true.
+    ensures found { IfOk result (λ o. IfSome o (λ x.
+        BeginsWithItem bytes.now (view x.0) x.1)) }
+    ensures cut { result ≡ Ok None → IsCut bytes.now }
+    ensures fault { RefusedSo result (HasFault bytes.now) }
+
+    // Bytes begin in exactly one of the three ways, and that is the one answered.
+    ensures exact { (o : Outcome) → BeginsSo bytes.now o → Gave result o }
+    ensures one_of_three { BeginsInOneWay bytes.now }
+
+    // Bytes that come later change no item and no fault.
+    ensures found_stays { IfOk result (λ o. IfSome o (λ x.
+        (more : List ℕ) → BeginsSo (bytes.now ++ more) (spelled (view x.0) x.1))) }
+    ensures fault_stays { RefusedSo result (λ e.
+        (more : List ℕ) → HasFault (bytes.now ++ more) e) }
+
+    // The item has an encoding, and memory is wanted as by `parse_bytes`.
+    ensures well_formed { IfOk result (λ o. IfSome o (λ x. IsWellFormed (view x.0))) }
+    ensures memory { result ≡ Err Error.Memory → MayWantMemory bytes.now }
+
+    // An item takes its own turns, at most two for each of its bytes.
+    ensures turns_of_item { IfOk result (λ o. IfSome o (λ x.
+        turns.new ≡ turns.old + item_turns (view x.0))) }
+    ensures twice_its_bytes { IfOk result (λ o. IfSome o (λ x. item_turns (view x.0) ≤ 2 * x.1)) }
+
+    // A cut or a fault takes the turns of what is whole before it, and the one that fails.
+    ensures turns_of_cut { result ≡ Ok None
+        → (c : IsCut bytes.now) → turns.new ≡ turns.old + (cut_spent c + 1) }
+    ensures turns_of_fault { RefusedSo result (λ e.
+        (f : HasFault bytes.now e) → turns.new ≡ turns.old + (fault_spent f + 1)) }
+
+    // Whatever the answer is, two turns for each byte, and one.
+    ensures turns_bounded { turns.new ≤ turns.old + 2 * length bytes.now + 1 }
+{
+    counted_front_at(alloc, bytes, 1, turns)
 }

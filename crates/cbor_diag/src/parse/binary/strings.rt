@@ -1,11 +1,13 @@
 //! Strings of definite length, and the chunks of indefinite ones (RFC 7049 sections 2.1 and 2.2.2).
-ghost use Rattle.std.specs.Prelude.{◌≡◌, ◌<◌, ◌≤◌, length, IfOk, map, option_map};
+ghost use Rattle.std.specs.Prelude.{◌≡◌, ◌+◌, ◌*◌, ◌^◌, ◌<◌, ◌≤◌, length, IfOk, map, option_map};
 ghost use Rattle.cbor_diag.specs.View.{byte_chunk, text_chunk};
 ghost use Rattle.cbor_diag.specs.Bytes.{bytes_kind, text_kind};
-ghost use Rattle.cbor_diag.specs.Reading.{Gives, split_at, content_at, chunk_length_at, chunk_at, chunks_at};
+ghost use Rattle.cbor_diag.specs.Reading.{Gives, split_at, content_at, chunk_length_at, chunk_at};
+ghost use Rattle.cbor_diag.specs.Counting.{Runs, counted_chunks};
 
 use super::head::{Info, info_at};
 use crate::error::{Error, Result};
+use crate::parse::turns::Turns;
 use crate::syntax::{ByteString, IntegerWidth, TextString};
 use std::alloc::Global;
 
@@ -109,15 +111,24 @@ fn text_chunk_at(alloc: Global, bytes: &[u8]) -> Result<(Option<TextString>, &[u
     Ok((Some(chunk), rest))
 }
 
-/// The chunks of an indefinite byte string up to its break.
-pub(super) fn byte_chunks_at(alloc: Global, bytes: &[u8]) -> Result<(Vec<ByteString>, &[u8])>
-    ensures gives { Gives (λ x. (map byte_chunk x.0.items, x.1.now)) result
-        (chunks_at (length bytes.now) bytes_kind bytes.now) }
-    ensures shorter { IfOk result (λ x. length x.1.now ≤ length bytes.now) }
+/// The chunks of an indefinite byte string up to its break, with a turn for each of them and for the break.
+pub(super) fn byte_chunks_at<'a>(
+    alloc: Global,
+    bytes: &'a [u8],
+    turns: &mut Turns,
+) -> Result<(Vec<ByteString>, &'a [u8])>
+    requires { turns.old + 2 * length bytes.now < 2 ^ 126 }
+    ensures gives { Runs (λ x. (map byte_chunk x.0.items, x.1.now)) turns.old turns.new result
+        (counted_chunks (length bytes.now) bytes_kind bytes.now) }
+    ensures falls { IfOk result (λ x.
+        turns.new + 2 * length x.1.now ≤ turns.old + 2 * length bytes.now) }
+    ensures few { turns.new ≤ turns.old + 2 * length bytes.now + 1 }
+    ensures rises { turns.old ≤ turns.new }
 {
     let mut chunks = Vec::new(alloc);
     let mut rest = bytes;
     'chunks: loop {
+        turns.rise();
         let (chunk, after) = byte_chunk_at(alloc, rest)?;
         let Some(chunk) = chunk else {
             return Ok((chunks, after));
@@ -127,15 +138,24 @@ pub(super) fn byte_chunks_at(alloc: Global, bytes: &[u8]) -> Result<(Vec<ByteStr
     }
 }
 
-/// The chunks of an indefinite text string up to its break.
-pub(super) fn text_chunks_at(alloc: Global, bytes: &[u8]) -> Result<(Vec<TextString>, &[u8])>
-    ensures gives { Gives (λ x. (map text_chunk x.0.items, x.1.now)) result
-        (chunks_at (length bytes.now) text_kind bytes.now) }
-    ensures shorter { IfOk result (λ x. length x.1.now ≤ length bytes.now) }
+/// The chunks of an indefinite text string up to its break, with a turn for each of them and for the break.
+pub(super) fn text_chunks_at<'a>(
+    alloc: Global,
+    bytes: &'a [u8],
+    turns: &mut Turns,
+) -> Result<(Vec<TextString>, &'a [u8])>
+    requires { turns.old + 2 * length bytes.now < 2 ^ 126 }
+    ensures gives { Runs (λ x. (map text_chunk x.0.items, x.1.now)) turns.old turns.new result
+        (counted_chunks (length bytes.now) text_kind bytes.now) }
+    ensures falls { IfOk result (λ x.
+        turns.new + 2 * length x.1.now ≤ turns.old + 2 * length bytes.now) }
+    ensures few { turns.new ≤ turns.old + 2 * length bytes.now + 1 }
+    ensures rises { turns.old ≤ turns.new }
 {
     let mut chunks = Vec::new(alloc);
     let mut rest = bytes;
     'chunks: loop {
+        turns.rise();
         let (chunk, after) = text_chunk_at(alloc, rest)?;
         let Some(chunk) = chunk else {
             return Ok((chunks, after));

@@ -1,27 +1,33 @@
-use Rattle.std.proofs.Common.{◌≡◌, ◌++◌, ◌∷◌, [], map, length, arith}
+use Rattle.std.proofs.Common.{◌≡◌, ◌++◌, ◌∷◌, [], map, length, ◌+◌, arith}
 use Rattle.std.proofs.lemmas.Result.{err_from_is_err_and}
 use Rattle.std.proofs.lemmas.List.{map_push}
 use Rattle.cbor_diag.specs.View.{byte_chunk}
 use Rattle.cbor_diag.specs.Bytes.{bytes_kind}
-use Rattle.cbor_diag.specs.Reading.{chunks_at}
-use Rattle.cbor_diag.proofs.Loops.{chunk_fails, more_chunk, no_more_chunk}
+use Rattle.cbor_diag.specs.Counting.{later, counted_chunks}
+use Rattle.cbor_diag.proofs.ChunkLoops.{chunk_fails, more_chunk, no_more_chunk}
 use Rattle.cbor_diag.proofs.parse.binary.strings.byte_chunks_at.Goals as goal
 
 pub returns-in_err-chunk-clause-gives : goal.returns-in_err-chunk-clause-gives
 returns-in_err-chunk-clause-gives c =
     let p = err_from_is_err_and c.from_residual.result c.from_residual.ensures.1 in
     let i = c.chunks.invariant in
-    rw (p.1, p.2) (chunk_fails c.in_err-chunk.field-0.0 bytes_kind (map byte_chunk c.chunks.chunks.items) i.0 c.chunks.rest.now (chunks_at (length c.args.bytes.now) bytes_kind c.args.bytes.now) i.1 c.in_err-chunk.ensures.gives i.2)
+    rw (p.1, p.2, c.rise.ensures) (chunk_fails c.in_err-chunk.field-0.0 bytes_kind (map byte_chunk c.chunks.chunks.items) c.chunks.turns i.bound c.chunks.rest.now _ i.enough c.in_err-chunk.ensures.gives i.so_far)
 
 pub returns-in_default-clause-gives : goal.returns-in_default-clause-gives
 returns-in_default-clause-gives c =
     let i = c.chunks.invariant in
-    no_more_chunk bytes_kind (map byte_chunk c.chunks.chunks.items) i.0 c.chunks.rest.now c.in_ok-chunk.after.now (chunks_at (length c.args.bytes.now) bytes_kind c.args.bytes.now) (rw c.in_default.is at c.in_ok-chunk.ensures.gives) c.in_ok-chunk.ensures.shorter i.1 i.2
+    rw c.rise.ensures (no_more_chunk bytes_kind (map byte_chunk c.chunks.chunks.items) c.chunks.turns i.bound c.chunks.rest.now c.in_ok-chunk.after.now _ (rw c.in_default.is at c.in_ok-chunk.ensures.gives) c.in_ok-chunk.ensures.shorter i.enough i.so_far)
 
 pub chunks-preserved : goal.chunks-preserved
 chunks-preserved c =
     let i = c.chunks.invariant in
     let read = c.chunks.chunks.items in
     let pushed : map byte_chunk c.push.new.self.items ≡ map byte_chunk read ++ byte_chunk c.in-Some.chunk ∷ [] = rw c.in_ok-push.ensures.items (map_push _ read c.in-Some.chunk) in
-    let next = more_chunk bytes_kind (map byte_chunk read) i.0 c.chunks.rest.now (byte_chunk c.in-Some.chunk) c.in_ok-chunk.after.now (chunks_at (length c.args.bytes.now) bytes_kind c.args.bytes.now) (rw c.in-Some.is at c.in_ok-chunk.ensures.gives) c.in_ok-chunk.ensures.shorter i.1 i.2 in
-    (next.0, next.1, rw pushed next.2, omega (arith, c.in_ok-chunk.ensures.shorter))
+    let next = more_chunk bytes_kind (map byte_chunk read) c.chunks.turns i.bound c.chunks.rest.now (byte_chunk c.in-Some.chunk) c.in_ok-chunk.after.now _ (rw c.in-Some.is at c.in_ok-chunk.ensures.gives) c.in_ok-chunk.ensures.shorter i.enough i.so_far in
+    record {
+      bound = next.0;
+      enough = next.1;
+      so_far = rw (pushed, c.rise.ensures) next.2;
+      falls = omega (arith, c.in_ok-chunk.ensures.shorter);
+      rises = omega arith;
+    }

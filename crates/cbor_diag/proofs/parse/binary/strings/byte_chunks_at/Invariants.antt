@@ -1,13 +1,18 @@
-use Rattle.std.proofs.Common.{◌≡◌, ℕ, ◌≤◌, ◌++◌, length, map}
+use Rattle.std.proofs.Common.{◌≡◌, ℕ, ◌+◌, ◌*◌, ◌≤◌, length, map}
 use Rattle.cbor_diag.specs.View.{byte_chunk}
 use Rattle.cbor_diag.specs.Bytes.{bytes_kind}
-use Rattle.cbor_diag.specs.Reading.{chunks_at}
-use Rattle.cbor_diag.proofs.Loops.{onto}
+use Rattle.cbor_diag.specs.Counting.{later, counted_chunks}
+use Rattle.cbor_diag.proofs.ChunkLoops.{onto}
 use Rattle.cbor_diag.proofs.parse.binary.strings.byte_chunks_at.Given as goal
 
 abbrev pub decreases-chunks : goal.decreases-chunks
 decreases-chunks l = length l.rest
 
 abbrev pub invariant-chunks : goal.invariant-chunks
-invariant-chunks l =
-    (n : ℕ) × (length l.rest ≤ n) × (onto (λ cs. map byte_chunk l.chunks.items ++ cs) (chunks_at n bytes_kind l.rest) ≡ chunks_at (length l.bytes) bytes_kind l.bytes) × (length l.rest ≤ length l.bytes)
+invariant-chunks l = record {
+  bound : ℕ;
+  enough : length l.rest ≤ bound;
+  so_far : later l.turns (onto (map byte_chunk l.chunks.items) (counted_chunks bound bytes_kind l.rest)) ≡ later l.initial.turns (counted_chunks (length l.bytes) bytes_kind l.bytes);
+  falls : l.turns + 2 * length l.rest ≤ l.initial.turns + 2 * length l.bytes;
+  rises : l.initial.turns ≤ l.turns;
+}

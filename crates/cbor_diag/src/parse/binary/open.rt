@@ -1,0 +1,194 @@
+//! Containers that are open: what was read of them, and what they still want.
+ghost use Rattle.std.specs.Prelude.{◌≡◌, ℕ, Some, IsSome, IfOk, IfErr, OnOk, option_map};
+ghost use Rattle.cbor_diag.specs.View.{view};
+ghost use Rattle.cbor_diag.specs.Reading.{break_at};
+ghost use Rattle.cbor_diag.specs.Counting.{put, end_at, wanted_end, width_of, closed, opened};
+ghost use Rattle.cbor_diag.specs.Stack.{wanted, frame};
+
+use super::head::ItemHead;
+use crate::error::{Error, Result};
+use crate::syntax::{DataItem, IntegerWidth, Tag};
+use std::alloc::Global;
+
+/// The most members that room is made for before they are there.
+const ROOM: usize = 32;
+
+/// How a container says where it ends.
+#[derive(Clone, Copy)]
+pub(super) enum Length {
+    /// So many members or pairs, and the width of their count.
+    Definite(u64, IntegerWidth),
+    /// A break ends it.
+    Indefinite,
+}
+
+/// An array, a map or a tag that is not closed yet.
+#[derive(Drop)]
+pub(super) enum Open {
+    Array {
+        content: Vec<DataItem>,
+        len: Length,
+    },
+    /// A map, with a key that waits for its value.
+    Map {
+        content: Vec<(DataItem, DataItem)>,
+        key: Option<DataItem>,
+        len: Length,
+    },
+    /// A tag, with its item once that is read.
+    Tag {
+        tag: Tag,
+        bitwidth: IntegerWidth,
+        value: Option<DataItem>,
+    },
+}
+
+/// For how many members room is made at once: no more than are claimed, than can be there, and than a few.
+fn room(count: u64, following: usize) -> usize {
+    let most = ROOM.min(following);
+    if count < most as u64 { count as usize } else { most }
+}
+
+/// The bytes behind the break at the front, where one stands there.
+fn after_break(bytes: &[u8]) -> Option<&[u8]>
+    ensures { option_map (λ x. x.now) result ≡ break_at bytes.now }
+{
+    match bytes {
+        [0xff, rest @ ..] => Some(rest),
+        _ => None,
+    }
+}
+
+impl Length {
+    /// The width of the count, where there is one.
+    fn width(self) -> Option<IntegerWidth>
+        ensures { (held : ℕ) → result ≡ width_of (wanted self held) }
+    {
+        match self {
+            Length::Definite(_, width) => Some(width),
+            Length::Indefinite => None,
+        }
+    }
+
+    /// The bytes behind a container with so many members, where it ends here: the same bytes where none is
+    /// wanted any more, or those behind the break.
+    fn end_at(self, held: usize, bytes: &[u8]) -> Option<&[u8]>
+        ensures { option_map (λ x. x.now) result ≡ wanted_end (wanted self held) bytes.now }
+    {
+        match self {
+            Length::Definite(count, _) if (held as u64) < count => None,
+            Length::Definite(..) => Some(bytes),
+            Length::Indefinite => after_break(bytes),
+        }
+    }
+}
+
+impl Open {
+    /// The container that a head opens, none of its parts read yet, where so many bytes follow; `None`
+    /// where the head opens no container. Room is made for members that can be there, and for few.
+    pub(super) fn new(alloc: Global, head: ItemHead, following: usize) -> Result<Option<Open>>
+        ensures opens { IfOk result (λ o. option_map frame o ≡ opened head) }
+        ensures memory { IfErr result (λ e. (e ≡ Error.Memory) × IsSome (opened head)) }
+    {
+        let (key, value) = (None, None);
+        let open = match head {
+            ItemHead::Array(count, width) => {
+                let content = Vec::with_capacity(alloc, room(count, following))?;
+                let len = Length::Definite(count, width);
+                Open::Array { content, len }
+            }
+            ItemHead::Map(count, width) => {
+                let content = Vec::with_capacity(alloc, room(count, following / 2))?;
+                let len = Length::Definite(count, width);
+                Open::Map { content, key, len }
+            }
+            ItemHead::OpenArray => {
+                let content = Vec::new(alloc);
+                let len = Length::Indefinite;
+                Open::Array { content, len }
+            }
+            ItemHead::OpenMap => {
+                let content = Vec::new(alloc);
+                let len = Length::Indefinite;
+                Open::Map { content, key, len }
+            }
+            ItemHead::Tag(number, bitwidth) => {
+                let tag = Tag(number);
+                Open::Tag {
+                    tag,
+                    bitwidth,
+                    value,
+                }
+            }
+            _ => return Ok(None),
+        };
+        Ok(Some(open))
+    }
+
+    /// The bytes behind the container, where it ends here.
+    pub(super) fn end_at<'a>(&self, bytes: &'a [u8]) -> Option<&'a [u8]>
+        ensures { option_map (λ x. x.now) result ≡ end_at (frame self.now) bytes.now }
+    {
+        match self {
+            Open::Array { content, len } => len.end_at(content.len(), bytes),
+            Open::Map {
+                content,
+                key: None,
+                len,
+            } => len.end_at(content.len(), bytes),
+            Open::Tag { value: Some(_), .. } => Some(bytes),
+            Open::Map { key: Some(_), .. } | Open::Tag { value: None, .. } => None,
+        }
+    }
+
+    /// Takes one part more: a member, a key, the value of the key before, or a tag's item.
+    pub(super) fn put(&mut self, part: DataItem) -> Result<()>
+        ensures put { OnOk result (frame self.new ≡ put (frame self.old) (view part)) }
+        ensures memory { IfErr result (λ e. e ≡ Error.Memory) }
+    {
+        match self {
+            Open::Array { content, .. } => content.push(part)?,
+            Open::Map { content, key, .. } => match key.take() {
+                None => *key = Some(part),
+                Some(key) => content.push((key, part))?,
+            },
+            Open::Tag { value, .. } => *value = Some(part),
+        }
+        Ok(())
+    }
+
+    /// The item that the container is, once it ends.
+    pub(super) fn close(self, alloc: Global) -> Result<DataItem>
+        requires { IsSome (closed (frame self)) }
+        ensures item { IfOk result (λ i. closed (frame self) ≡ Some (view i)) }
+        ensures memory { IfErr result (λ e. e ≡ Error.Memory) }
+    {
+        match self {
+            Open::Array { content, len } => {
+                let bitwidth = len.width();
+                Ok(DataItem::Array { content, bitwidth })
+            }
+            Open::Map {
+                content,
+                key: None,
+                len,
+            } => {
+                let bitwidth = len.width();
+                Ok(DataItem::Map { content, bitwidth })
+            }
+            Open::Tag {
+                tag,
+                bitwidth,
+                value: Some(value),
+            } => {
+                let value = Box::new(alloc, value)?;
+                Ok(DataItem::Tag {
+                    tag,
+                    bitwidth,
+                    value,
+                })
+            }
+            Open::Map { key: Some(_), .. } | Open::Tag { value: None, .. } => unreachable!(),
+        }
+    }
+}
