@@ -75,9 +75,9 @@ module _ (read : List ℕ → Counted Item) (costs : ItemCosts read) where
       → Costs (frame_turns f + 1) item_turns (read b >>- λ i. goes_on n read (put f i.0) i.1).0 (read b >>- λ i. goes_on n read (put f i.0) i.1).1
   next_cost n f b more later =
       costs_go (frame_turns f + 1) item_turns (read b).0 (read b).1 _ (λ x e.
-        let is = cost_of item_turns (read b).0 (read b).1 x (costs b) e in
-        let sum : frame_turns (put f x.0) + 1 ≡ frame_turns f + 1 + (read b).0 = omega (arith, more x.0) in
-        subst (λ k. Costs k item_turns (goes_on n read (put f x.0) x.1).0 (goes_on n read (put f x.0) x.1).1) sum (later x))
+      let is = cost_of item_turns (read b).0 (read b).1 x (costs b) e in
+      let sum : frame_turns (put f x.0) + 1 ≡ frame_turns f + 1 + (read b).0 = omega (arith, more x.0) in
+      subst (λ k. Costs k item_turns (goes_on n read (put f x.0) x.1).0 (goes_on n read (put f x.0) x.1).1) sum (later x))
 
   pub parts_cost : (n : ℕ) (f : Frame) (b : List ℕ) → Costs (frame_turns f + 1) item_turns (goes_on n read f b).0 (goes_on n read f b).1
   unfolding goes_on

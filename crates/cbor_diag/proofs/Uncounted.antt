@@ -128,7 +128,7 @@ module _ (read : List ℕ → Counted Item) (r : List ℕ → Read Item) (same :
       elim (break_cases (break_at b)) [
         | inl stops ↦ rw stops.1 (array_end is None stops.0)
         | inr none ↦ rw none (first_then (read b) (r b) _ _ (same b) (λ x e. let s = short b x e in parts_first n m (items_in (joined is (item x.0 no_items)) to_break) x.1 (omega arith) (omega arith))
-          ∙ more_items is None (r b) (open_items_at r m))
+            ∙ more_items is None (r b) (open_items_at r m))
       ]
   parts_first (suc n) m (pairs_in ps (so_many zero w)) b lt le = map_end ps (Some w) b
   parts_first (suc n) m (pairs_in ps (so_many (suc k) w)) b lt le =
@@ -140,7 +140,7 @@ module _ (read : List ℕ → Counted Item) (r : List ℕ → Read Item) (same :
       elim (break_cases (break_at b)) [
         | inl stops ↦ rw stops.1 (map_end ps None stops.0)
         | inr none ↦ rw none (first_then (read b) (r b) _ _ (same b) (λ x e. let s = short b x e in parts_first n m (value_of ps x.0 to_break) x.1 (omega arith) (omega arith))
-          ∙ more_pairs ps None (r b) r (open_pairs_at r m))
+            ∙ more_pairs ps None (r b) r (open_pairs_at r m))
       ]
   parts_first (suc n) m (value_of ps k wanted) b lt le =
       first_then (read b) (r b) _ _ (same b) (λ x e. let s = short b x e in parts_first n m (pairs_in (joined_pairs ps (pair k x.0 no_pairs)) wanted) x.1 (omega arith) (omega arith))

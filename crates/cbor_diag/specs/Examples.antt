@@ -54,6 +54,7 @@ repeated (suc n) i = item i (repeated n i)
 
 abbrev pub ones : ℕ → Item
 ones n = array (repeated n (small 1)) (Some Zero)
+
 -- an indefinite byte string of two chunks
 abbrev pub two_chunks : Item
 two_chunks = atom (byte_chunks (record { bytes = 1 ∷ []; width = Zero } ∷ record { bytes = 2 ∷ []; width = Zero } ∷ []))

@@ -45,7 +45,6 @@ pub(crate) fn cut()
 {}
 
 /// Bytes that no item begins with: a break in no container, one in a value's place, a text that is not
-
 /// UTF-8, a text among the chunks of a byte string, and anything below the deepest level.
 pub(crate) fn faults()
     ensures stray { Fault 1 (0xff ∷ []) Head }
@@ -64,7 +63,6 @@ pub(crate) fn well_formed()
 {}
 
 /// What is kept of texts with comments, with line ends of both kinds, with carriage returns that end no
-
 /// line, with a tab and with spaces.
 pub(crate) fn hex_text()
     ensures comment { strip (codes "01 # 02 # 03") ≡ codes "01" }
@@ -80,9 +78,7 @@ pub(crate) fn hex_text()
 {}
 
 /// Embedded items in texts: one in the bytes of another, a sequence with a rest, bytes that are an item
-
 /// at level 128 and none at level 129, and encodings that hold through an embedded item, each up to the
-
 /// next tag that states one.
 pub(crate) fn embedded_text()
     ensures nested { compact Base16 1 nested_tag ≡ codes "24_0(<<24_0(<<false>>)>>)" }

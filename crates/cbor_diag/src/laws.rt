@@ -11,7 +11,6 @@ ghost use Rattle.cbor_diag.specs.Refused.{Cut, Fault};
 ghost use Rattle.cbor_diag.specs.Turns.{cut_spent, fault_spent};
 
 /// Of any bytes, read from any level from 1 to 129, exactly one of three holds: some first bytes spell
-
 /// one item, they are cut, or they have one fault.
 pub(crate) fn one_of_three()
     ensures { (level : ℕ) (b : List ℕ) → 1 ≤ level → level ≤ deepest + 1
@@ -19,7 +18,6 @@ pub(crate) fn one_of_three()
 {}
 
 /// Which items are embedded in bytes: the one that they spell, and the longest list of items that are
-
 /// spelled one after the other, behind which the rest begins with none.
 pub(crate) fn embedded_items()
     ensures item { (level : ℕ) (b : List ℕ) (e : Item) → 1 ≤ level → level ≤ deepest + 1
@@ -33,7 +31,6 @@ pub(crate) fn embedded_items()
 {}
 
 /// What is whole of bytes that are cut or have a fault is one number of turns, however it is shown that
-
 /// they are or have.
 pub(crate) fn one_count_of_turns()
     ensures cut { (level : ℕ) (b : List ℕ) (c d : Cut level b) → cut_spent c ≡ cut_spent d }

@@ -6,7 +6,7 @@ ghost use Rattle.std.specs.Int.Digits.{number_from_digits};
 ghost use Rattle.std.specs.String.{string_bytes};
 ghost use Rattle.cbor_notes.specs.Element as spec;
 
-use crate::text::{push_grouped, push_hex_digits};
+use crate::text::{push_grouped, push_hex};
 use std::alloc::{AllocError, Global};
 
 /// What the elements of a typed array are.
@@ -138,7 +138,7 @@ fn push_value(text: &mut String, kind: Kind, bytes: &[u8]) -> Result<(), AllocEr
     match kind {
         Kind::Unsigned => push_grouped(text, number(bytes), false),
         Kind::Signed => push_signed(text, bytes),
-        Kind::Float => push_hex_digits(text, bytes),
+        Kind::Float => push_hex(text, bytes),
     }
 }
 

@@ -60,7 +60,6 @@ pub(crate) fn numbers_in_groups()
 {}
 
 /// Bytes between quotes, and characters that can stand there: of U+0000, U+0085, U+00E9 and U+2028 the
-
 /// first two are control characters.
 pub(crate) fn escapes()
     ensures bytes { quoted_bytes (0x00 ∷ 0x41 ∷ 0x22 ∷ 0x27 ∷ 0x5c ∷ 0x0a ∷ 0x7f ∷ [])
@@ -70,7 +69,6 @@ pub(crate) fn escapes()
 {}
 
 /// An IPv4 address of RFC 5737, a MAC address of RFC 7042, and IPv6 addresses as RFC 5952 has them: the
-
 /// longest run of zero groups is `::`, of two as long the first, and one zero group by itself stays.
 pub(crate) fn addresses()
     ensures ipv4 { ipv4_text (192 ∷ 0 ∷ 2 ∷ 1 ∷ []) ≡ codes "192.0.2.1" }
@@ -100,7 +98,6 @@ pub(crate) fn identifiers()
 {}
 
 /// A tag with a note, the lines of an empty string, and no lines: the width is that of the farthest
-
 /// digits, and a line without digits is as wide.
 pub(crate) fn laid_out()
     ensures reach { reach number ≡ 5 }
@@ -162,7 +159,6 @@ pub(crate) fn quoted()
 {}
 
 /// Digits with blanks: a comment may hold a quote; blanks alone are no content, nor is a `/` that opens no
-
 /// comment; without comments a `/` is a digit.
 pub(crate) fn spaced()
     ensures around { DigitsBetween true (codes " 0/'/1 ") (codes "01") }
@@ -174,11 +170,8 @@ pub(crate) fn spaced()
 {}
 
 /// Bytes between quotes, and characters that can stand there: of U+0000, U+0085, U+00E9 and U+2028 the
-
 /// An IPv4 address of RFC 5737, a MAC address of RFC 7042, and IPv6 addresses as RFC 5952 has them: the
-
 /// A tag with a note, the lines of an empty string, and no lines: the width is that of the farthest
-
 /// Dates as texts and as days, the first of them the example of RFC 8943, section 1.1, and a time of day.
 pub(crate) fn dates()
     ensures text { (date : Date) → IsYmd (pos 1940) (pos 10) (pos 9) date → date_text date ≡ codes "1940-10-09" }

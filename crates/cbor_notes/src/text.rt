@@ -77,18 +77,6 @@ pub(crate) fn push_hex_byte(text: &mut String, byte: u8) -> Result<(), AllocErro
     text.push(char::from(digits[1]))
 }
 
-/// Appends the two hex digits of each byte to `text`, in lower case. After a refusal `text` may end
-/// with some of them.
-pub(crate) fn push_hex_digits(text: &mut String, bytes: &[u8]) -> Result<(), AllocError>
-    ensures text { OnOk result
-        (string_bytes text.new ≡ string_bytes text.old ++ encode_lower bytes.now) }
-{
-    for byte in bytes {
-        push_hex(text, *byte)?;
-    }
-    Ok(())
-}
-
 /// `text` with some of its characters escaped: `"` and `\` stand after a backslash; a tab, a carriage
 /// return and a line feed are `\t`, `\r` and `\n`; the other characters of U+0000 to U+001F and
 /// U+007F to U+009F are `\u{h}` with hex digits in lower case and no leading zero. No quotes are put

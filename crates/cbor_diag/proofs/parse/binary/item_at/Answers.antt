@@ -22,8 +22,11 @@ turns-preserved c =
       bottom = c.in_ok-whole.ensures.bottom;
       level = c.in_ok-whole.ensures.level;
       falls = omega (arith, c.in_ok-whole.ensures.falls);
-      opened = inr (held, elim i.opened [
-        | inl none ↦ subst MayWantMemory none.1 (c.in_ok-whole.ensures.opens held none.0)
-        | inr some ↦ some.1
-      ]);
+      opened = inr (
+        held,
+        elim i.opened [
+          | inl none ↦ subst MayWantMemory none.1 (c.in_ok-whole.ensures.opens held none.0)
+          | inr some ↦ some.1
+        ],
+      );
     }
