@@ -6,3 +6,4 @@ pub mod Base64
 pub mod DecodedLines
 pub mod Identifier
 pub mod Text
+pub mod Token

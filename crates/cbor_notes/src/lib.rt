@@ -11,6 +11,7 @@ mod base58_text;
 mod base64_text;
 mod identifier;
 mod text;
+mod token;
 
 pub use address::{ipv4_text, ipv6_text, mac_text};
 pub use base32::{base32_decode, base32hex_decode};
@@ -18,3 +19,4 @@ pub use base58_text::base58;
 pub use base64_text::{base64_any_decode, base64_lines};
 pub use identifier::uuid_lines;
 pub use text::{escaped_text, grouped, quoted_bytes};
+pub use token::{blank_end, digits_at, number_at, quoted_at};
