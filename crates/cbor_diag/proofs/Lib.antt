@@ -21,3 +21,4 @@ pub mod Resolved
 pub mod Sizes
 pub mod HexLines
 pub mod HexDigits
+mod NotationExamples

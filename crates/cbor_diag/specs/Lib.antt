@@ -9,4 +9,6 @@ pub mod Refused
 pub mod Reading
 pub mod Answer
 pub mod HexText
+pub mod Notation
+pub mod NotationReading
 pub mod Examples

@@ -1,6 +1,7 @@
 //! Readers.
 mod binary;
 mod hex_text;
+mod notation;
 
 pub use binary::{parse_bytes, parse_bytes_partial};
 pub use hex_text::parse_hex;
