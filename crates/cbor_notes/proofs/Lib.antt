@@ -20,3 +20,5 @@ pub mod Places
 pub mod Quoted
 pub mod Spaced
 mod TextExamples
+pub mod TextPlaces
+pub mod NumberParts

@@ -1,0 +1,6 @@
+use Rattle.cbor_diag.proofs.sound.Lists.{members_sound}
+use Rattle.cbor_diag.proofs.sound.Words.{sized_is}
+use Rattle.cbor_diag.proofs.laws.notation_read.Goals as goal
+
+pub returns : goal.returns
+returns c = ?
