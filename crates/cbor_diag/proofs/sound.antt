@@ -1,3 +1,5 @@
 pub mod Steps
 pub mod Lists
 pub mod Words
+pub mod Digits
+pub mod Strings

@@ -79,7 +79,23 @@ pub sound_map : {A B : Type 0} (levels : ℕ) (IsA : List ℕ → A → Type 0) 
 sound_map levels IsA IsB text (Ok x) make s h = (s.0, s.1, h s.0 x.0 s.2)
 sound_map levels IsA IsB text (Err e) make s h = s
 
+checked_so : {B : Type 0} (levels : ℕ) (Is : List ℕ → B → Type 0) (text front rest : List ℕ) → text ≡ front ++ rest → (r : Result B Error) → ((b : B) → r ≡ Ok b → Is front b) → ((e : Error) → r ≡ Err e → MayRefuse levels text e) → Sound levels Is text (r >>= λ b. Ok (b, rest))
+checked_so levels Is text front rest is (Ok b) ok odd = (front, is, ok b refl)
+checked_so levels Is text front rest is (Err e) ok odd = odd e refl
+
+-- a reader, and a test of its answer
+pub sound_check : {A B : Type 0} (levels : ℕ) (IsA : List ℕ → A → Type 0) (IsB : List ℕ → B → Type 0) (text : List ℕ) (r : Read A) (check : A → Result B Error) → Sound levels IsA text r
+    → ((front : List ℕ) (a : A) (b : B) → IsA front a → check a ≡ Ok b → IsB front b)
+    → ((front rest : List ℕ) (a : A) (e : Error) → text ≡ front ++ rest → IsA front a → check a ≡ Err e → MayRefuse levels text e)
+    → Sound levels IsB text (r >>= λ x. check x.0 >>= λ b. Ok (b, x.1))
+sound_check levels IsA IsB text (Err e) check s ok odd = s
+sound_check levels IsA IsB text (Ok x) check s ok odd = checked_so levels IsB text s.0 x.1 s.1 (check x.0) (λ b is. ok s.0 x.0 b s.2 is) (λ e is. odd s.0 x.1 x.0 e s.1 s.2 is)
+
 -- what an option holds, and else no notation
+pub sound_refused : {X : Type 0} (levels : ℕ) (Is : List ℕ → X → Type 0) (text : List ℕ) (o : Option (X × List ℕ)) → ((x : X × List ℕ) → o ≡ Some x → (front : List ℕ) × (text ≡ front ++ x.1) × Is front x.0) → Sound levels Is text (or_refused o)
+sound_refused levels Is text None h = tt
+sound_refused levels Is text (Some x) h = h x refl
+
 pub sound_option : {A B : Type 0} (levels : ℕ) (Is : List ℕ → B → Type 0) (text : List ℕ) (o : Option A) (f : A → Read B) → ((a : A) → o ≡ Some a → Sound levels Is text (f a)) → Sound levels Is text (or_refused o >>= f)
 sound_option levels Is text None f h = tt
 sound_option levels Is text (Some a) f h = h a refl

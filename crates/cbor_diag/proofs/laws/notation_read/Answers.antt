@@ -1,5 +1,5 @@
 use Rattle.cbor_diag.proofs.sound.Lists.{members_sound}
-use Rattle.cbor_diag.proofs.sound.Words.{word_sound}
+use Rattle.cbor_diag.proofs.sound.Strings.{members_more}
 use Rattle.cbor_diag.proofs.laws.notation_read.Goals as goal
 
 pub returns : goal.returns
