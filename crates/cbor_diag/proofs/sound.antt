@@ -3,3 +3,5 @@ pub mod Lists
 pub mod Words
 pub mod Digits
 pub mod Strings
+pub mod Pieces
+pub mod Items

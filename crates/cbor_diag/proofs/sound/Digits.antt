@@ -32,17 +32,17 @@ value_small : (alphabet : List ℕ) (digit most : ℕ) → length alphabet ≤ m
 value_small alphabet digit most long some =
     let n = position_or_len (λ c. c == digit) alphabet in
     elim (a_test (nat_lt n (length alphabet))) [
-      inl this ↦ rw this (omega (arith, ltb-true n (length alphabet) this))
-    | inr other ↦ rw other some
+      | inl this ↦ rw this (omega (arith, ltb-true n (length alphabet) this))
+      | inr other ↦ rw other some
     ]
 
 six_small : (digit : ℕ) → six_bits digit < 64
 six_small digit =
     elim (a_test ((digit == 43) || (digit == 45))) [
-      inl this ↦ rw this (omega arith)
-    | inr other ↦ elim (a_test ((digit == 47) || (digit == 95))) [
-        inl this ↦ rw (other, this) (omega arith)
-      | inr another ↦ rw (other, another) (value_small (codes "ABCDEFGHIJKLMNOPQRSTUVWXYZabcdefghijklmnopqrstuvwxyz0123456789") digit 64 (omega arith) (omega arith))
+      | inl this ↦ rw this (omega arith)
+      | inr other ↦ elim (a_test ((digit == 47) || (digit == 95))) [
+        | inl this ↦ rw (other, this) (omega arith)
+        | inr another ↦ rw (other, another) (value_small (codes "ABCDEFGHIJKLMNOPQRSTUVWXYZabcdefghijklmnopqrstuvwxyz0123456789") digit 64 (omega arith) (omega arith))
       ]
     ]
 
@@ -59,6 +59,6 @@ sixes_are_bytes (a ∷ b ∷ c ∷ d ∷ digits) =
 pub encoded_so : (encode : List ℕ → List ℕ) (digits tried bytes : List ℕ) → if_encoded encode digits tried ≡ Some bytes → (tried ≡ bytes) × (encode tried ≡ digits)
 encoded_so encode digits tried bytes e =
     elim (a_test (bytes_eq (encode tried) digits)) [
-      inl this ↦ (let same : Some tried ≡ Some bytes = rw this at e in cc, (bytes_eq-Decides (encode tried) digits).0 this)
-    | inr other ↦ absurd (none_some bytes (rw other at e))
+      | inl this ↦ (let same : Some tried ≡ Some bytes = rw this at e in cc, (bytes_eq-Decides (encode tried) digits).0 this)
+      | inr other ↦ absurd (none_some bytes (rw other at e))
     ]

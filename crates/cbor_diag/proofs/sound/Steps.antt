@@ -67,6 +67,11 @@ pub weaker : {X : Type 0} (levels : ℕ) (Is Such : List ℕ → X → Type 0) (
 weaker levels Is Such text (Ok x) h s = (s.0, s.1, h s.0 x.0 s.2)
 weaker levels Is Such text (Err e) h s = s
 
+-- the same, where what was read stands in front of the text
+pub weaker_here : {X : Type 0} (levels : ℕ) (Is Such : List ℕ → X → Type 0) (text : List ℕ) (r : Read X) → ((front rest : List ℕ) (x : X) → text ≡ front ++ rest → Is front x → Such front x) → Sound levels Is text r → Sound levels Such text r
+weaker_here levels Is Such text (Ok x) h s = (s.0, s.1, h s.0 x.1 x.0 s.1 s.2)
+weaker_here levels Is Such text (Err e) h s = s
+
 -- one reader and then another
 pub sound_then : {A B : Type 0} (levels : ℕ) (IsA : List ℕ → A → Type 0) (IsB : List ℕ → B → Type 0) (text : List ℕ) (r : Read A) (f : A × List ℕ → Read B) → Sound levels IsA text r
     → ((a : A) (front rest : List ℕ) → text ≡ front ++ rest → IsA front a → Sound levels (λ g b. IsB (front ++ g) b) rest (f (a, rest))) → Sound levels IsB text (r >>= f)
@@ -113,17 +118,17 @@ pub after_byte_is : (byte : ℕ) (text rest : List ℕ) → after_byte byte text
 after_byte_is byte [] rest e = absurd cc
 after_byte_is byte (b ∷ text) rest e =
     elim (cases_eq b byte) [
-      inl is ↦ let found : Some text ≡ Some rest = rw (eq-eqb b byte is) at e in cc
-    | inr other ↦ absurd (none_some rest (rw (ne_eqb b byte other) at e))
+      | inl is ↦ let found : Some text ≡ Some rest = rw (eq-eqb b byte is) at e in cc
+      | inr other ↦ absurd (none_some rest (rw (ne_eqb b byte other) at e))
     ]
 
 pub after_word_is : (word text rest : List ℕ) → after_word word text ≡ Some rest → text ≡ word ++ rest
 after_word_is word text rest e =
     elim (a_test (starts_with nat_eq text word)) [
-      inl this ↦
-        let front : word ≡ take (length word) text = (bytes_eq-Decides word (take (length word) text)).0 this in
-        let found : Some (drop (length word) text) ≡ Some rest = rw this at e in
-        let behind : drop (length word) text ≡ rest = cc in
-        sym (take-append-drop (length word) text) ∙ ap (λ (z : List ℕ). z ++ drop (length word) text) (sym front) ∙ ap (λ (z : List ℕ). word ++ z) behind
-    | inr other ↦ absurd (none_some rest (rw other at e))
+      | inl this ↦
+          let front : word ≡ take (length word) text = (bytes_eq-Decides word (take (length word) text)).0 this in
+          let found : Some (drop (length word) text) ≡ Some rest = rw this at e in
+          let behind : drop (length word) text ≡ rest = cc in
+          sym (take-append-drop (length word) text) ∙ ap (λ (z : List ℕ). z ++ drop (length word) text) (sym front) ∙ ap (λ (z : List ℕ). word ++ z) behind
+      | inr other ↦ absurd (none_some rest (rw other at e))
     ]

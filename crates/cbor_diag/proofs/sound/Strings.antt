@@ -26,7 +26,7 @@ use Rattle.cbor_diag.proofs.sound.Digits.{fives_are_bytes, sixes_are_bytes, enco
 
 -- ---- one notation of bytes
 
-list_of-items_of : (is : List Item) → list_of (items_of is) ≡ is
+pub list_of-items_of : (is : List Item) → list_of (items_of is) ≡ is
 list_of-items_of [] = refl
 list_of-items_of (i ∷ is) = ap (λ (js : List Item). i ∷ js) (list_of-items_of is)
 
@@ -80,8 +80,8 @@ module _ (R : List ℕ → Item → Type 0) where
       let so = either_so digits tried bytes (if_encoded base64.url_safe digits tried) refl e in
       in_base64 digits within (subst AreBytes so.0 (sixes_are_bytes (unpadded digits)))
       (elim so.1 [
-        inl url ↦ inl (sym url ∙ ap base64.url_safe so.0)
-      | inr plain ↦ inr (sym plain ∙ ap base64.standard so.0)
+        | inl url ↦ inl (sym url ∙ ap base64.url_safe so.0)
+        | inr plain ↦ inr (sym plain ∙ ap base64.standard so.0)
       ])
 
   -- behind the opened quote of a notation
@@ -90,9 +90,9 @@ module _ (R : List ℕ → Item → Type 0) where
   decoded_sound levels comments decode word makes text =
       sound_option levels (λ g bytes. Notation R (word ++ g) bytes) text (digits_of comments text) (λ x. or_refused (decode x.0) >>= λ bytes. Ok (bytes, x.1))
       (λ x read.
-          let d = DigitsBetween-digits_of comments text x read in
-          sound_option levels (λ g bytes. Notation R (word ++ g) bytes) text (decode x.0) (λ bytes. Ok (bytes, x.1))
-          (λ bytes are. (d.0 ++ 39 ∷ [], d.1 ∙ sym (append_assoc d.0 (39 ∷ []) x.1), makes (word ++ (d.0 ++ 39 ∷ [])) x.0 bytes (d.0, refl, d.2) are)))
+      let d = DigitsBetween-digits_of comments text x read in
+      sound_option levels (λ g bytes. Notation R (word ++ g) bytes) text (decode x.0) (λ bytes. Ok (bytes, x.1))
+      (λ bytes are. (d.0 ++ 39 ∷ [], d.1 ∙ sym (append_assoc d.0 (39 ∷ []) x.1), makes (word ++ (d.0 ++ 39 ∷ [])) x.0 bytes (d.0, refl, d.2) are)))
 
   either_sound : (levels : ℕ) (Is : List ℕ → List ℕ → Type 0) (text first second : List ℕ) (f g : List ℕ → Read (List ℕ))
       → ((rest : List ℕ) → Sound levels (λ h bytes. Is (first ++ h) bytes) rest (f rest)) → ((rest : List ℕ) → Sound levels (λ h bytes. Is (second ++ h) bytes) rest (g rest))
@@ -101,13 +101,13 @@ module _ (R : List ℕ → Item → Type 0) where
   either_sound levels Is text first second f g h k None (Some rest) e d = moved levels Is text second rest (g rest) (after_word_is second text rest d) (k rest)
   either_sound levels Is text first second f g h k None None e d = tt
 
-  h_sound : (levels : ℕ) (text : List ℕ) → Sound levels (λ g bytes. Notation R (104 ∷ g) bytes) text (h_notation text)
+  pub h_sound : (levels : ℕ) (text : List ℕ) → Sound levels (λ g bytes. Notation R (104 ∷ g) bytes) text (h_notation text)
   h_sound levels text =
       either_sound levels (λ g bytes. Notation R (104 ∷ g) bytes) text (codes "'") (codes "32'") (decoded_at true base16_of) (decoded_at true base32hex_of)
       (decoded_sound levels true base16_of (codes "h'") from_base16) (decoded_sound levels true base32hex_of (codes "h32'") from_base32hex)
       (after_word (codes "'") text) (after_word (codes "32'") text) refl refl
 
-  b_sound : (levels : ℕ) (text : List ℕ) → Sound levels (λ g bytes. Notation R (98 ∷ g) bytes) text (b_notation text)
+  pub b_sound : (levels : ℕ) (text : List ℕ) → Sound levels (λ g bytes. Notation R (98 ∷ g) bytes) text (b_notation text)
   b_sound levels text =
       either_sound levels (λ g bytes. Notation R (98 ∷ g) bytes) text (codes "32'") (codes "64'") (decoded_at true base32_of) (decoded_at false base64_of)
       (decoded_sound levels true base32_of (codes "b32'") from_base32) (decoded_sound levels false base64_of (codes "b64'") from_base64)

@@ -48,20 +48,20 @@ fits_past SixtyFour n h = h
 fits_open : (n : ℕ) → n < 2 ^ 64 → FitsWidth (number_width n None) n
 fits_open n h =
     elim (a_test (nat_lt n 24)) [
-      inl this ↦ rw this (ltb-true n 24 this)
-    | inr other ↦ rw other h
+      | inl this ↦ rw this (ltb-true n 24 this)
+      | inr other ↦ rw other h
     ]
 
 sized_is : (n : ℕ) (indicator : Option ℕ) → SizedSo n indicator (sized n indicator)
 sized_is n None =
     elim (a_test (nat_lt n (2 ^ 64))) [
-      inl this ↦ rw this (refl, (refl, fits_open n (ltb-true n (2 ^ 64) this)))
-    | inr other ↦ rw other (inl refl)
+      | inl this ↦ rw this (refl, (refl, fits_open n (ltb-true n (2 ^ 64) this)))
+      | inr other ↦ rw other (inl refl)
     ]
 sized_is n (Some i) =
     elim (a_test (nat_lt n (past_width (width_of i)))) [
-      inl this ↦ rw this (refl, (refl, fits_past (width_of i) n (ltb-true n (past_width (width_of i)) this)))
-    | inr other ↦ rw other (inr (refl, i, refl))
+      | inl this ↦ rw this (refl, (refl, fits_past (width_of i) n (ltb-true n (past_width (width_of i)) this)))
+      | inr other ↦ rw other (inr (refl, i, refl))
     ]
 
 -- ---- numbers
@@ -117,8 +117,8 @@ module _ (left : ℕ) (R : List ℕ → Item → Type 0) (read : List ℕ → Re
       moved_in left (λ g i. Core R (front ++ g) i) rest [] 40 inner (tagged_at read n w inner) (after_byte_is 40 rest inner e) refl
       (sound_then left R (λ g i. Core R (front ++ 40 ∷ g) i) inner (read inner) (λ i. or_refused (after_byte 41 i.1) >>= λ after. Ok (tagged n w i.0, after)) (sound inner)
       (λ i within after is reads.
-          sound_option left (λ g j. Core R (front ++ 40 ∷ (within ++ g)) j) after (after_byte 41 after) (λ last. Ok (tagged n w i, last))
-          (λ last closed. (41 ∷ [], after_byte_is 41 after last closed, (front, within, refl, number, reads)))))
+      sound_option left (λ g j. Core R (front ++ 40 ∷ (within ++ g)) j) after (after_byte 41 after) (λ last. Ok (tagged n w i, last))
+      (λ last closed. (41 ∷ [], after_byte_is 41 after last closed, (front, within, refl, number, reads)))))
 
   pub integer_sound : (text : List ℕ) → Sound (suc left) (Core R) text (integer_at read text)
   integer_sound text =
@@ -157,18 +157,18 @@ module _ (left : ℕ) (R : List ℕ → Item → Type 0) (read : List ℕ → Re
   simple_ok : (front : List ℕ) (n m : ℕ) (indicator : Option ℕ) → IsNumber front n indicator → simple_value n front ≡ Ok m → AreDigits 10 front m × (m < 256)
   simple_ok front n m indicator number e =
       elim (a_test (list_all (λ c. nat_lt (digit_value c) 10) front && nat_lt n 256)) [
-        inl this ↦
-          let parts = and_parts (list_all (λ c. nat_lt (digit_value c) 10) front) (nat_lt n 256) this in
-          let same : n ≡ m = cc (rw this at e) in
-          subst (λ (k : ℕ). AreDigits 10 front k × (k < 256)) same (decimal_number front n indicator number (all_digits 10 front parts.0), ltb-true n 256 parts.1)
-      | inr other ↦ absurd (cc (rw other at e))
+        | inl this ↦
+            let parts = and_parts (list_all (λ c. nat_lt (digit_value c) 10) front) (nat_lt n 256) this in
+            let same : n ≡ m = cc (rw this at e) in
+            subst (λ (k : ℕ). AreDigits 10 front k × (k < 256)) same (decimal_number front n indicator number (all_digits 10 front parts.0), ltb-true n 256 parts.1)
+        | inr other ↦ absurd (cc (rw other at e))
       ]
 
   simple_odd : (front : List ℕ) (n : ℕ) (indicator : Option ℕ) (d : Error) → simple_value n front ≡ Err d → OddNumber indicator d
   simple_odd front n indicator d e =
       elim (a_test (list_all (λ c. nat_lt (digit_value c) 10) front && nat_lt n 256)) [
-        inl this ↦ absurd (cc (rw this at e))
-      | inr other ↦ let same : refusal.Notation ≡ d = cc (rw other at e) in inl (sym same)
+        | inl this ↦ absurd (cc (rw this at e))
+        | inr other ↦ let same : refusal.Notation ≡ d = cc (rw other at e) in inl (sym same)
       ]
 
   front_of : (text front rest : List ℕ) → text ≡ front ++ rest → take (length text - length rest) text ≡ front
@@ -182,8 +182,8 @@ module _ (left : ℕ) (R : List ℕ → Item → Type 0) (read : List ℕ → Re
       sound_number (suc left) (λ g i. Core R (codes "simple(" ++ g) i) text (λ n indicator rest. simple_value n (take (length text - length rest) text)) (λ n rest. or_refused (after_byte 41 rest) >>= λ last. Ok (atom (simple n), last))
       (λ front rest n indicator is number e odd. let same = front_of text front rest is in simple_odd front n indicator e (rw same at odd))
       (λ front rest n indicator is number m ok.
-          sound_option (suc left) (λ g i. Core R (codes "simple(" ++ (front ++ g)) i) rest (after_byte 41 rest) (λ last. Ok (atom (simple m), last))
-          (λ last closed. (41 ∷ [], after_byte_is 41 rest last closed, let same = front_of text front rest is in inr (front, refl, simple_ok front n m indicator number (rw same at ok)))))
+      sound_option (suc left) (λ g i. Core R (codes "simple(" ++ (front ++ g)) i) rest (after_byte 41 rest) (λ last. Ok (atom (simple m), last))
+      (λ last closed. (41 ∷ [], after_byte_is 41 rest last closed, let same = front_of text front rest is in inr (front, refl, simple_ok front n m indicator number (rw same at ok)))))
 
   -- ---- floats
 
@@ -191,19 +191,19 @@ module _ (left : ℕ) (R : List ℕ → Item → Type 0) (read : List ℕ → Re
   numeral_is radix [] n e = absurd (none_some n e)
   numeral_is radix (d ∷ ds) n e =
       elim (a_test (list_all (λ c. nat_lt (digit_value c) radix) (d ∷ ds))) [
-        inl this ↦ ((omega arith, all_digits radix (d ∷ ds) this), let same : Some (digits_value radix (d ∷ ds)) ≡ Some n = rw this at e in cc)
-      | inr other ↦ absurd (none_some n (rw other at e))
+        | inl this ↦ ((omega arith, all_digits radix (d ∷ ds) this), let same : Some (digits_value radix (d ∷ ds)) ≡ Some n = rw this at e in cc)
+        | inr other ↦ absurd (none_some n (rw other at e))
       ]
 
   float_width : (count : ℕ) (w : FloatWidth) → float_of count ≡ Some w → FloatDigits w count
   float_width count w e =
       elim (cases_eq count 4) [
-        inl four ↦ let same : Some float_width_of.Sixteen ≡ Some w = rw (eq-eqb count 4 four) at e in subst (λ (v : FloatWidth). FloatDigits v count) (let is : float_width_of.Sixteen ≡ w = cc in is) four
-      | inr no4 ↦ elim (cases_eq count 8) [
-          inl eight ↦ let same : Some float_width_of.ThirtyTwo ≡ Some w = rw (ne_eqb count 4 no4, eq-eqb count 8 eight) at e in subst (λ (v : FloatWidth). FloatDigits v count) (let is : float_width_of.ThirtyTwo ≡ w = cc in is) eight
-        | inr no8 ↦ elim (cases_eq count 16) [
-            inl sixteen ↦ let same : Some float_width_of.SixtyFour ≡ Some w = rw (ne_eqb count 4 no4, ne_eqb count 8 no8, eq-eqb count 16 sixteen) at e in subst (λ (v : FloatWidth). FloatDigits v count) (let is : float_width_of.SixtyFour ≡ w = cc in is) sixteen
-          | inr no16 ↦ absurd (none_some w (rw (ne_eqb count 4 no4, ne_eqb count 8 no8, ne_eqb count 16 no16) at e))
+        | inl four ↦ let same : Some float_width_of.Sixteen ≡ Some w = rw (eq-eqb count 4 four) at e in subst (λ (v : FloatWidth). FloatDigits v count) (let is : float_width_of.Sixteen ≡ w = cc in is) four
+        | inr no4 ↦ elim (cases_eq count 8) [
+          | inl eight ↦ let same : Some float_width_of.ThirtyTwo ≡ Some w = rw (ne_eqb count 4 no4, eq-eqb count 8 eight) at e in subst (λ (v : FloatWidth). FloatDigits v count) (let is : float_width_of.ThirtyTwo ≡ w = cc in is) eight
+          | inr no8 ↦ elim (cases_eq count 16) [
+            | inl sixteen ↦ let same : Some float_width_of.SixtyFour ≡ Some w = rw (ne_eqb count 4 no4, ne_eqb count 8 no8, eq-eqb count 16 sixteen) at e in subst (λ (v : FloatWidth). FloatDigits v count) (let is : float_width_of.SixtyFour ≡ w = cc in is) sixteen
+            | inr no16 ↦ absurd (none_some w (rw (ne_eqb count 4 no4, ne_eqb count 8 no8, ne_eqb count 16 no16) at e))
           ]
         ]
       ]
@@ -215,26 +215,26 @@ module _ (left : ℕ) (R : List ℕ → Item → Type 0) (read : List ℕ → Re
   at_apostrophe [] h = absurd (omega arith)
   at_apostrophe (b ∷ text) h =
       elim (cases_eq b 39) [
-        inl is ↦ let e = eq-eqb b 39 is in rw e (ap (λ (z : ℕ). z ∷ text) is)
-      | inr other ↦
-          let e = ne_eqb b 39 other in
-          let n = before_apostrophe text in
-          let later : n < length text = omega (arith, rw e at h) in
-          let one : 1 + n ≡ suc n = omega arith in
-          let two : suc n + 1 ≡ suc (n + 1) = omega arith in
-          rw (e, one, two) (ap (λ (z : List ℕ). b ∷ z) (at_apostrophe text later))
+        | inl is ↦ let e = eq-eqb b 39 is in rw e (ap (λ (z : ℕ). z ∷ text) is)
+        | inr other ↦
+            let e = ne_eqb b 39 other in
+            let n = before_apostrophe text in
+            let later : n < length text = omega (arith, rw e at h) in
+            let one : 1 + n ≡ suc n = omega arith in
+            let two : suc n + 1 ≡ suc (n + 1) = omega arith in
+            rw (e, one, two) (ap (λ (z : List ℕ). b ∷ z) (at_apostrophe text later))
       ]
 
   position_is : (text : List ℕ) (count : ℕ) → position (λ b. b == 39) text ≡ Some count → (count < length text) × (text ≡ take count text ++ 39 ∷ drop (count + 1) text)
   position_is text count e =
       let n = before_apostrophe text in
       elim (a_test (nat_lt n (length text))) [
-        inl this ↦
-          let few = ltb-true n (length text) this in
-          let same : Some n ≡ Some count = rw this at e in
-          let is : n ≡ count = cc in
-          subst (λ (k : ℕ). (k < length text) × (text ≡ take k text ++ 39 ∷ drop (k + 1) text)) is (few, at_apostrophe text few)
-      | inr other ↦ absurd (none_some count (rw other at e))
+        | inl this ↦
+            let few = ltb-true n (length text) this in
+            let same : Some n ≡ Some count = rw this at e in
+            let is : n ≡ count = cc in
+            subst (λ (k : ℕ). (k < length text) × (text ≡ take k text ++ 39 ∷ drop (k + 1) text)) is (few, at_apostrophe text few)
+        | inr other ↦ absurd (none_some count (rw other at e))
       ]
 
   -- behind `float'`
@@ -242,14 +242,14 @@ module _ (left : ℕ) (R : List ℕ → Item → Type 0) (read : List ℕ → Re
   float_sound text =
       sound_option (suc left) (λ g i. Core R (codes "float'" ++ g) i) text (position (λ b. b == 39) text) (λ count. or_refused (float_of count) >>= λ w. or_refused (numeral 16 (take count text)) >>= λ bits. Ok (atom (float bits w), drop (count + 1) text))
       (λ count at.
-          let p = position_is text count at in
-          let digits = take count text in
-          sound_option (suc left) (λ g i. Core R (codes "float'" ++ g) i) text (float_of count) (λ w. or_refused (numeral 16 digits) >>= λ bits. Ok (atom (float bits w), drop (count + 1) text))
-          (λ w wide.
-              sound_option (suc left) (λ g i. Core R (codes "float'" ++ g) i) text (numeral 16 digits) (λ bits. Ok (atom (float bits w), drop (count + 1) text))
-              (λ bits are.
-                  let long : length digits ≡ count = length-take-le count text (omega (arith, p.0)) in
-                  (digits ++ 39 ∷ [], p.1 ∙ sym (append_assoc digits (39 ∷ []) (drop (count + 1) text)), (digits, refl, (numeral_is 16 digits bits are, rw long (float_width count w wide)))))))
+      let p = position_is text count at in
+      let digits = take count text in
+      sound_option (suc left) (λ g i. Core R (codes "float'" ++ g) i) text (float_of count) (λ w. or_refused (numeral 16 digits) >>= λ bits. Ok (atom (float bits w), drop (count + 1) text))
+      (λ w wide.
+      sound_option (suc left) (λ g i. Core R (codes "float'" ++ g) i) text (numeral 16 digits) (λ bits. Ok (atom (float bits w), drop (count + 1) text))
+      (λ bits are.
+      let long : length digits ≡ count = length-take-le count text (omega (arith, p.0)) in
+      (digits ++ 39 ∷ [], p.1 ∙ sym (append_assoc digits (39 ∷ []) (drop (count + 1) text)), (digits, refl, (numeral_is 16 digits bits are, rw long (float_width count w wide)))))))
 
   -- ---- words
 

@@ -1,6 +1,6 @@
 use Rattle.cbor_diag.proofs.sound.Lists.{members_sound}
-use Rattle.cbor_diag.proofs.sound.Strings.{members_more}
+use Rattle.cbor_diag.proofs.sound.Items.{notation_sound}
 use Rattle.cbor_diag.proofs.laws.notation_read.Goals as goal
 
 pub returns : goal.returns
-returns c = ?
+returns c = notation_sound
