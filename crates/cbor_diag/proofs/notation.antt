@@ -1,2 +1,4 @@
 pub mod Ends
 pub mod Lists
+pub mod Decoded
+pub mod Pieces
