@@ -2,3 +2,5 @@ pub mod Ends
 pub mod Lists
 pub mod Decoded
 pub mod Pieces
+pub mod Strings
+pub mod Chunked

@@ -5,7 +5,7 @@ use Rattle.std.specs.Char.{digit_value}
 use Rattle.std.proofs.lemmas.Bool.{and_parts, or_cases, or_parts, eqb-true, eqb-false, leb-true, not-true, ne_eqb}
 use Rattle.std.proofs.lemmas.List.{append_assoc}
 use Rattle.cbor_notes.specs.Token.{Blank, nothing, whitespace, comment, is_whitespace}
-use Rattle.cbor_notes.proofs.Blanks.{at_whitespace, after_blank-append, after_blank-ends, EndsBlank}
+use Rattle.cbor_notes.proofs.Blanks.{at_whitespace, blank_left, after_blank-append, after_blank-ends, EndsBlank}
 use Rattle.cbor_notes.proofs.Numbers.{EndsNumber}
 use Rattle.cbor_diag.specs.Notation.{IsBlank}
 use Rattle.cbor_diag.specs.NotationReading.{after_byte, blank_at}
@@ -88,10 +88,17 @@ core_ends = codes ",:]})>/ " ++ (9 ∷ 10 ∷ 13 ∷ [])
 abbrev pub Follows : List ℕ → Type 0
 Follows text = Ends item_ends text
 
+abbrev blank_starts : List ℕ
+blank_starts = codes "/ " ++ (9 ∷ 10 ∷ 13 ∷ [])
+
+-- a blank before one of some bytes
+pub blank_ends : (few bytes after rest : List ℕ) → list_all (is_one_of bytes) few ≡ true → list_all (is_one_of bytes) blank_starts ≡ true → IsBlank after → Ends few rest → Ends bytes (after ++ rest)
+blank_ends few bytes after rest all blanks nothing ends = ends_more few bytes rest all ends
+blank_ends few bytes after rest all blanks (whitespace {byte = byte} is more) ends = holds_of (is_one_of bytes) blank_starts byte blanks (at_whitespace (λ b. IsTrue (is_one_of blank_starts b)) refl refl refl refl byte is)
+blank_ends few bytes after rest all blanks (comment words more allowed none blank is) ends = subst (λ (t : List ℕ). Ends bytes (t ++ rest)) (sym is) (holds_of (is_one_of bytes) blank_starts 47 blanks refl)
+
 pub follows_blank : (after rest : List ℕ) → IsBlank after → Follows rest → Ends core_ends (after ++ rest)
-follows_blank after rest nothing follows = ends_more item_ends core_ends rest refl follows
-follows_blank after rest (whitespace {byte = byte} is more) follows = at_whitespace (λ b. IsTrue (is_one_of core_ends b)) refl refl refl refl byte is
-follows_blank after rest (comment words more allowed all blank is) follows = subst (λ (t : List ℕ). Ends core_ends (t ++ rest)) (sym is) refl
+follows_blank after rest is follows = blank_ends item_ends core_ends after rest refl refl is follows
 
 -- a blank behind a core is passed
 pub follows_passed : (after rest : List ℕ) → IsBlank after → Follows rest → blank_at (after ++ rest) ≡ rest
@@ -125,3 +132,9 @@ Starts text = Begins core_starts text
 -- no blank is before a core, and none is passed
 pub starts_passed : (blank text : List ℕ) → IsBlank blank → Starts text → blank_at (blank ++ text) ≡ text
 starts_passed blank text is starts = blank_passed core_starts blank text refl is (begins_ends core_starts text starts)
+
+-- passing a blank twice
+pub passed_twice : (text : List ℕ) → blank_at (blank_at text) ≡ blank_at text
+passed_twice text =
+    let left = blank_left true text in
+    sym (ap blank_at left.1 ∙ after_blank-append left.2 (blank_at text))

@@ -5,10 +5,10 @@ use Rattle.std.proofs.Math.Numerals.{one-add}
 use Rattle.std.proofs.lemmas.Bool.{or_parts, or_from, cond_both, cond-true, eq-eqb, lt-ltb, not-true, not_from_true, not_from_false, false≢true}
 use Rattle.std.proofs.lemmas.List.{append_assoc, length-append, drop_at}
 use Rattle.cbor_notes.specs.Token.{Blank, nothing, whitespace, comment, is_whitespace}
-use Rattle.cbor_diag.specs.Notation.{IsBlank, IsSpace, Closes, Further, Members, Listed}
+use Rattle.cbor_diag.specs.Notation.{IsBlank, IsSpace, Blanked, Closes, Further, Members, Listed}
 use Rattle.cbor_diag.specs.Reading.{Read, ◌>>=◌}
 use Rattle.cbor_diag.specs.NotationReading.{after_byte, after_space, end_at, blank_at, or_refused, more_members, members_from, members_or_end, members_at}
-use Rattle.cbor_diag.proofs.notation.Ends.{is_one_of, holds_of, Begins, Ends, begins_append, begins_ends, ends_after_byte, blank_passed, item_ends, Follows, core_starts, Starts, starts_passed}
+use Rattle.cbor_diag.proofs.notation.Ends.{is_one_of, holds_of, Begins, Ends, begins_append, begins_ends, ends_after_byte, blank_passed, item_ends, Follows, core_starts, Starts, starts_passed, passed_twice}
 
 -- a text behind a blank, which begins as cores do and is the same member
 pub record Stripped {X : Type 0} (Member : List ℕ → X → Type 0) (text : List ℕ) (x : X) : Type 0 where
@@ -23,6 +23,23 @@ pub record Stripped {X : Type 0} (Member : List ℕ → X → Type 0) (text : Li
 pub record ReadsAgain {X : Type 0} (Member : List ℕ → X → Type 0) (read : List ℕ → Read X) : Type 0 where
   pub again : (text rest : List ℕ) (x : X) → Member text x → Follows rest → read (text ++ rest) ≡ Ok (x, rest)
   pub stripped : (text : List ℕ) (x : X) → Member text x → Stripped Member text x
+
+-- ---- cores between blanks
+
+pub blanked_parts : (text before core after rest : List ℕ) → text ≡ before ++ (core ++ after) → text ++ rest ≡ before ++ (core ++ (after ++ rest))
+blanked_parts text before core after rest is =
+    ap (λ (t : List ℕ). t ++ rest) is ∙ (append_assoc before (core ++ after) rest ∙ ap (λ (t : List ℕ). before ++ t) (append_assoc core after rest))
+
+pub blanked_stripped : {X : Type 0} (CoreOf : List ℕ → X → Type 0) → ((core : List ℕ) (x : X) → CoreOf core x → Starts core)
+    → (text : List ℕ) (x : X) → Blanked (λ core. CoreOf core x) text → Stripped (λ t y. Blanked (λ core. CoreOf core y) t) text x
+blanked_stripped CoreOf starts text x is = record {
+  blank = is.0;
+  behind = is.1 ++ is.2;
+  parts = is.3;
+  is_blank = is.4;
+  starts = begins_append core_starts is.1 is.2 (starts is.1 x is.5);
+  is = ([], is.1, is.2, refl, nothing, is.5, is.6);
+}
 
 -- ---- whitespace before what closes a list
 
@@ -151,3 +168,8 @@ module _ {X : Type 0} (Member : List ℕ → X → Type 0) (read : List ℕ → 
   pub listed_again : (xs : List X) (opening text rest : List ℕ) → Listed Member opening (close ∷ more) text xs → (inner : List ℕ) × (text ++ rest ≡ opening ++ (inner ++ rest)) × (members_at read close (inner ++ rest) ≡ Ok (xs, more ++ rest))
   listed_again xs opening text rest is =
       (is.0, ap (λ (t : List ℕ). t ++ rest) is.1 ∙ append_assoc opening is.0 rest, members_again xs is.0 rest is.2)
+
+-- a blank before the members may be passed first
+pub members_at_blank : {X : Type 0} (read : List ℕ → Read X) (close : ℕ) (text : List ℕ) → members_at read close (blank_at text) ≡ members_at read close text
+unfolding members_at
+members_at_blank read close text = ap (λ (first : List ℕ). members_or_end read close first (end_at close first)) (passed_twice text)

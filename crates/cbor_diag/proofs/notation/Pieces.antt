@@ -32,6 +32,12 @@ quoted_parts quote text content rest is = ap (λ (t : List ℕ). t ++ rest) is �
 pub quoted_again : (quote : ℕ) (content rest : List ℕ) → quote ≢ 92 → or_refused (unquoted quote false (in_quotes quote content ++ quote ∷ rest)) ≡ Ok (content, rest)
 quoted_again quote content rest other = ap or_refused (unquoted-in_quotes quote content rest other)
 
+pub apostrophe : ◌≢◌ {A = ℕ} 39 92
+apostrophe = omega arith
+
+pub quotation_mark : ◌≢◌ {A = ℕ} 34 92
+quotation_mark = omega arith
+
 -- digits behind an opened quote
 decoded_again : (comments : Bool) (decode : List ℕ → Option (List ℕ)) (content digits bytes rest : List ℕ) → DigitsBetween comments content digits → decode digits ≡ Some bytes
     → decoded_at comments decode (content ++ 39 ∷ rest) ≡ Ok (bytes, rest)
@@ -60,11 +66,11 @@ module _ (Reads : List ℕ → Item → Type 0) (read : List ℕ → Read Item) 
 
   apostrophes_again : (content rest : List ℕ) → piece_at read (39 ∷ (in_quotes 39 content ++ 39 ∷ rest)) ≡ Ok (content, rest)
   unfolding piece_at start_of
-  apostrophes_again content rest = quoted_again 39 content rest (λ e. cc e)
+  apostrophes_again content rest = quoted_again 39 content rest apostrophe
 
   quotes_again : (content rest : List ℕ) → piece_at read (34 ∷ (in_quotes 34 content ++ 34 ∷ rest)) ≡ Ok (content, rest)
   unfolding piece_at start_of
-  quotes_again content rest = quoted_again 34 content rest (λ e. cc e)
+  quotes_again content rest = quoted_again 34 content rest quotation_mark
 
   embedded_again : (is : Items) (text rest : List ℕ) → Listed Reads (codes "<<") (codes ">>") text (list_of is) → piece_at read (text ++ rest) ≡ Ok (encoded_items is, rest)
   unfolding piece_at start_of
