@@ -4,3 +4,5 @@ pub mod Decoded
 pub mod Pieces
 pub mod Strings
 pub mod Chunked
+pub mod Numbers
+pub mod Words
