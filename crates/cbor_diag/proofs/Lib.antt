@@ -22,3 +22,4 @@ pub mod Sizes
 pub mod HexLines
 pub mod HexDigits
 mod NotationExamples
+pub mod NotationLoops

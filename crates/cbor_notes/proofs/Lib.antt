@@ -8,8 +8,16 @@ pub mod Base58Digits
 pub mod Base58Lemmas
 pub mod Base64Digits
 mod BaseExamples
+pub mod Blanks
+pub mod Contents
 pub mod DecodedLineLemmas
 pub mod Groups
 pub mod HexLemmas
+pub mod Longest
+pub mod NumberRuns
+pub mod Numbers
 pub mod Places
+pub mod Quoted
+pub mod Spaced
 mod TextExamples
+pub mod TextPlaces
