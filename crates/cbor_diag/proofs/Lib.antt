@@ -23,3 +23,4 @@ pub mod HexLines
 pub mod HexDigits
 mod NotationExamples
 pub mod NotationLoops
+pub mod NotationTokens

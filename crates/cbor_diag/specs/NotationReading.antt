@@ -5,13 +5,14 @@ use Rattle.std.specs.Prelude.{ℕ, zero, suc, ◌+◌, ◌-◌, ◌*◌, ◌/◌
 use Rattle.std.specs.List.{prefix_len, starts_with, before_first, list_all}
 use Rattle.std.specs.Char.{digit_value}
 use Rattle.std.specs.Str.{is_utf8}
+use Rattle.std.specs.Str.Parse.{digits_value}
 use Rattle.std.specs.Int.Digits.{number_from_digits}
 use Rattle.hex.specs.declared.error.FromHexError.{FromHexError}
 use Rattle.hex.specs.Hex.{decode_of}
 use Rattle.cbor_notes.specs.Base32 as base32
 use Rattle.cbor_notes.specs.Base64 as base64
 use Rattle.cbor_notes.specs.Token.{is_whitespace}
-use Rattle.cbor_notes.specs.NumberOf.{is_number_byte, numeral, number_of}
+use Rattle.cbor_notes.specs.TokenReading.{after_blank, number_of, unquoted, digits_of}
 use Rattle.cbor_diag.specs.declared.syntax.IntegerWidth.{IntegerWidth}
 use Rattle.cbor_diag.specs.declared.syntax.IntegerWidth.TheVariants.{Unknown, Zero, Eight, Sixteen, ThirtyTwo, SixtyFour}
 use Rattle.cbor_diag.specs.declared.syntax.FloatWidth.{FloatWidth}
@@ -35,20 +36,9 @@ or_refused (Some x) = Ok x
 
 -- Blanks and words
 
--- The text behind the longest blank at its front. In a comment, the text from its `/` on is kept: where the
--- comment does not end, that is what stands behind the blank.
-unfoldable pub behind_blank : Option (List ℕ) → List ℕ → List ℕ
-behind_blank None [] = []
-behind_blank None (b ∷ text) =
-    elim (is_whitespace b) [
-      true ↦ behind_blank None text
-    | false ↦ elim (b == 47) [ true ↦ behind_blank (Some (b ∷ text)) text | false ↦ b ∷ text ]
-    ]
-behind_blank (Some opened) [] = opened
-behind_blank (Some opened) (b ∷ text) = elim (b == 47) [ true ↦ behind_blank None text | false ↦ behind_blank (Some opened) text ]
-
+-- the text behind the longest blank at its front
 abbrev pub blank_at : List ℕ → List ℕ
-blank_at text = behind_blank None text
+blank_at text = after_blank true text
 
 -- the text behind this byte, where the text begins with it
 abbrev pub after_byte : ℕ → List ℕ → Option (List ℕ)
@@ -61,11 +51,14 @@ after_word word text = if starts_with nat_eq text word then Some (drop (length w
 
 -- Numbers
 
--- the number at the front, which takes all the bytes there that a number can have
-unfoldable pub number_at : List ℕ → Read (ℕ × Option ℕ)
-number_at text =
-    let count = prefix_len is_number_byte text in
-    or_refused (number_of (take count text)) >>= λ n. Ok (n, drop count text)
+-- the value of one digit of a base or more
+abbrev pub numeral : ℕ → List ℕ → Option ℕ
+numeral radix [] = None
+numeral radix (d ∷ ds) = if list_all (λ c. nat_lt (digit_value c) radix) (d ∷ ds) then Some (digits_value radix (d ∷ ds)) else None
+
+-- the longest number at the front
+abbrev pub number_at : List ℕ → Read (ℕ × Option ℕ)
+number_at text = or_refused (number_of text) >>= λ x. Ok ((x.0, x.1), x.2)
 
 -- one more than the greatest number of this width
 abbrev pub past_width : IntegerWidth → ℕ
@@ -156,49 +149,6 @@ map_at read text = let opened = length_at text in members_at (pair_at read) 125 
 
 -- Strings
 
--- a byte of content in front of what was read behind it
-abbrev pub onto_content : ℕ → Option (List ℕ × List ℕ) → Option (List ℕ × List ℕ)
-onto_content b read = option_map (λ x. (b ∷ x.0, x.1)) read
-
--- the content up to the closing quote, without its escapes, and the text behind the quote
-unfoldable pub unescaped_at : ℕ → List ℕ → Option (List ℕ × List ℕ)
-unescaped_at quote [] = None
-unescaped_at quote (b ∷ []) = if b == quote then Some ([], []) else None
-unescaped_at quote (b ∷ c ∷ text) =
-    elim (b == quote) [
-      true ↦ Some ([], c ∷ text)
-    | false ↦ elim (b == 92) [
-        true ↦ elim ((c == quote) || (c == 92)) [ true ↦ onto_content c (unescaped_at quote text) | false ↦ None ]
-      | false ↦ onto_content b (unescaped_at quote (c ∷ text))
-      ]
-    ]
-
--- The digits up to the closing apostrophe, without the blanks between them, and the text behind it. The
--- first flag is whether comments may stand there, the second whether this is in one.
-unfoldable pub spaced_at : Bool → Bool → List ℕ → Option (List ℕ × List ℕ)
-spaced_at comments inside [] = None
-spaced_at comments true (b ∷ text) = elim (b == 47) [ true ↦ spaced_at comments false text | false ↦ spaced_at comments true text ]
-spaced_at comments false (b ∷ text) =
-    elim (b == 39) [
-      true ↦ Some ([], text)
-    | false ↦ elim (is_whitespace b) [
-        true ↦ spaced_at comments false text
-      | false ↦ elim (comments && (b == 47)) [ true ↦ spaced_at comments true text | false ↦ onto_content b (spaced_at comments false text) ]
-      ]
-    ]
-
--- digits, of which there are some where there is any content
-abbrev pub some_digits : List ℕ × List ℕ → Option (List ℕ × List ℕ)
-some_digits ([], rest) = None
-some_digits (d ∷ ds, rest) = Some (d ∷ ds, rest)
-
-abbrev pub digits_or_none : Bool → List ℕ → Option (List ℕ) → Option (List ℕ × List ℕ)
-digits_or_none comments text (Some rest) = Some ([], rest)
-digits_or_none comments text None = option_and_then some_digits (spaced_at comments false text)
-
-abbrev pub digits_at : Bool → List ℕ → Option (List ℕ × List ℕ)
-digits_at comments text = digits_or_none comments text (after_byte 39 text)
-
 -- The bytes that digits are the encoding of. The last argument is the one answer that they can be; it is
 -- the answer where its encoding is these digits.
 abbrev pub if_encoded : (List ℕ → List ℕ) → List ℕ → List ℕ → Option (List ℕ)
@@ -259,7 +209,7 @@ base16_of digits = base16_bytes (decode_of digits)
 
 -- what the digits behind an opened quote are the encoding of
 abbrev pub decoded_at : Bool → (List ℕ → Option (List ℕ)) → List ℕ → Read (List ℕ)
-decoded_at comments decode text = or_refused (digits_at comments text) >>= λ x. or_refused (decode x.0) >>= λ bytes. Ok (bytes, x.1)
+decoded_at comments decode text = or_refused (digits_of comments text) >>= λ x. or_refused (decode x.0) >>= λ bytes. Ok (bytes, x.1)
 
 -- one notation of two that begin with the same letter, by the word that follows
 abbrev pub either_word : {X : Type 0} → Option (List ℕ) → (List ℕ → Result X Error) → Option (List ℕ) → (List ℕ → Result X Error) → Result X Error
@@ -308,8 +258,8 @@ begins_piece texts _ = false
 
 -- a piece of a string, by its first byte and what stands behind that
 abbrev pub piece_of : (List ℕ → Read Item) → Start → List ℕ → Read (List ℕ)
-piece_of read start.Quote text = or_refused (unescaped_at 34 text)
-piece_of read start.Apostrophe text = or_refused (unescaped_at 39 text)
+piece_of read start.Quote text = or_refused (unquoted 34 false text)
+piece_of read start.Apostrophe text = or_refused (unquoted 39 false text)
 piece_of read start.Angle text = embedded_at read text
 piece_of read start.LetterB text = b_notation text
 piece_of read start.LetterH text = h_notation text

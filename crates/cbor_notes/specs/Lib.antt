@@ -5,6 +5,6 @@ pub mod Base58
 pub mod Base64
 pub mod DecodedLines
 pub mod Identifier
-pub mod NumberOf
 pub mod Text
 pub mod Token
+pub mod TokenReading

@@ -19,4 +19,4 @@ pub use base58_text::base58;
 pub use base64_text::{base64_any_decode, base64_lines};
 pub use identifier::uuid_lines;
 pub use text::{escaped_text, grouped, quoted_bytes};
-pub use token::{blank_end, digits_at, number_at, quoted_at};
+pub use token::{blank_end, number_at};

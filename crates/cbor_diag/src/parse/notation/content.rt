@@ -1,7 +1,8 @@
 //! What stands between quotes: text with escapes, and digits with blanks.
 ghost use Rattle.std.specs.Prelude.{◌≡◌, ◌≢◌, ◌⊎◌, ◌<◌, ◌≤◌, length, codes, true, false, IfOk, IfSome, Some, None, Err, option_map};
 ghost use Rattle.cbor_diag.specs.Reading.{Gives, Fails};
-ghost use Rattle.cbor_diag.specs.NotationReading.{or_refused, unescaped_at, digits_at, base16_of, base32_of, base32hex_of, base64_of, decoded_at, h_notation, b_notation};
+ghost use Rattle.cbor_notes.specs.TokenReading.{unquoted, digits_of};
+ghost use Rattle.cbor_diag.specs.NotationReading.{or_refused, base16_of, base32_of, base32hex_of, base64_of, decoded_at, h_notation, b_notation};
 
 use super::scan::after_word;
 use crate::error::{Error, Result};
@@ -11,7 +12,7 @@ use std::alloc::Global;
 /// The content up to the closing quote, without its escapes.
 pub(super) fn quoted_at(alloc: Global, text: &[u8], quote: u8) -> Result<(Vec<u8>, &[u8])>
     requires { (quote ≡ 34) ⊎ (quote ≡ 39) }
-    ensures gives { Gives (λ x. (x.0.items, x.1.now)) result (or_refused (unescaped_at quote text.now)) }
+    ensures gives { Gives (λ x. (x.0.items, x.1.now)) result (or_refused (unquoted quote false text.now)) }
     ensures shorter { IfOk result (λ x. length x.1.now < length text.now) }
 {
     Err(Error::Memory)
@@ -19,7 +20,7 @@ pub(super) fn quoted_at(alloc: Global, text: &[u8], quote: u8) -> Result<(Vec<u8
 
 /// The digits up to the closing apostrophe, without the blanks between them.
 fn digits_at(alloc: Global, text: &[u8], comments: bool) -> Result<(Vec<u8>, &[u8])>
-    ensures gives { Gives (λ x. (x.0.items, x.1.now)) result (or_refused (digits_at comments text.now)) }
+    ensures gives { Gives (λ x. (x.0.items, x.1.now)) result (or_refused (digits_of comments text.now)) }
     ensures shorter { IfOk result (λ x. length x.1.now < length text.now) }
 {
     Err(Error::Memory)

@@ -8,15 +8,17 @@ ghost use Rattle.cbor_diag.specs.NotationReading.{number_at, sized, sized_at, be
 use crate::error::{Error, Result};
 use crate::syntax::IntegerWidth;
 
-/// The value and the indicator of the number at the front, which takes all the bytes there that a number
-/// can have; a value past 2^64 is 2^64 + 1.
+/// The value and the indicator of the longest number at the front; a value past 2^64 is 2^64 + 1.
 pub(super) fn number_at(text: &[u8]) -> Result<((u128, Option<u8>), &[u8])>
     ensures gives { MatchResult result
         (λ x. (value : ℕ) × (number_at text.now ≡ Ok ((value, x.0.1), x.1.now)) × (x.0.0 ≡ capped value))
         (λ e. (e ≡ Error.Notation) × (number_at text.now ≡ Err Error.Notation)) }
     ensures shorter { IfOk result (λ x. length x.1.now < length text.now) }
 {
-    Err(Error::Notation)
+    match cbor_notes::number_at(text, 0) {
+        Some((value, indicator, end)) => Ok(((value, indicator), &text[end..])),
+        None => Err(Error::Notation),
+    }
 }
 
 /// A number and its width: the stated one, or without an indicator that of the first byte up to 23 and an

@@ -19,7 +19,7 @@ pub(super) fn after_blank(text: &[u8]) -> &[u8]
     ensures gives { result.now ≡ blank_at text.now }
     ensures shorter { length result.now ≤ length text.now }
 {
-    text
+    &text[cbor_notes::blank_end(text, 0)..]
 }
 
 /// The text behind this byte, where it begins with it.

@@ -1,15 +1,23 @@
 //! Simple values and floats.
-ghost use Rattle.std.specs.Prelude.{◌≡◌, ◌≢◌, ◌<◌, ◌≤◌, ℕ, length, take, Some, None, Ok, IfOk, IfSome, Err, option_map};
-ghost use Rattle.cbor_notes.specs.NumberOf.{numeral};
+ghost use Rattle.std.specs.Prelude.{◌≡◌, ◌<◌, ◌≤◌, ℕ, length, nat_lt, IfOk};
+ghost use Rattle.std.specs.List.{list_all};
+ghost use Rattle.std.specs.Char.{digit_value};
 ghost use Rattle.cbor_diag.specs.View.{view};
-ghost use Rattle.cbor_diag.specs.WellFormed.{deepest, WellFormed, FitsFloat};
+ghost use Rattle.cbor_diag.specs.WellFormed.{deepest, WellFormed};
 ghost use Rattle.cbor_diag.specs.Reading.{Gives};
-ghost use Rattle.cbor_diag.specs.NotationReading.{named_at, simple_at, float_of, float_at, word_at};
+ghost use Rattle.cbor_diag.specs.NotationReading.{numeral, named_at, simple_at, float_of, float_at, word_at};
 
 use super::number::number_at;
 use super::scan::{after_word, expect_byte};
 use crate::error::{Error, Result};
 use crate::syntax::{DataItem, FloatWidth, Simple};
+
+/// Whether all of them are decimal digits.
+fn are_decimal(digits: &[u8]) -> bool
+    ensures { result ≡ list_all (λ c. nat_lt (digit_value c) 10) digits.now }
+{
+    digits.iter().all(|digit| char::from(*digit).is_digit(10))
+}
 
 /// A simple value behind `simple(`: decimal digits of a value below 256, and `)`.
 fn simple_at(text: &[u8]) -> Result<(DataItem, &[u8])>
@@ -18,8 +26,7 @@ fn simple_at(text: &[u8]) -> Result<(DataItem, &[u8])>
     ensures shorter { IfOk result (λ x. length x.1.now < length text.now) }
 {
     let ((value, _), rest) = number_at(text)?;
-    let digits = &text[..text.len() - rest.len()];
-    if value > 255 || !digits.iter().all(|digit| digit.is_ascii_digit()) {
+    if value > 255 || !are_decimal(&text[..text.len() - rest.len()]) {
         return Err(Error::Notation);
     }
     let rest = expect_byte(rest, b')')?;
