@@ -1,5 +1,5 @@
 -- What the calls of cbor_notes answer, beside what reading gives.
-use Rattle.std.proofs.Common.{◌≡◌, ℕ, ◌≤◌, List, [], ◌∷◌, ◌++◌, ◌+◌, ◌-◌, ◌*◌, ◌^◌, ◌<◌, ◌≢◌, Bool, false, not, nat_lt, cond, if◌then◌else◌, true, option_and_then, length, take, drop, get_or, position, Option, Some, None, Ok, Err, slice_range, refl, sym, ap, subst, ◌∙◌, arith}
+use Rattle.std.proofs.Common.{◌≡◌, ℕ, ◌≤◌, List, [], ◌∷◌, ◌++◌, ◌+◌, ◌-◌, ◌*◌, ◌^◌, ◌<◌, ◌≢◌, Bool, false, not, nat_lt, ◌==◌, cond, if◌then◌else◌, true, option_and_then, length, take, drop, get_or, position, Option, Some, None, Ok, Err, slice_range, refl, sym, ap, subst, ◌∙◌, arith}
 use Rattle.std.specs.Char.{digit_value}
 use Rattle.std.specs.List.{list_all}
 use Rattle.std.specs.Str.Parse.{digits_value_after}
@@ -8,9 +8,12 @@ use Rattle.std.proofs.lemmas.Bool.{cond-true, lt-ltb}
 use Rattle.std.proofs.Math.Nat.{pow-le-pow_right}
 use Rattle.cbor_diag.specs.declared.error.Error.TheVariants as refusal
 use Rattle.cbor_notes.specs.Token.{Blank, IsLongest, IsNumber, IsSomeNumber, capped, is_whitespace}
-use Rattle.cbor_notes.specs.TokenReading.{after_blank, number_of}
+use Rattle.cbor_notes.specs.Token.{in_quotes, DigitsBetween}
+use Rattle.cbor_notes.specs.TokenReading.{after_blank, number_of, unquoted, digits_of}
 use Rattle.cbor_notes.proofs.Blanks.{after_longest_blank}
 use Rattle.cbor_notes.proofs.Numbers.{IsNumber-number_of, number_of-longest}
+use Rattle.cbor_notes.proofs.Quoted.{in_quotes-unquoted, unquoted-in_quotes}
+use Rattle.cbor_notes.proofs.Spaced.{DigitsBetween-digits_of, digits_of-DigitsBetween}
 use Rattle.cbor_notes.proofs.TextPlaces.{part_and_rest}
 use Rattle.cbor_diag.specs.Reading.{Read, ◌>>=◌}
 use Rattle.cbor_diag.specs.NotationReading.{or_refused, blank_at, number_at, after_byte, after_space, numeral, simple_value, simple_at}
@@ -55,12 +58,33 @@ hex_after-is n (d ∷ ds) = by_test (hex_after-is (n * 16 + digit_value d) ds) (
   by_test more true e = rw e more
   by_test more false e = rw e refl
 
-pub numeral-hex_after : (ds : List ℕ) → 0 < length ds → numeral 16 ds ≡ hex_after 0 ds
-numeral-hex_after [] some = absurd (omega arith)
-numeral-hex_after (d ∷ ds) some = sym (hex_after-is 0 (d ∷ ds))
+pub numeral-hex_after : (ds : List ℕ) → false ≡ (length ds == 0) → hex_after 0 ds ≡ numeral 16 ds
+numeral-hex_after [] none = absurd cc
+numeral-hex_after (d ∷ ds) some = hex_after-is 0 (d ∷ ds)
 
 -- sixteen digits fit 64 bits
 pub room_for_digit : (n i : ℕ) → n < 16 ^ i → i < 16 → n * 16 + 15 < 2 ^ 64
 room_for_digit n i small lt =
     let most : 16 ^ i ≤ 16 ^ 15 = let sixteen : 0 < 16 = omega arith in let low : i ≤ 15 = omega arith in pow-le-pow_right sixteen low in
     omega (arith, most)
+
+-- content of quotes
+pub quoted_found : (quote : ℕ) (text content rest : List ℕ) → quote ≢ 92 → text ≡ in_quotes quote content ++ quote ∷ rest → unquoted quote false text ≡ Some (content, rest)
+quoted_found quote text content rest other is = ap (unquoted quote false) is ∙ unquoted-in_quotes quote content rest other
+
+pub quoted_missing : (quote : ℕ) (text : List ℕ) → ((content rest : List ℕ) → text ≢ in_quotes quote content ++ quote ∷ rest) → unquoted quote false text ≡ None
+quoted_missing quote text none = from_none (unquoted quote false text) refl where
+  from_none : (r : Option (List ℕ × List ℕ)) → unquoted quote false text ≡ r → r ≡ None
+  from_none None e = refl
+  from_none (Some read) e = absurd (none read.0 read.1 (in_quotes-unquoted quote text read e))
+
+pub digits_found : (comments : Bool) (text content digits rest : List ℕ) → text ≡ content ++ 39 ∷ rest → DigitsBetween comments content digits → digits_of comments text ≡ Some (digits, rest)
+digits_found comments text content digits rest is between = ap (digits_of comments) is ∙ digits_of-DigitsBetween comments content digits rest between
+
+pub digits_missing : (comments : Bool) (text : List ℕ) → ((content digits rest : List ℕ) → text ≡ content ++ 39 ∷ rest → ¬ (DigitsBetween comments content digits)) → digits_of comments text ≡ None
+digits_missing comments text none = from_none (digits_of comments text) refl where
+  from_none : (r : Option (List ℕ × List ℕ)) → digits_of comments text ≡ r → r ≡ None
+  from_none None e = refl
+  from_none (Some read) e =
+      let found = DigitsBetween-digits_of comments text read e in
+      absurd (none found.0 read.0 read.1 found.1 found.2)

@@ -3,12 +3,14 @@
 //!
 //! A text is given as bytes of UTF-8. What a token means where the text goes on is for the caller.
 
+mod content;
 mod number;
 
 ghost use Rattle.std.specs.Prelude.{◌≡◌, ◌++◌, ◌<◌, ◌≤◌, [], List, ℕ, drop, length, slice_index, slice_range, true, IsTrue, IfNone, IfSome};
 ghost use Rattle.cbor_notes.specs.Token.{Blank, IsLongest, is_whitespace};
 ghost use Rattle.cbor_notes.specs.TokenReading.{after_blank};
 
+pub use content::{digits_at, quoted_at};
 pub use number::number_at;
 
 /// Where the longest blank from `at` on ends.

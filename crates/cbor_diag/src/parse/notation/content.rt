@@ -15,7 +15,10 @@ pub(super) fn quoted_at(alloc: Global, text: &[u8], quote: u8) -> Result<(Vec<u8
     ensures gives { Gives (λ x. (x.0.items, x.1.now)) result (or_refused (unquoted quote false text.now)) }
     ensures shorter { IfOk result (λ x. length x.1.now < length text.now) }
 {
-    Err(Error::Memory)
+    match cbor_notes::quoted_at(alloc, text, 0, quote)? {
+        Some((content, end)) => Ok((content, &text[end..])),
+        None => Err(Error::Notation),
+    }
 }
 
 /// The digits up to the closing apostrophe, without the blanks between them.
@@ -23,7 +26,10 @@ fn digits_at(alloc: Global, text: &[u8], comments: bool) -> Result<(Vec<u8>, &[u
     ensures gives { Gives (λ x. (x.0.items, x.1.now)) result (or_refused (digits_of comments text.now)) }
     ensures shorter { IfOk result (λ x. length x.1.now < length text.now) }
 {
-    Err(Error::Memory)
+    match cbor_notes::digits_at(alloc, text, 0, comments)? {
+        Some((digits, end)) => Ok((digits, &text[end..])),
+        None => Err(Error::Notation),
+    }
 }
 
 /// The bytes of hex digits, two for each, of either case.

@@ -1,9 +1,9 @@
-use Rattle.std.proofs.Common.{sym, arith}
+use Rattle.std.proofs.Common.{arith}
 use Rattle.cbor_diag.proofs.NotationTokens.{numeral-hex_after, room_for_digit}
 use Rattle.cbor_diag.proofs.parse.notation.word.hex_number.Goals as goal
 
 pub digits-init : goal.digits-init
-digits-init c = let h = c.if-is_empty.ensures in let g = c.if-is_empty.false in let k = c.is_empty.ensures in ?
+digits-init c = (numeral-hex_after c.args.digits.now c.if-is_empty.ensures, omega arith)
 
 pub overflow_mul-number : goal.overflow_mul-number
 overflow_mul-number c = omega (arith, room_for_digit c.digits.number c.digits.digit-index c.digits.invariant.1 (omega arith))
