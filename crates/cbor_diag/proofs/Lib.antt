@@ -24,3 +24,5 @@ pub mod HexDigits
 mod NotationExamples
 pub mod sound
 pub mod notation
+pub mod NotationLoops
+pub mod NotationTokens

@@ -176,3 +176,7 @@ comment_left false text rest place allowed is first within = absurd (false≢tru
 pub slash_left : (comments : Bool) (text rest : List ℕ) → IsTrue comments → text ≡ 47 ∷ rest → position_or_len (λ b. b == 47) rest ≡ length rest → text ≡ after_blank comments text
 slash_left true text rest allowed is none = is ∙ sym (ap (after_blank true) is ∙ no_comment true (47 ∷ rest) rest none)
 slash_left false text rest allowed is none = absurd (false≢true allowed)
+
+-- nothing is left of a blank
+pub after_blank-all : {comments : Bool} {text : List ℕ} → Blank comments text → after_blank comments text ≡ []
+after_blank-all {comments} {text} is = ap (after_blank comments) (sym (append-nil text)) ∙ after_blank-append is []

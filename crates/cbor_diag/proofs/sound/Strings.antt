@@ -55,12 +55,14 @@ module _ (R : List ℕ → Item → Type 0) where
   from_base16 text digits bytes within e = in_base16 digits within (base16_so digits bytes (decode_of digits) refl e)
 
   from_base32 : (text digits bytes : List ℕ) → DigitsIn true (codes "b32'") text digits → base32_of digits ≡ Some bytes → Notation R text bytes
+  unfolding base32_of
   from_base32 text digits bytes within e =
       let values = map (value_in (codes "ABCDEFGHIJKLMNOPQRSTUVWXYZ234567")) (unpadded digits) in
       let so = encoded_so base32.base32 digits (from_fives values) bytes e in
       in_base32 digits within (subst AreBytes so.0 (fives_are_bytes values)) (sym so.1 ∙ ap base32.base32 so.0)
 
   from_base32hex : (text digits bytes : List ℕ) → DigitsIn true (codes "h32'") text digits → base32hex_of digits ≡ Some bytes → Notation R text bytes
+  unfolding base32hex_of
   from_base32hex text digits bytes within e =
       let values = map (value_in (codes "0123456789ABCDEFGHIJKLMNOPQRSTUV")) (unpadded digits) in
       let so = encoded_so base32.base32hex digits (from_fives values) bytes e in
@@ -75,6 +77,7 @@ module _ (R : List ℕ → Item → Type 0) where
       (so.0, inr so.1)
 
   from_base64 : (text digits bytes : List ℕ) → DigitsIn false (codes "b64'") text digits → base64_of digits ≡ Some bytes → Notation R text bytes
+  unfolding base64_of
   from_base64 text digits bytes within e =
       let tried = from_sixes (map six_bits (unpadded digits)) in
       let so = either_so digits tried bytes (if_encoded base64.url_safe digits tried) refl e in

@@ -25,6 +25,7 @@ use Rattle.cbor_diag.specs.Reading.{Read, ◌>>=◌}
 use Rattle.cbor_diag.specs.Notation.{width_of, number_width, HasWidth, NumberOf, NegativeOf, FloatDigits, Core}
 use Rattle.cbor_diag.specs.NotationReading.{or_refused, after_byte, after_word, numeral, number_at, past_width, sized, below_zero, negative_at, tagged_at, integer_or_tag, integer_at, simple_value, simple_at, float_of, float_at, or_else, named_at, word_at}
 use Rattle.cbor_diag.specs.NotationRefused.{MayRefuse, HoldsByte}
+use Rattle.cbor_diag.proofs.Heads.{done}
 use Rattle.cbor_diag.proofs.sound.Steps.{none_some, a_test, Sound, moved, moved_in, sound_then, sound_option, after_byte_is, after_word_is}
 
 -- ---- widths
@@ -99,6 +100,16 @@ module _ {A B : Type 0} (levels : ℕ) (Is : List ℕ → B → Type 0) (text : 
   pub sound_number : Sound levels Is text (number_at text >>= λ x. size x.0.0 x.0.1 x.1 >>= λ a. f a x.1)
   sound_number = number_step (number_of text) refl
 
+-- a number that is tested before it is used
+module _ {A B : Type 0} (size : ℕ → Option ℕ → Result A Error) (f : A → List ℕ → Read B) where
+  tested_then : (rest : List ℕ) (r : Result A Error) → ((r >>= λ a. done (a, rest)) >>= λ n. f n.0 n.1) ≡ (r >>= λ a. f a rest)
+  tested_then rest (Ok a) = refl
+  tested_then rest (Err e) = refl
+
+  number_tested : (o : Option (ℕ × Option ℕ × List ℕ)) → ((numbered_by o >>= λ x. size x.0.0 x.0.1 >>= λ a. done (a, x.1)) >>= λ n. f n.0 n.1) ≡ (numbered_by o >>= λ x. size x.0.0 x.0.1 >>= λ a. f a x.1)
+  number_tested None = refl
+  number_tested (Some x) = tested_then x.2 (size x.0 x.1)
+
 -- ---- integers and tags
 
 sized_ok : (n : ℕ) (indicator : Option ℕ) (x : ℕ × IntegerWidth) → sized n indicator ≡ Ok x → (x.0 ≡ n) × HasWidth n indicator x.1
@@ -122,9 +133,10 @@ module _ (left : ℕ) (R : List ℕ → Item → Type 0) (read : List ℕ → Re
 
   pub integer_sound : (text : List ℕ) → Sound (suc left) (Core R) text (integer_at read text)
   integer_sound text =
-      sound_number (suc left) (Core R) text (λ n indicator rest. sized n indicator) (λ x rest. integer_or_tag read x.0 x.1 rest (after_byte 40 rest))
+      subst (Sound (suc left) (Core R) text) (sym (number_tested sized (λ x rest. integer_or_tag read x.0 x.1 rest (after_byte 40 rest)) (number_of text)))
+      (sound_number (suc left) (Core R) text (λ n indicator rest. sized n indicator) (λ x rest. integer_or_tag read x.0 x.1 rest (after_byte 40 rest))
       (λ front rest n indicator is number e odd. sized_odd n indicator e odd)
-      (λ front rest n indicator is number x ok. or_tag front rest x.0 x.1 (number_here front n indicator x number (sized_ok n indicator x ok)) (after_byte 40 rest) refl)
+      (λ front rest n indicator is number x ok. or_tag front rest x.0 x.1 (number_here front n indicator x number (sized_ok n indicator x ok)) (after_byte 40 rest) refl))
 
   -- ---- negative integers
 
@@ -142,9 +154,11 @@ module _ (left : ℕ) (R : List ℕ → Item → Type 0) (read : List ℕ → Re
   -- behind the minus
   pub negative_sound : (text : List ℕ) → Sound (suc left) (λ g i. Core R (45 ∷ g) i) text (negative_at text)
   negative_sound text =
-      sound_number (suc left) (λ g i. Core R (45 ∷ g) i) text (λ n indicator rest. below_zero n indicator) (λ x rest. Ok (atom (negative x.0 x.1), rest))
+      let made : ℕ × IntegerWidth → List ℕ → Read Item = λ x rest. Ok (atom (negative x.0 x.1), rest) in
+      subst (Sound (suc left) (λ g i. Core R (45 ∷ g) i) text) (sym (number_tested below_zero made (number_of text)))
+      (sound_number (suc left) (λ g i. Core R (45 ∷ g) i) text (λ n indicator rest. below_zero n indicator) (λ x rest. Ok (atom (negative x.0 x.1), rest))
       (λ front rest n indicator is number e odd. below_odd n indicator e odd)
-      (λ front rest n indicator is number x ok. ([], refl, subst (λ (z : List ℕ). NegativeOf (45 ∷ z) x.0 x.1) (sym (append-nil front)) (below_ok front n indicator x number ok)))
+      (λ front rest n indicator is number x ok. ([], refl, subst (λ (z : List ℕ). NegativeOf (45 ∷ z) x.0 x.1) (sym (append-nil front)) (below_ok front n indicator x number ok))))
 
   -- ---- simple values
 
