@@ -25,7 +25,6 @@ use Rattle.cbor_diag.specs.Reading.{Read, ◌>>=◌}
 use Rattle.cbor_diag.specs.Notation.{width_of, number_width, HasWidth, NumberOf, NegativeOf, FloatDigits, Core}
 use Rattle.cbor_diag.specs.NotationReading.{or_refused, after_byte, after_word, numeral, number_at, past_width, sized, below_zero, negative_at, tagged_at, integer_or_tag, integer_at, simple_value, simple_at, float_of, float_at, or_else, named_at, word_at}
 use Rattle.cbor_diag.specs.NotationRefused.{MayRefuse, HoldsByte}
-use Rattle.cbor_diag.proofs.Heads.{done}
 use Rattle.cbor_diag.proofs.sound.Steps.{none_some, a_test, Sound, moved, moved_in, sound_then, sound_option, after_byte_is, after_word_is}
 
 -- ---- widths
@@ -102,11 +101,17 @@ module _ {A B : Type 0} (levels : ℕ) (Is : List ℕ → B → Type 0) (text : 
 
 -- a number that is tested before it is used
 module _ {A B : Type 0} (size : ℕ → Option ℕ → Result A Error) (f : A → List ℕ → Read B) where
-  tested_then : (rest : List ℕ) (r : Result A Error) → ((r >>= λ a. done (a, rest)) >>= λ n. f n.0 n.1) ≡ (r >>= λ a. f a rest)
+  abbrev tested : List ℕ → Result A Error → Read A
+  tested rest r = r >>= λ a. Ok (a, rest)
+
+  abbrev used : Read A → Read B
+  used r = r >>= λ n. f n.0 n.1
+
+  tested_then : (rest : List ℕ) (r : Result A Error) → used (tested rest r) ≡ (r >>= λ a. f a rest)
   tested_then rest (Ok a) = refl
   tested_then rest (Err e) = refl
 
-  number_tested : (o : Option (ℕ × Option ℕ × List ℕ)) → ((numbered_by o >>= λ x. size x.0.0 x.0.1 >>= λ a. done (a, x.1)) >>= λ n. f n.0 n.1) ≡ (numbered_by o >>= λ x. size x.0.0 x.0.1 >>= λ a. f a x.1)
+  number_tested : (o : Option (ℕ × Option ℕ × List ℕ)) → used (numbered_by o >>= λ x. tested x.1 (size x.0.0 x.0.1)) ≡ (numbered_by o >>= λ x. size x.0.0 x.0.1 >>= λ a. f a x.1)
   number_tested None = refl
   number_tested (Some x) = tested_then x.2 (size x.0 x.1)
 
