@@ -6,3 +6,5 @@ pub mod Strings
 pub mod Chunked
 pub mod Numbers
 pub mod Words
+pub mod Containers
+pub mod Again
