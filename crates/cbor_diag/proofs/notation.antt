@@ -8,3 +8,4 @@ pub mod Numbers
 pub mod Words
 pub mod Containers
 pub mod Again
+pub mod Levels
