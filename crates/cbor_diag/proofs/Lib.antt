@@ -23,3 +23,5 @@ pub mod HexLines
 pub mod HexDigits
 mod NotationExamples
 pub mod notation
+pub mod NotationLoops
+pub mod NotationTokens

@@ -9,3 +9,4 @@ pub mod Words
 pub mod Containers
 pub mod Again
 pub mod Levels
+pub mod OneReading

@@ -78,8 +78,14 @@ abbrev pub below_zero : ℕ → Option ℕ → Result (ℕ × IntegerWidth) Erro
 below_zero zero indicator = Err refusal.Notation
 below_zero (suc n) indicator = sized n indicator
 
+abbrev pub sized_at : List ℕ → Read (ℕ × IntegerWidth)
+sized_at text = number_at text >>= λ x. sized x.0.0 x.0.1 >>= λ n. Ok (n, x.1)
+
+abbrev pub below_zero_at : List ℕ → Read (ℕ × IntegerWidth)
+below_zero_at text = number_at text >>= λ x. below_zero x.0.0 x.0.1 >>= λ n. Ok (n, x.1)
+
 abbrev pub negative_at : List ℕ → Read Item
-negative_at text = number_at text >>= λ x. below_zero x.0.0 x.0.1 >>= λ n. Ok (atom (negative n.0 n.1), x.1)
+negative_at text = below_zero_at text >>= λ n. Ok (atom (negative n.0.0 n.0.1), n.1)
 
 -- a tag's item behind its parenthesis
 abbrev pub tagged_at : (List ℕ → Read Item) → ℕ → IntegerWidth → List ℕ → Read Item
@@ -91,7 +97,7 @@ integer_or_tag read n w text None = Ok (atom (integer n w), text)
 integer_or_tag read n w text (Some inner) = tagged_at read n w inner
 
 abbrev pub integer_at : (List ℕ → Read Item) → List ℕ → Read Item
-integer_at read text = number_at text >>= λ x. sized x.0.0 x.0.1 >>= λ n. integer_or_tag read n.0 n.1 x.1 (after_byte 40 x.1)
+integer_at read text = sized_at text >>= λ n. integer_or_tag read n.0.0 n.0.1 n.1 (after_byte 40 n.1)
 
 -- Lists
 

@@ -1,2 +1,4 @@
 //! Printers.
 mod bytes;
+
+pub(crate) use bytes::push_items;

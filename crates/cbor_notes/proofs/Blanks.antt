@@ -1,11 +1,13 @@
 -- Blanks: reading leaves what stands after the longest one.
-use Rattle.std.proofs.Common.{◌≡◌, ◌≢◌, ℕ, ◌+◌, ◌<◌, ◌≤◌, Bool, true, false, ◌==◌, ◌&&◌, ◌||◌, cond, List, [], ◌∷◌, ◌++◌, length, Option, Some, None, refl, sym, ap, ◌∙◌, subst, inl, inr, arith, IsTrue}
-use Rattle.std.specs.List.{AllByRecursion}
+use Rattle.std.proofs.Common.{◌≡◌, ◌≢◌, ℕ, suc, ◌+◌, ◌<◌, ◌≤◌, Bool, true, false, ◌==◌, ◌&&◌, ◌||◌, cond, List, [], ◌∷◌, ◌++◌, length, drop, slice_range, Option, Some, None, refl, sym, ap, ◌∙◌, subst, inl, inr, arith, IsTrue}
+use Rattle.std.specs.List.{AllByRecursion, position_or_len}
 use Rattle.std.proofs.lemmas.List.{length-append, append_assoc, append-nil}
-use Rattle.std.proofs.lemmas.Bool.{cond_both, and_parts, or_cases, eqb-true, eqb-false, ne_eqb, false≢true}
+use Rattle.std.proofs.lemmas.Bool.{cond_both, and_parts, or_cases, eqb-true, eqb-false, ne_eqb, cases_Bool, false≢true}
+use Rattle.std.proofs.Math.Numerals.{one-add}
 use Rattle.cbor_notes.specs.Token.{Blank, nothing, whitespace, comment, IsLongest, is_whitespace}
 use Rattle.cbor_notes.specs.TokenReading.{after_blank_in, after_blank}
 use Rattle.cbor_notes.proofs.Longest.{one_longest}
+use Rattle.cbor_notes.proofs.TextPlaces.{part_and_rest, part_is}
 
 -- what holds at each of the four holds of all whitespace
 pub at_whitespace : (P : ℕ → Type 0) → P 32 → P 9 → P 10 → P 13 → (byte : ℕ) → IsTrue (is_whitespace byte) → P byte
@@ -126,3 +128,55 @@ Blank-rest comments front rest is whole =
     let left = blank_left comments rest in
     let same : left.0 ≡ rest = sym (append-nil left.0) ∙ ap (λ (t : List ℕ). left.0 ++ t) (sym none) ∙ sym left.1 in
     subst (Blank comments) same left.2
+
+-- where a comment ends, if it does
+pub after_comment : (comments : Bool) (opened rest : List ℕ) (place : ℕ) → place ≡ position_or_len (λ b. b == 47) rest → place < length rest → after_blank_in comments (Some opened) rest ≡ after_blank comments (drop (place + 1) rest)
+after_comment comments opened [] place is within = absurd (omega arith)
+after_comment comments opened (byte ∷ rest) place is within =
+    elim (cases_Bool (byte == 47)) [
+      inl closes ↦
+        let zero : place ≡ 0 = is ∙ (rw closes refl) in
+        rw (closes, zero) refl
+    | inr goes_on ↦
+        let next : place ≡ suc (position_or_len (λ b. b == 47) rest) = is ∙ (rw (goes_on, one-add (position_or_len (λ b. b == 47) rest)) refl) in
+        let n = position_or_len (λ b. b == 47) rest in
+        let one_on : suc (n + 1) ≡ suc n + 1 = omega arith in
+        rw (goes_on, next) (after_comment comments opened rest n refl (omega arith) ∙ ap (λ (m : ℕ). after_blank comments (drop m (byte ∷ rest))) one_on)
+    ]
+
+pub no_comment : (comments : Bool) (opened rest : List ℕ) → position_or_len (λ b. b == 47) rest ≡ length rest → after_blank_in comments (Some opened) rest ≡ opened
+no_comment comments opened [] is = refl
+no_comment comments opened (byte ∷ rest) is =
+    elim (cases_Bool (byte == 47)) [
+      inl closes ↦ let zero : 0 ≡ length (byte ∷ rest) = rw closes at is in absurd (omega arith)
+    | inr goes_on ↦
+        let next : 1 + position_or_len (λ b. b == 47) rest ≡ suc (length rest) = rw goes_on at is in
+        rw goes_on (no_comment comments opened rest (omega arith))
+    ]
+
+-- the longest blank by its places
+pub longest_blank_at : (comments : Bool) (text : List ℕ) (at end : ℕ) → at ≤ end → drop end text ≡ after_blank comments (drop at text) → IsLongest (Blank comments) (slice_range text at end) (drop end text)
+longest_blank_at comments text at end in_order rest =
+    let left = blank_left comments (drop at text) in
+    let same = part_is text left.0 at end in_order (left.1 ∙ ap (λ (t : List ℕ). left.0 ++ t) (sym rest)) in
+    longest_left comments (slice_range text at end) (drop end text) (subst (Blank comments) (sym same) left.2)
+    (rest ∙ ap (after_blank comments) (part_and_rest text at end in_order))
+
+-- what is left after the longest blank begins with no blank
+pub after_blank-again : (comments : Bool) (text : List ℕ) → after_blank comments (after_blank comments text) ≡ after_blank comments text
+after_blank-again comments text =
+    let left = blank_left comments text in
+    sym (ap (after_blank comments) left.1 ∙ after_blank-append left.2 (after_blank comments text))
+
+-- a `/` that opens a comment, and one that opens none
+pub comment_left : (comments : Bool) (text rest : List ℕ) (place : ℕ) → IsTrue comments → text ≡ 47 ∷ rest → place ≡ position_or_len (λ b. b == 47) rest → place < length rest → after_blank comments (drop (place + 1) rest) ≡ after_blank comments text
+comment_left true text rest place allowed is first within = sym (ap (after_blank true) is ∙ after_comment true (47 ∷ rest) rest place first within)
+comment_left false text rest place allowed is first within = absurd (false≢true allowed)
+
+pub slash_left : (comments : Bool) (text rest : List ℕ) → IsTrue comments → text ≡ 47 ∷ rest → position_or_len (λ b. b == 47) rest ≡ length rest → text ≡ after_blank comments text
+slash_left true text rest allowed is none = is ∙ sym (ap (after_blank true) is ∙ no_comment true (47 ∷ rest) rest none)
+slash_left false text rest allowed is none = absurd (false≢true allowed)
+
+-- nothing is left of a blank
+pub after_blank-all : {comments : Bool} {text : List ℕ} → Blank comments text → after_blank comments text ≡ []
+after_blank-all {comments} {text} is = ap (after_blank comments) (sym (append-nil text)) ∙ after_blank-append is []

@@ -21,3 +21,4 @@ pub mod Places
 pub mod Quoted
 pub mod Spaced
 mod TextExamples
+pub mod TextPlaces

@@ -1,12 +1,14 @@
 -- Digits with blanks before, between and after them, up to the quote.
-use Rattle.std.proofs.Common.{◌≡◌, ◌≢◌, ◌⊎◌, ℕ, ◌<◌, Bool, true, false, not, ◌==◌, ◌&&◌, ◌||◌, cond, List, [], ◌∷◌, ◌++◌, length, take, drop, Option, Some, None, refl, sym, ap, ◌∙◌, inl, inr, subst, arith, IsTrue, nat_lt}
+use Rattle.std.proofs.Common.{◌≡◌, ◌≢◌, ◌⊎◌, ℕ, ◌+◌, ◌-◌, ◌<◌, Bool, true, false, not, ◌==◌, ◌&&◌, ◌||◌, cond, List, [], ◌∷◌, ◌++◌, length, get_or, take, drop, slice_range, Option, Some, None, refl, sym, ap, ◌∙◌, inl, inr, subst, arith, IsTrue, nat_lt}
 use Rattle.std.specs.List.{AllByRecursion, position_or_len}
-use Rattle.std.proofs.lemmas.List.{append_assoc, append-nil}
-use Rattle.std.proofs.lemmas.Bool.{or_parts, or_cases, and_parts, not-true, not-false, eqb-true, eqb-false, ne_eqb, cases_Bool, cond-true, cond-false, ltb-true, lt-ltb, false≢true}
+use Rattle.std.proofs.lemmas.List.{append_assoc, append-nil, drop-drop, length-drop}
+use Rattle.std.proofs.lemmas.List.Sums.{passes_at_first}
+use Rattle.std.proofs.lemmas.Bool.{or_parts, or_cases, and_parts, not-true, not-false, eqb-true, eqb-false, ne_eqb, cases_Bool, cond-true, cond-false, ltb-true, lt-ltb, le-ltb, false≢true}
 use Rattle.std.proofs.Math.Numerals.{one-add}
 use Rattle.cbor_notes.specs.Token.{Blank, nothing, whitespace, comment, Spaced, blank, digit, DigitsBetween, is_whitespace, is_digit}
 use Rattle.cbor_notes.specs.TokenReading.{with_front, after_blank_in, after_blank, digits_in, some_digits, digits_of}
-use Rattle.cbor_notes.proofs.Blanks.{Blank-append, all_push, at_whitespace, length-after_blank}
+use Rattle.cbor_notes.proofs.Blanks.{Blank-append, all_push, at_whitespace, blank_left, length-after_blank}
+use Rattle.cbor_notes.proofs.TextPlaces.{from_byte}
 use Rattle.cbor_notes.proofs.Contents.{from_front, with_front-append, with_front-nil}
 
 -- a blank before digits
@@ -214,3 +216,73 @@ digits_of-DigitsBetween comments (byte ∷ content) digits rest is =
         cond-false (byte == 39) (Some ([], content ++ 39 ∷ rest)) (some_digits (digits_in comments false (byte ∷ (content ++ 39 ∷ rest)))) goes_on
         ∙ (ap some_digits read ∙ cond-true (nat_lt 0 (length digits)) (Some (digits, rest)) None (lt-ltb 0 (length digits) some))
     ]
+
+-- a blank is left out before digits
+pub digits_in-after_blank : (comments : Bool) (text : List ℕ) → digits_in comments false text ≡ digits_in comments false (after_blank comments text)
+digits_in-after_blank comments text =
+    let left = blank_left comments text in
+    ap (digits_in comments false) left.1 ∙ digits_in-blank left.2 (after_blank comments text)
+
+-- digits up to the first byte that is none, by their places
+pub run_to : (comments : Bool) (text : List ℕ) (start stop : ℕ) → stop ≡ start + position_or_len (λ b. not (is_digit comments b)) (drop start text) → digits_in comments false (drop start text) ≡ with_front (slice_range text start stop) (digits_in comments false (drop stop text))
+run_to comments text start stop is =
+    let n = position_or_len (λ b. not (is_digit comments b)) (drop start text) in
+    let count : n ≡ stop - start = omega arith in
+    let rest : drop n (drop start text) ≡ drop stop text = drop-drop n start text ∙ ap (λ (m : ℕ). drop m text) (sym is) in
+    digits_in-run comments (drop start text) ∙ (ap (λ (m : ℕ). with_front (take m (drop start text)) (digits_in comments false (drop n (drop start text)))) count ∙ ap (λ (t : List ℕ). with_front (slice_range text start stop) (digits_in comments false t)) rest)
+
+-- no digit stands here, nor a blank or a quote
+pub none_from : (comments : Bool) (text : List ℕ) (at : ℕ) → at < length text → position_or_len (λ b. not (is_digit comments b)) (drop at text) ≡ 0 → get_or text at 0 ≢ 39 → after_blank comments (drop at text) ≡ drop at text → digits_in comments false (drop at text) ≡ None
+none_from comments text at within none no_quote blank_read =
+    let byte = get_or text at 0 in
+    let first = from_byte text at byte within refl in
+    let test : ℕ → Bool = λ b. not (is_digit comments b) in
+    let place : get_or (drop at text) 0 0 ≡ byte = ap (λ (t : List ℕ). get_or t 0 0) first in
+    let passes : test (get_or (drop at text) (position_or_len test (drop at text)) 0) ≡ true = passes_at_first test (drop at text) 0 (omega (arith, none, length-drop at text)) in
+    let no_digit : is_digit comments byte ≡ false = not-true _ (sym (ap test (ap (λ (n : ℕ). get_or (drop at text) n 0) none ∙ place)) ∙ passes) in
+    ap (digits_in comments false) first ∙ digits_in-none comments byte (drop (at + 1) text) (ne_eqb byte 39 no_quote) no_digit (sym (ap (after_blank comments) first) ∙ (blank_read ∙ first))
+
+-- the quote closes
+pub digits_closed : (comments : Bool) (text digits : List ℕ) (at end : ℕ) → digits_in comments false (drop at text) ≡ with_front digits (digits_in comments false (drop end text)) → end < length text → get_or text end 0 ≡ 39 → digits_in comments false (drop at text) ≡ Some (digits, drop (end + 1) text)
+digits_closed comments text digits at end read within quote =
+    read ∙ (ap (λ (t : List ℕ). with_front digits (digits_in comments false t)) (from_byte text end 39 within quote) ∙ ap (λ (d : List ℕ). Some (d, drop (end + 1) text)) (append-nil digits))
+
+-- some digits, none in empty content, and none in blanks
+not_quote : (comments : Bool) (byte : ℕ) (rest digits after : List ℕ) → digits_in comments false (byte ∷ rest) ≡ Some (digits, after) → (length digits ≡ 0 → rest ≡ after → ⊥) → (byte == 39) ≡ false
+not_quote comments byte rest digits after read other =
+    ne_eqb byte 39 (λ is.
+    let here : digits_in comments false (39 ∷ rest) ≡ Some (digits, after) = ap (λ (b : ℕ). digits_in comments false (b ∷ rest)) (sym is) ∙ read in
+    let same : ◌≡◌ {A = Option (List ℕ × List ℕ)} (Some ([], rest)) (Some (digits, after)) = here in
+    let pair : ◌≡◌ {A = List ℕ × List ℕ} ([], rest) (digits, after) = cc same in
+    other (ap (λ (r : List ℕ × List ℕ). length r.0) (sym pair)) (ap (λ (r : List ℕ × List ℕ). r.1) pair))
+
+pub digits_of-some : (comments : Bool) (text digits rest : List ℕ) → digits_in comments false text ≡ Some (digits, rest) → 0 < length digits → digits_of comments text ≡ Some (digits, rest)
+digits_of-some comments [] digits rest read some = cc read
+digits_of-some comments (byte ∷ more) digits rest read some =
+    cond-false (byte == 39) (Some ([], more)) (some_digits (digits_in comments false (byte ∷ more))) (not_quote comments byte more digits rest read (λ none _. omega (arith, none, some)))
+    ∙ (ap some_digits read ∙ cond-true (nat_lt 0 (length digits)) (Some (digits, rest)) None (lt-ltb 0 (length digits) some))
+
+pub digits_of-blank : (comments : Bool) (text digits rest : List ℕ) → digits_in comments false text ≡ Some (digits, rest) → length digits ≡ 0 → length rest + 1 < length text → digits_of comments text ≡ None
+digits_of-blank comments [] digits rest read none longer = cc read
+digits_of-blank comments (byte ∷ more) digits rest read none longer =
+    cond-false (byte == 39) (Some ([], more)) (some_digits (digits_in comments false (byte ∷ more))) (not_quote comments byte more digits rest read (λ _ same. omega (arith, ap length same, longer)))
+    ∙ (ap some_digits read ∙ cond-false (nat_lt 0 (length digits)) (Some (digits, rest)) None (le-ltb 0 (length digits) (omega (arith, none))))
+
+pub digits_of-none : (comments : Bool) (text : List ℕ) → digits_in comments false text ≡ None → digits_of comments text ≡ None
+digits_of-none comments [] read = refl
+digits_of-none comments (byte ∷ more) read =
+    let other : byte ≢ 39 = λ is.
+    let here : ◌≡◌ {A = Option (List ℕ × List ℕ)} (Some ([], more)) None = ap (λ (b : ℕ). digits_in comments false (b ∷ more)) (sym is) ∙ read in cc here
+    in
+    cond-false (byte == 39) (Some ([], more)) (some_digits (digits_in comments false (byte ∷ more))) (ne_eqb byte 39 other) ∙ ap some_digits read
+
+-- what the answer says of the text: these digits and this rest, or none
+pub only_digits : (comments : Bool) (text digits rest : List ℕ) → digits_of comments text ≡ Some (digits, rest) → (content other after : List ℕ) → text ≡ content ++ 39 ∷ after → DigitsBetween comments content other → (digits ≡ other) × (rest ≡ after)
+only_digits comments text digits rest read content other after is between =
+    let same : ◌≡◌ {A = Option (List ℕ × List ℕ)} (Some (digits, rest)) (Some (other, after)) = sym read ∙ (ap (digits_of comments) is ∙ digits_of-DigitsBetween comments content other after between) in
+    let pair : ◌≡◌ {A = List ℕ × List ℕ} (digits, rest) (other, after) = cc same in
+    (ap (λ (r : List ℕ × List ℕ). r.0) pair, ap (λ (r : List ℕ × List ℕ). r.1) pair)
+
+pub none_digits : (comments : Bool) (text : List ℕ) → digits_of comments text ≡ None → (content other after : List ℕ) → text ≡ content ++ 39 ∷ after → DigitsBetween comments content other → ⊥
+none_digits comments text read content other after is between =
+    let never : ◌≡◌ {A = Option (List ℕ × List ℕ)} None (Some (other, after)) = sym read ∙ (ap (digits_of comments) is ∙ digits_of-DigitsBetween comments content other after between) in cc never

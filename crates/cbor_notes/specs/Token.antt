@@ -68,10 +68,14 @@ capped value = min value (2 ^ 64 + 1)
 
 -- Content of quotes
 
--- a byte of the content as it stands between such quotes: the quote and the backslash after a backslash,
--- any other as it is
+-- the quote or the backslash
+abbrev pub is_special : ℕ → ℕ → Bool
+is_special quote byte = (byte == quote) || (byte == 92)
+
+-- a byte of the content as it stands between such quotes: a special one after a backslash, any other as
+-- it is
 abbrev pub escaped_byte : ℕ → ℕ → List ℕ
-escaped_byte quote byte = if (byte == quote) || (byte == 92) then 92 ∷ byte ∷ [] else byte ∷ []
+escaped_byte quote byte = if is_special quote byte then 92 ∷ byte ∷ [] else byte ∷ []
 
 -- content as it stands between such quotes
 abbrev pub in_quotes : ℕ → List ℕ → List ℕ

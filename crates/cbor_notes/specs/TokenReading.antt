@@ -1,8 +1,8 @@
 -- Functions that read tokens as the code does, between the code and the sets of texts in `Token`: of a
 -- text each gives what it reads and the rest. No public clause names them.
-use Rattle.std.specs.Prelude.{ℕ, ◌+◌, ◌*◌, Bool, true, false, not, ◌==◌, ◌&&◌, ◌||◌, if◌then◌else◌, nat_lt, nat_le, List, [], ◌∷◌, ◌++◌, length, drop, Option, Some, None}
+use Rattle.std.specs.Prelude.{ℕ, ◌+◌, ◌*◌, Bool, true, false, not, ◌==◌, ◌&&◌, if◌then◌else◌, nat_lt, nat_le, List, [], ◌∷◌, ◌++◌, length, drop, Option, Some, None}
 use Rattle.std.specs.Char.{digit_value}
-use Rattle.cbor_notes.specs.Token.{is_whitespace, is_digit, prefix, radix}
+use Rattle.cbor_notes.specs.Token.{is_whitespace, is_digit, is_special, prefix, radix}
 use Rattle.cbor_notes.specs.declared.token.number.Base.{Base}
 use Rattle.cbor_notes.specs.declared.token.number.Base.TheVariants.{Decimal, Hexadecimal, Octal, Binary}
 
@@ -78,7 +78,7 @@ with_front front (Some read) = Some (front ++ read.0, read.1)
 -- the content up to the quote, and what follows it; in an escape, the byte after the `\` comes first
 abbrev pub unquoted : ℕ → Bool → List ℕ → Option (List ℕ × List ℕ)
 unquoted quote escape [] = None
-unquoted quote true (byte ∷ rest) = if (byte == quote) || (byte == 92) then with_front (byte ∷ []) (unquoted quote false rest) else None
+unquoted quote true (byte ∷ rest) = if is_special quote byte then with_front (byte ∷ []) (unquoted quote false rest) else None
 unquoted quote false (byte ∷ rest) =
     if byte == quote then Some ([], rest)
     else if byte == 92 then unquoted quote true rest

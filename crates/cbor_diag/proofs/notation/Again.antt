@@ -144,8 +144,10 @@ reads_again (suc left) = reads_step left (reads_again left)
 pub item_again : (left : ℕ) (text rest : List ℕ) (i : Item) → Reads left text i → Follows rest → item_at left (text ++ rest) ≡ Ok (i, rest)
 item_again left text rest i is follows = let it = reads_again left in it.again text rest i is follows
 
--- a text that is an item is answered
+-- a text that is an item is read whole
+pub item_whole : (limit : ℕ) (text : List ℕ) (i : Item) → Reads limit text i → item_at limit text ≡ Ok (i, [])
+item_whole limit text i is = ap (item_at limit) (sym (append-nil text)) ∙ item_again limit text [] i is tt
+
+-- and answered
 pub notation_again : (limit : ℕ) (text : List ℕ) (i : Item) → Reads limit text i → notation_of limit text ≡ Ok i
-notation_again limit text i is =
-    let read : item_at limit text ≡ Ok (i, []) = ap (item_at limit) (sym (append-nil text)) ∙ item_again limit text [] i is tt in
-    rw read refl
+notation_again limit text i is = let read = item_whole limit text i is in rw read refl

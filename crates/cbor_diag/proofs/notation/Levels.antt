@@ -11,7 +11,7 @@ use Rattle.cbor_diag.specs.Item as spec
 use Rattle.cbor_diag.specs.Item.{Chunk, Item}
 use Rattle.cbor_diag.specs.Bytes.{StringKind, bytes_kind, text_kind}
 use Rattle.cbor_diag.specs.Reading.{Read, ◌>>=◌}
-use Rattle.cbor_diag.specs.NotationReading.{or_refused, after_byte, after_word, number_at, sized, tagged_at, integer_or_tag, integer_at, end_at, more_members, members_from, members_or_end, members_at, pair_at, length_at, array_at, map_at, embedded_at, piece_of, piece_at, start_of, first_start, begins_piece, pieces_at, blank_at, begins_string, may_have_texts, string_of, string_at, chunk_at, byte_chunks_at, text_chunks_at, chunks_of, chunks_at, byte_string_of, byte_string_at, text_string_of, text_string_at, core_of, core_at, item_at}
+use Rattle.cbor_diag.specs.NotationReading.{or_refused, after_byte, after_word, sized_at, tagged_at, integer_or_tag, integer_at, end_at, more_members, members_from, members_or_end, members_at, pair_at, length_at, array_at, map_at, embedded_at, piece_of, piece_at, start_of, first_start, begins_piece, pieces_at, blank_at, begins_string, may_have_texts, string_of, string_at, chunk_at, byte_chunks_at, text_chunks_at, chunks_of, chunks_at, byte_string_of, byte_string_at, text_string_of, text_string_at, core_of, core_at, item_at}
 use Rattle.cbor_diag.proofs.notation.Pieces.{pieces_go, pieces_stop}
 
 -- the first is TooDeep, or both are one answer
@@ -144,7 +144,7 @@ module _ (few many : List ℕ → Read Item) (grows : (text : List ℕ) → Grow
 
   integer_grows : (text : List ℕ) → Grows (integer_at few text) (integer_at many text)
   integer_grows text =
-      grows_on (number_at text) _ _ (λ x. grows_on (sized x.0.0 x.0.1) _ _ (λ n. integer_or_tag_grows n.0 n.1 x.1 (after_byte 40 x.1)))
+      grows_on (sized_at text) _ _ (λ n. integer_or_tag_grows n.0.0 n.0.1 n.1 (after_byte 40 n.1))
 
   core_of_grows : (s : Start) (text rest : List ℕ) → Grows (core_of few s text rest) (core_of many s text rest)
   core_of_grows start.Digit text rest = integer_grows text

@@ -1,0 +1,14 @@
+use Rattle.std.proofs.Common.{◌≡◌, ℕ, ◌≤◌, ◌<◌, ◌-◌, length, drop}
+use Rattle.cbor_notes.specs.TokenReading.{small_run}
+use Rattle.cbor_notes.proofs.token.number.small_digits_from.Given as goal
+
+abbrev pub invariant-loop-end : goal.invariant-loop-end
+invariant-loop-end l = record {
+  from : l.start ≤ l.end;
+  within : l.end ≤ length l.text;
+  small : l.value ≤ 3;
+  read : small_run l.value (drop l.end l.text) ≡ small_run 0 (drop l.start l.text);
+}
+
+abbrev pub decreases-loop-end : goal.decreases-loop-end
+decreases-loop-end l = length l.text - l.end
