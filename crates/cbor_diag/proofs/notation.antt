@@ -6,3 +6,7 @@ pub mod Strings
 pub mod Chunked
 pub mod Numbers
 pub mod Words
+pub mod Containers
+pub mod Again
+pub mod Levels
+pub mod OneReading

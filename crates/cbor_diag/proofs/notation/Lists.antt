@@ -128,7 +128,7 @@ further_length Member closing text (x ∷ xs) further =
     omega (arith, ap length further.2, length-append further.0 further.1, further_length Member closing further.1 xs further.4)
 
 module _ {X : Type 0} (Member : List ℕ → X → Type 0) (read : List ℕ → Read X) (it : ReadsAgain Member read) (close : ℕ) (more : List ℕ) (closes : IsClose close) where
-  follows_further : (xs : List X) (text rest : List ℕ) → Further Member (close ∷ more) text xs → Follows (text ++ rest)
+  pub follows_further : (xs : List X) (text rest : List ℕ) → Further Member (close ∷ more) text xs → Follows (text ++ rest)
   follows_further [] text rest (inl is) = subst (λ (t : List ℕ). Follows (t ++ rest)) (sym is) (holds_of (is_one_of item_ends) list_closes close refl closes)
   follows_further [] text rest (inr last) = subst (λ (t : List ℕ). Follows (t ++ rest)) (sym last.1) refl
   follows_further (x ∷ xs) text rest further = subst (λ (t : List ℕ). Follows (t ++ rest)) (sym further.2) refl
@@ -165,9 +165,8 @@ module _ {X : Type 0} (Member : List ℕ → X → Type 0) (read : List ℕ → 
       rw (passed, starts_no_end close tail closes starts) (members_from_again (suc (length tail)) xs x s.behind is.1 rest few s.is is.4)
 
   -- the members behind an opening
-  pub listed_again : (xs : List X) (opening text rest : List ℕ) → Listed Member opening (close ∷ more) text xs → (inner : List ℕ) × (text ++ rest ≡ opening ++ (inner ++ rest)) × (members_at read close (inner ++ rest) ≡ Ok (xs, more ++ rest))
-  listed_again xs opening text rest is =
-      (is.0, ap (λ (t : List ℕ). t ++ rest) is.1 ∙ append_assoc opening is.0 rest, members_again xs is.0 rest is.2)
+  pub listed_again : (xs : List X) (opening text rest : List ℕ) (is : Listed Member opening (close ∷ more) text xs) → (text ++ rest ≡ opening ++ (is.0 ++ rest)) × (members_at read close (is.0 ++ rest) ≡ Ok (xs, more ++ rest))
+  listed_again xs opening text rest is = (ap (λ (t : List ℕ). t ++ rest) is.1 ∙ append_assoc opening is.0 rest, members_again xs is.0 rest is.2)
 
 -- a blank before the members may be passed first
 pub members_at_blank : {X : Type 0} (read : List ℕ → Read X) (close : ℕ) (text : List ℕ) → members_at read close (blank_at text) ≡ members_at read close text

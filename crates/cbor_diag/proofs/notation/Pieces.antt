@@ -76,7 +76,7 @@ module _ (Reads : List ℕ → Item → Type 0) (read : List ℕ → Read Item) 
   unfolding piece_at start_of
   embedded_again is text rest listed =
       let l = listed_again Reads read it 62 (codes ">") refl (list_of is) (codes "<<") text rest listed in
-      ap (piece_at read) l.1 ∙ rw (l.2, items_again is) refl
+      ap (piece_at read) l.0 ∙ rw (l.1, items_again is) refl
 
   notation_again : (text bytes rest : List ℕ) → Notation Reads text bytes → piece_at read (text ++ rest) ≡ Ok (bytes, rest)
   notation_again text bytes rest (in_base16 digits is decodes) =
