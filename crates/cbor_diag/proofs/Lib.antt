@@ -26,3 +26,4 @@ pub mod notation
 pub mod NotationLoops
 pub mod NotationTokens
 mod NotationExamples
+pub mod NotationReaders

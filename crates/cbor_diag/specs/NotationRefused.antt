@@ -1,9 +1,11 @@
 -- Why a text that no limit of levels reads may be refused: what each refusal says of the text.
-use Rattle.std.specs.Prelude.{ℕ, ◌<◌, ◌≤◌, ◌==◌, ◌||◌, Bool, List, Result, Ok, Err}
+use Rattle.std.specs.Prelude.{◌≡◌, ◌⊎◌, ℕ, ◌<◌, ◌≤◌, ◌==◌, ◌||◌, Bool, List, Result, Ok, Err}
 use Rattle.std.specs.List.{count_by}
 use Rattle.cbor_diag.specs.declared.error.Error.{Error}
 use Rattle.cbor_diag.specs.declared.error.Error.TheVariants as refusal
+use Rattle.cbor_diag.specs.declared.syntax.DataItem.{DataItem}
 use Rattle.cbor_diag.specs.Item.{Item}
+use Rattle.cbor_diag.specs.View.{view}
 use Rattle.cbor_diag.specs.Notation.{Reads}
 
 -- `[`, `{`, `(` and `<`, behind which an item may stand deeper
@@ -32,3 +34,9 @@ MayRefuse levels text _ = ⊥
 abbrev pub IsAnswered : ℕ → List ℕ → Result Item Error → Type 0
 IsAnswered levels text (Ok i) = Reads levels text i
 IsAnswered levels text (Err e) = MayRefuse levels text e
+
+-- A reader gave this item, or memory ran out, or the item is nested too deep: that is answered exactly where
+-- so many levels do not read it.
+abbrev pub GaveOrTooDeep : ℕ → List ℕ → Result DataItem Error → Item → Type 0
+GaveOrTooDeep levels text (Ok x) i = view x ≡ i
+GaveOrTooDeep levels text (Err e) i = (e ≡ refusal.Memory) ⊎ ((e ≡ refusal.TooDeep) × ¬ (Reads levels text i))

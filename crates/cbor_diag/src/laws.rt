@@ -8,7 +8,6 @@ ghost use Rattle.cbor_diag.specs.Item.{Item};
 ghost use Rattle.cbor_diag.specs.Notation.{ReadsUnder};
 
 /// Of any bytes, read from any level from 1 to 129, exactly one of three holds: some first bytes spell
-
 /// one item, they are cut, or they have one fault.
 pub(crate) fn one_of_three()
     ensures { (level : ℕ) (b : List ℕ) → 1 ≤ level → level ≤ 129
