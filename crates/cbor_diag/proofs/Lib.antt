@@ -40,3 +40,9 @@ pub mod TextParts
 pub mod NormalForm
 pub mod NormalWell
 pub mod NormalText
+pub mod sound
+pub mod notation
+pub mod NotationLoops
+pub mod NotationTokens
+mod NotationExamples
+pub mod NotationReaders

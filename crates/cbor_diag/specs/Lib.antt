@@ -12,6 +12,8 @@ pub mod Counting
 pub mod Stack
 pub mod Answer
 pub mod HexText
+pub mod Notation
+pub mod NotationReading
 pub mod Examples
 pub mod Comments
 pub mod Pieces
@@ -24,3 +26,4 @@ pub mod Compact
 pub mod Pretty
 pub mod Normal
 pub mod Facts
+pub mod NotationRefused

@@ -4,3 +4,5 @@ mod dump;
 mod encoding;
 mod head;
 mod notation;
+
+pub(crate) use bytes::push_items;

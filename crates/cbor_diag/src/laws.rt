@@ -9,6 +9,9 @@ ghost use Rattle.cbor_diag.specs.Answer.{OneOutcome};
 ghost use Rattle.cbor_diag.specs.declared.error.Error.{Error};
 ghost use Rattle.cbor_diag.specs.Refused.{Cut, Fault};
 ghost use Rattle.cbor_diag.specs.Turns.{cut_spent, fault_spent};
+ghost use Rattle.cbor_diag.specs.NotationReading.{notation_of};
+ghost use Rattle.cbor_diag.specs.NotationRefused.{IsAnswered};
+ghost use Rattle.cbor_diag.specs.Notation.{ReadsUnder};
 
 /// Of any bytes, read from any level from 1 to 129, exactly one of three holds: some first bytes spell
 /// one item, they are cut, or they have one fault.
@@ -36,4 +39,15 @@ pub(crate) fn one_count_of_turns()
     ensures cut { (level : ℕ) (b : List ℕ) (c d : Cut level b) → cut_spent c ≡ cut_spent d }
     ensures fault { (level : ℕ) (b : List ℕ) (e : Error) (f g : Fault level b e)
         → fault_spent f ≡ fault_spent g }
+{}
+
+/// What reading a text as notation answers holds of it, under any limit of levels.
+pub(crate) fn notation_read()
+    ensures { (limit : ℕ) (text : List ℕ) → IsAnswered limit text (notation_of limit text) }
+{}
+
+/// A text in diagnostic notation is at most one item, whatever the limits on levels that it is read under.
+pub(crate) fn one_reading()
+    ensures { (limit other : ℕ) (text : List ℕ) (i j : Item) → ReadsUnder limit text i
+        → ReadsUnder other text j → i ≡ j }
 {}

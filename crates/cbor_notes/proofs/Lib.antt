@@ -21,8 +21,10 @@ pub mod Places
 pub mod Trees
 pub mod Contents
 pub mod Longest
+pub mod NumberFronts
 pub mod NumberRuns
 pub mod Numbers
 pub mod Quoted
 pub mod Spaced
 pub mod TextPlaces
+pub mod NumberParts

@@ -96,7 +96,7 @@ fn push_item(out: &mut Vec<u8>, item: &DataItem) -> Result<(), AllocError>
 
 /// Writes items one after the other.
 #[cycle(push)]
-fn push_items(out: &mut Vec<u8>, items: &Vec<DataItem>) -> Result<(), AllocError>
+pub(crate) fn push_items(out: &mut Vec<u8>, items: &Vec<DataItem>) -> Result<(), AllocError>
     requires { (level : ℕ) × WellFormedItems level (items_view items.now.items) }
     ensures { OnOk result (out.new.items ≡ out.old.items ++ encoded_items (items_view items.now.items)) }
 {

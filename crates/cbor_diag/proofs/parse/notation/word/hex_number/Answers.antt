@@ -1,0 +1,12 @@
+use Rattle.std.proofs.Common.{arith}
+use Rattle.cbor_diag.proofs.NotationTokens.{numeral-hex_after, room_for_digit}
+use Rattle.cbor_diag.proofs.parse.notation.word.hex_number.Goals as goal
+
+pub digits-init : goal.digits-init
+digits-init c = (numeral-hex_after c.args.digits.now c.if-is_empty.ensures, omega arith)
+
+pub overflow_mul-number : goal.overflow_mul-number
+overflow_mul-number c = omega (arith, room_for_digit c.digits.number c.digits.digit-index c.digits.invariant.1 (omega arith))
+
+pub overflow_add-number : goal.overflow_add-number
+overflow_add-number c = omega (arith, room_for_digit c.digits.number c.digits.digit-index c.digits.invariant.1 (omega arith), c.in_ok-to_digit.ensures.value)

@@ -1,0 +1,208 @@
+//! Reads an item from diagnostic notation (RFC 7049 section 6), by recursion over the levels of nesting.
+//!
+//! Each private function takes the text that is left, as bytes of UTF-8, and gives a value with the text
+//! after it, or the first refusal from the left. The text is read once: what stands next is told by its
+//! first byte, but for `''_` and `""_`, and for a list's last comma, behind which whitespace and the close
+//! are looked for.
+mod content;
+mod number;
+mod scan;
+mod start;
+mod strings;
+mod word;
+
+ghost use Rattle.std.specs.Prelude.{◌≡◌, ◌-◌, ◌+◌, ◌<◌, ◌≤◌, length, map, IfOk};
+ghost use Rattle.cbor_diag.specs.Head.{FitsWidth};
+ghost use Rattle.cbor_diag.specs.View.{view, items_view, pairs_view};
+ghost use Rattle.cbor_diag.specs.WellFormed.{WellFormed, WellFormedItems, WellFormedPairs};
+ghost use Rattle.cbor_diag.specs.Reading.{Gives};
+ghost use Rattle.cbor_diag.specs.NotationReading.{after_byte, core_at, integer_or_tag, item_at, members_at, notation_of, pair_at};
+
+use crate::error::{Error, Result};
+use crate::syntax::{DEEPEST, DataItem, IntegerWidth, Tag};
+use number::{below_zero_at, sized_at};
+use scan::{after_blank, after_byte, after_word, end_at, expect_byte, length_at};
+use start::Start;
+use std::alloc::Global;
+use strings::{byte_string_at, chunks_at, text_string_at};
+use word::word_at;
+
+/// The item at the front, which stands at `level`, from 1 to 129, with the blanks round it. At level 129
+/// no item can stand.
+#[cycle(diag)]
+fn item_at(alloc: Global, text: &[u8], level: u8) -> Result<(DataItem, &[u8])>
+    requires { level ≤ 129 }
+    ensures gives { Gives (λ x. (view x.0, x.1.now)) result (item_at (129 - level) text.now) }
+    ensures well { IfOk result (λ x. WellFormed level (view x.0)) }
+    ensures shorter { IfOk result (λ x. length x.1.now ≤ length text.now) }
+{
+    if level > DEEPEST {
+        return Err(Error::TooDeep);
+    }
+    let (item, rest) = core_at(alloc, after_blank(text), level + 1)?;
+    Ok((item, after_blank(rest)))
+}
+
+/// The item at the front, without the blanks round it; the items in it stand at `inner`, from 2 to 129.
+#[cycle(diag)]
+fn core_at(alloc: Global, text: &[u8], inner: u8) -> Result<(DataItem, &[u8])>
+    requires low { 1 ≤ inner }
+    requires high { inner ≤ 129 }
+    ensures gives { Gives (λ x. (view x.0, x.1.now)) result (core_at (item_at (129 - inner)) text.now) }
+    ensures well { IfOk result (λ x. WellFormed (inner - 1) (view x.0)) }
+    ensures shorter { IfOk result (λ x. length x.1.now ≤ length text.now) }
+{
+    let [first, rest @ ..] = text else {
+        return Err(Error::Notation);
+    };
+    match Start::of(*first) {
+        Start::Digit => {
+            let ((number, bitwidth), rest) = sized_at(text)?;
+            integer_or_tag(alloc, number, bitwidth, rest, inner)
+        }
+        Start::Minus => {
+            let ((value, bitwidth), rest) = below_zero_at(rest)?;
+            Ok((DataItem::Negative { value, bitwidth }, rest))
+        }
+        Start::Bracket => {
+            let (bitwidth, rest) = length_at(rest);
+            let (content, rest) = items_at(alloc, b']', rest, inner)?;
+            Ok((DataItem::Array { content, bitwidth }, rest))
+        }
+        Start::Brace => {
+            let (bitwidth, rest) = length_at(rest);
+            let (content, rest) = pairs_at(alloc, rest, inner)?;
+            Ok((DataItem::Map { content, bitwidth }, rest))
+        }
+        Start::Parenthesis => chunks_at(alloc, rest, inner),
+        Start::Apostrophe | Start::Angle | Start::LetterB | Start::LetterH => {
+            if let Some(rest) = after_word(text, b"''_") {
+                return Ok((DataItem::IndefiniteByteString(Vec::new(alloc)), rest));
+            }
+            let (string, rest) = byte_string_at(alloc, text, inner)?;
+            Ok((DataItem::ByteString(string), rest))
+        }
+        Start::Quote => {
+            if let Some(rest) = after_word(text, b"\"\"_") {
+                return Ok((DataItem::IndefiniteTextString(Vec::new(alloc)), rest));
+            }
+            let (string, rest) = text_string_at(alloc, text, inner)?;
+            Ok((DataItem::TextString(string), rest))
+        }
+        Start::Other => word_at(text),
+    }
+}
+
+/// An integer, or a tag where a parenthesis follows its number.
+#[cycle(diag)]
+fn integer_or_tag(
+    alloc: Global,
+    number: u64,
+    bitwidth: IntegerWidth,
+    text: &[u8],
+    inner: u8,
+) -> Result<(DataItem, &[u8])>
+    requires low { 1 ≤ inner }
+    requires high { inner ≤ 129 }
+    requires fits { FitsWidth bitwidth number }
+    ensures gives { Gives (λ x. (view x.0, x.1.now)) result
+        (integer_or_tag (item_at (129 - inner)) number bitwidth text.now (after_byte 40 text.now)) }
+    ensures well { IfOk result (λ x. WellFormed (inner - 1) (view x.0)) }
+    ensures shorter { IfOk result (λ x. length x.1.now ≤ length text.now) }
+{
+    let Some(rest) = after_byte(text, b'(') else {
+        let value = number;
+        return Ok((DataItem::Integer { value, bitwidth }, text));
+    };
+    let (value, rest) = item_at(alloc, rest, inner)?;
+    let rest = expect_byte(rest, b')')?;
+    let (tag, value) = (Tag(number), Box::new(alloc, value)?);
+    Ok((
+        DataItem::Tag {
+            tag,
+            bitwidth,
+            value,
+        },
+        rest,
+    ))
+}
+
+/// The items of a list behind its opening, up to its close.
+#[cycle(diag)]
+fn items_at(alloc: Global, close: u8, text: &[u8], level: u8) -> Result<(Vec<DataItem>, &[u8])>
+    requires { level ≤ 129 }
+    ensures gives { Gives (λ x. (map view x.0.items, x.1.now)) result
+        (members_at (item_at (129 - level)) close text.now) }
+    ensures well { IfOk result (λ x. WellFormedItems level (items_view x.0.items)) }
+    ensures shorter { IfOk result (λ x. length x.1.now ≤ length text.now) }
+{
+    let mut items = Vec::new(alloc);
+    let mut rest = after_blank(text);
+    if let Some(after) = end_at(rest, close) {
+        return Ok((items, after));
+    }
+    'items: loop {
+        let (item, after) = item_at(alloc, rest, level)?;
+        items.push(item)?;
+        if let Some(end) = end_at(after, close) {
+            return Ok((items, end));
+        }
+        rest = expect_byte(after, b',')?;
+    }
+}
+
+/// The pairs of a map behind its opening, up to its close.
+#[cycle(diag)]
+fn pairs_at(
+    alloc: Global,
+    text: &[u8],
+    level: u8,
+) -> Result<(Vec<(DataItem, DataItem)>, &[u8])>
+    requires { level ≤ 129 }
+    ensures gives { Gives (λ x. (map (λ p. (view p.0, view p.1)) x.0.items, x.1.now)) result
+        (members_at (pair_at (item_at (129 - level))) 125 text.now) }
+    ensures well { IfOk result (λ x. WellFormedPairs level (pairs_view x.0.items)) }
+    ensures shorter { IfOk result (λ x. length x.1.now ≤ length text.now) }
+{
+    let mut pairs = Vec::new(alloc);
+    let mut rest = after_blank(text);
+    if let Some(after) = end_at(rest, b'}') {
+        return Ok((pairs, after));
+    }
+    'pairs: loop {
+        let (pair, after) = pair_at(alloc, rest, level)?;
+        pairs.push(pair)?;
+        if let Some(end) = end_at(after, b'}') {
+            return Ok((pairs, end));
+        }
+        rest = expect_byte(after, b',')?;
+    }
+}
+
+/// A key, `:` and its value.
+#[cycle(diag)]
+fn pair_at(alloc: Global, text: &[u8], level: u8) -> Result<((DataItem, DataItem), &[u8])>
+    requires { level ≤ 129 }
+    ensures gives { Gives (λ x. ((view x.0.0, view x.0.1), x.1.now)) result
+        (pair_at (item_at (129 - level)) text.now) }
+    ensures well_key { IfOk result (λ x. WellFormed level (view x.0.0)) }
+    ensures well_value { IfOk result (λ x. WellFormed level (view x.0.1)) }
+    ensures shorter { IfOk result (λ x. length x.1.now ≤ length text.now) }
+{
+    let (key, rest) = item_at(alloc, text, level)?;
+    let rest = expect_byte(rest, b':')?;
+    let (value, rest) = item_at(alloc, rest, level)?;
+    Ok(((key, value), rest))
+}
+
+/// Reads one item from diagnostic notation.
+pub fn parse_diag(alloc: Global, text: &str) -> Result<DataItem>
+    ensures gives { Gives view result (notation_of 128 text.now) }
+    ensures well_formed { IfOk result (λ i. WellFormed 1 (view i)) }
+{
+    let (item, rest) = item_at(alloc, text.as_bytes(), 1)?;
+    if !rest.is_empty() {
+        return Err(Error::Notation);
+    }
+    Ok(item)
+}

@@ -1,0 +1,108 @@
+//! What stands between quotes: text with escapes, and digits with blanks.
+ghost use Rattle.std.specs.Prelude.{◌≡◌, ◌≢◌, ◌⊎◌, ◌<◌, ◌≤◌, length, codes, true, false, IfOk, IfSome, Some, None, Err, option_map};
+ghost use Rattle.cbor_diag.specs.Reading.{Gives, Fails};
+ghost use Rattle.cbor_notes.specs.TokenReading.{unquoted, digits_of};
+ghost use Rattle.cbor_diag.specs.NotationReading.{or_refused, base16_of, base32_of, base32hex_of, base64_of, decoded_at, h_notation, b_notation};
+
+use super::scan::after_word;
+use crate::error::{Error, Result};
+use hex::FromHexError;
+use std::alloc::Global;
+
+/// The content up to the closing quote, without its escapes.
+pub(super) fn quoted_at(alloc: Global, text: &[u8], quote: u8) -> Result<(Vec<u8>, &[u8])>
+    requires { (quote ≡ 34) ⊎ (quote ≡ 39) }
+    ensures gives { Gives (λ x. (x.0.items, x.1.now)) result (or_refused (unquoted quote false text.now)) }
+    ensures shorter { IfOk result (λ x. length x.1.now < length text.now) }
+{
+    match cbor_notes::quoted_at(alloc, text, 0, quote)? {
+        Some((content, end)) => Ok((content, &text[end..])),
+        None => Err(Error::Notation),
+    }
+}
+
+/// The digits up to the closing apostrophe, without the blanks between them.
+fn digits_at(alloc: Global, text: &[u8], comments: bool) -> Result<(Vec<u8>, &[u8])>
+    ensures gives { Gives (λ x. (x.0.items, x.1.now)) result (or_refused (digits_of comments text.now)) }
+    ensures shorter { IfOk result (λ x. length x.1.now < length text.now) }
+{
+    match cbor_notes::digits_at(alloc, text, 0, comments)? {
+        Some((digits, end)) => Ok((digits, &text[end..])),
+        None => Err(Error::Notation),
+    }
+}
+
+/// The bytes of hex digits, two for each, of either case.
+fn base16(alloc: Global, digits: Vec<u8>) -> Result<Vec<u8>>
+    ensures { Gives (λ x. x.items) result (or_refused (base16_of digits.items)) }
+{
+    match hex::decode(alloc, digits) {
+        Ok(bytes) => Ok(bytes),
+        Err(FromHexError::OutOfMemory) => Err(Error::Memory),
+        Err(_) => Err(Error::Notation),
+    }
+}
+
+/// The bytes that base 32 digits encode.
+fn base32(alloc: Global, digits: &[u8]) -> Result<Vec<u8>>
+    ensures { Gives (λ x. x.items) result (or_refused (base32_of digits.now)) }
+{
+    match cbor_notes::base32_decode(alloc, digits)? {
+        Some(bytes) => Ok(bytes),
+        None => Err(Error::Notation),
+    }
+}
+
+/// The bytes that digits of base 32 with the extended hex alphabet encode.
+fn base32hex(alloc: Global, digits: &[u8]) -> Result<Vec<u8>>
+    ensures { Gives (λ x. x.items) result (or_refused (base32hex_of digits.now)) }
+{
+    match cbor_notes::base32hex_decode(alloc, digits)? {
+        Some(bytes) => Ok(bytes),
+        None => Err(Error::Notation),
+    }
+}
+
+/// The bytes that base 64 digits encode, in the alphabet for URLs without padding or in the standard one
+/// with it.
+fn base64(alloc: Global, digits: &[u8]) -> Result<Vec<u8>>
+    ensures { Gives (λ x. x.items) result (or_refused (base64_of digits.now)) }
+{
+    match cbor_notes::base64_any_decode(alloc, digits)? {
+        Some(bytes) => Ok(bytes),
+        None => Err(Error::Notation),
+    }
+}
+
+/// The bytes of `h'..'` or `h32'..'` behind the `h`.
+pub(super) fn h_notation(alloc: Global, text: &[u8]) -> Result<(Vec<u8>, &[u8])>
+    ensures gives { Gives (λ x. (x.0.items, x.1.now)) result (h_notation text.now) }
+    ensures shorter { IfOk result (λ x. length x.1.now < length text.now) }
+{
+    if let Some(quoted) = after_word(text, b"'") {
+        let (digits, rest) = digits_at(alloc, quoted, true)?;
+        Ok((base16(alloc, digits)?, rest))
+    } else if let Some(quoted) = after_word(text, b"32'") {
+        let (digits, rest) = digits_at(alloc, quoted, true)?;
+        Ok((base32hex(alloc, &digits)?, rest))
+    } else {
+        Err(Error::Notation)
+    }
+}
+
+/// The bytes of `b32'..'` or `b64'..'` behind the `b`. In base 64 a `/` is a digit, so no comment stands
+/// there.
+pub(super) fn b_notation(alloc: Global, text: &[u8]) -> Result<(Vec<u8>, &[u8])>
+    ensures gives { Gives (λ x. (x.0.items, x.1.now)) result (b_notation text.now) }
+    ensures shorter { IfOk result (λ x. length x.1.now < length text.now) }
+{
+    if let Some(quoted) = after_word(text, b"32'") {
+        let (digits, rest) = digits_at(alloc, quoted, true)?;
+        Ok((base32(alloc, &digits)?, rest))
+    } else if let Some(quoted) = after_word(text, b"64'") {
+        let (digits, rest) = digits_at(alloc, quoted, false)?;
+        Ok((base64(alloc, &digits)?, rest))
+    } else {
+        Err(Error::Notation)
+    }
+}

@@ -1,0 +1,71 @@
+//! Numbers, and the widths that they state.
+ghost use Rattle.std.specs.Prelude.{◌≡◌, ◌≢◌, ◌<◌, ◌≤◌, ℕ, length, IfOk, IfErr, Ok, Err, MatchResult};
+ghost use Rattle.cbor_notes.specs.Token.{capped};
+ghost use Rattle.cbor_diag.specs.Head.{FitsWidth};
+ghost use Rattle.cbor_diag.specs.Reading.{Gives};
+ghost use Rattle.cbor_diag.specs.NotationReading.{number_at, sized, sized_at, below_zero_at};
+
+use crate::error::{Error, Result};
+use crate::syntax::IntegerWidth;
+
+/// The value and the indicator of the longest number at the front; a value past 2^64 is 2^64 + 1.
+pub(super) fn number_at(text: &[u8]) -> Result<((u128, Option<u8>), &[u8])>
+    ensures gives { MatchResult result
+        (λ x. (value : ℕ) × (number_at text.now ≡ Ok ((value, x.0.1), x.1.now)) × (x.0.0 ≡ capped value))
+        (λ e. (e ≡ Error.Notation) × (number_at text.now ≡ Err Error.Notation)) }
+    ensures shorter { IfOk result (λ x. length x.1.now < length text.now) }
+{
+    match cbor_notes::number_at(text, 0) {
+        Some((value, indicator, end)) => Ok(((value, indicator), &text[end..])),
+        None => Err(Error::Notation),
+    }
+}
+
+/// A number and its width: the stated one, or without an indicator that of the first byte up to 23 and an
+/// open one for any other. It has to fit.
+fn sized(number: u128, indicator: Option<u8>) -> Result<(u64, IntegerWidth)>
+    ensures gives { Gives (λ x. (x.0, x.1)) result (sized number indicator) }
+    ensures fits { IfOk result (λ x. FitsWidth x.1 x.0) }
+    ensures memory { result ≢ Err Error.Memory }
+{
+    let (width, past) = match indicator {
+        None if number < 24 => (IntegerWidth::Zero, 24),
+        None => (IntegerWidth::Unknown, 1 << 64),
+        Some(0) => (IntegerWidth::Eight, 1 << 8),
+        Some(1) => (IntegerWidth::Sixteen, 1 << 16),
+        Some(2) => (IntegerWidth::ThirtyTwo, 1 << 32),
+        Some(_) => (IntegerWidth::SixtyFour, 1 << 64),
+    };
+    if number < past {
+        Ok((number as u64, width))
+    } else if indicator.is_none() {
+        Err(Error::Notation)
+    } else {
+        Err(Error::PastWidth)
+    }
+}
+
+/// An integer or a tag's number at the front.
+pub(super) fn sized_at(text: &[u8]) -> Result<((u64, IntegerWidth), &[u8])>
+    ensures gives { Gives (λ x. ((x.0.0, x.0.1), x.1.now)) result
+        (sized_at text.now) }
+    ensures fits { IfOk result (λ x. FitsWidth x.0.1 x.0.0) }
+    ensures shorter { IfOk result (λ x. length x.1.now < length text.now) }
+{
+    let ((number, indicator), rest) = number_at(text)?;
+    Ok((sized(number, indicator)?, rest))
+}
+
+/// The number that is encoded for a negative one, which is one less than what stands behind the `-`.
+pub(super) fn below_zero_at(text: &[u8]) -> Result<((u64, IntegerWidth), &[u8])>
+    ensures gives { Gives (λ x. ((x.0.0, x.0.1), x.1.now)) result
+        (below_zero_at text.now) }
+    ensures fits { IfOk result (λ x. FitsWidth x.0.1 x.0.0) }
+    ensures shorter { IfOk result (λ x. length x.1.now < length text.now) }
+{
+    let ((number, indicator), rest) = number_at(text)?;
+    if number == 0 {
+        return Err(Error::Notation);
+    }
+    Ok((sized(number - 1, indicator)?, rest))
+}

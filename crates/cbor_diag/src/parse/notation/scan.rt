@@ -1,0 +1,92 @@
+//! What stands between the items of a text: blanks, commas, and what closes a list.
+ghost use Rattle.std.specs.Prelude.{◌≡◌, ◌≢◌, ◌<◌, ◌≤◌, length, IfOk, IfSome, Err, option_map};
+ghost use Rattle.cbor_notes.specs.Token.{is_whitespace};
+ghost use Rattle.cbor_diag.specs.Reading.{Gives};
+ghost use Rattle.cbor_diag.specs.NotationReading.{or_refused, blank_at, after_byte, after_word, after_space, end_at, length_at};
+
+use crate::error::{Error, Result};
+use crate::syntax::IntegerWidth;
+
+/// Whether a byte is a space, a tab, a line feed or a carriage return.
+fn is_whitespace(byte: u8) -> bool
+    ensures { result ≡ is_whitespace byte }
+{
+    matches!(byte, b' ' | b'\t' | b'\n' | b'\r')
+}
+
+/// The text behind the longest blank at its front.
+pub(super) fn after_blank(text: &[u8]) -> &[u8]
+    ensures gives { result.now ≡ blank_at text.now }
+    ensures shorter { length result.now ≤ length text.now }
+{
+    &text[cbor_notes::blank_end(text, 0)..]
+}
+
+/// The text behind this byte, where it begins with it.
+pub(super) fn after_byte(text: &[u8], byte: u8) -> Option<&[u8]>
+    ensures gives { option_map (λ x. x.now) result ≡ after_byte byte text.now }
+    ensures shorter { IfSome result (λ x. length x.now < length text.now) }
+{
+    match text {
+        [first, rest @ ..] if *first == byte => Some(rest),
+        _ => None,
+    }
+}
+
+/// The text behind this byte, which is wanted here.
+pub(super) fn expect_byte(text: &[u8], byte: u8) -> Result<&[u8]>
+    ensures gives { Gives (λ x. x.now) result (or_refused (after_byte byte text.now)) }
+    ensures shorter { IfOk result (λ x. length x.now < length text.now) }
+{
+    match after_byte(text, byte) {
+        Some(rest) => Ok(rest),
+        None => Err(Error::Notation),
+    }
+}
+
+/// The text behind this word, where it begins with it.
+pub(super) fn after_word<'a>(text: &'a [u8], word: &[u8]) -> Option<&'a [u8]>
+    ensures gives { option_map (λ x. x.now) result ≡ after_word word.now text.now }
+    ensures shorter { IfSome result (λ x. length x.now ≤ length text.now) }
+{
+    if text.starts_with(word) {
+        Some(&text[word.len()..])
+    } else {
+        None
+    }
+}
+
+/// The text behind whitespace, which is wanted here, and the close of a list after it.
+fn after_space(text: &[u8], close: u8) -> Option<&[u8]>
+    ensures gives { option_map (λ x. x.now) result ≡ after_space close text.now }
+    ensures shorter { IfSome result (λ x. length x.now < length text.now) }
+{
+    let spaces = text.iter().position(|byte| !is_whitespace(*byte))?;
+    if spaces == 0 {
+        return None;
+    }
+    after_byte(&text[spaces..], close)
+}
+
+/// The text behind what closes a list, where that stands here: its close, or a last comma, whitespace and
+/// the close.
+pub(super) fn end_at(text: &[u8], close: u8) -> Option<&[u8]>
+    ensures gives { option_map (λ x. x.now) result ≡ end_at close text.now }
+    ensures shorter { IfSome result (λ x. length x.now < length text.now) }
+{
+    match text {
+        [b',', rest @ ..] => after_space(rest, close),
+        _ => after_byte(text, close),
+    }
+}
+
+/// The width of a container's count, open or, after `_`, none, and the text behind that.
+pub(super) fn length_at(text: &[u8]) -> (Option<IntegerWidth>, &[u8])
+    ensures gives { let answer = length_at text.now in (result.0 ≡ answer.0) × (result.1.now ≡ answer.1) }
+    ensures shorter { length result.1.now ≤ length text.now }
+{
+    match after_byte(text, b'_') {
+        Some(rest) => (None, rest),
+        None => (Some(IntegerWidth::Unknown), text),
+    }
+}

@@ -1,0 +1,252 @@
+//! Strings in pieces, and the chunks of indefinite ones.
+ghost use Rattle.std.specs.Prelude.{◌≡◌, ◌-◌, ◌++◌, ◌<◌, ◌≤◌, ℕ, Some, suc, length, map, IfOk, Ok, OnOk, true, false};
+ghost use Rattle.std.specs.List.{AllByRecursion};
+ghost use Rattle.cbor_diag.specs.declared.syntax.IntegerWidth.TheVariants.{Unknown};
+ghost use Rattle.cbor_diag.specs.View.{view, items_view, byte_chunk, text_chunk};
+ghost use Rattle.cbor_diag.specs.WellFormed.{WellFormed, WellFormedItems, IsByteChunk, IsTextChunk};
+ghost use Rattle.cbor_diag.specs.Bytes.{bytes_kind, text_kind};
+ghost use Rattle.cbor_diag.specs.Written.{encoded_items};
+ghost use Rattle.cbor_diag.specs.Reading.{Gives};
+ghost use Rattle.cbor_diag.specs.NotationReading.{begins_piece, begins_string, checked, chunk_at, chunks_at, embedded_at, first_start, item_at, members_at, piece_at, pieces_at, string_at};
+
+use super::content::{b_notation, h_notation, quoted_at};
+use super::items_at;
+use super::scan::{after_blank, end_at, expect_byte};
+use super::start::Start;
+use crate::encode::push_items;
+use crate::error::Error;
+use crate::syntax::{ByteString, DataItem, IntegerWidth, TextString};
+use std::alloc::{AllocError, Global};
+
+impl Start {
+    /// What the text begins with.
+    fn of_text(text: &[u8]) -> Start
+        ensures { result ≡ first_start text.now }
+    {
+        match text {
+            [] => Start::Other,
+            [first, ..] => Start::of(*first),
+        }
+    }
+
+    /// Whether a piece of a string begins so; `texts` is whether texts may be pieces.
+    fn begins_piece(self, texts: bool) -> bool
+        ensures { result ≡ begins_piece texts self }
+    {
+        match self {
+            Start::Quote => texts,
+            Start::Apostrophe | Start::Angle | Start::LetterB | Start::LetterH => true,
+            Start::Parenthesis
+            | Start::Minus
+            | Start::Digit
+            | Start::Bracket
+            | Start::Brace
+            | Start::Other => false,
+        }
+    }
+}
+
+/// A byte string of an open width.
+fn byte_string(content: Vec<u8>) -> ByteString
+    ensures gives { Ok (byte_chunk result) ≡ checked bytes_kind content.items }
+    ensures well { IsByteChunk (byte_chunk result) }
+{
+    let _content = content.as_slice();
+    ByteString {
+        content,
+        bitwidth: IntegerWidth::Unknown,
+    }
+}
+
+/// A text string of an open width, where the content is UTF-8.
+#[tactic(auto, using(crate::proofs::Utf8::utf8_fails, crate::proofs::Utf8::utf8_passes))]
+fn text_string(content: Vec<u8>) -> crate::Result<TextString>
+    ensures gives { Gives (λ x. text_chunk x) result (checked text_kind content.items) }
+    ensures well { IfOk result (λ x. IsTextChunk (text_chunk x)) }
+{
+    let Ok(content) = String::from_utf8(content) else {
+        return Err(Error::Utf8);
+    };
+    let _content = content.as_str();
+    Ok(TextString {
+        content,
+        bitwidth: IntegerWidth::Unknown,
+    })
+}
+
+/// Adds bytes to some content, of which there is often none before.
+fn append(content: &mut Vec<u8>, bytes: Vec<u8>) -> Result<(), AllocError>
+    ensures { OnOk result (content.new.items ≡ content.old.items ++ bytes.items) }
+{
+    if content.is_empty() {
+        *content = bytes;
+    } else {
+        content.extend_from_slice(&bytes)?;
+    }
+    Ok(())
+}
+
+/// The encodings of items, one after the other.
+fn encoded(alloc: Global, items: &Vec<DataItem>) -> Result<Vec<u8>, AllocError>
+    requires { (level : ℕ) × WellFormedItems level (items_view items.now.items) }
+    ensures { IfOk result (λ bytes. bytes.items ≡ encoded_items (items_view items.now.items)) }
+{
+    let mut bytes = Vec::new(alloc);
+    push_items(&mut bytes, items)?;
+    Ok(bytes)
+}
+
+/// Items behind the first `<` of `<<`, up to their `>>`, in bytes.
+#[cycle(diag)]
+fn embedded_at(alloc: Global, text: &[u8], inner: u8) -> crate::Result<(Vec<u8>, &[u8])>
+    requires { inner ≤ 129 }
+    ensures gives { Gives (λ x. (x.0.items, x.1.now)) result (embedded_at (item_at (129 - inner)) text.now) }
+    ensures shorter { IfOk result (λ x. length x.1.now < length text.now) }
+{
+    let rest = expect_byte(text, b'<')?;
+    let (items, rest) = items_at(alloc, b'>', rest, inner)?;
+    let rest = expect_byte(rest, b'>')?;
+    Ok((encoded(alloc, &items)?, rest))
+}
+
+/// A piece of a string: a text, or a notation of bytes, whose items stand at `inner`.
+#[cycle(diag)]
+fn piece_at(alloc: Global, text: &[u8], inner: u8) -> crate::Result<(Vec<u8>, &[u8])>
+    requires { inner ≤ 129 }
+    ensures gives { Gives (λ x. (x.0.items, x.1.now)) result (piece_at (item_at (129 - inner)) text.now) }
+    ensures shorter { IfOk result (λ x. length x.1.now < length text.now) }
+{
+    let [first, rest @ ..] = text else {
+        return Err(Error::Notation);
+    };
+    match Start::of(*first) {
+        Start::Quote => quoted_at(alloc, rest, b'"'),
+        Start::Apostrophe => quoted_at(alloc, rest, b'\''),
+        Start::Angle => embedded_at(alloc, rest, inner),
+        Start::LetterB => b_notation(alloc, rest),
+        Start::LetterH => h_notation(alloc, rest),
+        _ => Err(Error::Notation),
+    }
+}
+
+/// The pieces from here on, with blanks between them and after them; `texts` is whether texts may be
+/// pieces.
+#[cycle(diag)]
+fn pieces_at(alloc: Global, texts: bool, text: &[u8], inner: u8) -> crate::Result<(Vec<u8>, &[u8])>
+    requires { inner ≤ 129 }
+    ensures gives { Gives (λ x. (x.0.items, x.1.now)) result
+        (pieces_at (item_at (129 - inner)) texts (suc (length text.now)) text.now) }
+    ensures shorter { IfOk result (λ x. length x.1.now ≤ length text.now) }
+{
+    let mut content = Vec::new(alloc);
+    let mut rest = text;
+    'pieces: while Start::of_text(rest).begins_piece(texts) {
+        let (piece, after) = piece_at(alloc, rest, inner)?;
+        append(&mut content, piece)?;
+        rest = after_blank(after);
+    }
+    Ok((content, rest))
+}
+
+/// A byte string of definite length, and the blank after it.
+#[cycle(diag)]
+pub(super) fn byte_string_at(alloc: Global, text: &[u8], inner: u8) -> crate::Result<(ByteString, &[u8])>
+    requires { inner ≤ 129 }
+    ensures gives { Gives (λ x. (byte_chunk x.0, x.1.now)) result
+        (string_at (item_at (129 - inner)) bytes_kind text.now) }
+    ensures well { IfOk result (λ x. IsByteChunk (byte_chunk x.0)) }
+    ensures shorter { IfOk result (λ x. length x.1.now ≤ length text.now) }
+{
+    if !Start::of_text(text).begins_piece(false) {
+        return Err(Error::Notation);
+    }
+    let (content, rest) = pieces_at(alloc, false, text, inner)?;
+    Ok((byte_string(content), rest))
+}
+
+/// A text string of definite length, and the blank after it.
+#[cycle(diag)]
+pub(super) fn text_string_at(alloc: Global, text: &[u8], inner: u8) -> crate::Result<(TextString, &[u8])>
+    requires { inner ≤ 129 }
+    ensures gives { Gives (λ x. (text_chunk x.0, x.1.now)) result
+        (string_at (item_at (129 - inner)) text_kind text.now) }
+    ensures well { IfOk result (λ x. IsTextChunk (text_chunk x.0)) }
+    ensures shorter { IfOk result (λ x. length x.1.now ≤ length text.now) }
+{
+    let Start::Quote = Start::of_text(text) else {
+        return Err(Error::Notation);
+    };
+    let (content, rest) = pieces_at(alloc, true, text, inner)?;
+    Ok((text_string(content)?, rest))
+}
+
+/// The chunks of an indefinite byte string behind its opening, up to its close.
+#[cycle(diag)]
+fn byte_chunks_at(alloc: Global, text: &[u8], inner: u8) -> crate::Result<(Vec<ByteString>, &[u8])>
+    requires { inner ≤ 129 }
+    ensures gives { Gives (λ x. (map byte_chunk x.0.items, x.1.now)) result
+        (members_at (chunk_at (item_at (129 - inner)) bytes_kind) 41 text.now) }
+    ensures well { IfOk result (λ x. AllByRecursion IsByteChunk (map byte_chunk x.0.items)) }
+    ensures shorter { IfOk result (λ x. length x.1.now ≤ length text.now) }
+{
+    let mut chunks = Vec::new(alloc);
+    let mut rest = after_blank(text);
+    if let Some(after) = end_at(rest, b')') {
+        return Ok((chunks, after));
+    }
+    'chunks: loop {
+        let (chunk, after) = byte_string_at(alloc, after_blank(rest), inner)?;
+        chunks.push(chunk)?;
+        if let Some(end) = end_at(after, b')') {
+            return Ok((chunks, end));
+        }
+        rest = expect_byte(after, b',')?;
+    }
+}
+
+/// The chunks of an indefinite text string behind its opening, up to its close.
+#[cycle(diag)]
+fn text_chunks_at(alloc: Global, text: &[u8], inner: u8) -> crate::Result<(Vec<TextString>, &[u8])>
+    requires { inner ≤ 129 }
+    ensures gives { Gives (λ x. (map text_chunk x.0.items, x.1.now)) result
+        (members_at (chunk_at (item_at (129 - inner)) text_kind) 41 text.now) }
+    ensures well { IfOk result (λ x. AllByRecursion IsTextChunk (map text_chunk x.0.items)) }
+    ensures shorter { IfOk result (λ x. length x.1.now ≤ length text.now) }
+{
+    let mut chunks = Vec::new(alloc);
+    let mut rest = after_blank(text);
+    if let Some(after) = end_at(rest, b')') {
+        return Ok((chunks, after));
+    }
+    'chunks: loop {
+        let (chunk, after) = text_string_at(alloc, after_blank(rest), inner)?;
+        chunks.push(chunk)?;
+        if let Some(end) = end_at(after, b')') {
+            return Ok((chunks, end));
+        }
+        rest = expect_byte(after, b',')?;
+    }
+}
+
+/// An indefinite string behind its `(`. Its first chunk tells its kind, and without chunks it is one of
+/// bytes.
+#[cycle(diag)]
+pub(super) fn chunks_at(alloc: Global, text: &[u8], inner: u8) -> crate::Result<(DataItem, &[u8])>
+    requires low { 1 ≤ inner }
+    requires high { inner ≤ 129 }
+    ensures gives { Gives (λ x. (view x.0, x.1.now)) result (chunks_at (item_at (129 - inner)) text.now) }
+    ensures well { IfOk result (λ x. WellFormed (inner - 1) (view x.0)) }
+    ensures shorter { IfOk result (λ x. length x.1.now ≤ length text.now) }
+{
+    let rest = after_blank(expect_byte(text, b'_')?);
+    match Start::of_text(rest) {
+        Start::Quote => {
+            let (chunks, rest) = text_chunks_at(alloc, rest, inner)?;
+            Ok((DataItem::IndefiniteTextString(chunks), rest))
+        }
+        _ => {
+            let (chunks, rest) = byte_chunks_at(alloc, rest, inner)?;
+            Ok((DataItem::IndefiniteByteString(chunks), rest))
+        }
+    }
+}

@@ -1,0 +1,113 @@
+//! Simple values and floats.
+ghost use Rattle.std.specs.Prelude.{◌≡◌, ◌<◌, ◌≤◌, ℕ, length, nat_lt, IfOk};
+ghost use Rattle.std.specs.List.{list_all};
+ghost use Rattle.std.specs.Char.{digit_value};
+ghost use Rattle.cbor_diag.specs.View.{view};
+ghost use Rattle.cbor_diag.specs.WellFormed.{deepest, WellFormed};
+ghost use Rattle.cbor_diag.specs.Reading.{Gives};
+ghost use Rattle.cbor_diag.specs.NotationReading.{numeral, named_at, simple_at, float_of, float_at, word_at};
+
+use super::number::number_at;
+use super::scan::{after_word, expect_byte};
+use crate::error::{Error, Result};
+use crate::syntax::{DataItem, FloatWidth, Simple};
+
+/// Whether all of them are decimal digits.
+fn are_decimal(digits: &[u8]) -> bool
+    ensures { result ≡ list_all (λ c. nat_lt (digit_value c) 10) digits.now }
+{
+    digits.iter().all(|digit| char::from(*digit).is_digit(10))
+}
+
+/// A simple value behind `simple(`: decimal digits of a value below 256, and `)`.
+fn simple_at(text: &[u8]) -> Result<(DataItem, &[u8])>
+    ensures gives { Gives (λ x. (view x.0, x.1.now)) result (simple_at text.now) }
+    ensures well { IfOk result (λ x. (level : ℕ) → level ≤ deepest → WellFormed level (view x.0)) }
+    ensures shorter { IfOk result (λ x. length x.1.now < length text.now) }
+{
+    let ((value, _), rest) = number_at(text)?;
+    if value > 255 || !are_decimal(&text[..text.len() - rest.len()]) {
+        return Err(Error::Notation);
+    }
+    let rest = expect_byte(rest, b')')?;
+    Ok((DataItem::Simple(Simple(value as u8)), rest))
+}
+
+impl FloatWidth {
+    /// The width of a float of so many hex digits.
+    fn of_digits(count: usize) -> Option<FloatWidth>
+        ensures { result ≡ float_of count }
+    {
+        match count {
+            4 => Some(FloatWidth::Sixteen),
+            8 => Some(FloatWidth::ThirtyTwo),
+            16 => Some(FloatWidth::SixtyFour),
+            _ => None,
+        }
+    }
+}
+
+/// The number that at most sixteen hex digits write, of either case.
+fn hex_number(digits: &[u8]) -> Option<u64>
+    requires { length digits.now ≤ 16 }
+    ensures { result ≡ numeral 16 digits.now }
+{
+    if digits.is_empty() {
+        return None;
+    }
+    let mut number = 0;
+    'digits: for digit in digits {
+        number = number * 16 + u64::from(char::from(*digit).to_digit(16)?);
+    }
+    Some(number)
+}
+
+/// A float behind `float'`: 4, 8 or 16 hex digits and `'`.
+fn float_at(text: &[u8]) -> Result<(DataItem, &[u8])>
+    ensures gives { Gives (λ x. (view x.0, x.1.now)) result (float_at text.now) }
+    ensures well { IfOk result (λ x. (level : ℕ) → level ≤ deepest → WellFormed level (view x.0)) }
+    ensures shorter { IfOk result (λ x. length x.1.now < length text.now) }
+{
+    let Some(count) = text.iter().position(|byte| *byte == b'\'') else {
+        return Err(Error::Notation);
+    };
+    let Some(bitwidth) = FloatWidth::of_digits(count) else {
+        return Err(Error::Notation);
+    };
+    let Some(bits) = hex_number(&text[..count]) else {
+        return Err(Error::Notation);
+    };
+    Ok((DataItem::Float { bits, bitwidth }, &text[count + 1..]))
+}
+
+/// A simple value by its name.
+fn named(value: Simple, rest: &[u8]) -> Result<(DataItem, &[u8])>
+    ensures gives { Gives (λ x. (view x.0, x.1.now)) result (named_at value.0 rest.now) }
+    ensures well { IfOk result (λ x. (level : ℕ) → level ≤ deepest → WellFormed level (view x.0)) }
+    ensures shorter { IfOk result (λ x. length x.1.now ≤ length rest.now) }
+{
+    Ok((DataItem::Simple(value), rest))
+}
+
+/// A simple value or a float at the front.
+pub(super) fn word_at(text: &[u8]) -> Result<(DataItem, &[u8])>
+    ensures gives { Gives (λ x. (view x.0, x.1.now)) result (word_at text.now) }
+    ensures well { IfOk result (λ x. (level : ℕ) → level ≤ deepest → WellFormed level (view x.0)) }
+    ensures shorter { IfOk result (λ x. length x.1.now ≤ length text.now) }
+{
+    if let Some(rest) = after_word(text, b"false") {
+        named(Simple::FALSE, rest)
+    } else if let Some(rest) = after_word(text, b"true") {
+        named(Simple::TRUE, rest)
+    } else if let Some(rest) = after_word(text, b"null") {
+        named(Simple::NULL, rest)
+    } else if let Some(rest) = after_word(text, b"undefined") {
+        named(Simple::UNDEFINED, rest)
+    } else if let Some(rest) = after_word(text, b"simple(") {
+        simple_at(rest)
+    } else if let Some(rest) = after_word(text, b"float'") {
+        float_at(rest)
+    } else {
+        Err(Error::Notation)
+    }
+}
