@@ -24,4 +24,6 @@ mod standard;
 #[cfg(test)]
 mod tags;
 #[cfg(test)]
+mod tokens;
+#[cfg(test)]
 mod written;
