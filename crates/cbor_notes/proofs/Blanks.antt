@@ -1,5 +1,5 @@
 -- Blanks: reading leaves what stands after the longest one.
-use Rattle.std.proofs.Common.{◌≡◌, ◌≢◌, ℕ, suc, ◌+◌, ◌<◌, ◌≤◌, Bool, true, false, ◌==◌, ◌&&◌, ◌||◌, cond, List, [], ◌∷◌, ◌++◌, length, drop, slice_range, Option, Some, None, refl, sym, ap, ◌∙◌, subst, inl, inr, arith, IsTrue}
+use Rattle.std.proofs.Common.{◌≡◌, ◌≢◌, ℕ, suc, ◌+◌, ◌<◌, ◌≤◌, Bool, true, false, ◌==◌, ◌&&◌, ◌||◌, List, [], ◌∷◌, ◌++◌, length, drop, slice_range, Option, Some, None, refl, sym, ap, ◌∙◌, subst, inl, inr, arith, IsTrue}
 use Rattle.std.specs.List.{AllByRecursion, position_or_len}
 use Rattle.std.proofs.lemmas.List.{length-append, append_assoc, append-nil}
 use Rattle.std.proofs.lemmas.Bool.{cond_both, and_parts, or_cases, eqb-true, eqb-false, ne_eqb, cases_Bool, false≢true}
@@ -13,14 +13,14 @@ use Rattle.cbor_notes.proofs.TextPlaces.{part_and_rest, part_is}
 pub at_whitespace : (P : ℕ → Type 0) → P 32 → P 9 → P 10 → P 13 → (byte : ℕ) → IsTrue (is_whitespace byte) → P byte
 at_whitespace P space tab line_feed carriage_return byte is =
     elim (or_cases ((byte == 32) || (byte == 9) || (byte == 10)) (byte == 13) is) [
-      inl early ↦ elim (or_cases ((byte == 32) || (byte == 9)) (byte == 10) early) [
-        inl first ↦ elim (or_cases (byte == 32) (byte == 9) first) [
-          inl e ↦ subst P (sym (eqb-true byte 32 e)) space
-        | inr e ↦ subst P (sym (eqb-true byte 9 e)) tab
+      | inl early ↦ elim (or_cases ((byte == 32) || (byte == 9)) (byte == 10) early) [
+        | inl first ↦ elim (or_cases (byte == 32) (byte == 9) first) [
+          | inl e ↦ subst P (sym (eqb-true byte 32 e)) space
+          | inr e ↦ subst P (sym (eqb-true byte 9 e)) tab
         ]
-      | inr e ↦ subst P (sym (eqb-true byte 10 e)) line_feed
+        | inr e ↦ subst P (sym (eqb-true byte 10 e)) line_feed
       ]
-    | inr e ↦ subst P (sym (eqb-true byte 13 e)) carriage_return
+      | inr e ↦ subst P (sym (eqb-true byte 13 e)) carriage_return
     ]
 
 -- blanks one after the other are a blank
@@ -58,10 +58,11 @@ left_in comments (Some opened) (byte ∷ rest) whole is =
     let words = is.2.0 in
     cond_both (byte == 47) (after_blank_in comments None rest) (after_blank_in comments (Some opened) rest) (Left comments whole)
     (λ closes. let next = left_in comments None rest rest refl in
-    let slash : byte ≡ 47 = eqb-true byte 47 closes in
-    (47 ∷ words ++ 47 ∷ next.0,
-    is.0 ∙ is.2.2 ∙ ap (λ (t : List ℕ). 47 ∷ words ++ t) (ap (λ (b : ℕ). b ∷ rest) slash ∙ ap (λ (t : List ℕ). 47 ∷ t) next.1) ∙ sym (append_assoc (47 ∷ words) (47 ∷ next.0) (after_blank_in comments None rest)),
-    comment words next.0 is.1 is.2.1 next.2 refl))
+    let slash : byte ≡ 47 = eqb-true byte 47 closes in (
+      47 ∷ words ++ 47 ∷ next.0,
+      is.0 ∙ is.2.2 ∙ ap (λ (t : List ℕ). 47 ∷ words ++ t) (ap (λ (b : ℕ). b ∷ rest) slash ∙ ap (λ (t : List ℕ). 47 ∷ t) next.1) ∙ sym (append_assoc (47 ∷ words) (47 ∷ next.0) (after_blank_in comments None rest)),
+      comment words next.0 is.1 is.2.1 next.2 refl,
+    ))
     (λ goes_on. left_in comments (Some opened) rest whole
     (is.0, is.1, (words ++ byte ∷ [], all_push words byte is.2.1 (eqb-false byte 47 goes_on), is.2.2 ∙ sym (append_assoc (47 ∷ words) (byte ∷ []) rest))))
 
@@ -95,8 +96,8 @@ pub longest_left : (comments : Bool) (front rest : List ℕ) → Blank comments 
 longest_left comments front rest is left = record {
   is = is;
   no_longer = λ other after same blank.
-  let read : after_blank comments (front ++ rest) ≡ after_blank comments after = ap (after_blank comments) same ∙ after_blank-append blank after in
-  omega (arith, ap length same, length-append front rest, length-append other after, ap length left, ap length read, length-after_blank comments after);
+      let read : after_blank comments (front ++ rest) ≡ after_blank comments after = ap (after_blank comments) same ∙ after_blank-append blank after in
+      omega (arith, ap length same, length-append front rest, length-append other after, ap length left, ap length read, length-after_blank comments after);
 }
 
 -- and whatever stands after the longest blank is what is left
@@ -134,24 +135,24 @@ pub after_comment : (comments : Bool) (opened rest : List ℕ) (place : ℕ) →
 after_comment comments opened [] place is within = absurd (omega arith)
 after_comment comments opened (byte ∷ rest) place is within =
     elim (cases_Bool (byte == 47)) [
-      inl closes ↦
-        let zero : place ≡ 0 = is ∙ (rw closes refl) in
-        rw (closes, zero) refl
-    | inr goes_on ↦
-        let next : place ≡ suc (position_or_len (λ b. b == 47) rest) = is ∙ (rw (goes_on, one-add (position_or_len (λ b. b == 47) rest)) refl) in
-        let n = position_or_len (λ b. b == 47) rest in
-        let one_on : suc (n + 1) ≡ suc n + 1 = omega arith in
-        rw (goes_on, next) (after_comment comments opened rest n refl (omega arith) ∙ ap (λ (m : ℕ). after_blank comments (drop m (byte ∷ rest))) one_on)
+      | inl closes ↦
+          let zero : place ≡ 0 = is ∙ (rw closes refl) in
+          rw (closes, zero) refl
+      | inr goes_on ↦
+          let next : place ≡ suc (position_or_len (λ b. b == 47) rest) = is ∙ (rw (goes_on, one-add (position_or_len (λ b. b == 47) rest)) refl) in
+          let n = position_or_len (λ b. b == 47) rest in
+          let one_on : suc (n + 1) ≡ suc n + 1 = omega arith in
+          rw (goes_on, next) (after_comment comments opened rest n refl (omega arith) ∙ ap (λ (m : ℕ). after_blank comments (drop m (byte ∷ rest))) one_on)
     ]
 
 pub no_comment : (comments : Bool) (opened rest : List ℕ) → position_or_len (λ b. b == 47) rest ≡ length rest → after_blank_in comments (Some opened) rest ≡ opened
 no_comment comments opened [] is = refl
 no_comment comments opened (byte ∷ rest) is =
     elim (cases_Bool (byte == 47)) [
-      inl closes ↦ let zero : 0 ≡ length (byte ∷ rest) = rw closes at is in absurd (omega arith)
-    | inr goes_on ↦
-        let next : 1 + position_or_len (λ b. b == 47) rest ≡ suc (length rest) = rw goes_on at is in
-        rw goes_on (no_comment comments opened rest (omega arith))
+      | inl closes ↦ let zero : 0 ≡ length (byte ∷ rest) = rw closes at is in absurd (omega arith)
+      | inr goes_on ↦
+          let next : 1 + position_or_len (λ b. b == 47) rest ≡ suc (length rest) = rw goes_on at is in
+          rw goes_on (no_comment comments opened rest (omega arith))
     ]
 
 -- the longest blank by its places

@@ -1,5 +1,5 @@
 -- Digits that are read one after the other, and indicators.
-use Rattle.std.proofs.Common.{◌≡◌, ◌≢◌, ◌⊎◌, ℕ, ◌+◌, ◌*◌, ◌^◌, ◌<◌, ◌≤◌, min, Bool, true, false, ◌==◌, ◌&&◌, cond, nat_lt, nat_le, List, [], ◌∷◌, ◌++◌, length, get_or, drop, Option, Some, None, refl, sym, ap, ◌∙◌, inl, inr, subst, arith}
+use Rattle.std.proofs.Common.{◌≡◌, ℕ, ◌+◌, ◌*◌, ◌^◌, ◌<◌, ◌≤◌, min, true, false, ◌==◌, ◌&&◌, nat_lt, nat_le, List, [], ◌∷◌, ◌++◌, length, get_or, drop, Option, Some, None, refl, sym, ap, ◌∙◌, inl, inr, subst, arith}
 use Rattle.std.specs.Char.{digit_value}
 use Rattle.std.specs.Str.Parse.{AllDigits, digits_value_after, digits_value}
 use Rattle.std.proofs.Math.Nat.{mul-le-mul_left, mul-le-mul_right}
@@ -120,13 +120,13 @@ pub Indicates-indicator_of : (text : List ℕ) (read : ℕ × List ℕ) → indi
 Indicates-indicator_of [] read is = cc is
 Indicates-indicator_of (byte ∷ rest) read is =
     elim (cases_Bool ((byte == 95) && starts_with_digit 4 rest)) [
-      inl opens ↦
-        let parts = and_parts (byte == 95) (starts_with_digit 4 rest) opens in
-        let same : ◌≡◌ {A = Option (ℕ × List ℕ)} (Some (small_run 0 rest)) (Some read) = sym (cond-true _ (Some (small_run 0 rest)) None opens) ∙ is in
-        let run : ◌≡◌ {A = ℕ × List ℕ} (small_run 0 rest) read = cc same in
-        let found = subst (SmallDigits rest) run (some_small rest parts.1) in
-        (95 ∷ found.0, ap (λ (b : ℕ). b ∷ rest) (eqb-true byte 95 parts.0) ∙ ap (λ (t : List ℕ). 95 ∷ t) found.1, (found.0, refl, found.2, found.3))
-    | inr none ↦ let never : ◌≡◌ {A = Option (ℕ × List ℕ)} None (Some read) = sym (cond-false _ (Some (small_run 0 rest)) None none) ∙ is in cc never
+      | inl opens ↦
+          let parts = and_parts (byte == 95) (starts_with_digit 4 rest) opens in
+          let same : ◌≡◌ {A = Option (ℕ × List ℕ)} (Some (small_run 0 rest)) (Some read) = sym (cond-true _ (Some (small_run 0 rest)) None opens) ∙ is in
+          let run : ◌≡◌ {A = ℕ × List ℕ} (small_run 0 rest) read = cc same in
+          let found = subst (SmallDigits rest) run (some_small rest parts.1) in
+          (95 ∷ found.0, ap (λ (b : ℕ). b ∷ rest) (eqb-true byte 95 parts.0) ∙ ap (λ (t : List ℕ). 95 ∷ t) found.1, (found.0, refl, found.2, found.3))
+      | inr none ↦ let never : ◌≡◌ {A = Option (ℕ × List ℕ)} None (Some read) = sym (cond-false _ (Some (small_run 0 rest)) None none) ∙ is in cc never
     ]
 
 -- one more digit of a run
@@ -138,8 +138,8 @@ run_more base value digit text at within small is =
 pub run_ends : (base value : ℕ) (text : List ℕ) (at : ℕ) → (at < length text → base ≤ digit_value (get_or text at 0)) → digit_run base value (drop at text) ≡ (value, drop at text)
 run_ends base value text at stops =
     elim (cases_lt at (length text)) [
-      inl within ↦ digit_run-stops base value (drop at text) (ap (starts_with_digit base) (drop_more text at 0 within) ∙ le-ltb (digit_value (get_or text at 0)) base (stops within))
-    | inr past ↦ let none = drop_all at text past in rw none refl
+      | inl within ↦ digit_run-stops base value (drop at text) (ap (starts_with_digit base) (drop_more text at 0 within) ∙ le-ltb (digit_value (get_or text at 0)) base (stops within))
+      | inr past ↦ let none = drop_all at text past in rw none refl
     ]
 
 -- the same of runs whose value stays small
@@ -151,8 +151,8 @@ small_more value digit text at within small is =
 pub small_ends : (value : ℕ) (text : List ℕ) (at : ℕ) → (at < length text → 3 < value * 10 + digit_value (get_or text at 0)) → small_run value (drop at text) ≡ (value, drop at text)
 small_ends value text at stops =
     elim (cases_lt at (length text)) [
-      inl within ↦ ap (small_run value) (drop_more text at 0 within) ∙ (cond-false _ (small_run (value * 10 + digit_value (get_or text at 0)) (drop (at + 1) text)) (value, get_or text at 0 ∷ drop (at + 1) text) (lt-leb _ 3 (stops within)) ∙ ap (λ (t : List ℕ). (value, t)) (sym (drop_more text at 0 within)))
-    | inr past ↦ let none = drop_all at text past in rw none refl
+      | inl within ↦ ap (small_run value) (drop_more text at 0 within) ∙ (cond-false _ (small_run (value * 10 + digit_value (get_or text at 0)) (drop (at + 1) text)) (value, get_or text at 0 ∷ drop (at + 1) text) (lt-leb _ 3 (stops within)) ∙ ap (λ (t : List ℕ). (value, t)) (sym (drop_more text at 0 within)))
+      | inr past ↦ let none = drop_all at text past in rw none refl
     ]
 
 -- no small digit was read, or some were
@@ -160,22 +160,22 @@ pub none_small : (text : List ℕ) (value : ℕ) → small_run 0 text ≡ (value
 none_small [] value is = refl
 none_small (d ∷ rest) value is =
     elim (cases_Bool (nat_lt (digit_value d) 4)) [
-      inl small ↦
-        let few : 0 * 10 + digit_value d ≤ 3 = omega (arith, ltb-true (digit_value d) 4 small) in
-        let step : small_run 0 (d ∷ rest) ≡ small_run (0 * 10 + digit_value d) rest = cond-true _ _ _ (le-leb _ 3 few) in
-        absurd (omega (arith, length-small_run (0 * 10 + digit_value d) rest few, ap (λ (r : ℕ × List ℕ). length r.1) (sym step ∙ is)))
-    | inr large ↦ large
+      | inl small ↦
+          let few : 0 * 10 + digit_value d ≤ 3 = omega (arith, ltb-true (digit_value d) 4 small) in
+          let step : small_run 0 (d ∷ rest) ≡ small_run (0 * 10 + digit_value d) rest = cond-true _ _ _ (le-leb _ 3 few) in
+          absurd (omega (arith, length-small_run (0 * 10 + digit_value d) rest few, ap (λ (r : ℕ × List ℕ). length r.1) (sym step ∙ is)))
+      | inr large ↦ large
     ]
 
 pub starts_small : (text : List ℕ) (run : ℕ × List ℕ) → small_run 0 text ≡ run → length run.1 < length text → starts_with_digit 4 text ≡ true
 starts_small [] run is shorter = absurd (omega arith)
 starts_small (d ∷ rest) run is shorter =
     elim (cases_Bool (nat_lt (digit_value d) 4)) [
-      inl small ↦ small
-    | inr large ↦
-        let many : 3 < 0 * 10 + digit_value d = omega (arith, ltb-false (digit_value d) 4 large) in
-        let step : small_run 0 (d ∷ rest) ≡ (0, d ∷ rest) = cond-false _ _ _ (lt-leb _ 3 many) in
-        absurd (omega (arith, shorter, ap (λ (r : ℕ × List ℕ). length r.1) (sym step ∙ is)))
+      | inl small ↦ small
+      | inr large ↦
+          let many : 3 < 0 * 10 + digit_value d = omega (arith, ltb-false (digit_value d) 4 large) in
+          let step : small_run 0 (d ∷ rest) ≡ (0, d ∷ rest) = cond-false _ _ _ (lt-leb _ 3 many) in
+          absurd (omega (arith, shorter, ap (λ (r : ℕ × List ℕ). length r.1) (sym step ∙ is)))
     ]
 
 -- the digit of a byte
@@ -186,10 +186,10 @@ no_decimal byte other = elim (cases_lt (digit_value byte) 10) [ inl small ↦ ab
 pub capped_more : (value base digit : ℕ) → 1 ≤ base → min (capped value * base + digit) (2 ^ 64 + 1) ≡ capped (value * base + digit)
 capped_more value base digit some =
     elim (cases_lt value (2 ^ 64 + 1)) [
-      inl small ↦ let same : capped value ≡ value = omega arith in rw same refl
-    | inr large ↦
-        let same : capped value ≡ 2 ^ 64 + 1 = omega arith in
-        let here : (2 ^ 64 + 1) * 1 ≤ (2 ^ 64 + 1) * base = mul-le-mul_left (2 ^ 64 + 1) some in
-        let there : (2 ^ 64 + 1) * base ≤ value * base = mul-le-mul_right base large in
-        rw same (omega (arith, here, there))
+      | inl small ↦ let same : capped value ≡ value = omega arith in rw same refl
+      | inr large ↦
+          let same : capped value ≡ 2 ^ 64 + 1 = omega arith in
+          let here : (2 ^ 64 + 1) * 1 ≤ (2 ^ 64 + 1) * base = mul-le-mul_left (2 ^ 64 + 1) some in
+          let there : (2 ^ 64 + 1) * base ≤ value * base = mul-le-mul_right base large in
+          rw same (omega (arith, here, there))
     ]

@@ -1,13 +1,13 @@
 -- Numbers: reading finds the longest one.
-use Rattle.std.proofs.Common.{◌≡◌, ◌≢◌, ◌⊎◌, ℕ, ◌+◌, ◌<◌, ◌≤◌, Bool, true, false, not, ◌==◌, ◌&&◌, cond, nat_lt, List, [], ◌∷◌, ◌++◌, length, drop, slice_range, Option, Some, None, refl, sym, ap, ◌∙◌, inl, inr, subst, arith}
+use Rattle.std.proofs.Common.{◌≡◌, ◌≢◌, ◌⊎◌, ℕ, ◌+◌, ◌<◌, ◌≤◌, true, false, not, ◌==◌, ◌&&◌, nat_lt, List, [], ◌∷◌, ◌++◌, length, drop, slice_range, Option, Some, None, refl, sym, ap, ◌∙◌, inl, inr, subst, arith}
 use Rattle.std.specs.Char.{digit_value}
-use Rattle.std.specs.Str.Parse.{AllDigits, digits_value_after, digits_value}
+use Rattle.std.specs.Str.Parse.{AllDigits}
 use Rattle.std.proofs.lemmas.List.{length-append, length-drop, drop-drop, append_assoc}
-use Rattle.std.proofs.lemmas.Bool.{and_parts, cond_both, cond-true, cond-false, cases_Bool, eqb-true, ne_eqb, lt-ltb, le-ltb, ltb-true, ltb-false, not-false, false≢true}
+use Rattle.std.proofs.lemmas.Bool.{and_parts, cond_both, cond-true, cond-false, cases_Bool, eqb-true, ne_eqb, lt-ltb, le-ltb, not-false, false≢true}
 use Rattle.cbor_notes.specs.declared.token.number.Base.{Base}
 use Rattle.cbor_notes.specs.declared.token.number.Base.TheVariants.{Decimal, Hexadecimal, Octal, Binary}
 use Rattle.cbor_notes.specs.Token.{AreDigits, Indicates, IsNumber, IsSomeNumber, IsLongest, prefix, radix}
-use Rattle.cbor_notes.specs.TokenReading.{starts_with_digit, base_of, digit_run, indicator_of, small_run, with_indicator, after_run, number_in, number_of}
+use Rattle.cbor_notes.specs.TokenReading.{starts_with_digit, base_of, digit_run, indicator_of, with_indicator, after_run, number_in, number_of}
 use Rattle.cbor_notes.proofs.NumberRuns.{digit_run-append, digit_run-stops, IsRun, is_run, length-digit_run, small_run-stops, length-small_run, indicator_of-append, Indicates-indicator_of}
 use Rattle.cbor_notes.proofs.Longest.{one_longest}
 use Rattle.cbor_notes.proofs.TextPlaces.{part_and_rest, part_is}
@@ -37,6 +37,7 @@ begins (first ∷ letter ∷ rest) =
   where
     text : List ℕ
     text = first ∷ letter ∷ rest
+
     both : (a b c d : ℕ) (t : List ℕ) → a ≡ c → b ≡ d → ◌≡◌ {A = List ℕ} (a ∷ b ∷ t) (c ∷ d ∷ t)
     both a b c d t e f = cc (e, f)
 
@@ -130,23 +131,24 @@ in_run base text run starts is =
 from_number_in : (base : Base) (text : List ℕ) (read : ℕ × Option ℕ × List ℕ) → number_in base text ≡ Some read → IsIn base text read
 from_number_in base text read is =
     elim (cases_Bool (starts_with_digit (radix base) text)) [
-      inl starts ↦
-        let run = digit_run (radix base) 0 text in
-        let same : ◌≡◌ {A = Option (ℕ × Option ℕ × List ℕ)} (Some (after_run run)) (Some read) = sym (cond-true _ (Some (after_run run)) None starts) ∙ is in
-        let one : ◌≡◌ {A = ℕ × Option ℕ × List ℕ} (after_run run) read = cc same in
-        subst (IsIn base text) one (in_run base text run starts (is_run (radix base) 0 text))
-    | inr none ↦
-        let never : ◌≡◌ {A = Option (ℕ × Option ℕ × List ℕ)} None (Some read) = sym (cond-false _ (Some (after_run (digit_run (radix base) 0 text))) None none) ∙ is in cc never
+      | inl starts ↦
+          let run = digit_run (radix base) 0 text in
+          let same : ◌≡◌ {A = Option (ℕ × Option ℕ × List ℕ)} (Some (after_run run)) (Some read) = sym (cond-true _ (Some (after_run run)) None starts) ∙ is in
+          let one : ◌≡◌ {A = ℕ × Option ℕ × List ℕ} (after_run run) read = cc same in
+          subst (IsIn base text) one (in_run base text run starts (is_run (radix base) 0 text))
+      | inr none ↦
+          let never : ◌≡◌ {A = Option (ℕ × Option ℕ × List ℕ)} None (Some read) = sym (cond-false _ (Some (after_run (digit_run (radix base) 0 text))) None none) ∙ is in cc never
     ]
 
 -- what is read is a number
 pub IsNumber-number_of : (text : List ℕ) (read : ℕ × Option ℕ × List ℕ) → number_of text ≡ Some read → (front : List ℕ) × (text ≡ front ++ read.2) × IsNumber front read.0 read.1
 IsNumber-number_of text read is =
     let base = base_of text in
-    let found = from_number_in base (drop (length (prefix base)) text) read is in
-    (prefix base ++ (found.digits ++ found.after),
-    (begins text).0 ∙ (ap (λ (t : List ℕ). prefix base ++ t) found.text_is ∙ sym (append_assoc (prefix base) (found.digits ++ found.after) read.2)),
-    record { base = base; digits = found.digits; after = found.after; text_is = refl; digits_are = found.digits_are; after_is = found.after_is })
+    let found = from_number_in base (drop (length (prefix base)) text) read is in (
+      prefix base ++ (found.digits ++ found.after),
+      (begins text).0 ∙ (ap (λ (t : List ℕ). prefix base ++ t) found.text_is ∙ sym (append_assoc (prefix base) (found.digits ++ found.after) read.2)),
+      record { base = base; digits = found.digits; after = found.after; text_is = refl; digits_are = found.digits_are; after_is = found.after_is },
+    )
 
 -- where a decimal digit stands, a number is read
 some_number : (text : List ℕ) → starts_with_digit 10 text ≡ true → (read : ℕ × Option ℕ × List ℕ) × (number_of text ≡ Some read)
@@ -154,8 +156,8 @@ some_number text starts =
     let base = base_of text in
     let digits = drop (length (prefix base)) text in
     let first : starts_with_digit (radix base) digits ≡ true = elim (begins text).1 [
-      inl decimal ↦ ap (λ (b : Base). starts_with_digit (radix b) (drop (length (prefix b)) text)) decimal ∙ starts
-    | inr is ↦ is
+      | inl decimal ↦ ap (λ (b : Base). starts_with_digit (radix b) (drop (length (prefix b)) text)) decimal ∙ starts
+      | inr is ↦ is
     ] in
     (after_run (digit_run (radix base) 0 digits), cond-true _ (Some (after_run (digit_run (radix base) 0 digits))) None first)
 
@@ -284,10 +286,10 @@ pub longest_number : (front rest : List ℕ) (value : ℕ) (indicator : Option �
 longest_number front rest value indicator is read = record {
   is = (value, indicator, is);
   no_longer = λ other after same some.
-  let reached = number_of-reaches other after some.0 some.1 some.2 in
-  let both : ◌≡◌ {A = Option (ℕ × Option ℕ × List ℕ)} (Some (value, indicator, rest)) (Some reached.0) = sym read ∙ (ap number_of same ∙ reached.1) in
-  let one : ◌≡◌ {A = ℕ × Option ℕ × List ℕ} (value, indicator, rest) reached.0 = cc both in
-  omega (arith, ap length same, length-append front rest, length-append other after, ap (λ (r : ℕ × Option ℕ × List ℕ). length r.2) one, reached.2);
+      let reached = number_of-reaches other after some.0 some.1 some.2 in
+      let both : ◌≡◌ {A = Option (ℕ × Option ℕ × List ℕ)} (Some (value, indicator, rest)) (Some reached.0) = sym read ∙ (ap number_of same ∙ reached.1) in
+      let one : ◌≡◌ {A = ℕ × Option ℕ × List ℕ} (value, indicator, rest) reached.0 = cc both in
+      omega (arith, ap length same, length-append front rest, length-append other after, ap (λ (r : ℕ × Option ℕ × List ℕ). length r.2) one, reached.2);
 }
 
 -- a number is read whole where no number goes on after it: it is the longest
@@ -322,13 +324,13 @@ no_number text value run front rest is some =
     let digits = drop (length (prefix base)) text in
     let reached = number_of-reaches front rest some.0 some.1 some.2 in
     elim (cases_Bool (starts_with_digit (radix base) digits)) [
-      inl starts ↦
-        let one = is_run (radix base) 0 digits in
-        let read = some_digits (radix base) digits (digit_run (radix base) 0 digits) starts one in
-        absurd (omega (arith, ap length one.text_is, length-append one.digits (digit_run (radix base) 0 digits).1, read, ap (λ (r : ℕ × List ℕ). length r.1) run))
-    | inr none ↦
-        let never : ◌≡◌ {A = Option (ℕ × Option ℕ × List ℕ)} None (Some reached.0) = sym (cond-false _ (Some (after_run (digit_run (radix base) 0 digits))) None none) ∙ (ap number_of is ∙ reached.1) in
-        cc never
+      | inl starts ↦
+          let one = is_run (radix base) 0 digits in
+          let read = some_digits (radix base) digits (digit_run (radix base) 0 digits) starts one in
+          absurd (omega (arith, ap length one.text_is, length-append one.digits (digit_run (radix base) 0 digits).1, read, ap (λ (r : ℕ × List ℕ). length r.1) run))
+      | inr none ↦
+          let never : ◌≡◌ {A = Option (ℕ × Option ℕ × List ℕ)} None (Some reached.0) = sym (cond-false _ (Some (after_run (digit_run (radix base) 0 digits))) None none) ∙ (ap number_of is ∙ reached.1) in
+          cc never
     ]
 
 -- and where some were, one does
@@ -337,8 +339,8 @@ number_of-run text value rest run shorter =
     let base = base_of text in
     let digits = drop (length (prefix base)) text in
     elim (cases_Bool (starts_with_digit (radix base) digits)) [
-      inl starts ↦ cond-true _ (Some (after_run (digit_run (radix base) 0 digits))) None starts ∙ ap (λ (r : ℕ × List ℕ). Some (after_run r)) run
-    | inr none ↦ absurd (omega (arith, shorter, ap (λ (r : ℕ × List ℕ). length r.1) (sym run ∙ digit_run-stops (radix base) 0 digits none)))
+      | inl starts ↦ cond-true _ (Some (after_run (digit_run (radix base) 0 digits))) None starts ∙ ap (λ (r : ℕ × List ℕ). Some (after_run r)) run
+      | inr none ↦ absurd (omega (arith, shorter, ap (λ (r : ℕ × List ℕ). length r.1) (sym run ∙ digit_run-stops (radix base) 0 digits none)))
     ]
 
 pub prefix_fits : (text : List ℕ) → length (prefix (base_of text)) ≤ length text

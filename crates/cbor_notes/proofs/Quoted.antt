@@ -1,9 +1,9 @@
 -- Content between quotes, with escapes.
-use Rattle.std.proofs.Common.{◌≡◌, ◌≢◌, ◌⊎◌, ℕ, ◌+◌, ◌-◌, ◌<◌, Bool, true, false, ◌==◌, ◌&&◌, ◌||◌, cond, not, List, [], ◌∷◌, ◌++◌, length, get_or, take, drop, slice_range, flat_map, Option, Some, None, refl, sym, ap, ◌∙◌, inl, inr, eq-eqb, arith}
+use Rattle.std.proofs.Common.{◌≡◌, ◌≢◌, ◌⊎◌, ℕ, ◌+◌, ◌-◌, ◌<◌, Bool, true, false, ◌==◌, List, [], ◌∷◌, ◌++◌, length, get_or, take, drop, slice_range, Option, Some, None, refl, sym, ap, ◌∙◌, inl, inr, eq-eqb, arith}
 use Rattle.std.specs.List.{position_or_len}
 use Rattle.std.proofs.lemmas.List.{append_assoc, drop-drop, drop_all, get_or-drop, length-drop}
 use Rattle.std.proofs.lemmas.List.Sums.{passes_at_first}
-use Rattle.std.proofs.lemmas.Bool.{cond_both, cond-true, cond-false, or_parts, or_left, or_right, or_cases, eqb-true, ne_eqb, cases_Bool}
+use Rattle.std.proofs.lemmas.Bool.{cond-true, cond-false, or_parts, or_cases, eqb-true, ne_eqb, cases_Bool}
 use Rattle.std.proofs.Math.Numerals.{one-add}
 use Rattle.cbor_notes.specs.Token.{is_special, escaped_byte, in_quotes}
 use Rattle.cbor_notes.specs.TokenReading.{with_front, unquoted}
@@ -31,24 +31,24 @@ read_in quote false [] read is = cc is
 read_in quote true [] read is = cc is
 read_in quote true (byte ∷ rest) read is =
     elim (cases_Bool (is_special quote byte)) [
-      inl special ↦
-        let next = from_front (byte ∷ []) (unquoted quote false rest) read (rw special at is) in
-        step quote byte (92 ∷ byte ∷ []) rest read next.0 (sym (escaped quote byte special)) (read_in quote false rest next.0 next.1) next.2 next.3
-    | inr no_escape ↦ let never : ◌≡◌ {A = Option (List ℕ × List ℕ)} None (Some read) = rw no_escape at is in cc never
+      | inl special ↦
+          let next = from_front (byte ∷ []) (unquoted quote false rest) read (rw special at is) in
+          step quote byte (92 ∷ byte ∷ []) rest read next.0 (sym (escaped quote byte special)) (read_in quote false rest next.0 next.1) next.2 next.3
+      | inr no_escape ↦ let never : ◌≡◌ {A = Option (List ℕ × List ℕ)} None (Some read) = rw no_escape at is in cc never
     ]
 read_in quote false (byte ∷ rest) read is =
     elim (cases_Bool (byte == quote)) [
-      inl closes ↦
-        let same : ◌≡◌ {A = Option (List ℕ × List ℕ)} (Some ([], rest)) (Some read) = rw closes at is in
-        let pair : ◌≡◌ {A = List ℕ × List ℕ} ([], rest) read = cc same in
-        ap (λ (b : ℕ). b ∷ rest) (eqb-true byte quote closes) ∙ ap (λ (r : List ℕ × List ℕ). in_quotes quote r.0 ++ quote ∷ r.1) pair
-    | inr goes_on ↦
-        elim (cases_Bool (byte == 92)) [
-          inl opens ↦ ap (λ (b : ℕ). b ∷ rest) (eqb-true byte 92 opens) ∙ read_in quote true rest read (rw (goes_on, opens) at is)
-        | inr plain_byte ↦
-            let next = from_front (byte ∷ []) (unquoted quote false rest) read (rw (goes_on, plain_byte) at is) in
-            step quote byte (byte ∷ []) rest read next.0 (sym (plain quote byte goes_on plain_byte)) (read_in quote false rest next.0 next.1) next.2 next.3
-        ]
+      | inl closes ↦
+          let same : ◌≡◌ {A = Option (List ℕ × List ℕ)} (Some ([], rest)) (Some read) = rw closes at is in
+          let pair : ◌≡◌ {A = List ℕ × List ℕ} ([], rest) read = cc same in
+          ap (λ (b : ℕ). b ∷ rest) (eqb-true byte quote closes) ∙ ap (λ (r : List ℕ × List ℕ). in_quotes quote r.0 ++ quote ∷ r.1) pair
+      | inr goes_on ↦
+          elim (cases_Bool (byte == 92)) [
+            | inl opens ↦ ap (λ (b : ℕ). b ∷ rest) (eqb-true byte 92 opens) ∙ read_in quote true rest read (rw (goes_on, opens) at is)
+            | inr plain_byte ↦
+                let next = from_front (byte ∷ []) (unquoted quote false rest) read (rw (goes_on, plain_byte) at is) in
+                step quote byte (byte ∷ []) rest read next.0 (sym (plain quote byte goes_on plain_byte)) (read_in quote false rest next.0 next.1) next.2 next.3
+          ]
     ]
 
 pub in_quotes-unquoted : (quote : ℕ) (text : List ℕ) (read : List ℕ × List ℕ) → unquoted quote false text ≡ Some read → text ≡ in_quotes quote read.0 ++ quote ∷ read.1
@@ -58,10 +58,10 @@ in_quotes-unquoted quote text read is = read_in quote false text read is
 unquoted-piece : (quote byte : ℕ) (rest : List ℕ) → quote ≢ 92 → unquoted quote false (escaped_byte quote byte ++ rest) ≡ with_front (byte ∷ []) (unquoted quote false rest)
 unquoted-piece quote byte rest apart =
     elim (cases_Bool (is_special quote byte)) [
-      inl special ↦ rw (escaped quote byte special, ne_eqb 92 quote (λ is. apart (sym is)), special) refl
-    | inr no_escape ↦
-        let parts = or_parts (byte == quote) (byte == 92) no_escape in
-        rw (plain quote byte parts.0 parts.1, parts.0, parts.1) refl
+      | inl special ↦ rw (escaped quote byte special, ne_eqb 92 quote (λ is. apart (sym is)), special) refl
+      | inr no_escape ↦
+          let parts = or_parts (byte == quote) (byte == 92) no_escape in
+          rw (plain quote byte parts.0 parts.1, parts.0, parts.1) refl
     ]
 
 pub unquoted-in_quotes : (quote : ℕ) (content rest : List ℕ) → quote ≢ 92 → unquoted quote false (in_quotes quote content ++ quote ∷ rest) ≡ Some (content, rest)
@@ -83,11 +83,11 @@ pub unquoted-plain : (quote : ℕ) (text : List ℕ) → let n = position_or_len
 unquoted-plain quote [] = refl
 unquoted-plain quote (byte ∷ rest) =
     elim (cases_Bool (is_special quote byte)) [
-      inl special ↦ rw special (sym (with_front-nil (unquoted quote false (byte ∷ rest))))
-    | inr no_escape ↦
-        let parts = or_parts (byte == quote) (byte == 92) no_escape in
-        let n = position_or_len (is_special quote) rest in
-        rw (no_escape, parts.0, parts.1, one-add n) (ap (with_front (byte ∷ [])) (unquoted-plain quote rest) ∙ with_front-append (byte ∷ []) (take n rest) (unquoted quote false (drop n rest)))
+      | inl special ↦ rw special (sym (with_front-nil (unquoted quote false (byte ∷ rest))))
+      | inr no_escape ↦
+          let parts = or_parts (byte == quote) (byte == 92) no_escape in
+          let n = position_or_len (is_special quote) rest in
+          rw (no_escape, parts.0, parts.1, one-add n) (ap (with_front (byte ∷ [])) (unquoted-plain quote rest) ∙ with_front-append (byte ∷ []) (take n rest) (unquoted quote false (drop n rest)))
     ]
 
 -- plain bytes up to a quote or a `\`, by their places
@@ -98,9 +98,10 @@ plain_to quote text start end is within =
     let n = position_or_len test (drop start text) in
     let count : n ≡ end - start = omega arith in
     let rest : drop n (drop start text) ≡ drop end text = drop-drop n start text ∙ ap (λ (m : ℕ). drop m text) (sym is) in
-    let place : get_or (drop start text) n 0 ≡ get_or text end 0 = get_or-drop start text n 0 ∙ ap (λ (m : ℕ). get_or text m 0) (sym is) in
-    (unquoted-plain quote (drop start text) ∙ (ap (λ (m : ℕ). with_front (take m (drop start text)) (unquoted quote false (drop n (drop start text)))) count ∙ ap (λ (t : List ℕ). with_front (slice_range text start end) (unquoted quote false t)) rest),
-    sym (ap test place) ∙ passes_at_first test (drop start text) 0 (omega (arith, length-drop start text)))
+    let place : get_or (drop start text) n 0 ≡ get_or text end 0 = get_or-drop start text n 0 ∙ ap (λ (m : ℕ). get_or text m 0) (sym is) in (
+      unquoted-plain quote (drop start text) ∙ (ap (λ (m : ℕ). with_front (take m (drop start text)) (unquoted quote false (drop n (drop start text)))) count ∙ ap (λ (t : List ℕ). with_front (slice_range text start end) (unquoted quote false t)) rest),
+      sym (ap test place) ∙ passes_at_first test (drop start text) 0 (omega (arith, length-drop start text)),
+    )
 
 pub plain_to_end : (quote : ℕ) (text : List ℕ) → position_or_len (is_special quote) text ≡ length text → unquoted quote false text ≡ None
 plain_to_end quote text is =

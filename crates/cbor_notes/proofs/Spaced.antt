@@ -1,5 +1,5 @@
 -- Digits with blanks before, between and after them, up to the quote.
-use Rattle.std.proofs.Common.{◌≡◌, ◌≢◌, ◌⊎◌, ℕ, ◌+◌, ◌-◌, ◌<◌, Bool, true, false, not, ◌==◌, ◌&&◌, ◌||◌, cond, List, [], ◌∷◌, ◌++◌, length, get_or, take, drop, slice_range, Option, Some, None, refl, sym, ap, ◌∙◌, inl, inr, subst, arith, IsTrue, nat_lt}
+use Rattle.std.proofs.Common.{◌≡◌, ◌≢◌, ℕ, ◌+◌, ◌-◌, ◌<◌, Bool, true, false, not, ◌==◌, ◌&&◌, ◌||◌, List, [], ◌∷◌, ◌++◌, length, get_or, take, drop, slice_range, Option, Some, None, refl, sym, ap, ◌∙◌, inl, inr, subst, arith, IsTrue, nat_lt}
 use Rattle.std.specs.List.{AllByRecursion, position_or_len}
 use Rattle.std.proofs.lemmas.List.{append_assoc, append-nil, drop-drop, length-drop}
 use Rattle.std.proofs.lemmas.List.Sums.{passes_at_first}
@@ -34,11 +34,11 @@ Stands comments true text whole = IsTrue comments × ((words : List ℕ) × AllB
 white_else : (comments : Bool) (byte : ℕ) → is_digit comments byte ≡ false → (byte == 39) ≡ false → (comments && (byte == 47)) ≡ false → is_whitespace byte ≡ true
 white_else comments byte no_digit no_quote no_comment =
     elim (or_cases (is_whitespace byte || (byte == 39)) (comments && (byte == 47)) (not-false _ no_digit)) [
-      inl early ↦ elim (or_cases (is_whitespace byte) (byte == 39) early) [
-        inl white ↦ white
-      | inr quote ↦ absurd (false≢true (sym no_quote ∙ quote))
+      | inl early ↦ elim (or_cases (is_whitespace byte) (byte == 39) early) [
+        | inl white ↦ white
+        | inr quote ↦ absurd (false≢true (sym no_quote ∙ quote))
       ]
-    | inr opens ↦ absurd (false≢true (sym no_comment ∙ opens))
+      | inr opens ↦ absurd (false≢true (sym no_comment ∙ opens))
     ]
 
 -- what is read are digits with blanks between
@@ -47,45 +47,49 @@ read_in comments inside [] whole read stands is = cc is
 read_in comments true (byte ∷ rest) whole read stands is =
     let words = stands.1.0 in
     elim (cases_Bool (byte == 47)) [
-      inl closes ↦
-        let is_comment : Blank comments (47 ∷ words ++ 47 ∷ []) = comment words [] stands.0 stands.1.1 nothing refl in
-        let whole_is : whole ≡ (47 ∷ words ++ 47 ∷ []) ++ rest =
-        stands.1.2 ∙ (ap (λ (b : ℕ). 47 ∷ words ++ b ∷ rest) (eqb-true byte 47 closes) ∙ sym (append_assoc (47 ∷ words) (47 ∷ []) rest)) in
-        subst (λ (t : List ℕ). Between comments t read) (sym whole_is)
-        (between_blank comments (47 ∷ words ++ 47 ∷ []) rest read is_comment (read_in comments false rest rest read refl (rw closes at is)))
-    | inr goes_on ↦
-        read_in comments true rest whole read
-        (stands.0, (words ++ byte ∷ [], all_push words byte stands.1.1 (eqb-false byte 47 goes_on), stands.1.2 ∙ sym (append_assoc (47 ∷ words) (byte ∷ []) rest)))
-        (rw goes_on at is)
+      | inl closes ↦
+          let is_comment : Blank comments (47 ∷ words ++ 47 ∷ []) = comment words [] stands.0 stands.1.1 nothing refl in
+          let whole_is : whole ≡ (47 ∷ words ++ 47 ∷ []) ++ rest =
+          stands.1.2 ∙ (ap (λ (b : ℕ). 47 ∷ words ++ b ∷ rest) (eqb-true byte 47 closes) ∙ sym (append_assoc (47 ∷ words) (47 ∷ []) rest)) in
+          subst (λ (t : List ℕ). Between comments t read) (sym whole_is)
+          (between_blank comments (47 ∷ words ++ 47 ∷ []) rest read is_comment (read_in comments false rest rest read refl (rw closes at is)))
+      | inr goes_on ↦
+          read_in comments true rest whole read
+          (stands.0, (words ++ byte ∷ [], all_push words byte stands.1.1 (eqb-false byte 47 goes_on), stands.1.2 ∙ sym (append_assoc (47 ∷ words) (byte ∷ []) rest)))
+          (rw goes_on at is)
     ]
 read_in comments false (byte ∷ rest) whole read stands is =
     subst (λ (t : List ℕ). Between comments t read) (sym stands)
     (elim (cases_Bool (byte == 39)) as (λ _. Between comments (byte ∷ rest) read) [
-      inl closes ↦
-        let same : ◌≡◌ {A = Option (List ℕ × List ℕ)} (Some ([], rest)) (Some read) = rw closes at is in
-        let pair : ◌≡◌ {A = List ℕ × List ℕ} ([], rest) read = cc same in
-        ([], ap (λ (b : ℕ). b ∷ rest) (eqb-true byte 39 closes) ∙ ap (λ (r : List ℕ × List ℕ). 39 ∷ r.1) pair,
-        subst (λ (r : List ℕ × List ℕ). Spaced comments [] r.0) pair (blank nothing))
-    | inr goes_on ↦
-        elim (cases_Bool (is_digit comments byte)) [
-          inl is_one ↦
-            let next = from_front (byte ∷ []) (digits_in comments false rest) read (rw (is_one, goes_on) at is) in
-            let more = read_in comments false rest rest next.0 refl next.1 in
-            (byte ∷ more.0, ap (λ (t : List ℕ). byte ∷ t) more.1 ∙ ap (λ (t : List ℕ). byte ∷ more.0 ++ 39 ∷ t) (sym next.3),
-            subst (Spaced comments (byte ∷ more.0)) (sym next.2) (digit [] more.0 nothing is_one more.2 refl))
-        | inr no_digit ↦
-            elim (cases_Bool (comments && (byte == 47))) [
-              inl opens ↦
-                let parts = and_parts comments (byte == 47) opens in
-                read_in comments true rest (byte ∷ rest) read
-                (parts.0, ([], tt, ap (λ (b : ℕ). b ∷ rest) (eqb-true byte 47 parts.1)))
-                (rw (no_digit, goes_on, opens) at is)
-            | inr no_comment ↦
-                let white : IsTrue (is_whitespace byte) = white_else comments byte no_digit goes_on no_comment in
-                between_blank comments (byte ∷ []) rest read (whitespace white nothing)
-                (read_in comments false rest rest read refl (rw (no_digit, goes_on, no_comment) at is))
-            ]
-        ]
+      | inl closes ↦
+          let same : ◌≡◌ {A = Option (List ℕ × List ℕ)} (Some ([], rest)) (Some read) = rw closes at is in
+          let pair : ◌≡◌ {A = List ℕ × List ℕ} ([], rest) read = cc same in (
+            [],
+            ap (λ (b : ℕ). b ∷ rest) (eqb-true byte 39 closes) ∙ ap (λ (r : List ℕ × List ℕ). 39 ∷ r.1) pair,
+            subst (λ (r : List ℕ × List ℕ). Spaced comments [] r.0) pair (blank nothing),
+          )
+      | inr goes_on ↦
+          elim (cases_Bool (is_digit comments byte)) [
+            | inl is_one ↦
+                let next = from_front (byte ∷ []) (digits_in comments false rest) read (rw (is_one, goes_on) at is) in
+                let more = read_in comments false rest rest next.0 refl next.1 in (
+                  byte ∷ more.0,
+                  ap (λ (t : List ℕ). byte ∷ t) more.1 ∙ ap (λ (t : List ℕ). byte ∷ more.0 ++ 39 ∷ t) (sym next.3),
+                  subst (Spaced comments (byte ∷ more.0)) (sym next.2) (digit [] more.0 nothing is_one more.2 refl),
+                )
+            | inr no_digit ↦
+                elim (cases_Bool (comments && (byte == 47))) [
+                  | inl opens ↦
+                      let parts = and_parts comments (byte == 47) opens in
+                      read_in comments true rest (byte ∷ rest) read
+                      (parts.0, ([], tt, ap (λ (b : ℕ). b ∷ rest) (eqb-true byte 47 parts.1)))
+                      (rw (no_digit, goes_on, opens) at is)
+                  | inr no_comment ↦
+                      let white : IsTrue (is_whitespace byte) = white_else comments byte no_digit goes_on no_comment in
+                      between_blank comments (byte ∷ []) rest read (whitespace white nothing)
+                      (read_in comments false rest rest read refl (rw (no_digit, goes_on, no_comment) at is))
+                ]
+          ]
     ])
 
 -- blanks are left out
@@ -132,23 +136,23 @@ unclosed : (comments : Bool) (opened rest : List ℕ) → length rest < length o
 unclosed comments opened [] shorter is = refl
 unclosed comments opened (byte ∷ rest) shorter is =
     elim (cases_Bool (byte == 47)) [
-      inl closes ↦
-        let left : after_blank comments rest ≡ opened = rw closes at is in
-        absurd (omega (arith, ap length left, length-after_blank comments rest))
-    | inr goes_on ↦ ap (λ (b : Bool). digits_in comments (not b) rest) goes_on ∙ unclosed comments opened rest (omega arith) (rw goes_on at is)
+      | inl closes ↦
+          let left : after_blank comments rest ≡ opened = rw closes at is in
+          absurd (omega (arith, ap length left, length-after_blank comments rest))
+      | inr goes_on ↦ ap (λ (b : Bool). digits_in comments (not b) rest) goes_on ∙ unclosed comments opened rest (omega arith) (rw goes_on at is)
     ]
 
 -- where neither a blank nor a digit begins, nor the quote stands, there are no digits up to a quote
 pub digits_in-none : (comments : Bool) (byte : ℕ) (rest : List ℕ) → (byte == 39) ≡ false → is_digit comments byte ≡ false → after_blank comments (byte ∷ rest) ≡ byte ∷ rest → digits_in comments false (byte ∷ rest) ≡ None
 digits_in-none comments byte rest no_quote no_digit no_blank =
     elim (cases_Bool (comments && (byte == 47))) [
-      inl opens ↦
-        let slash : byte ≡ 47 = eqb-true byte 47 (and_parts comments (byte == 47) opens).1 in
-        rw (no_digit, no_quote, opens) (unclosed comments (byte ∷ rest) rest (omega arith) (unread slash opens))
-    | inr no_comment ↦
-        let white = white_else comments byte no_digit no_quote no_comment in
-        let left : after_blank comments rest ≡ byte ∷ rest = rw white at no_blank in
-        absurd (omega (arith, ap length left, length-after_blank comments rest))
+      | inl opens ↦
+          let slash : byte ≡ 47 = eqb-true byte 47 (and_parts comments (byte == 47) opens).1 in
+          rw (no_digit, no_quote, opens) (unclosed comments (byte ∷ rest) rest (omega arith) (unread slash opens))
+      | inr no_comment ↦
+          let white = white_else comments byte no_digit no_quote no_comment in
+          let left : after_blank comments rest ≡ byte ∷ rest = rw white at no_blank in
+          absurd (omega (arith, ap length left, length-after_blank comments rest))
     ]
   where
     unread : byte ≡ 47 → (comments && (byte == 47)) ≡ true → after_blank_in comments (Some (byte ∷ rest)) rest ≡ byte ∷ rest
@@ -159,13 +163,13 @@ pub digits_in-run : (comments : Bool) (text : List ℕ) → let n = position_or_
 digits_in-run comments [] = refl
 digits_in-run comments (byte ∷ rest) =
     elim (cases_Bool (is_digit comments byte)) [
-      inl is_one ↦
-        let n = position_or_len (λ b. not (is_digit comments b)) rest in
-        rw (is_one, digit_parts comments byte is_one, one-add n) (ap (with_front (byte ∷ [])) (digits_in-run comments rest) ∙ with_front-append (byte ∷ []) (take n rest) (digits_in comments false (drop n rest)))
-    | inr no_digit ↦
-        let none : position_or_len (λ b. not (is_digit comments b)) (byte ∷ rest) ≡ 0 = rw no_digit refl in
-        sym (with_front-nil (digits_in comments false (byte ∷ rest)))
-        ∙ ap (λ (n : ℕ). with_front (take n (byte ∷ rest)) (digits_in comments false (drop n (byte ∷ rest)))) (sym none)
+      | inl is_one ↦
+          let n = position_or_len (λ b. not (is_digit comments b)) rest in
+          rw (is_one, digit_parts comments byte is_one, one-add n) (ap (with_front (byte ∷ [])) (digits_in-run comments rest) ∙ with_front-append (byte ∷ []) (take n rest) (digits_in comments false (drop n rest)))
+      | inr no_digit ↦
+          let none : position_or_len (λ b. not (is_digit comments b)) (byte ∷ rest) ≡ 0 = rw no_digit refl in
+          sym (with_front-nil (digits_in comments false (byte ∷ rest)))
+          ∙ ap (λ (n : ℕ). with_front (take n (byte ∷ rest)) (digits_in comments false (drop n (byte ∷ rest)))) (sym none)
     ]
 
 -- some digits, or none
@@ -173,11 +177,11 @@ from_some_digits : (left : Option (List ℕ × List ℕ)) (read : List ℕ × Li
 from_some_digits None read is = cc is
 from_some_digits (Some next) read is =
     elim (cases_Bool (nat_lt 0 (length next.0))) [
-      inl some ↦
-        let same : ◌≡◌ {A = Option (List ℕ × List ℕ)} (Some next) (Some read) = rw some at is in
-        let pair : ◌≡◌ {A = List ℕ × List ℕ} next read = cc same in
-        (same, subst (λ (r : List ℕ × List ℕ). 0 < length r.0) pair (ltb-true 0 (length next.0) some))
-    | inr none ↦ let never : ◌≡◌ {A = Option (List ℕ × List ℕ)} None (Some read) = rw none at is in cc never
+      | inl some ↦
+          let same : ◌≡◌ {A = Option (List ℕ × List ℕ)} (Some next) (Some read) = rw some at is in
+          let pair : ◌≡◌ {A = List ℕ × List ℕ} next read = cc same in
+          (same, subst (λ (r : List ℕ × List ℕ). 0 < length r.0) pair (ltb-true 0 (length next.0) some))
+      | inr none ↦ let never : ◌≡◌ {A = Option (List ℕ × List ℕ)} None (Some read) = rw none at is in cc never
     ]
 
 -- what `digits_of` reads is content of quotes
@@ -185,15 +189,17 @@ pub DigitsBetween-digits_of : (comments : Bool) (text : List ℕ) (read : List �
 DigitsBetween-digits_of comments [] read is = cc is
 DigitsBetween-digits_of comments (byte ∷ rest) read is =
     elim (cases_Bool (byte == 39)) [
-      inl closes ↦
-        let same : ◌≡◌ {A = Option (List ℕ × List ℕ)} (Some ([], rest)) (Some read) = rw closes at is in
-        let pair : ◌≡◌ {A = List ℕ × List ℕ} ([], rest) read = cc same in
-        ([], ap (λ (b : ℕ). b ∷ rest) (eqb-true byte 39 closes) ∙ ap (λ (r : List ℕ × List ℕ). 39 ∷ r.1) pair,
-        (subst (λ (r : List ℕ × List ℕ). Spaced comments [] r.0) pair (blank nothing), inl refl))
-    | inr goes_on ↦
-        let some = from_some_digits (digits_in comments false (byte ∷ rest)) read (sym (cond-false (byte == 39) (Some ([], rest)) (some_digits (digits_in comments false (byte ∷ rest))) goes_on) ∙ is) in
-        let between = Spaced-digits_in comments (byte ∷ rest) read some.0 in
-        (between.0, between.1, (between.2, inr some.1))
+      | inl closes ↦
+          let same : ◌≡◌ {A = Option (List ℕ × List ℕ)} (Some ([], rest)) (Some read) = rw closes at is in
+          let pair : ◌≡◌ {A = List ℕ × List ℕ} ([], rest) read = cc same in (
+            [],
+            ap (λ (b : ℕ). b ∷ rest) (eqb-true byte 39 closes) ∙ ap (λ (r : List ℕ × List ℕ). 39 ∷ r.1) pair,
+            (subst (λ (r : List ℕ × List ℕ). Spaced comments [] r.0) pair (blank nothing), inl refl),
+          )
+      | inr goes_on ↦
+          let some = from_some_digits (digits_in comments false (byte ∷ rest)) read (sym (cond-false (byte == 39) (Some ([], rest)) (some_digits (digits_in comments false (byte ∷ rest))) goes_on) ∙ is) in
+          let between = Spaced-digits_in comments (byte ∷ rest) read some.0 in
+          (between.0, between.1, (between.2, inr some.1))
     ]
 
 no_digits : (comments : Bool) (rest digits after : List ℕ) → digits_in comments false (39 ∷ rest) ≡ Some (digits, after) → digits ≡ []
@@ -209,12 +215,12 @@ digits_of-DigitsBetween comments (byte ∷ content) digits rest is =
     let read = digits_in-Spaced is.0 rest in
     let some : 0 < length digits = elim is.1 [ inl none ↦ cc none | inr some ↦ some ] in
     elim (cases_Bool (byte == 39)) [
-      inl closes ↦
-        let never : digits ≡ [] = no_digits comments (content ++ 39 ∷ rest) digits rest (ap (λ (b : ℕ). digits_in comments false (b ∷ (content ++ 39 ∷ rest))) (sym (eqb-true byte 39 closes)) ∙ read) in
-        absurd (omega (arith, ap length never, some))
-    | inr goes_on ↦
-        cond-false (byte == 39) (Some ([], content ++ 39 ∷ rest)) (some_digits (digits_in comments false (byte ∷ (content ++ 39 ∷ rest)))) goes_on
-        ∙ (ap some_digits read ∙ cond-true (nat_lt 0 (length digits)) (Some (digits, rest)) None (lt-ltb 0 (length digits) some))
+      | inl closes ↦
+          let never : digits ≡ [] = no_digits comments (content ++ 39 ∷ rest) digits rest (ap (λ (b : ℕ). digits_in comments false (b ∷ (content ++ 39 ∷ rest))) (sym (eqb-true byte 39 closes)) ∙ read) in
+          absurd (omega (arith, ap length never, some))
+      | inr goes_on ↦
+          cond-false (byte == 39) (Some ([], content ++ 39 ∷ rest)) (some_digits (digits_in comments false (byte ∷ (content ++ 39 ∷ rest)))) goes_on
+          ∙ (ap some_digits read ∙ cond-true (nat_lt 0 (length digits)) (Some (digits, rest)) None (lt-ltb 0 (length digits) some))
     ]
 
 -- a blank is left out before digits

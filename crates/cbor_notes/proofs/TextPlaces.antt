@@ -1,5 +1,5 @@
 -- Parts of a text by their places.
-use Rattle.std.proofs.Common.{◌≡◌, ℕ, ◌+◌, ◌-◌, ◌<◌, ◌≤◌, Bool, true, false, not, nat_lt, cond, List, [], ◌∷◌, ◌++◌, length, take, drop, slice_range, get_or, Option, Some, None, refl, sym, ap, ◌∙◌, inl, inr, arith}
+use Rattle.std.proofs.Common.{◌≡◌, ℕ, ◌+◌, ◌-◌, ◌<◌, ◌≤◌, Bool, not, nat_lt, List, ◌∷◌, ◌++◌, length, drop, slice_range, get_or, Option, Some, None, sym, ap, ◌∙◌, inl, inr, arith}
 use Rattle.std.specs.List.{position_or_len, position}
 use Rattle.std.proofs.lemmas.List.{take-append-drop, drop-drop, drop_more, append_cancel_right}
 use Rattle.std.proofs.lemmas.List.Sums.{prefix_len-le-length}
@@ -19,19 +19,19 @@ pub first_at : (test : ℕ → Bool) (text : List ℕ) (answer : Option ℕ) (pl
 first_at test text answer place is some =
     let n = position_or_len test text in
     elim (cases_Bool (nat_lt n (length text))) [
-      inl within ↦
-        let same : ◌≡◌ {A = Option ℕ} (Some place) (Some n) = sym some ∙ (is ∙ cond-true _ (Some n) None within) in
-        let one : place ≡ n = cc same in
-        (one, omega (arith, ltb-true n (length text) within))
-    | inr past ↦ let never : ◌≡◌ {A = Option ℕ} (Some place) None = sym some ∙ (is ∙ cond-false _ (Some n) None past) in cc never
+      | inl within ↦
+          let same : ◌≡◌ {A = Option ℕ} (Some place) (Some n) = sym some ∙ (is ∙ cond-true _ (Some n) None within) in
+          let one : place ≡ n = cc same in
+          (one, omega (arith, ltb-true n (length text) within))
+      | inr past ↦ let never : ◌≡◌ {A = Option ℕ} (Some place) None = sym some ∙ (is ∙ cond-false _ (Some n) None past) in cc never
     ]
 
 pub first_nowhere : (test : ℕ → Bool) (text : List ℕ) (answer : Option ℕ) → answer ≡ position test text → answer ≡ None → position_or_len test text ≡ length text
 first_nowhere test text answer is none =
     let n = position_or_len test text in
     elim (cases_Bool (nat_lt n (length text))) [
-      inl within ↦ let never : ◌≡◌ {A = Option ℕ} None (Some n) = sym none ∙ (is ∙ cond-true _ (Some n) None within) in cc never
-    | inr past ↦ omega (arith, ltb-false n (length text) past, prefix_len-le-length (λ b. not (test b)) text)
+      | inl within ↦ let never : ◌≡◌ {A = Option ℕ} None (Some n) = sym none ∙ (is ∙ cond-true _ (Some n) None within) in cc never
+      | inr past ↦ omega (arith, ltb-false n (length text) past, prefix_len-le-length (λ b. not (test b)) text)
     ]
 
 -- the byte at a place, and what follows

@@ -118,7 +118,10 @@ fn digits_end(text: &[u8], at: usize, comments: bool) -> usize
     ensures within { (at ≤ result) × (result ≤ length text.now) }
     ensures first { result ≡ at + position_or_len (λ b. not (is_digit comments b)) (drop at text.now) }
 {
-    match text[at..].iter().position(|byte| !is_digit(comments, *byte)) {
+    match text[at..]
+        .iter()
+        .position(|byte| !is_digit(comments, *byte))
+    {
         Some(digits) => at + digits,
         None => text.len(),
     }

@@ -131,7 +131,11 @@ fn indicator_at(text: &[u8], at: usize) -> Option<(u8, usize)>
     }
     let start = at + 1;
     let (indicator, end) = small_digits_from(text, start);
-    if end == start { None } else { Some((indicator, end)) }
+    if end == start {
+        None
+    } else {
+        Some((indicator, end))
+    }
 }
 
 /// The number that the decimal digits from `start` on write as far as it is at most 3, and where these

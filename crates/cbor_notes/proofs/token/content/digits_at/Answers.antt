@@ -1,4 +1,4 @@
-use Rattle.std.proofs.Common.{◌≡◌, ℕ, ◌+◌, ◌<◌, false, true, List, [], ◌∷◌, ◌++◌, length, get_or, drop, slice_range, Option, Some, None, refl, sym, ap, ◌∙◌, arith}
+use Rattle.std.proofs.Common.{◌≡◌, ℕ, ◌+◌, ◌<◌, false, List, [], length, get_or, drop, slice_range, Some, None, sym, ap, ◌∙◌, arith}
 use Rattle.std.proofs.lemmas.List.{drop_all, length-drop, nil_from_length}
 use Rattle.std.proofs.lemmas.Bool.{eqb-true, eqb-false}
 use Rattle.cbor_notes.specs.TokenReading.{after_blank, digits_in, digits_of, with_front}
@@ -18,9 +18,9 @@ loop-end-init c =
       within = c.end_of_blank-end.ensures.within.1;
       blank = rw rest (after_blank-again c.args.comments (drop c.args.at text));
       read =
-        rw (rest, c.new-digits.ensures.items)
-        (digits_in-after_blank c.args.comments (drop c.args.at text)
-        ∙ sym (with_front-nil (digits_in c.args.comments false (after_blank c.args.comments (drop c.args.at text)))));
+          rw (rest, c.new-digits.ensures.items)
+          (digits_in-after_blank c.args.comments (drop c.args.at text)
+          ∙ sym (with_front-nil (digits_in c.args.comments false (after_blank c.args.comments (drop c.args.at text)))));
     }
 
 -- neither a digit, a blank nor the quote stands here
@@ -50,10 +50,10 @@ loop-end-preserved c =
       within = next.ensures.within.1;
       blank = rw next.ensures.rest (after_blank-again comments (drop stop text));
       read =
-        c.loop-end.invariant.read
-        ∙ (ap (with_front c.loop-end.digits.items) (run ∙ ap (with_front (slice_range text start stop)) after)
-        ∙ (with_front-append c.loop-end.digits.items (slice_range text start stop) (digits_in comments false (drop next.result text))
-        ∙ ap (λ (d : List ℕ). with_front d (digits_in comments false (drop next.result text))) (sym c.in_ok-extend_from_slice.ensures.items)));
+          c.loop-end.invariant.read
+          ∙ (ap (with_front c.loop-end.digits.items) (run ∙ ap (with_front (slice_range text start stop)) after)
+          ∙ (with_front-append c.loop-end.digits.items (slice_range text start stop) (digits_in comments false (drop next.result text))
+          ∙ ap (λ (d : List ℕ). with_front d (digits_in comments false (drop next.result text))) (sym c.in_ok-extend_from_slice.ensures.items)));
     }
 
 -- the text ends before the quote
@@ -77,8 +77,8 @@ blanks c =
     let end = c.loop-end.end in
     let within : end < length text = omega (arith, c.loop-end.invariant.within, c.if-end-text.false) in
     let quote : get_or text end 0 ≡ 39 = elim c.loop-end-test.branch [
-      then-loop-end-test+else-text-end-ne39 w ↦ w.if-text-end-ne39.false
-    | else-loop-end-test w ↦ absurd (omega (arith, w.loop-end-test.false, within))
+      | then-loop-end-test+else-text-end-ne39 w ↦ w.if-text-end-ne39.false
+      | else-loop-end-test w ↦ absurd (omega (arith, w.loop-end-test.false, within))
     ] in
     let read = digits_closed c.args.comments text c.loop-end.digits.items at end c.loop-end.invariant.read within quote in
     let none : length c.loop-end.digits.items ≡ 0 = omega (arith, eqb-true _ 0 (sym c.if-is_empty.ensures), c.loop-end.digits.ok.0) in
@@ -100,17 +100,17 @@ closed c =
     let items = c.loop-end.digits.items in
     let within : end < length text = omega (arith, c.loop-end.invariant.within, c.if-end-text.false) in
     let quote : get_or text end 0 ≡ 39 = elim c.loop-end-test.branch [
-      then-loop-end-test+else-text-end-ne39 w ↦ w.if-text-end-ne39.false
-    | else-loop-end-test w ↦ absurd (omega (arith, w.loop-end-test.false, within))
+      | then-loop-end-test+else-text-end-ne39 w ↦ w.if-text-end-ne39.false
+      | else-loop-end-test w ↦ absurd (omega (arith, w.loop-end-test.false, within))
     ] in
     let read = digits_closed c.args.comments text items at end c.loop-end.invariant.read within quote in
     elim c.else-is_empty.branch [
-      else-is_empty-via-then-is_empty+else-end-at w ↦
-        let none : items ≡ [] = nil_from_length items (omega (arith, eqb-true _ 0 (sym w.if-is_empty.ensures), c.loop-end.digits.ok.0)) in
-        let here : at ≡ end = omega (arith, c.loop-end.invariant.from, w.if-end-at.false) in
-        ap (digits_of c.args.comments) (ap (λ (n : ℕ). drop n text) here ∙ from_byte text end 39 within quote) ∙ ap (λ (d : List ℕ). Some (d, drop (end + 1) text)) (sym none)
-    | else-is_empty-via-else-is_empty w ↦
-        digits_of-some c.args.comments (drop at text) items (drop (end + 1) text) read (omega (arith, eqb-false _ 0 (sym w.if-is_empty.ensures), c.loop-end.digits.ok.0))
+      | else-is_empty-via-then-is_empty+else-end-at w ↦
+          let none : items ≡ [] = nil_from_length items (omega (arith, eqb-true _ 0 (sym w.if-is_empty.ensures), c.loop-end.digits.ok.0)) in
+          let here : at ≡ end = omega (arith, c.loop-end.invariant.from, w.if-end-at.false) in
+          ap (digits_of c.args.comments) (ap (λ (n : ℕ). drop n text) here ∙ from_byte text end 39 within quote) ∙ ap (λ (d : List ℕ). Some (d, drop (end + 1) text)) (sym none)
+      | else-is_empty-via-else-is_empty w ↦
+          digits_of-some c.args.comments (drop at text) items (drop (end + 1) text) read (omega (arith, eqb-false _ 0 (sym w.if-is_empty.ensures), c.loop-end.digits.ok.0))
     ]
 
 pub returns-clause-found : goal.returns-clause-found

@@ -1,6 +1,5 @@
-use Rattle.std.proofs.Common.{◌≡◌, ℕ, ◌+◌, ◌<◌, false, true, List, [], ◌∷◌, ◌++◌, length, get_or, drop, slice_range, Option, Some, None, refl, sym, ap, ◌∙◌, arith}
+use Rattle.std.proofs.Common.{◌≡◌, ℕ, ◌+◌, ◌<◌, false, true, List, [], ◌∷◌, ◌++◌, length, get_or, drop, slice_range, Some, None, refl, sym, ap, ◌∙◌, arith}
 use Rattle.std.proofs.lemmas.List.{append-nil, drop_all, length-drop}
-use Rattle.cbor_notes.specs.Token.{is_special}
 use Rattle.cbor_notes.specs.TokenReading.{unquoted, with_front}
 use Rattle.cbor_notes.proofs.TextPlaces.{from_byte}
 use Rattle.cbor_notes.proofs.Contents.{with_front-append}
@@ -36,10 +35,10 @@ stray c =
     let run = plain_to c.args.quote text c.loop-end.start end found.1 found.0 in
     let escape = ap (unquoted c.args.quote false) (from_byte text end _ found.0 refl) ∙ opens c.args.quote (get_or text end 0) (drop (end + 1) text) c.if-text-end.false run.1 in
     let none : unquoted c.args.quote true (drop (end + 1) text) ≡ None = elim c.then-end-text.branch [
-      then-end-text-via-then-end-text w ↦ ap (unquoted c.args.quote true) (drop_all (end + 1) text (omega (arith, w.if-end-text.true)))
-    | then-end-text-via-else-end-text+then-not-is_special w ↦
-        let within : end + 1 < length text = omega (arith, found.0, w.if-end-text.false) in
-        ap (unquoted c.args.quote true) (from_byte text (end + 1) _ within refl) ∙ no_escape c.args.quote (get_or text (end + 1) 0) (drop (end + 1 + 1) text) (sym w.if-not-is_special.ensures)
+      | then-end-text-via-then-end-text w ↦ ap (unquoted c.args.quote true) (drop_all (end + 1) text (omega (arith, w.if-end-text.true)))
+      | then-end-text-via-else-end-text+then-not-is_special w ↦
+          let within : end + 1 < length text = omega (arith, found.0, w.if-end-text.false) in
+          ap (unquoted c.args.quote true) (from_byte text (end + 1) _ within refl) ∙ no_escape c.args.quote (get_or text (end + 1) 0) (drop (end + 1 + 1) text) (sym w.if-not-is_special.ensures)
     ] in
     c.loop-end.invariant.read ∙ ap (with_front c.loop-end.content.items) (run.0 ∙ ap (with_front (slice_range text c.loop-end.start end)) (escape ∙ none))
 
@@ -70,11 +69,11 @@ loop-end-preserved c =
     record {
       within = omega (arith, within);
       read =
-        c.loop-end.invariant.read
-        ∙ (ap (with_front content) (run.0 ∙ ap (with_front piece) escape)
-        ∙ (with_front-append content piece (with_front (escaped ∷ []) (unquoted c.args.quote false (drop (end + 2) text)))
-        ∙ (with_front-append (content ++ piece) (escaped ∷ []) (unquoted c.args.quote false (drop (end + 2) text))
-        ∙ ap (λ (t : List ℕ). with_front t (unquoted c.args.quote false (drop (end + 2) text))) all)));
+          c.loop-end.invariant.read
+          ∙ (ap (with_front content) (run.0 ∙ ap (with_front piece) escape)
+          ∙ (with_front-append content piece (with_front (escaped ∷ []) (unquoted c.args.quote false (drop (end + 2) text)))
+          ∙ (with_front-append (content ++ piece) (escaped ∷ []) (unquoted c.args.quote false (drop (end + 2) text))
+          ∙ ap (λ (t : List ℕ). with_front t (unquoted c.args.quote false (drop (end + 2) text))) all)));
     }
 
 -- no quote and no `\` is left
