@@ -1,6 +1,6 @@
 -- Fronts of a text, and the longest of them.
-use Rattle.std.proofs.Common.{◌≡◌, ℕ, ◌+◌, ◌<◌, ◌≤◌, List, [], ◌∷◌, ◌++◌, length, take, refl, sym, ap, ◌∙◌, arith}
-use Rattle.std.proofs.lemmas.List.{length-append, append_cancel_left, take_at}
+use Rattle.std.proofs.Common.{◌≡◌, ℕ, List, ◌++◌, length, take, refl, sym, ap, ◌∙◌, arith}
+use Rattle.std.proofs.lemmas.List.{append_cancel_left, take_at}
 use Rattle.cbor_notes.specs.Token.{IsLongest}
 
 -- two fronts of one text that have one length are one

@@ -1,5 +1,5 @@
 -- Digits that are read one after the other, and indicators.
-use Rattle.std.proofs.Common.{◌≡◌, ◌≢◌, ◌⊎◌, ℕ, ◌+◌, ◌*◌, ◌^◌, ◌<◌, ◌≤◌, min, Bool, true, false, ◌==◌, ◌&&◌, cond, nat_lt, nat_le, List, [], ◌∷◌, ◌++◌, length, get_or, drop, Option, Some, None, refl, sym, ap, ◌∙◌, inl, inr, subst, arith}
+use Rattle.std.proofs.Common.{◌≡◌, ℕ, ◌+◌, ◌*◌, ◌^◌, ◌<◌, ◌≤◌, min, true, false, ◌==◌, ◌&&◌, nat_lt, nat_le, List, [], ◌∷◌, ◌++◌, length, get_or, drop, Option, Some, None, refl, sym, ap, ◌∙◌, inl, inr, subst, arith}
 use Rattle.std.specs.Char.{digit_value}
 use Rattle.std.specs.Str.Parse.{AllDigits, digits_value_after, digits_value}
 use Rattle.std.proofs.Math.Nat.{mul-le-mul_left, mul-le-mul_right}
@@ -134,26 +134,11 @@ pub run_more : (base value digit : ℕ) (text : List ℕ) (at : ℕ) → at < le
 run_more base value digit text at within small is =
     rw is (ap (digit_run base value) (drop_more text at 0 within) ∙ cond-true _ (digit_run base (value * base + digit_value (get_or text at 0)) (drop (at + 1) text)) _ (lt-ltb _ base small))
 
--- a run that ends here
-pub run_ends : (base value : ℕ) (text : List ℕ) (at : ℕ) → (at < length text → base ≤ digit_value (get_or text at 0)) → digit_run base value (drop at text) ≡ (value, drop at text)
-run_ends base value text at stops =
-    elim (cases_lt at (length text)) [
-      | inl within ↦ digit_run-stops base value (drop at text) (ap (starts_with_digit base) (drop_more text at 0 within) ∙ le-ltb (digit_value (get_or text at 0)) base (stops within))
-      | inr past ↦ let none = drop_all at text past in rw none refl
-    ]
-
 -- the same of runs whose value stays small
 pub small_more : (value digit : ℕ) (text : List ℕ) (at : ℕ) → at < length text → value * 10 + digit ≤ 3 → digit ≡ digit_value (get_or text at 0) → small_run value (drop at text) ≡ small_run (value * 10 + digit) (drop (at + 1) text)
 small_more value digit text at within small is =
     let few : value * 10 + digit_value (get_or text at 0) ≤ 3 = rw (← is) small in
     rw is (ap (small_run value) (drop_more text at 0 within) ∙ cond-true _ (small_run (value * 10 + digit_value (get_or text at 0)) (drop (at + 1) text)) _ (le-leb _ 3 few))
-
-pub small_ends : (value : ℕ) (text : List ℕ) (at : ℕ) → (at < length text → 3 < value * 10 + digit_value (get_or text at 0)) → small_run value (drop at text) ≡ (value, drop at text)
-small_ends value text at stops =
-    elim (cases_lt at (length text)) [
-      | inl within ↦ ap (small_run value) (drop_more text at 0 within) ∙ (cond-false _ (small_run (value * 10 + digit_value (get_or text at 0)) (drop (at + 1) text)) (value, get_or text at 0 ∷ drop (at + 1) text) (lt-leb _ 3 (stops within)) ∙ ap (λ (t : List ℕ). (value, t)) (sym (drop_more text at 0 within)))
-      | inr past ↦ let none = drop_all at text past in rw none refl
-    ]
 
 -- no small digit was read, or some were
 pub none_small : (text : List ℕ) (value : ℕ) → small_run 0 text ≡ (value, text) → starts_with_digit 4 text ≡ false
@@ -177,10 +162,6 @@ starts_small (d ∷ rest) run is shorter =
           let step : small_run 0 (d ∷ rest) ≡ (0, d ∷ rest) = cond-false _ _ _ (lt-leb _ 3 many) in
           absurd (omega (arith, shorter, ap (λ (r : ℕ × List ℕ). length r.1) (sym step ∙ is)))
     ]
-
--- the digit of a byte
-pub no_decimal : (byte : ℕ) → ¬ (IsInRange 48 57 byte) → 10 ≤ digit_value byte
-no_decimal byte other = elim (cases_lt (digit_value byte) 10) [ inl small ↦ absurd (other (digit_from_value byte small)) | inr large ↦ large ]
 
 -- a value past 2^64 stays one with more digits
 pub capped_more : (value base digit : ℕ) → 1 ≤ base → min (capped value * base + digit) (2 ^ 64 + 1) ≡ capped (value * base + digit)

@@ -1,13 +1,13 @@
 -- Numbers: reading finds the longest one.
-use Rattle.std.proofs.Common.{◌≡◌, ◌≢◌, ◌⊎◌, ℕ, ◌+◌, ◌<◌, ◌≤◌, Bool, true, false, not, ◌==◌, ◌&&◌, cond, nat_lt, List, [], ◌∷◌, ◌++◌, length, drop, slice_range, Option, Some, None, refl, sym, ap, ◌∙◌, inl, inr, subst, arith}
+use Rattle.std.proofs.Common.{◌≡◌, ◌≢◌, ◌⊎◌, ℕ, ◌+◌, ◌<◌, ◌≤◌, true, false, not, ◌==◌, ◌&&◌, nat_lt, List, [], ◌∷◌, ◌++◌, length, drop, slice_range, Option, Some, None, refl, sym, ap, ◌∙◌, inl, inr, subst, arith}
 use Rattle.std.specs.Char.{digit_value}
-use Rattle.std.specs.Str.Parse.{AllDigits, digits_value_after, digits_value}
+use Rattle.std.specs.Str.Parse.{AllDigits}
 use Rattle.std.proofs.lemmas.List.{length-append, length-drop, drop-drop, append_assoc}
-use Rattle.std.proofs.lemmas.Bool.{and_parts, cond_both, cond-true, cond-false, cases_Bool, eqb-true, ne_eqb, lt-ltb, le-ltb, ltb-true, ltb-false, not-false, false≢true}
+use Rattle.std.proofs.lemmas.Bool.{and_parts, cond_both, cond-true, cond-false, cases_Bool, eqb-true, ne_eqb, lt-ltb, le-ltb, not-false, false≢true}
 use Rattle.cbor_notes.specs.declared.token.number.Base.{Base}
 use Rattle.cbor_notes.specs.declared.token.number.Base.TheVariants.{Decimal, Hexadecimal, Octal, Binary}
 use Rattle.cbor_notes.specs.Token.{AreDigits, Indicates, IsNumber, IsSomeNumber, IsLongest, prefix, radix}
-use Rattle.cbor_notes.specs.TokenReading.{starts_with_digit, base_of, digit_run, indicator_of, small_run, with_indicator, after_run, number_in, number_of}
+use Rattle.cbor_notes.specs.TokenReading.{starts_with_digit, base_of, digit_run, indicator_of, with_indicator, after_run, number_in, number_of}
 use Rattle.cbor_notes.proofs.NumberRuns.{digit_run-append, digit_run-stops, IsRun, is_run, length-digit_run, small_run-stops, length-small_run, indicator_of-append, Indicates-indicator_of}
 use Rattle.cbor_notes.proofs.Longest.{one_longest}
 use Rattle.cbor_notes.proofs.TextPlaces.{part_and_rest, part_is}

@@ -33,5 +33,6 @@ mod standard;
 mod tags;
 #[cfg(test)]
 mod turns;
+mod tokens;
 #[cfg(test)]
 mod written;

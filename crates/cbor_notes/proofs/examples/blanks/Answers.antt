@@ -1,6 +1,6 @@
-use Rattle.std.proofs.Common.{◌≡◌, ◌≢◌, ℕ, true, false, List, [], ◌∷◌, codes, refl, arith}
+use Rattle.std.proofs.Common.{◌≡◌, ◌≢◌, ℕ, List, [], codes, refl, arith}
 use Rattle.std.specs.List.{AllByRecursion}
-use Rattle.cbor_notes.specs.Token.{Blank, nothing, whitespace, comment}
+use Rattle.cbor_notes.specs.Token.{nothing, whitespace, comment}
 use Rattle.cbor_notes.proofs.Blanks.{after_blank-all}
 use Rattle.cbor_notes.proofs.examples.blanks.Goals as goal
 

@@ -1,4 +1,4 @@
-use Rattle.std.proofs.Common.{◌≡◌, ℕ, ◌≤◌, ◌<◌, List, [], ◌∷◌, ◌++◌, codes, Option, Some, None, refl, sym, ap, ◌∙◌, arith}
+use Rattle.std.proofs.Common.{◌≡◌, ℕ, List, [], ◌∷◌, ◌++◌, codes, Option, Some, None, refl, sym, ap, ◌∙◌, arith}
 use Rattle.cbor_notes.specs.declared.token.number.Base.TheVariants.{Decimal, Hexadecimal, Binary}
 use Rattle.cbor_notes.specs.Token.{IsNumber, IsSomeNumber}
 use Rattle.cbor_notes.specs.TokenReading.{number_of}

@@ -1,5 +1,4 @@
-use Rattle.std.proofs.Common.{◌≡◌, ℕ, ◌+◌, ◌-◌, List, length, drop, Option, None, Some, IfNone, ap, sym, ◌∙◌, arith, rules, tests}
-use Rattle.std.specs.List.{position_or_len}
+use Rattle.std.proofs.Common.{ℕ, ◌+◌, drop, ap, ◌∙◌, arith, rules, tests}
 use Rattle.std.proofs.lemmas.List.{take_rest, length-drop}
 use Rattle.std.proofs.lemmas.Iterator.{YieldsList-from_slice}
 use Rattle.std.proofs.lemmas.Iterator.Search.{position_from_yields_List}

@@ -1,6 +1,5 @@
-use Rattle.std.proofs.Common.{◌≡◌, ℕ, ◌+◌, ◌<◌, false, true, List, [], ◌∷◌, ◌++◌, length, get_or, drop, slice_range, Option, Some, None, refl, sym, ap, ◌∙◌, arith}
+use Rattle.std.proofs.Common.{◌≡◌, ℕ, ◌+◌, ◌<◌, false, true, List, [], ◌∷◌, ◌++◌, length, get_or, drop, slice_range, Some, None, refl, sym, ap, ◌∙◌, arith}
 use Rattle.std.proofs.lemmas.List.{append-nil, drop_all, length-drop}
-use Rattle.cbor_notes.specs.Token.{is_special}
 use Rattle.cbor_notes.specs.TokenReading.{unquoted, with_front}
 use Rattle.cbor_notes.proofs.TextPlaces.{from_byte}
 use Rattle.cbor_notes.proofs.Contents.{with_front-append}

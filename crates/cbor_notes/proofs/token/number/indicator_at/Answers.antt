@@ -1,4 +1,4 @@
-use Rattle.std.proofs.Common.{◌≡◌, ℕ, ◌+◌, List, ◌∷◌, length, drop, Some, None, ap, sym, ◌∙◌, cond, arith}
+use Rattle.std.proofs.Common.{ℕ, ◌+◌, List, drop, Some, None, ap, ◌∙◌, arith}
 use Rattle.std.proofs.lemmas.List.{length-drop}
 use Rattle.std.proofs.lemmas.Bool.{cond-true, cond-false}
 use Rattle.cbor_notes.specs.TokenReading.{indicator_of, small_run}

@@ -1,7 +1,7 @@
-use Rattle.std.proofs.Common.{◌≡◌, ℕ, ◌+◌, ◌≤◌, List, length, drop, Option, Some, None, ap, ◌∙◌, arith}
+use Rattle.std.proofs.Common.{ℕ, List, length, drop, Option, Some, None, ap, ◌∙◌, arith}
 use Rattle.std.proofs.lemmas.List.{length-drop}
 use Rattle.cbor_notes.specs.Token.{prefix, capped}
-use Rattle.cbor_notes.specs.TokenReading.{base_of, number_of, with_indicator, indicator_of}
+use Rattle.cbor_notes.specs.TokenReading.{with_indicator}
 use Rattle.cbor_notes.specs.declared.token.number.Base.{Base}
 use Rattle.cbor_notes.proofs.Numbers.{prefix_fits, no_number_at, number_at_run, IsReadAt, read_at}
 use Rattle.cbor_notes.proofs.token.number.number_at.Goals as goal

@@ -1,4 +1,4 @@
-use Rattle.std.proofs.Common.{◌≡◌, ℕ, ◌≤◌, ◌<◌, ◌-◌, length, drop}
+use Rattle.std.proofs.Common.{◌≡◌, ◌≤◌, ◌-◌, length, drop}
 use Rattle.cbor_notes.specs.TokenReading.{small_run}
 use Rattle.cbor_notes.proofs.token.number.small_digits_from.Given as goal
 
