@@ -13,6 +13,7 @@ use Rattle.cbor_diag.specs.declared.syntax.FloatWidth.TheVariants as float_width
 use Rattle.cbor_diag.specs.Item as spec
 use Rattle.cbor_diag.specs.Item.{Chunk, Atom, integer, negative, byte_string, text_string, byte_chunks, text_chunks, float, simple, Item, atom, array, tagged, Items, no_items, item, Pairs, no_pairs, pair}
 use Rattle.cbor_diag.specs.Head.{FitsWidth}
+use Rattle.cbor_diag.specs.WellFormed.{deepest}
 use Rattle.cbor_diag.specs.Bytes.{StringKind, bytes_kind, text_kind, IsContent}
 use Rattle.cbor_diag.specs.Written.{encoded_items}
 
@@ -191,3 +192,7 @@ Reads (suc left) text i = Blanked (λ core. Core (Reads left) core i) text
 -- level 1, so all levels up to the limit are left for it.
 abbrev pub ReadsUnder : ℕ → List ℕ → Item → Type 0
 ReadsUnder limit text i = Reads limit text i
+
+-- The text is this item, and nothing in it stands deeper than the deepest level.
+abbrev pub IsNotation : List ℕ → Item → Type 0
+IsNotation text i = ReadsUnder deepest text i

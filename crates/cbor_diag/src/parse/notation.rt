@@ -11,10 +11,16 @@ mod start;
 mod strings;
 mod word;
 
-ghost use Rattle.std.specs.Prelude.{◌≡◌, ◌-◌, ◌+◌, ◌<◌, ◌≤◌, length, map, IfOk};
+ghost use Rattle.std.specs.Prelude.{◌≡◌, ℕ, ◌-◌, ◌+◌, ◌<◌, ◌≤◌, length, map, IfOk};
 ghost use Rattle.cbor_diag.specs.Head.{FitsWidth};
 ghost use Rattle.cbor_diag.specs.View.{view, items_view, pairs_view};
 ghost use Rattle.cbor_diag.specs.WellFormed.{WellFormed, WellFormedItems, WellFormedPairs};
+ghost use Rattle.cbor_diag.specs.WellFormed.{deepest};
+ghost use Rattle.cbor_diag.specs.Item.{Item};
+ghost use Rattle.cbor_diag.specs.Answer.{GaveItem, RefusedSo};
+ghost use Rattle.cbor_diag.specs.Facts.{IsWellFormed};
+ghost use Rattle.cbor_diag.specs.Notation.{IsNotation, ReadsUnder};
+ghost use Rattle.cbor_diag.specs.NotationRefused.{MayRefuse, GaveOrTooDeep};
 ghost use Rattle.cbor_diag.specs.Reading.{Gives};
 ghost use Rattle.cbor_diag.specs.NotationReading.{after_byte, core_at, integer_or_tag, item_at, members_at, notation_of, pair_at};
 
@@ -195,14 +201,44 @@ fn pair_at(alloc: Global, text: &[u8], level: u8) -> Result<((DataItem, DataItem
     Ok(((key, value), rest))
 }
 
-/// Reads one item from diagnostic notation.
-pub fn parse_diag(alloc: Global, text: &str) -> Result<DataItem>
-    ensures gives { Gives view result (notation_of 128 text.now) }
-    ensures well_formed { IfOk result (λ i. WellFormed 1 (view i)) }
+/// The item that a text is, all of it.
+fn whole_text(alloc: Global, text: &[u8]) -> Result<DataItem>
+    ensures gives { Gives view result (notation_of deepest text.now) }
+    ensures well_formed { IfOk result (λ i. IsWellFormed (view i)) }
 {
-    let (item, rest) = item_at(alloc, text.as_bytes(), 1)?;
+    let (item, rest) = item_at(alloc, text, 1)?;
     if !rest.is_empty() {
         return Err(Error::Notation);
     }
     Ok(item)
+}
+
+/// Reads one item from diagnostic notation (RFC 7049 section 6; docs/NOTATION.md has the rules), with the
+/// widths that encoding indicators state; without one, a number up to 23 and a negative one down to -24
+/// have the width of the first byte, and all others an open one, as lengths have.
+///
+/// Refuses with `TooDeep` where an item would stand below level 128, those in `<<` `>>` one level deeper
+/// than what holds them; with `PastWidth` where a number does not fit the width that its indicator states;
+/// with `Utf8` where the pieces of a text string are not UTF-8 together; and with `Notation` where the text
+/// is none.
+pub fn parse_diag(alloc: Global, text: &str) -> Result<DataItem>
+    // The item that the text is, exactly where it is one with no item below level 128.
+    ensures ok { IfOk result (λ i. IsNotation text.now (view i)) }
+    ensures every_item { (i : Item) → IsNotation text.now i → GaveItem result i }
+
+    // Where a larger limit of levels reads it, it is answered, or is too deep.
+    ensures larger_limit { (limit : ℕ) (i : Item) → deepest ≤ limit → ReadsUnder limit text.now i
+        → GaveOrTooDeep deepest text.now result i }
+
+    // Under no limit is the text another item.
+    ensures one_item { IfOk result (λ i.
+        (limit : ℕ) (other : Item) → ReadsUnder limit text.now other → other ≡ view i) }
+
+    // What a refusal says of the text.
+    ensures refused { RefusedSo result (MayRefuse deepest text.now) }
+
+    // The item has an encoding.
+    ensures well_formed { IfOk result (λ i. IsWellFormed (view i)) }
+{
+    whole_text(alloc, text.as_bytes())
 }
