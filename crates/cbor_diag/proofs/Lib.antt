@@ -24,3 +24,4 @@ pub mod HexDigits
 mod NotationExamples
 pub mod NotationLoops
 pub mod NotationTokens
+pub mod NotationCores

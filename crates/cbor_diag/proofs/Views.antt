@@ -1,11 +1,14 @@
 -- A data item, level by level, beside the item that it is.
-use Rattle.std.proofs.Common.{◌≡◌, suc, List, [], ◌∷◌, Option, Vec, Global, Box, length, refl, ap, rules}
+use Rattle.std.proofs.Common.{◌≡◌, ℕ, suc, List, [], ◌∷◌, Option, Vec, Global, Box, length, refl, ap, rules}
 use Rattle.cbor_diag.specs.declared.syntax.IntegerWidth.{IntegerWidth}
 use Rattle.cbor_diag.specs.declared.syntax.Tag as declared
-use Rattle.cbor_diag.specs.declared.syntax.DataItem.{DataItem, Array, Map, Tag, the_lemmas}
+use Rattle.cbor_diag.specs.declared.syntax.DataItem.{DataItem, Negative, Array, Map, Tag, the_lemmas}
 use Rattle.cbor_diag.specs.Item as spec
 use Rattle.cbor_diag.specs.Item.{item_count, pair_count}
 use Rattle.cbor_diag.specs.View.{view, items_view, pairs_view}
+
+pub view-Negative : (n : ℕ) (w : IntegerWidth) → view (Negative n w) ≡ spec.atom (spec.negative n w)
+view-Negative n w = search (rules, the_lemmas)
 
 pub view-Array : (v : Vec DataItem Global) (w : Option IntegerWidth) → view (Array v w) ≡ spec.array (items_view v.items) w
 view-Array v w = search (rules, the_lemmas)

@@ -247,6 +247,10 @@ abbrev pub first_start : List ℕ → Start
 first_start [] = start.Other
 first_start (b ∷ text) = start_of b
 
+abbrev pub rest_of : List ℕ → List ℕ
+rest_of [] = []
+rest_of (b ∷ text) = text
+
 -- whether a piece of a string begins so; the flag is whether texts may be pieces
 abbrev pub begins_piece : Bool → Start → Bool
 begins_piece texts start.Quote = texts

@@ -21,10 +21,10 @@ ghost use Rattle.cbor_diag.specs.NotationReading.{after_byte, core_at, integer_o
 use crate::error::{Error, Result};
 use crate::syntax::{DEEPEST, DataItem, IntegerWidth, Tag};
 use number::{below_zero_at, sized_at};
-use scan::{after_blank, after_byte, after_word, end_at, expect_byte, length_at};
+use scan::{after_blank, after_byte, end_at, expect_byte, length_at};
 use start::Start;
 use std::alloc::Global;
-use strings::{byte_string_at, chunks_at, text_string_at};
+use strings::{byte_item_at, chunks_at, text_item_at};
 use word::word_at;
 
 /// The item at the front, which stands at `level`, from 1 to 129, with the blanks round it. At level 129
@@ -52,10 +52,8 @@ fn core_at(alloc: Global, text: &[u8], inner: u8) -> Result<(DataItem, &[u8])>
     ensures well { IfOk result (λ x. WellFormed (inner - 1) (view x.0)) }
     ensures shorter { IfOk result (λ x. length x.1.now ≤ length text.now) }
 {
-    let [first, rest @ ..] = text else {
-        return Err(Error::Notation);
-    };
-    match Start::of(*first) {
+    let (start, rest) = Start::split(text);
+    match start {
         Start::Digit => {
             let ((number, bitwidth), rest) = sized_at(text)?;
             integer_or_tag(alloc, number, bitwidth, rest, inner)
@@ -75,20 +73,11 @@ fn core_at(alloc: Global, text: &[u8], inner: u8) -> Result<(DataItem, &[u8])>
             Ok((DataItem::Map { content, bitwidth }, rest))
         }
         Start::Parenthesis => chunks_at(alloc, rest, inner),
-        Start::Apostrophe | Start::Angle | Start::LetterB | Start::LetterH => {
-            if let Some(rest) = after_word(text, b"''_") {
-                return Ok((DataItem::IndefiniteByteString(Vec::new(alloc)), rest));
-            }
-            let (string, rest) = byte_string_at(alloc, text, inner)?;
-            Ok((DataItem::ByteString(string), rest))
-        }
-        Start::Quote => {
-            if let Some(rest) = after_word(text, b"\"\"_") {
-                return Ok((DataItem::IndefiniteTextString(Vec::new(alloc)), rest));
-            }
-            let (string, rest) = text_string_at(alloc, text, inner)?;
-            Ok((DataItem::TextString(string), rest))
-        }
+        Start::Apostrophe => byte_item_at(alloc, text, inner),
+        Start::Angle => byte_item_at(alloc, text, inner),
+        Start::LetterB => byte_item_at(alloc, text, inner),
+        Start::LetterH => byte_item_at(alloc, text, inner),
+        Start::Quote => text_item_at(alloc, text, inner),
         Start::Other => word_at(text),
     }
 }
