@@ -22,6 +22,7 @@ pub mod Sizes
 pub mod HexLines
 pub mod HexDigits
 mod NotationExamples
+pub mod notation
 pub mod NotationLoops
 pub mod NotationTokens
 pub mod NotationCores

@@ -177,10 +177,10 @@ from_sixes values = []
 abbrev pub unpadded : List ℕ → List ℕ
 unpadded digits = before_first (λ d. d == 61) digits
 
-abbrev pub base32_of : List ℕ → Option (List ℕ)
+unfoldable pub base32_of : List ℕ → Option (List ℕ)
 base32_of digits = if_encoded base32.base32 digits (from_fives (map (value_in (codes "ABCDEFGHIJKLMNOPQRSTUVWXYZ234567")) (unpadded digits)))
 
-abbrev pub base32hex_of : List ℕ → Option (List ℕ)
+unfoldable pub base32hex_of : List ℕ → Option (List ℕ)
 base32hex_of digits = if_encoded base32.base32hex digits (from_fives (map (value_in (codes "0123456789ABCDEFGHIJKLMNOPQRSTUV")) (unpadded digits)))
 
 -- the value of a digit in either alphabet of base 64
@@ -194,7 +194,7 @@ abbrev pub either : Option (List ℕ) → Option (List ℕ) → Option (List ℕ
 either None other = other
 either (Some bytes) other = Some bytes
 
-abbrev pub base64_of : List ℕ → Option (List ℕ)
+unfoldable pub base64_of : List ℕ → Option (List ℕ)
 base64_of digits =
     let bytes = from_sixes (map six_bits (unpadded digits)) in
     either (if_encoded base64.url_safe digits bytes) (if_encoded base64.standard digits bytes)

@@ -14,6 +14,7 @@ pub mod DecodedLineLemmas
 pub mod Groups
 pub mod HexLemmas
 pub mod Longest
+pub mod NumberFronts
 pub mod NumberRuns
 pub mod Numbers
 pub mod Places

@@ -1,0 +1,12 @@
+pub mod Ends
+pub mod Lists
+pub mod Decoded
+pub mod Pieces
+pub mod Strings
+pub mod Chunked
+pub mod Numbers
+pub mod Words
+pub mod Containers
+pub mod Again
+pub mod Levels
+pub mod OneReading

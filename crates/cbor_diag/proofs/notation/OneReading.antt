@@ -1,0 +1,39 @@
+-- What the limits on levels change: a text is at most one item, and what a larger limit reads is read, or
+-- is TooDeep.
+use Rattle.std.proofs.Common.{◌≡◌, ℕ, ◌+◌, ◌-◌, ◌≤◌, List, [], Option, Ok, Err, ◌⊎◌, inl, inr, refl, sym, ap, ◌∙◌, subst, arith}
+use Rattle.std.proofs.lemmas.List.{append-nil}
+use Rattle.std.proofs.lemmas.Bool.{cases_lt}
+use Rattle.cbor_diag.specs.declared.error.Error.{Error}
+use Rattle.cbor_diag.specs.declared.error.Error.TheVariants as refusal
+use Rattle.cbor_diag.specs.Item.{Item}
+use Rattle.cbor_diag.specs.Reading.{Read, ◌>>=◌}
+use Rattle.cbor_diag.specs.Notation.{Reads}
+use Rattle.cbor_diag.specs.NotationReading.{item_at, whole, notation_of}
+use Rattle.cbor_diag.proofs.notation.Again.{item_whole}
+use Rattle.cbor_diag.proofs.notation.Levels.{Grows, grows_made, levels_grow}
+
+pub levels_more : (left limit : ℕ) (text : List ℕ) → left ≤ limit → Grows (item_at left text) (item_at limit text)
+levels_more left limit text le = subst (λ (n : ℕ). Grows (item_at left text) (item_at n text)) (omega arith) (levels_grow left (limit - left) text)
+
+same_item : (few many : ℕ) (text : List ℕ) (i j : Item) → Reads few text i → Reads many text j → Grows (item_at few text) (item_at many text) → i ≡ j
+same_item few many text i j is is_too (inl e) = let never : ◌≡◌ {A = Read Item} (Ok (i, [])) (Err refusal.TooDeep) = sym (item_whole few text i is) ∙ e in cc never
+same_item few many text i j is is_too (inr e) =
+    let both : ◌≡◌ {A = Read Item} (Ok (i, [])) (Ok (j, [])) = sym (item_whole few text i is) ∙ (e ∙ item_whole many text j is_too) in
+    let one : ◌≡◌ {A = Item × List ℕ} (i, []) (j, []) = cc both in
+    ap (λ (x : Item × List ℕ). x.0) one
+
+-- a text is at most one item, under any limits
+pub one_reading : (limit other : ℕ) (text : List ℕ) (i j : Item) → Reads limit text i → Reads other text j → i ≡ j
+one_reading limit other text i j is is_too =
+    elim (cases_lt limit other) [
+      inl less ↦ same_item limit other text i j is is_too (levels_more limit other text (omega arith))
+    | inr le ↦ sym (same_item other limit text j i is_too is (levels_more other limit text le))
+    ]
+
+-- what a limit reads is read under a smaller one too, or is TooDeep there
+pub read_or_too_deep : (limit larger : ℕ) (text : List ℕ) (i : Item) → limit ≤ larger → Reads larger text i → (notation_of limit text ≡ Err refusal.TooDeep) ⊎ (notation_of limit text ≡ Ok i)
+read_or_too_deep limit larger text i le is = from (levels_more limit larger text le)
+  where
+    from : Grows (item_at limit text) (item_at larger text) → (notation_of limit text ≡ Err refusal.TooDeep) ⊎ (notation_of limit text ≡ Ok i)
+    from (inl e) = inl (rw e refl)
+    from (inr e) = let read : item_at limit text ≡ Ok (i, []) = e ∙ item_whole larger text i is in inr (rw read refl)
