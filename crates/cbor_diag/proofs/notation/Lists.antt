@@ -43,7 +43,7 @@ blanked_stripped CoreOf starts text x is = record {
 
 -- ---- whitespace before what closes a list
 
-position_at : (test : ℕ → Bool) (front : List ℕ) (b : ℕ) (rest : List ℕ) → list_any test front ≡ false → test b ≡ true → position_or_len test (front ++ b ∷ rest) ≡ length front
+pub position_at : (test : ℕ → Bool) (front : List ℕ) (b : ℕ) (rest : List ℕ) → list_any test front ≡ false → test b ≡ true → position_or_len test (front ++ b ∷ rest) ≡ length front
 position_at test [] b rest none is = rw is refl
 position_at test (x ∷ front) b rest none is =
     let parts = or_parts (test x) (list_any test front) none in
