@@ -4,7 +4,7 @@ use Rattle.std.specs.List.{list_any, before_first, position_or_len}
 use Rattle.std.specs.Str.{bytes_eq}
 use Rattle.std.specs.Int.Digits.{AllBelowBase}
 use Rattle.std.proofs.Math.Numerals.{one-add}
-use Rattle.std.proofs.lemmas.Bool.{agree_below_at, or_parts, or_from, eqb-true, cond-true, cases_Bool}
+use Rattle.std.proofs.lemmas.Bool.{agree_below_at, or_parts, or_from, eqb-true, cond-true, cond_both}
 use Rattle.std.proofs.lemmas.List.{append-nil, take_at, take_all}
 use Rattle.std.proofs.lemmas.Slice.Eq.{bytes_eq-Decides}
 use Rattle.base64.specs.Rfc4648.{encode_symbols, padding_len}
@@ -105,8 +105,86 @@ base32hex_again bytes all =
     (ap from_fives (values_read 32 _ _ is_base32hex (fives bytes) (base32hex bytes) (padding bytes) (fives_below bytes) (base32hex_values bytes)) ∙ from_fives_again bytes all)
     ∙ encoded_is base32hex (base32hex bytes) bytes refl
 
+-- ---- base 64
+
+-- the values of the digits
+unfoldable sixes : List ℕ → List ℕ
+sixes [] = []
+sixes (a ∷ []) = a / 4 ∷ a % 4 * 16 ∷ []
+sixes (a ∷ b ∷ []) = a / 4 ∷ (a % 4 * 16 + b / 16) ∷ b % 16 * 4 ∷ []
+sixes (a ∷ b ∷ c ∷ bytes) = a / 4 ∷ (a % 4 * 16 + b / 16) ∷ (b % 16 * 4 + c / 64) ∷ c % 64 ∷ sixes bytes
+
+symbols_are : (symbols bytes : List ℕ) → encode_symbols symbols bytes ≡ map (slice_index symbols) (sixes bytes)
+unfolding encode_symbols sixes
+symbols_are symbols [] = refl
+symbols_are symbols (a ∷ []) = refl
+symbols_are symbols (a ∷ b ∷ []) = refl
+symbols_are symbols (a ∷ b ∷ c ∷ bytes) =
+    ap (λ (rest : List ℕ). slice_index symbols (a / 4) ∷ slice_index symbols (a % 4 * 16 + b / 16) ∷ slice_index symbols (b % 16 * 4 + c / 64) ∷ slice_index symbols (c % 64) ∷ rest) (symbols_are symbols bytes)
+
+sixes_below : (bytes : List ℕ) → AreBytes bytes → AllBelowBase 64 (sixes bytes)
+unfolding sixes
+sixes_below [] all = tt
+sixes_below (a ∷ []) all = let x = all.0 in (omega arith, (omega arith, tt))
+sixes_below (a ∷ b ∷ []) all = let x = all.0 in let y = all.1.0 in (omega arith, (omega arith, (omega arith, tt)))
+sixes_below (a ∷ b ∷ c ∷ bytes) all =
+    let x = all.0 in
+    let y = all.1.0 in
+    let z = all.1.1.0 in
+    (omega arith, (omega arith, (omega arith, (omega arith, sixes_below bytes all.1.1.1))))
+
+from_sixes_again : (bytes : List ℕ) → AreBytes bytes → from_sixes (sixes bytes) ≡ bytes
+unfolding sixes from_sixes
+from_sixes_again [] all = refl
+from_sixes_again (a ∷ []) all = let x : a / 4 * 4 + a % 4 * 16 / 16 ≡ a = omega arith in rw x refl
+from_sixes_again (a ∷ b ∷ []) all =
+    let x : a / 4 * 4 + (a % 4 * 16 + b / 16) / 16 ≡ a = omega (arith, all.1.0) in
+    let y : (a % 4 * 16 + b / 16) % 16 * 16 + b % 16 * 4 / 4 ≡ b = omega (arith, all.1.0) in
+    rw (x, y) refl
+from_sixes_again (a ∷ b ∷ c ∷ bytes) all =
+    let x : a / 4 * 4 + (a % 4 * 16 + b / 16) / 16 ≡ a = omega (arith, all.1.0) in
+    let y : (a % 4 * 16 + b / 16) % 16 * 16 + (b % 16 * 4 + c / 64) / 4 ≡ b = omega (arith, all.1.0, all.1.1.0) in
+    let z : (b % 16 * 4 + c / 64) % 4 * 64 + c % 64 ≡ c = omega (arith, all.1.1.0) in
+    rw (x, y, z, from_sixes_again bytes all.1.1.1) refl
+
+abbrev url_safe_symbols : List ℕ
+url_safe_symbols = codes "ABCDEFGHIJKLMNOPQRSTUVWXYZabcdefghijklmnopqrstuvwxyz0123456789-_"
+
+abbrev standard_symbols : List ℕ
+standard_symbols = codes "ABCDEFGHIJKLMNOPQRSTUVWXYZabcdefghijklmnopqrstuvwxyz0123456789+/"
+
+is_url_safe : IsAlphabet 64 (slice_index url_safe_symbols) six_bits
+is_url_safe = record {
+  back = λ v small. eqb-true _ v (agree_below_at (λ v. six_bits (slice_index url_safe_symbols v) == v) (λ v. true) 64 v refl small);
+  plain = λ v small. agree_below_at (λ v. slice_index url_safe_symbols v == 61) (λ v. false) 64 v refl small;
+}
+
+is_standard : IsAlphabet 64 (slice_index standard_symbols) six_bits
+is_standard = record {
+  back = λ v small. eqb-true _ v (agree_below_at (λ v. six_bits (slice_index standard_symbols v) == v) (λ v. true) 64 v refl small);
+  plain = λ v small. agree_below_at (λ v. slice_index standard_symbols v == 61) (λ v. false) 64 v refl small;
+}
+
+-- one of two encodings
+first_of : (one other : List ℕ → List ℕ) (digits bytes found : List ℕ) → found ≡ bytes → one bytes ≡ digits → either (if_encoded one digits found) (if_encoded other digits found) ≡ Some bytes
+first_of one other digits bytes found found_is is =
+    ap (λ (b : List ℕ). either (if_encoded one digits b) (if_encoded other digits b)) found_is ∙ ap (λ (o : Option (List ℕ)). either o (if_encoded other digits bytes)) (encoded_is one digits bytes is)
+
+second_of : (one other : List ℕ → List ℕ) (digits bytes found : List ℕ) → found ≡ bytes → other bytes ≡ digits → either (if_encoded one digits found) (if_encoded other digits found) ≡ Some bytes
+second_of one other digits bytes found found_is is =
+    ap (λ (b : List ℕ). either (if_encoded one digits b) (if_encoded other digits b)) found_is
+    ∙ (ap (λ (o : Option (List ℕ)). either (if_encoded one digits bytes) o) (encoded_is other digits bytes is)
+    ∙ cond_both (bytes_eq (one bytes) digits) (Some bytes) None (λ o. either o (Some bytes) ≡ Some bytes) (λ e. refl) (λ e. refl))
+
+sixes_read : (symbols bytes digits : List ℕ) (n : ℕ) → IsAlphabet 64 (slice_index symbols) six_bits → AreBytes bytes → digits ≡ encode_symbols symbols bytes ++ replicate n 61 → from_sixes (map six_bits (unpadded digits)) ≡ bytes
+sixes_read symbols bytes digits n is all digits_are =
+    ap from_sixes (values_read 64 (slice_index symbols) six_bits is (sixes bytes) digits n (sixes_below bytes all) (digits_are ∙ ap (λ (front : List ℕ). front ++ replicate n 61) (symbols_are symbols bytes)))
+    ∙ from_sixes_again bytes all
+
 pub url_safe_again : (bytes : List ℕ) → AreBytes bytes → base64_of (url_safe bytes) ≡ Some bytes
-url_safe_again bytes all = ?
+unfolding base64_of
+url_safe_again bytes all = first_of url_safe standard (url_safe bytes) bytes _ (sixes_read url_safe_symbols bytes (url_safe bytes) 0 is_url_safe all refl) refl
 
 pub standard_again : (bytes : List ℕ) → AreBytes bytes → base64_of (standard bytes) ≡ Some bytes
-standard_again bytes all = ?
+unfolding base64_of
+standard_again bytes all = second_of url_safe standard (standard bytes) bytes _ (sixes_read standard_symbols bytes (standard bytes) (padding_len (length bytes)) is_standard all refl) refl
