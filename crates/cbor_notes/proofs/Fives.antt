@@ -1,6 +1,5 @@
 -- Base 32 as the values of its digits: the encoding shows them, and then padding.
-use Rattle.std.proofs.Common.{◌≡◌, ℕ, zero, suc, ◌+◌, ◌-◌, ◌*◌, ◌/◌, ◌^◌, ◌<◌, ◌≤◌, List, [], ◌∷◌, ◌++◌, map, length, take, replicate, slice_index, codes, refl, sym, ap, ◌∙◌, arith, lit<}
-use Rattle.std.proofs.lemmas.List.{append_assoc, append-nil, map-append}
+use Rattle.std.proofs.Common.{◌≡◌, ℕ, ◌+◌, ◌-◌, ◌*◌, ◌/◌, ◌^◌, ◌<◌, ◌≤◌, List, [], ◌∷◌, ◌++◌, map, length, take, replicate, slice_index, codes, refl, sym, ap, ◌∙◌, arith, lit<}
 use Rattle.std.proofs.lemmas.Nat.{div_below, pow-add}
 use Rattle.std.proofs.Math.Nat.{mul-div_cancel, one-le-pow}
 use Rattle.std.specs.Int.Digits.{AllBelowBase, number_from_digits}
@@ -8,7 +7,6 @@ use Rattle.cbor_notes.specs.AreBytes.{AreBytes}
 use Rattle.cbor_notes.specs.Base32.{characters, IsLastGroup, places, digit_count, forty_bits, encode_group, encode, base32, base32hex}
 use Rattle.cbor_notes.specs.declared.base32.Alphabet.{Alphabet}
 use Rattle.cbor_notes.specs.declared.base32.Alphabet.TheVariants.{Standard, ExtendedHex}
-use Rattle.cbor_notes.proofs.Base32Encode.{AllBelowBase-append}
 use Rattle.cbor_notes.proofs.Base32Groups.{few_digits, group_bits}
 use Rattle.cbor_notes.proofs.Places.{length-places, AllBelowBase-places, number-places, places-number, take-places}
 

@@ -1,6 +1,6 @@
 -- Bytes are decoded from the digits of their encodings.
-use Rattle.std.proofs.Common.{◌≡◌, ℕ, zero, suc, ◌+◌, ◌-◌, ◌*◌, ◌/◌, ◌%◌, ◌<◌, ◌≤◌, Bool, true, false, not, ◌==◌, cond, List, [], ◌∷◌, ◌++◌, map, length, take, replicate, slice_index, codes, Option, Some, None, refl, sym, ap, ◌∙◌, inl, inr, arith}
-use Rattle.std.specs.List.{list_any, before_first, position_or_len}
+use Rattle.std.proofs.Common.{◌≡◌, ℕ, zero, suc, ◌+◌, ◌-◌, ◌*◌, ◌/◌, ◌%◌, ◌<◌, true, false, ◌==◌, List, [], ◌∷◌, ◌++◌, map, length, take, replicate, slice_index, codes, Option, Some, None, refl, ap, ◌∙◌, arith}
+use Rattle.std.specs.List.{list_any, position_or_len}
 use Rattle.std.specs.Str.{bytes_eq}
 use Rattle.std.specs.Int.Digits.{AllBelowBase}
 use Rattle.std.proofs.Math.Numerals.{one-add}
@@ -11,8 +11,8 @@ use Rattle.base64.specs.Rfc4648.{encode_symbols, padding_len}
 use Rattle.cbor_notes.specs.AreBytes.{AreBytes}
 use Rattle.cbor_notes.specs.Base32.{base32, base32hex}
 use Rattle.cbor_notes.specs.Base64.{standard, url_safe}
-use Rattle.cbor_notes.proofs.Fives.{fives, padding, group_values, values_below, group_again, base32_values, base32hex_values}
-use Rattle.cbor_diag.specs.NotationReading.{if_encoded, either, value_in, bytes_of_fives, from_fives, from_sixes, six_bits, unpadded, base32_of, base32hex_of, base64_of}
+use Rattle.cbor_notes.proofs.Fives.{fives, padding, values_below, group_again, base32_values, base32hex_values}
+use Rattle.cbor_diag.specs.NotationReading.{if_encoded, either, value_in, from_fives, from_sixes, six_bits, unpadded, base32_of, base32hex_of, base64_of}
 use Rattle.cbor_diag.proofs.notation.Lists.{position_at}
 
 -- ---- an alphabet: the digit of each value, and the value of each digit
