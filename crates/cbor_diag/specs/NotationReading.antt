@@ -1,8 +1,8 @@
 -- Reading notation from left to right, as the code of `parse/notation.rt` does: a function from a text to a
 -- value and the rest, or the first refusal. No public clause names it: proofs/ shows that it agrees with
 -- `Reads`.
-use Rattle.std.specs.Prelude.{ℕ, zero, suc, ◌+◌, ◌-◌, ◌*◌, ◌/◌, ◌%◌, ◌^◌, List, [], ◌∷◌, ◌++◌, length, take, drop, map, position, slice_index, codes, Option, Some, None, option_map, option_and_then, unwrap_or, Result, Ok, Err, Bool, true, false, not, nat_lt, nat_le, nat_eq, bytes_eq, ◌==◌, ◌&&◌, ◌||◌, if◌then◌else◌}
-use Rattle.std.specs.List.{prefix_len, starts_with, before_first, list_all}
+use Rattle.std.specs.Prelude.{ℕ, zero, suc, ◌+◌, ◌-◌, ◌*◌, ◌/◌, ◌%◌, ◌^◌, List, [], ◌∷◌, ◌++◌, length, take, drop, map, position, codes, Option, Some, None, option_and_then, unwrap_or, Result, Ok, Err, Bool, true, false, not, nat_lt, nat_le, nat_eq, bytes_eq, ◌==◌, ◌&&◌, ◌||◌, if◌then◌else◌}
+use Rattle.std.specs.List.{starts_with, before_first, list_all}
 use Rattle.std.specs.Char.{digit_value}
 use Rattle.std.specs.Str.{is_utf8}
 use Rattle.std.specs.Str.Parse.{digits_value}

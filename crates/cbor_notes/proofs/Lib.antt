@@ -11,6 +11,7 @@ mod BaseExamples
 pub mod Blanks
 pub mod Contents
 pub mod DecodedLineLemmas
+pub mod Fives
 pub mod Groups
 pub mod HexLemmas
 pub mod Longest
