@@ -12,6 +12,8 @@ mod make;
 #[cfg(test)]
 mod malformed;
 #[cfg(test)]
+mod notation;
+#[cfg(test)]
 mod notes_base;
 #[cfg(test)]
 mod notes_text;
