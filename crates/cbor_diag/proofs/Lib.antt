@@ -21,8 +21,9 @@ pub mod Resolved
 pub mod Sizes
 pub mod HexLines
 pub mod HexDigits
-mod NotationExamples
+pub mod sound
 pub mod notation
 pub mod NotationLoops
 pub mod NotationTokens
 pub mod NotationCores
+pub mod NotationReaders

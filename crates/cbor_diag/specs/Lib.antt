@@ -12,3 +12,4 @@ pub mod HexText
 pub mod Notation
 pub mod NotationReading
 pub mod Examples
+pub mod NotationRefused

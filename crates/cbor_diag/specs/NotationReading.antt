@@ -279,8 +279,8 @@ unfoldable pub pieces_at : (List ℕ → Read Item) → Bool → ℕ → List �
 pieces_at read texts zero text = Err refusal.Notation
 pieces_at read texts (suc n) text =
     elim (begins_piece texts (first_start text)) [
-      true ↦ (piece_at read text >>= λ x. pieces_at read texts n (blank_at x.1) >>= λ xs. Ok (x.0 ++ xs.0, xs.1))
-    | false ↦ Ok ([], text)
+      | true ↦ (piece_at read text >>= λ x. pieces_at read texts n (blank_at x.1) >>= λ xs. Ok (x.0 ++ xs.0, xs.1))
+      | false ↦ Ok ([], text)
     ]
 
 -- whether a string of this kind begins so

@@ -23,3 +23,4 @@ pub mod Quoted
 pub mod Spaced
 mod TextExamples
 pub mod TextPlaces
+pub mod NumberParts

@@ -11,10 +11,14 @@ mod start;
 mod strings;
 mod word;
 
-ghost use Rattle.std.specs.Prelude.{◌≡◌, ◌-◌, ◌+◌, ◌<◌, ◌≤◌, length, map, IfOk};
+ghost use Rattle.std.specs.Prelude.{◌≡◌, ◌-◌, ◌≤◌, ℕ, length, map, IfOk};
+ghost use Rattle.cbor_diag.specs.Answer.{GaveItem, RefusedSo};
 ghost use Rattle.cbor_diag.specs.Head.{FitsWidth};
 ghost use Rattle.cbor_diag.specs.View.{view, items_view, pairs_view};
 ghost use Rattle.cbor_diag.specs.WellFormed.{WellFormed, WellFormedItems, WellFormedPairs};
+ghost use Rattle.cbor_diag.specs.Item.{Item};
+ghost use Rattle.cbor_diag.specs.Notation.{ReadsUnder};
+ghost use Rattle.cbor_diag.specs.NotationRefused.{MayRefuse, GaveOrTooDeep};
 ghost use Rattle.cbor_diag.specs.Reading.{Gives};
 ghost use Rattle.cbor_diag.specs.NotationReading.{after_byte, core_at, integer_or_tag, item_at, members_at, notation_of, pair_at};
 
@@ -184,14 +188,36 @@ fn pair_at(alloc: Global, text: &[u8], level: u8) -> Result<((DataItem, DataItem
     Ok(((key, value), rest))
 }
 
-/// Reads one item from diagnostic notation.
-pub fn parse_diag(alloc: Global, text: &str) -> Result<DataItem>
+/// The one item that the text is, all of it.
+fn whole_at(alloc: Global, text: &[u8]) -> Result<DataItem>
     ensures gives { Gives view result (notation_of 128 text.now) }
-    ensures well_formed { IfOk result (λ i. WellFormed 1 (view i)) }
+    ensures well { IfOk result (λ i. WellFormed 1 (view i)) }
 {
-    let (item, rest) = item_at(alloc, text.as_bytes(), 1)?;
+    let (item, rest) = item_at(alloc, text, 1)?;
     if !rest.is_empty() {
         return Err(Error::Notation);
     }
     Ok(item)
+}
+
+/// Reads one item from diagnostic notation (RFC 7049 section 6; docs/NOTATION.md has the rules), all of
+/// the text.
+///
+/// Refuses with `TooDeep` where the text is an item but for its levels, of which there may be 128, and
+/// with `Notation` where it is none. Of a text that is no item however many levels there may be, the
+/// refusal may also be `TooDeep`, where 128 of `[`, `{`, `(` and `<` stand in it; `PastWidth`, where a
+/// number does not fit the width that its indicator states; and `Utf8`, where a text string is not UTF-8.
+/// `Memory` where a growth was refused.
+pub fn parse_diag(alloc: Global, text: &str) -> Result<DataItem>
+    ensures ok { IfOk result (λ i. ReadsUnder 128 text.now (view i)) }
+    ensures every_item { (i : Item) → ReadsUnder 128 text.now i → GaveItem result i }
+    // What a larger limit reads is answered, or is `TooDeep` where 128 levels do not read it.
+    ensures too_deep { (limit : ℕ) (i : Item) → 128 ≤ limit → ReadsUnder limit text.now i
+        → GaveOrTooDeep 128 text.now result i }
+    // A text is at most one item, under all limits.
+    ensures one_item { IfOk result (λ i. (limit : ℕ) (j : Item) → ReadsUnder limit text.now j → j ≡ view i) }
+    ensures refused { RefusedSo result (MayRefuse 128 text.now) }
+    ensures well_formed { IfOk result (λ i. WellFormed 1 (view i)) }
+{
+    whole_at(alloc, text.as_bytes())
 }

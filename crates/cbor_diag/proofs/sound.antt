@@ -1,0 +1,7 @@
+pub mod Steps
+pub mod Lists
+pub mod Words
+pub mod Digits
+pub mod Strings
+pub mod Pieces
+pub mod Items

@@ -1,0 +1,42 @@
+-- Why a text that no limit of levels reads may be refused: what each refusal says of the text.
+use Rattle.std.specs.Prelude.{◌≡◌, ◌⊎◌, ℕ, ◌<◌, ◌≤◌, ◌==◌, ◌||◌, Bool, List, Result, Ok, Err}
+use Rattle.std.specs.List.{count_by}
+use Rattle.cbor_diag.specs.declared.error.Error.{Error}
+use Rattle.cbor_diag.specs.declared.error.Error.TheVariants as refusal
+use Rattle.cbor_diag.specs.declared.syntax.DataItem.{DataItem}
+use Rattle.cbor_diag.specs.Item.{Item}
+use Rattle.cbor_diag.specs.View.{view}
+use Rattle.cbor_diag.specs.Notation.{Reads}
+
+-- `[`, `{`, `(` and `<`, behind which an item may stand deeper
+abbrev pub is_opening : ℕ → Bool
+is_opening b = (b == 91) || (b == 123) || (b == 40) || (b == 60)
+
+-- how many of them a text holds
+abbrev pub openings : List ℕ → ℕ
+openings text = count_by is_opening text
+
+-- so many of a byte, at least one
+abbrev pub HoldsByte : ℕ → List ℕ → Type 0
+HoldsByte byte text = 0 < count_by (λ b. b == byte) text
+
+-- Nesting is too deep only in a text of so many openings, a number is past its width only where an
+-- indicator states one, behind `_`, and content is not UTF-8 only in a text string, behind `"`. Any text
+-- may be no notation.
+abbrev pub MayRefuse : ℕ → List ℕ → Error → Type 0
+MayRefuse levels text refusal.TooDeep = levels ≤ openings text
+MayRefuse levels text refusal.PastWidth = HoldsByte 95 text
+MayRefuse levels text refusal.Utf8 = HoldsByte 34 text
+MayRefuse levels text refusal.Notation = Unit {0}
+MayRefuse levels text _ = ⊥
+
+-- what a reader of a whole text answered holds of it, with so many levels
+abbrev pub IsAnswered : ℕ → List ℕ → Result Item Error → Type 0
+IsAnswered levels text (Ok i) = Reads levels text i
+IsAnswered levels text (Err e) = MayRefuse levels text e
+
+-- A reader gave this item, or memory ran out, or the item is nested too deep: that is answered exactly where
+-- so many levels do not read it.
+abbrev pub GaveOrTooDeep : ℕ → List ℕ → Result DataItem Error → Item → Type 0
+GaveOrTooDeep levels text (Ok x) i = view x ≡ i
+GaveOrTooDeep levels text (Err e) i = (e ≡ refusal.Memory) ⊎ ((e ≡ refusal.TooDeep) × ¬ (Reads levels text i))
