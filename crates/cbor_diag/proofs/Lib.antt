@@ -44,5 +44,5 @@ pub mod sound
 pub mod notation
 pub mod NotationLoops
 pub mod NotationTokens
-mod NotationExamples
+pub mod NotationCores
 pub mod NotationReaders

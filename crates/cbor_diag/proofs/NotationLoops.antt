@@ -16,13 +16,17 @@ unfolding members_at
 members_closed read close text after e = ap (members_or_end read close (blank_at text)) e
 
 -- before the first member
-pub members_begin : {X : Type 0} (read : List ℕ → Read X) (close : ℕ) (text : List ℕ) → end_at close (blank_at text) ≡ None
-    → onto (λ xs. [] ++ xs) (members_from read close (suc (length (blank_at text))) (blank_at text)) ≡ members_at read close text
+pub members_begin : {X : Type 0} (read : List ℕ → Read X) (close : ℕ) (text rest : List ℕ) (front : List X) → front ≡ [] → rest ≡ blank_at text → end_at close rest ≡ None
+    → (n : ℕ) × (length rest < n) × (onto (λ xs. front ++ xs) (members_from read close n rest) ≡ members_at read close text)
 unfolding members_at
-members_begin read close text e = onto_nothing (members_from read close (suc (length (blank_at text))) (blank_at text)) ∙ sym (ap (members_or_end read close (blank_at text)) e) where
+members_begin read close text rest front none blank e = (suc (length rest), omega arith, whole) where
   onto_nothing : {X : Type 0} (r : Read (List X)) → onto (λ xs. [] ++ xs) r ≡ r
   onto_nothing (Ok r) = refl
   onto_nothing (Err e) = refl
+  whole : onto (λ xs. front ++ xs) (members_from read close (suc (length rest)) rest) ≡ members_at read close text
+  whole =
+      ap (λ f. onto (λ xs. f ++ xs) (members_from read close (suc (length rest)) rest)) none ∙ onto_nothing (members_from read close (suc (length rest)) rest)
+      ∙ sym (ap (members_or_end read close rest) e) ∙ ap (λ b. members_or_end read close b (end_at close b)) blank
 
 pub more_from : {X : Type 0} (front front' : List X) (x : X) (r : Read (List X)) → front' ≡ front ++ x ∷ [] → onto (λ xs. front ++ xs) (r >>= λ xs. Ok (x ∷ xs.0, xs.1)) ≡ onto (λ xs. front' ++ xs) r
 more_from front front' x (Ok r) e = ap (λ xs. Ok (xs, r.1)) (sym (append_assoc front (x ∷ []) r.0) ∙ ap (λ f. f ++ r.0) (sym e))

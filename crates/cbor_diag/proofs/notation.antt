@@ -10,3 +10,4 @@ pub mod Containers
 pub mod Again
 pub mod Levels
 pub mod OneReading
+pub mod DigitsFound

@@ -1,8 +1,8 @@
 -- Reading notation from left to right, as the code of `parse/notation.rt` does: a function from a text to a
 -- value and the rest, or the first refusal. No public clause names it: proofs/ shows that it agrees with
 -- `Reads`.
-use Rattle.std.specs.Prelude.{ℕ, zero, suc, ◌+◌, ◌-◌, ◌*◌, ◌/◌, ◌%◌, ◌^◌, List, [], ◌∷◌, ◌++◌, length, take, drop, map, position, slice_index, codes, Option, Some, None, option_map, option_and_then, unwrap_or, Result, Ok, Err, Bool, true, false, not, nat_lt, nat_le, nat_eq, bytes_eq, ◌==◌, ◌&&◌, ◌||◌, if◌then◌else◌}
-use Rattle.std.specs.List.{prefix_len, starts_with, before_first, list_all}
+use Rattle.std.specs.Prelude.{ℕ, zero, suc, ◌+◌, ◌-◌, ◌*◌, ◌/◌, ◌%◌, ◌^◌, List, [], ◌∷◌, ◌++◌, length, take, drop, map, position, codes, Option, Some, None, option_and_then, unwrap_or, Result, Ok, Err, Bool, true, false, not, nat_lt, nat_le, nat_eq, bytes_eq, ◌==◌, ◌&&◌, ◌||◌, if◌then◌else◌}
+use Rattle.std.specs.List.{starts_with, before_first, list_all}
 use Rattle.std.specs.Char.{digit_value}
 use Rattle.std.specs.Str.{is_utf8}
 use Rattle.std.specs.Str.Parse.{digits_value}
@@ -246,6 +246,10 @@ start_of b =
 abbrev pub first_start : List ℕ → Start
 first_start [] = start.Other
 first_start (b ∷ text) = start_of b
+
+abbrev pub rest_of : List ℕ → List ℕ
+rest_of [] = []
+rest_of (b ∷ text) = text
 
 -- whether a piece of a string begins so; the flag is whether texts may be pieces
 abbrev pub begins_piece : Bool → Start → Bool

@@ -13,6 +13,7 @@ pub mod DateTexts
 pub mod DateTimeTexts
 pub mod DecodedLineLemmas
 pub mod ElementLemmas
+pub mod Fives
 pub mod Groups
 pub mod HexLemmas
 pub mod Moments

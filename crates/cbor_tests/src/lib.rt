@@ -12,6 +12,8 @@ mod make;
 #[cfg(test)]
 mod malformed;
 #[cfg(test)]
+mod notation;
+#[cfg(test)]
 mod notation_written;
 #[cfg(test)]
 mod notes_base;
@@ -32,7 +34,8 @@ mod standard;
 #[cfg(test)]
 mod tags;
 #[cfg(test)]
-mod turns;
 mod tokens;
+#[cfg(test)]
+mod turns;
 #[cfg(test)]
 mod written;

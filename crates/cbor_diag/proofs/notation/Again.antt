@@ -1,16 +1,16 @@
 -- An item in notation is read again, whatever may follow it.
-use Rattle.std.proofs.Common.{◌≡◌, ℕ, zero, suc, ◌<◌, List, [], ◌∷◌, ◌++◌, length, codes, Option, Some, None, Ok, refl, sym, ap, ◌∙◌, subst, inl, inr, arith, ◌⊎◌}
-use Rattle.std.proofs.lemmas.List.{append_assoc, append-nil}
+use Rattle.std.proofs.Common.{◌≡◌, ℕ, zero, suc, ◌<◌, List, [], ◌∷◌, ◌++◌, codes, Option, Some, None, Ok, refl, sym, ap, ◌∙◌, subst, inl, inr}
+use Rattle.std.proofs.lemmas.List.{append-nil}
 use Rattle.cbor_notes.specs.Token.{nothing}
 use Rattle.cbor_diag.specs.Item as spec
 use Rattle.cbor_diag.specs.Item.{Chunk, Atom, integer, negative, byte_string, text_string, byte_chunks, text_chunks, float, simple, Item, atom, array, tagged}
 use Rattle.cbor_diag.specs.Bytes.{StringKind, bytes_kind, text_kind}
-use Rattle.cbor_diag.specs.Reading.{Read, ◌>>=◌}
-use Rattle.cbor_diag.specs.Notation.{IsBlank, Opens, StringOf, ChunksOf, AtomCore, SimpleOf, Core, Reads}
-use Rattle.cbor_diag.specs.NotationReading.{blank_at, after_word, string_at, byte_string_of, byte_string_at, text_string_of, text_string_at, chunks_at, start_of, core_at, core_of, item_at, whole, notation_of}
-use Rattle.cbor_diag.proofs.notation.Ends.{Begins, Ends, begins_append, begins_more, core_ends, core_starts, digits, Follows, follows_passed, follows_blank, Starts, starts_passed}
+use Rattle.cbor_diag.specs.Reading.{Read}
+use Rattle.cbor_diag.specs.Notation.{IsBlank, Opens, StringOf, ChunksOf, AtomCore, Core, Reads}
+use Rattle.cbor_diag.specs.NotationReading.{blank_at, byte_string_of, byte_string_at, text_string_of, text_string_at, chunks_at, start_of, core_at, core_of, item_at, notation_of}
+use Rattle.cbor_diag.proofs.notation.Ends.{Begins, begins_append, begins_more, core_starts, digits, Follows, follows_passed, follows_blank, Starts, starts_passed}
 use Rattle.cbor_diag.proofs.notation.Lists.{ReadsAgain, blanked_parts, blanked_stripped}
-use Rattle.cbor_diag.proofs.notation.Strings.{string_starts, string_begins, string_starts_core, string_again, string_no_word, empty_word}
+use Rattle.cbor_diag.proofs.notation.Strings.{string_begins, string_starts_core, string_again, string_no_word}
 use Rattle.cbor_diag.proofs.notation.Chunked.{chunks_again, chunks_atom, HasKind}
 use Rattle.cbor_diag.proofs.notation.Numbers.{at_one_of, number_begins, integer_again, negative_again, tag_again}
 use Rattle.cbor_diag.proofs.notation.Words.{simple_again, float_again}

@@ -1,5 +1,5 @@
 -- Indefinite strings are read again, chunk by chunk.
-use Rattle.std.proofs.Common.{◌≡◌, ℕ, zero, suc, ◌<◌, Bool, true, false, not, List, [], ◌∷◌, ◌++◌, length, codes, Option, Some, None, Ok, refl, sym, ap, ◌∙◌, subst, inl, inr, arith, IsTrue}
+use Rattle.std.proofs.Common.{◌≡◌, ℕ, ◌<◌, true, false, not, List, [], ◌∷◌, ◌++◌, length, codes, Ok, refl, sym, ap, ◌∙◌, subst, inl, inr, arith}
 use Rattle.std.proofs.lemmas.Bool.{not-true}
 use Rattle.std.proofs.lemmas.List.{append_assoc}
 use Rattle.cbor_diag.specs.declared.parse.notation.start.Start.{Start}
@@ -7,10 +7,10 @@ use Rattle.cbor_diag.specs.declared.parse.notation.start.Start.TheVariants as st
 use Rattle.cbor_diag.specs.Item.{Chunk, Atom, byte_chunks, text_chunks, Item, atom}
 use Rattle.cbor_diag.specs.Bytes.{StringKind, bytes_kind, text_kind}
 use Rattle.cbor_diag.specs.Reading.{Read, ◌>>=◌}
-use Rattle.cbor_diag.specs.Notation.{IsBlank, Blanked, Closes, Members, StringOf, ChunksOf}
+use Rattle.cbor_diag.specs.Notation.{Blanked, Closes, Members, StringOf, ChunksOf}
 use Rattle.cbor_diag.specs.NotationReading.{blank_at, start_of, first_start, begins_string, chunk_at, string_at, byte_chunks_at, text_chunks_at, chunks_of, chunks_at, members_at}
-use Rattle.cbor_diag.proofs.notation.Ends.{holds_of, Begins, Ends, begins_append, begins_more, begins_ends, blank_passed, Follows, Starts, starts_passed}
-use Rattle.cbor_diag.proofs.notation.Lists.{ReadsAgain, Stripped, blanked_parts, blanked_stripped, members_again, members_at_blank}
+use Rattle.cbor_diag.proofs.notation.Ends.{holds_of, Begins, begins_append, begins_more, begins_ends, blank_passed, Starts, starts_passed}
+use Rattle.cbor_diag.proofs.notation.Lists.{ReadsAgain, blanked_parts, blanked_stripped, members_again, members_at_blank}
 use Rattle.cbor_diag.proofs.notation.Strings.{string_starts, string_begins, string_starts_core, string_again}
 
 -- a chunk with the blanks round it

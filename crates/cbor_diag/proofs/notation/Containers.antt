@@ -1,16 +1,15 @@
 -- Arrays and maps are read again.
-use Rattle.std.proofs.Common.{◌≡◌, ℕ, List, [], ◌∷◌, ◌++◌, codes, Option, Some, None, Ok, refl, sym, ap, ◌∙◌, subst, inl, inr}
+use Rattle.std.proofs.Common.{◌≡◌, ℕ, List, [], ◌∷◌, ◌++◌, codes, Option, Some, None, Ok, refl, sym, ap, ◌∙◌}
 use Rattle.std.proofs.lemmas.List.{append_assoc}
 use Rattle.cbor_diag.specs.declared.syntax.IntegerWidth.{IntegerWidth}
-use Rattle.cbor_diag.specs.declared.syntax.IntegerWidth.TheVariants.{Unknown}
 use Rattle.cbor_diag.specs.Item as spec
-use Rattle.cbor_diag.specs.Item.{Item, array, Items, no_items, item, Pairs, no_pairs, pair}
-use Rattle.cbor_diag.specs.View.{items_of, pairs_of}
-use Rattle.cbor_diag.specs.Reading.{Read, ◌>>=◌}
-use Rattle.cbor_diag.specs.Notation.{IsBlank, Closes, Members, Listed, list_of, pairs_list, PairOf, Opens}
+use Rattle.cbor_diag.specs.Item.{Item, array, Items, Pairs, no_pairs, pair}
+use Rattle.cbor_diag.specs.View.{pairs_of}
+use Rattle.cbor_diag.specs.Reading.{Read}
+use Rattle.cbor_diag.specs.Notation.{Members, Listed, list_of, pairs_list, PairOf, Opens}
 use Rattle.cbor_diag.specs.NotationReading.{after_byte, members_at, pair_at, length_of, array_at, map_at, start_of, core_at}
-use Rattle.cbor_diag.proofs.notation.Ends.{Begins, Ends, begins_append, begins_ends, ends_more, blank_ends, ends_after_byte, core_starts, Starts}
-use Rattle.cbor_diag.proofs.notation.Lists.{ReadsAgain, Stripped, IsClose, list_closes, follows_further, listed_again}
+use Rattle.cbor_diag.proofs.notation.Ends.{Ends, begins_append, begins_ends, blank_ends, ends_after_byte, core_starts}
+use Rattle.cbor_diag.proofs.notation.Lists.{ReadsAgain, Stripped, IsClose, follows_further, listed_again}
 use Rattle.cbor_diag.proofs.notation.Pieces.{items_again}
 
 pairs_again : (ps : Pairs) → pairs_of (pairs_list ps) ≡ ps

@@ -1,10 +1,9 @@
 -- What may stand behind an item, and what an item begins with: all by tests of one byte.
-use Rattle.std.proofs.Common.{◌≡◌, ◌≢◌, ℕ, ◌<◌, Bool, true, false, not, ◌==◌, ◌||◌, ◌&&◌, nat_le, nat_lt, List, [], ◌∷◌, ◌++◌, codes, Option, Some, None, refl, sym, ap, ◌∙◌, subst, inl, inr, arith, IsTrue}
+use Rattle.std.proofs.Common.{◌≡◌, ℕ, ◌<◌, Bool, true, not, ◌==◌, ◌||◌, ◌&&◌, nat_le, List, [], ◌∷◌, ◌++◌, codes, None, refl, sym, ap, ◌∙◌, subst, inl, inr, IsTrue}
 use Rattle.std.specs.List.{list_any, list_all}
 use Rattle.std.specs.Char.{digit_value}
-use Rattle.std.proofs.lemmas.Bool.{and_parts, or_cases, or_parts, eqb-true, eqb-false, leb-true, not-true, ne_eqb}
-use Rattle.std.proofs.lemmas.List.{append_assoc}
-use Rattle.cbor_notes.specs.Token.{Blank, nothing, whitespace, comment, is_whitespace}
+use Rattle.std.proofs.lemmas.Bool.{and_parts, or_cases, or_parts, eqb-true, eqb-false, leb-true, not-true}
+use Rattle.cbor_notes.specs.Token.{nothing, whitespace, comment, is_whitespace}
 use Rattle.cbor_notes.proofs.Blanks.{at_whitespace, blank_left, after_blank-append, after_blank-ends, EndsBlank}
 use Rattle.cbor_notes.proofs.Numbers.{EndsNumber}
 use Rattle.cbor_diag.specs.Notation.{IsBlank}

@@ -1,6 +1,5 @@
 -- With more levels left, reading answers the same, unless it was TooDeep.
-use Rattle.std.proofs.Common.{◌≡◌, ℕ, zero, suc, ◌+◌, ◌<◌, ◌≤◌, Bool, true, false, List, [], ◌∷◌, ◌++◌, length, codes, Option, Some, None, Result, Ok, Err, ◌⊎◌, inl, inr, refl, sym, ap, ◌∙◌, subst, arith}
-use Rattle.std.proofs.Math.Numerals.{add-one}
+use Rattle.std.proofs.Common.{◌≡◌, ℕ, zero, suc, ◌+◌, Bool, true, false, List, [], ◌∷◌, length, codes, Option, Some, None, Result, Ok, Err, ◌⊎◌, inl, inr, refl, sym, ap, ◌∙◌, subst, arith}
 use Rattle.std.proofs.lemmas.Bool.{cases_Bool}
 use Rattle.cbor_diag.specs.declared.syntax.IntegerWidth.{IntegerWidth}
 use Rattle.cbor_diag.specs.declared.error.Error.{Error}
@@ -8,10 +7,10 @@ use Rattle.cbor_diag.specs.declared.error.Error.TheVariants as refusal
 use Rattle.cbor_diag.specs.declared.parse.notation.start.Start.{Start}
 use Rattle.cbor_diag.specs.declared.parse.notation.start.Start.TheVariants as start
 use Rattle.cbor_diag.specs.Item as spec
-use Rattle.cbor_diag.specs.Item.{Chunk, Item}
+use Rattle.cbor_diag.specs.Item.{Item}
 use Rattle.cbor_diag.specs.Bytes.{StringKind, bytes_kind, text_kind}
 use Rattle.cbor_diag.specs.Reading.{Read, ◌>>=◌}
-use Rattle.cbor_diag.specs.NotationReading.{or_refused, after_byte, after_word, sized_at, tagged_at, integer_or_tag, integer_at, end_at, more_members, members_from, members_or_end, members_at, pair_at, length_at, array_at, map_at, embedded_at, piece_of, piece_at, start_of, first_start, begins_piece, pieces_at, blank_at, begins_string, may_have_texts, string_of, string_at, chunk_at, byte_chunks_at, text_chunks_at, chunks_of, chunks_at, byte_string_of, byte_string_at, text_string_of, text_string_at, core_of, core_at, item_at}
+use Rattle.cbor_diag.specs.NotationReading.{or_refused, after_byte, after_word, sized_at, integer_or_tag, integer_at, end_at, more_members, members_from, members_or_end, members_at, pair_at, length_at, array_at, map_at, embedded_at, piece_of, piece_at, start_of, first_start, begins_piece, pieces_at, blank_at, begins_string, may_have_texts, string_of, string_at, chunk_at, chunks_of, chunks_at, byte_string_of, byte_string_at, text_string_of, text_string_at, core_of, core_at, item_at}
 use Rattle.cbor_diag.proofs.notation.Pieces.{pieces_go, pieces_stop}
 
 -- the first is TooDeep, or both are one answer

@@ -1,14 +1,14 @@
 -- Lists: members that commas separate, up to what closes them, are read again.
-use Rattle.std.proofs.Common.{◌≡◌, ℕ, zero, suc, ◌+◌, ◌<◌, ◌≤◌, Bool, true, false, not, ◌==◌, nat_lt, cond, List, [], ◌∷◌, ◌++◌, length, drop, codes, Option, Some, None, Ok, refl, sym, ap, ◌∙◌, subst, inl, inr, arith, IsTrue}
+use Rattle.std.proofs.Common.{◌≡◌, ℕ, zero, suc, ◌+◌, ◌<◌, ◌≤◌, Bool, true, false, not, ◌==◌, nat_lt, cond, List, [], ◌∷◌, ◌++◌, length, codes, Option, Some, None, Ok, refl, sym, ap, ◌∙◌, subst, inl, inr, arith, IsTrue}
 use Rattle.std.specs.List.{list_any, list_all, position, position_or_len}
 use Rattle.std.proofs.Math.Numerals.{one-add}
-use Rattle.std.proofs.lemmas.Bool.{or_parts, or_from, cond_both, cond-true, eq-eqb, lt-ltb, not-true, not_from_true, not_from_false, false≢true}
+use Rattle.std.proofs.lemmas.Bool.{or_parts, or_from, cond_both, eq-eqb, lt-ltb, not-true, not_from_true, not_from_false, false≢true}
 use Rattle.std.proofs.lemmas.List.{append_assoc, length-append, drop_at}
 use Rattle.cbor_notes.specs.Token.{Blank, nothing, whitespace, comment, is_whitespace}
-use Rattle.cbor_diag.specs.Notation.{IsBlank, IsSpace, Blanked, Closes, Further, Members, Listed}
-use Rattle.cbor_diag.specs.Reading.{Read, ◌>>=◌}
-use Rattle.cbor_diag.specs.NotationReading.{after_byte, after_space, end_at, blank_at, or_refused, more_members, members_from, members_or_end, members_at}
-use Rattle.cbor_diag.proofs.notation.Ends.{is_one_of, holds_of, Begins, Ends, begins_append, begins_ends, ends_after_byte, blank_passed, item_ends, Follows, core_starts, Starts, starts_passed, passed_twice}
+use Rattle.cbor_diag.specs.Notation.{IsBlank, Blanked, Closes, Further, Members, Listed}
+use Rattle.cbor_diag.specs.Reading.{Read}
+use Rattle.cbor_diag.specs.NotationReading.{after_byte, after_space, end_at, blank_at, members_from, members_or_end, members_at}
+use Rattle.cbor_diag.proofs.notation.Ends.{is_one_of, holds_of, begins_append, ends_after_byte, blank_passed, item_ends, Follows, core_starts, Starts, starts_passed, passed_twice}
 
 -- a text behind a blank, which begins as cores do and is the same member
 pub record Stripped {X : Type 0} (Member : List ℕ → X → Type 0) (text : List ℕ) (x : X) : Type 0 where
@@ -43,7 +43,7 @@ blanked_stripped CoreOf starts text x is = record {
 
 -- ---- whitespace before what closes a list
 
-position_at : (test : ℕ → Bool) (front : List ℕ) (b : ℕ) (rest : List ℕ) → list_any test front ≡ false → test b ≡ true → position_or_len test (front ++ b ∷ rest) ≡ length front
+pub position_at : (test : ℕ → Bool) (front : List ℕ) (b : ℕ) (rest : List ℕ) → list_any test front ≡ false → test b ≡ true → position_or_len test (front ++ b ∷ rest) ≡ length front
 position_at test [] b rest none is = rw is refl
 position_at test (x ∷ front) b rest none is =
     let parts = or_parts (test x) (list_any test front) none in

@@ -1,8 +1,7 @@
 -- Integers and tags are read again.
-use Rattle.std.proofs.Common.{◌≡◌, ℕ, zero, suc, ◌+◌, ◌^◌, ◌<◌, ◌≤◌, Bool, true, false, not, ◌==◌, ◌&&◌, nat_lt, nat_le, cond, List, [], ◌∷◌, ◌++◌, length, codes, Option, Some, None, Ok, refl, sym, ap, ◌∙◌, subst, inl, inr, arith, IsTrue}
+use Rattle.std.proofs.Common.{◌≡◌, ℕ, ◌+◌, ◌^◌, ◌<◌, true, ◌==◌, ◌&&◌, nat_le, List, [], ◌∷◌, ◌++◌, codes, Option, Some, None, Ok, refl, sym, ap, ◌∙◌, subst, inl, inr, arith}
 use Rattle.std.specs.List.{AllByRecursion}
 use Rattle.std.specs.Char.{digit_value}
-use Rattle.std.specs.Str.Parse.{AllDigits}
 use Rattle.std.proofs.Math.Numerals.{add-one}
 use Rattle.std.proofs.lemmas.Bool.{agree_below_at, and_from, lt-ltb, le-leb, or_cases, eqb-true, ltb-true}
 use Rattle.std.proofs.lemmas.List.{append_assoc}
@@ -17,8 +16,8 @@ use Rattle.cbor_diag.specs.declared.parse.notation.start.Start.TheVariants as st
 use Rattle.cbor_diag.specs.Item.{Item, atom, integer, negative, tagged}
 use Rattle.cbor_diag.specs.Head.{FitsWidth}
 use Rattle.cbor_diag.specs.Reading.{Read, ◌>>=◌}
-use Rattle.cbor_diag.specs.Notation.{HasWidth, NumberOf, NegativeOf, width_of, number_width}
-use Rattle.cbor_diag.specs.NotationReading.{or_refused, number_at, past_width, sized, below_zero, negative_at, after_byte, integer_or_tag, integer_at, start_of, core_at, core_of}
+use Rattle.cbor_diag.specs.Notation.{HasWidth, NumberOf, NegativeOf, width_of}
+use Rattle.cbor_diag.specs.NotationReading.{or_refused, number_at, past_width, sized, below_zero, after_byte, integer_or_tag, integer_at, start_of, core_at, core_of}
 use Rattle.cbor_diag.proofs.notation.Ends.{is_one_of, Begins, Ends, begins_append, ends_after_byte, core_ends, digits, ends_number}
 use Rattle.cbor_diag.proofs.notation.Lists.{ReadsAgain}
 

@@ -1,16 +1,14 @@
 -- What the limits on levels change: a text is at most one item, and what a larger limit reads is read, or
 -- is TooDeep.
-use Rattle.std.proofs.Common.{◌≡◌, ℕ, ◌+◌, ◌-◌, ◌≤◌, List, [], Option, Ok, Err, ◌⊎◌, inl, inr, refl, sym, ap, ◌∙◌, subst, arith}
-use Rattle.std.proofs.lemmas.List.{append-nil}
+use Rattle.std.proofs.Common.{◌≡◌, ℕ, ◌-◌, ◌≤◌, List, [], Ok, Err, ◌⊎◌, inl, inr, refl, sym, ap, ◌∙◌, subst, arith}
 use Rattle.std.proofs.lemmas.Bool.{cases_lt}
-use Rattle.cbor_diag.specs.declared.error.Error.{Error}
 use Rattle.cbor_diag.specs.declared.error.Error.TheVariants as refusal
 use Rattle.cbor_diag.specs.Item.{Item}
-use Rattle.cbor_diag.specs.Reading.{Read, ◌>>=◌}
+use Rattle.cbor_diag.specs.Reading.{Read}
 use Rattle.cbor_diag.specs.Notation.{Reads}
-use Rattle.cbor_diag.specs.NotationReading.{item_at, whole, notation_of}
+use Rattle.cbor_diag.specs.NotationReading.{item_at, notation_of}
 use Rattle.cbor_diag.proofs.notation.Again.{item_whole}
-use Rattle.cbor_diag.proofs.notation.Levels.{Grows, grows_made, levels_grow}
+use Rattle.cbor_diag.proofs.notation.Levels.{Grows, levels_grow}
 
 pub levels_more : (left limit : ℕ) (text : List ℕ) → left ≤ limit → Grows (item_at left text) (item_at limit text)
 levels_more left limit text le = subst (λ (n : ℕ). Grows (item_at left text) (item_at n text)) (omega arith) (levels_grow left (limit - left) text)

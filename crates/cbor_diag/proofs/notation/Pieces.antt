@@ -1,11 +1,9 @@
 -- The pieces of strings: each notation of bytes is read again.
-use Rattle.std.proofs.Common.{◌≡◌, ◌≢◌, ℕ, zero, suc, ◌+◌, ◌<◌, ◌≤◌, Bool, true, false, not, ◌==◌, ◌||◌, nat_eq, cond, List, [], ◌∷◌, ◌++◌, length, codes, Option, Some, None, Ok, refl, sym, ap, ◌∙◌, subst, inl, inr, arith, IsTrue, ◌⊎◌}
-use Rattle.std.specs.List.{list_all}
-use Rattle.std.proofs.lemmas.Bool.{cases_Bool, or_parts, ne_eqb, not-true, eq-eqb}
+use Rattle.std.proofs.Common.{◌≡◌, ◌≢◌, ℕ, zero, suc, ◌+◌, ◌<◌, Bool, true, false, not, List, [], ◌∷◌, ◌++◌, length, codes, Option, Some, Ok, refl, sym, ap, ◌∙◌, subst, inl, inr, arith}
+use Rattle.std.proofs.lemmas.Bool.{not-true}
 use Rattle.std.proofs.lemmas.List.{append_assoc, append-nil, length-append}
-use Rattle.hex.specs.Hex.{decode_of}
-use Rattle.cbor_notes.specs.Token.{in_quotes, escaped_byte, DigitsBetween}
-use Rattle.cbor_notes.specs.TokenReading.{unquoted, digits_of}
+use Rattle.cbor_notes.specs.Token.{in_quotes, DigitsBetween}
+use Rattle.cbor_notes.specs.TokenReading.{unquoted}
 use Rattle.cbor_notes.proofs.Quoted.{unquoted-in_quotes}
 use Rattle.cbor_notes.proofs.Spaced.{digits_of-DigitsBetween}
 use Rattle.cbor_diag.specs.Item.{Item, Items, no_items, item}
@@ -14,8 +12,8 @@ use Rattle.cbor_diag.specs.Bytes.{StringKind, bytes_kind, text_kind}
 use Rattle.cbor_diag.specs.Written.{encoded_items}
 use Rattle.cbor_diag.specs.Reading.{Read, ◌>>=◌}
 use Rattle.cbor_diag.specs.Notation.{IsBlank, QuotedBy, DigitsIn, Notation, in_base16, in_base32, in_base32hex, in_base64, as_text, as_items, PieceOf, Joined, one, more, list_of, Listed}
-use Rattle.cbor_diag.specs.NotationReading.{or_refused, after_word, after_byte, blank_at, start_of, first_start, begins_piece, piece_at, pieces_at, decoded_at, base16_bytes, base16_of, base32_of, base32hex_of, base64_of, may_have_texts, members_at}
-use Rattle.cbor_diag.proofs.notation.Ends.{is_one_of, holds_of, Begins, Ends, begins_append, begins_more, begins_ends, ends_more, item_ends, core_ends, core_starts, notation_starts, Follows, follows_passed, follows_blank, Starts, starts_passed}
+use Rattle.cbor_diag.specs.NotationReading.{or_refused, blank_at, start_of, first_start, begins_piece, piece_at, pieces_at, decoded_at, base16_bytes, base16_of, base32_of, base32hex_of, base64_of, may_have_texts}
+use Rattle.cbor_diag.proofs.notation.Ends.{holds_of, Begins, begins_append, begins_more, item_ends, core_starts, notation_starts, Follows, follows_passed, Starts, starts_passed}
 use Rattle.cbor_diag.proofs.notation.Lists.{ReadsAgain, listed_again}
 use Rattle.cbor_diag.proofs.notation.Decoded.{base32_again, base32hex_again, url_safe_again, standard_again}
 

@@ -1,5 +1,5 @@
 -- Strings of definite length are read again.
-use Rattle.std.proofs.Common.{◌≡◌, ◌≢◌, ℕ, zero, suc, ◌+◌, ◌<◌, ◌≤◌, Bool, true, false, not, ◌==◌, ◌||◌, nat_eq, cond, List, [], ◌∷◌, ◌++◌, length, drop, codes, Option, Some, None, Ok, refl, sym, ap, ◌∙◌, subst, inl, inr, arith, IsTrue, ◌⊎◌}
+use Rattle.std.proofs.Common.{◌≡◌, ◌≢◌, ℕ, suc, ◌+◌, ◌<◌, true, false, not, ◌==◌, ◌||◌, nat_eq, List, [], ◌∷◌, ◌++◌, length, drop, codes, Some, None, Ok, refl, sym, ap, ◌∙◌, subst, inl, inr, arith, ◌⊎◌}
 use Rattle.std.specs.List.{list_all, starts_with}
 use Rattle.std.proofs.lemmas.Bool.{cases_Bool, or_parts, ne_eqb, not-true, eq-eqb, eqb-false, cond-false}
 use Rattle.std.proofs.lemmas.List.{append_assoc, length-append}
@@ -8,11 +8,11 @@ use Rattle.cbor_diag.specs.declared.syntax.IntegerWidth.{IntegerWidth}
 use Rattle.cbor_diag.specs.declared.syntax.IntegerWidth.TheVariants.{Unknown}
 use Rattle.cbor_diag.specs.Item.{Chunk, Item}
 use Rattle.cbor_diag.specs.Bytes.{StringKind, bytes_kind, text_kind, IsContent}
-use Rattle.cbor_diag.specs.Reading.{Read, ◌>>=◌}
+use Rattle.cbor_diag.specs.Reading.{Read}
 use Rattle.cbor_diag.specs.Notation.{IsBlank, QuotedBy, Notation, in_base16, in_base32, in_base32hex, in_base64, as_text, as_items, PieceOf, Joined, one, more, StringOf}
-use Rattle.cbor_diag.specs.NotationReading.{after_word, blank_at, start_of, first_start, begins_string, may_have_texts, checked, string_at}
+use Rattle.cbor_diag.specs.NotationReading.{after_word, start_of, first_start, begins_string, checked, string_at}
 use Rattle.cbor_diag.proofs.Utf8.{utf8_passes}
-use Rattle.cbor_diag.proofs.notation.Ends.{is_one_of, holds_of, Begins, Ends, begins_append, begins_more, begins_ends, ends_more, blank_ends, item_ends, core_ends, core_starts, notation_starts, Follows, follows_blank, Starts}
+use Rattle.cbor_diag.proofs.notation.Ends.{holds_of, Begins, Ends, begins_append, begins_more, begins_ends, ends_more, blank_ends, core_ends, core_starts, notation_starts, Follows, follows_blank, Starts}
 use Rattle.cbor_diag.proofs.notation.Lists.{ReadsAgain}
 use Rattle.cbor_diag.proofs.notation.Pieces.{apostrophe, quotation_mark, quoted_parts, piece_starts, piece_begins, joined_begins, joined_again}
 

@@ -11,14 +11,13 @@ mod start;
 mod strings;
 mod word;
 
-ghost use Rattle.std.specs.Prelude.{◌≡◌, ℕ, ◌-◌, ◌+◌, ◌<◌, ◌≤◌, length, map, IfOk};
+ghost use Rattle.std.specs.Prelude.{◌≡◌, ◌-◌, ◌≤◌, ℕ, length, map, IfOk};
+ghost use Rattle.cbor_diag.specs.Answer.{GaveItem, RefusedSo};
 ghost use Rattle.cbor_diag.specs.Head.{FitsWidth};
 ghost use Rattle.cbor_diag.specs.View.{view, items_view, pairs_view};
-ghost use Rattle.cbor_diag.specs.WellFormed.{WellFormed, WellFormedItems, WellFormedPairs};
-ghost use Rattle.cbor_diag.specs.WellFormed.{deepest};
-ghost use Rattle.cbor_diag.specs.Item.{Item};
-ghost use Rattle.cbor_diag.specs.Answer.{GaveItem, RefusedSo};
+ghost use Rattle.cbor_diag.specs.WellFormed.{deepest, WellFormed, WellFormedItems, WellFormedPairs};
 ghost use Rattle.cbor_diag.specs.Facts.{IsWellFormed};
+ghost use Rattle.cbor_diag.specs.Item.{Item};
 ghost use Rattle.cbor_diag.specs.Notation.{IsNotation, ReadsUnder};
 ghost use Rattle.cbor_diag.specs.NotationRefused.{MayRefuse, GaveOrTooDeep};
 ghost use Rattle.cbor_diag.specs.Reading.{Gives};
@@ -27,10 +26,10 @@ ghost use Rattle.cbor_diag.specs.NotationReading.{after_byte, core_at, integer_o
 use crate::error::{Error, Result};
 use crate::syntax::{DEEPEST, DataItem, IntegerWidth, Tag};
 use number::{below_zero_at, sized_at};
-use scan::{after_blank, after_byte, after_word, end_at, expect_byte, length_at};
+use scan::{after_blank, after_byte, end_at, expect_byte, length_at};
 use start::Start;
 use std::alloc::Global;
-use strings::{byte_string_at, chunks_at, text_string_at};
+use strings::{byte_item_at, chunks_at, text_item_at};
 use word::word_at;
 
 /// The item at the front, which stands at `level`, from 1 to 129, with the blanks round it. At level 129
@@ -58,10 +57,8 @@ fn core_at(alloc: Global, text: &[u8], inner: u8) -> Result<(DataItem, &[u8])>
     ensures well { IfOk result (λ x. WellFormed (inner - 1) (view x.0)) }
     ensures shorter { IfOk result (λ x. length x.1.now ≤ length text.now) }
 {
-    let [first, rest @ ..] = text else {
-        return Err(Error::Notation);
-    };
-    match Start::of(*first) {
+    let (start, rest) = Start::split(text);
+    match start {
         Start::Digit => {
             let ((number, bitwidth), rest) = sized_at(text)?;
             integer_or_tag(alloc, number, bitwidth, rest, inner)
@@ -81,20 +78,11 @@ fn core_at(alloc: Global, text: &[u8], inner: u8) -> Result<(DataItem, &[u8])>
             Ok((DataItem::Map { content, bitwidth }, rest))
         }
         Start::Parenthesis => chunks_at(alloc, rest, inner),
-        Start::Apostrophe | Start::Angle | Start::LetterB | Start::LetterH => {
-            if let Some(rest) = after_word(text, b"''_") {
-                return Ok((DataItem::IndefiniteByteString(Vec::new(alloc)), rest));
-            }
-            let (string, rest) = byte_string_at(alloc, text, inner)?;
-            Ok((DataItem::ByteString(string), rest))
-        }
-        Start::Quote => {
-            if let Some(rest) = after_word(text, b"\"\"_") {
-                return Ok((DataItem::IndefiniteTextString(Vec::new(alloc)), rest));
-            }
-            let (string, rest) = text_string_at(alloc, text, inner)?;
-            Ok((DataItem::TextString(string), rest))
-        }
+        Start::Apostrophe => byte_item_at(alloc, text, inner),
+        Start::Angle => byte_item_at(alloc, text, inner),
+        Start::LetterB => byte_item_at(alloc, text, inner),
+        Start::LetterH => byte_item_at(alloc, text, inner),
+        Start::Quote => text_item_at(alloc, text, inner),
         Start::Other => word_at(text),
     }
 }
@@ -213,14 +201,14 @@ fn whole_text(alloc: Global, text: &[u8]) -> Result<DataItem>
     Ok(item)
 }
 
-/// Reads one item from diagnostic notation (RFC 7049 section 6; docs/NOTATION.md has the rules), with the
-/// widths that encoding indicators state; without one, a number up to 23 and a negative one down to -24
-/// have the width of the first byte, and all others an open one, as lengths have.
+/// Reads one item from diagnostic notation (RFC 7049 section 6; docs/NOTATION.md has the rules), all of
+/// the text.
 ///
-/// Refuses with `TooDeep` where an item would stand below level 128, those in `<<` `>>` one level deeper
-/// than what holds them; with `PastWidth` where a number does not fit the width that its indicator states;
-/// with `Utf8` where the pieces of a text string are not UTF-8 together; and with `Notation` where the text
-/// is none.
+/// Refuses with `TooDeep` where the text is an item but for its levels, of which there may be 128, and
+/// with `Notation` where it is none. Of a text that is no item however many levels there may be, the
+/// refusal may also be `TooDeep`, where 128 of `[`, `{`, `(` and `<` stand in it; `PastWidth`, where a
+/// number does not fit the width that its indicator states; and `Utf8`, where a text string is not UTF-8.
+/// `Memory` where a growth was refused.
 pub fn parse_diag(alloc: Global, text: &str) -> Result<DataItem>
     // The item that the text is, exactly where it is one with no item below level 128.
     ensures ok { IfOk result (λ i. IsNotation text.now (view i)) }

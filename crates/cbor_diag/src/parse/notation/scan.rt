@@ -1,5 +1,5 @@
 //! What stands between the items of a text: blanks, commas, and what closes a list.
-ghost use Rattle.std.specs.Prelude.{◌≡◌, ◌≢◌, ◌<◌, ◌≤◌, length, IfOk, IfSome, Err, option_map};
+ghost use Rattle.std.specs.Prelude.{◌≡◌, ◌⊎◌, ◌<◌, ◌≤◌, length, IfOk, IfSome, option_map};
 ghost use Rattle.cbor_notes.specs.Token.{is_whitespace};
 ghost use Rattle.cbor_diag.specs.Reading.{Gives};
 ghost use Rattle.cbor_diag.specs.NotationReading.{or_refused, blank_at, after_byte, after_word, after_space, end_at, length_at};
@@ -83,6 +83,7 @@ pub(super) fn end_at(text: &[u8], close: u8) -> Option<&[u8]>
 /// The width of a container's count, open or, after `_`, none, and the text behind that.
 pub(super) fn length_at(text: &[u8]) -> (Option<IntegerWidth>, &[u8])
     ensures gives { let answer = length_at text.now in (result.0 ≡ answer.0) × (result.1.now ≡ answer.1) }
+    ensures open { (result.0 ≡ None) ⊎ (result.0 ≡ Some IntegerWidth.Unknown) }
     ensures shorter { length result.1.now ≤ length text.now }
 {
     match after_byte(text, b'_') {

@@ -1,6 +1,6 @@
 //! What begins with which byte.
-ghost use Rattle.std.specs.Prelude.{◌≡◌};
-ghost use Rattle.cbor_diag.specs.NotationReading.{start_of};
+ghost use Rattle.std.specs.Prelude.{◌≡◌, ◌≤◌, length};
+ghost use Rattle.cbor_diag.specs.NotationReading.{begins_piece, first_start, rest_of, start_of};
 
 /// What an item, or a piece of a string, begins with.
 #[derive(Clone, Copy)]
@@ -32,7 +32,7 @@ pub(super) enum Start {
 impl Start {
     /// What begins with this byte.
     #[tactic(auto, unfolding(crate::specs::NotationReading::start_of))]
-    pub(super) fn of(byte: u8) -> Start
+    fn of_byte(byte: u8) -> Start
         ensures { result ≡ start_of byte }
     {
         match byte {
@@ -47,6 +47,42 @@ impl Start {
             b'h' => Start::LetterH,
             b'{' => Start::Brace,
             _ => Start::Other,
+        }
+    }
+
+    /// What the text begins with, and the text behind that byte.
+    pub(super) fn split(text: &[u8]) -> (Start, &[u8])
+        ensures start { result.0 ≡ first_start text.now }
+        ensures rest { result.1.now ≡ rest_of text.now }
+        ensures shorter { length result.1.now ≤ length text.now }
+    {
+        match text {
+            [] => (Start::Other, text),
+            [first, rest @ ..] => (Start::of_byte(*first), rest),
+        }
+    }
+
+    /// What the text begins with.
+    pub(super) fn of(text: &[u8]) -> Start
+        ensures { result ≡ first_start text.now }
+    {
+        let (start, _) = Start::split(text);
+        start
+    }
+
+    /// Whether a piece of a string begins so; `texts` is whether texts may be pieces.
+    pub(super) fn begins_piece(self, texts: bool) -> bool
+        ensures { result ≡ begins_piece texts self }
+    {
+        match self {
+            Start::Quote => texts,
+            Start::Apostrophe | Start::Angle | Start::LetterB | Start::LetterH => true,
+            Start::Parenthesis
+            | Start::Minus
+            | Start::Digit
+            | Start::Bracket
+            | Start::Brace
+            | Start::Other => false,
         }
     }
 }

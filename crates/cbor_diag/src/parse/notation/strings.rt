@@ -7,44 +7,16 @@ ghost use Rattle.cbor_diag.specs.WellFormed.{WellFormed, WellFormedItems, IsByte
 ghost use Rattle.cbor_diag.specs.Bytes.{bytes_kind, text_kind};
 ghost use Rattle.cbor_diag.specs.Written.{encoded_items};
 ghost use Rattle.cbor_diag.specs.Reading.{Gives};
-ghost use Rattle.cbor_diag.specs.NotationReading.{begins_piece, begins_string, checked, chunk_at, chunks_at, embedded_at, first_start, item_at, members_at, piece_at, pieces_at, string_at};
+ghost use Rattle.cbor_diag.specs.NotationReading.{byte_string_at, text_string_at, checked, chunk_at, chunks_at, embedded_at, item_at, members_at, piece_at, pieces_at, string_at};
 
 use super::content::{b_notation, h_notation, quoted_at};
 use super::items_at;
-use super::scan::{after_blank, end_at, expect_byte};
+use super::scan::{after_blank, after_word, end_at, expect_byte};
 use super::start::Start;
 use crate::encode::push_items;
 use crate::error::Error;
 use crate::syntax::{ByteString, DataItem, IntegerWidth, TextString};
 use std::alloc::{AllocError, Global};
-
-impl Start {
-    /// What the text begins with.
-    fn of_text(text: &[u8]) -> Start
-        ensures { result ≡ first_start text.now }
-    {
-        match text {
-            [] => Start::Other,
-            [first, ..] => Start::of(*first),
-        }
-    }
-
-    /// Whether a piece of a string begins so; `texts` is whether texts may be pieces.
-    fn begins_piece(self, texts: bool) -> bool
-        ensures { result ≡ begins_piece texts self }
-    {
-        match self {
-            Start::Quote => texts,
-            Start::Apostrophe | Start::Angle | Start::LetterB | Start::LetterH => true,
-            Start::Parenthesis
-            | Start::Minus
-            | Start::Digit
-            | Start::Bracket
-            | Start::Brace
-            | Start::Other => false,
-        }
-    }
-}
 
 /// A byte string of an open width.
 fn byte_string(content: Vec<u8>) -> ByteString
@@ -116,10 +88,8 @@ fn piece_at(alloc: Global, text: &[u8], inner: u8) -> crate::Result<(Vec<u8>, &[
     ensures gives { Gives (λ x. (x.0.items, x.1.now)) result (piece_at (item_at (129 - inner)) text.now) }
     ensures shorter { IfOk result (λ x. length x.1.now < length text.now) }
 {
-    let [first, rest @ ..] = text else {
-        return Err(Error::Notation);
-    };
-    match Start::of(*first) {
+    let (start, rest) = Start::split(text);
+    match start {
         Start::Quote => quoted_at(alloc, rest, b'"'),
         Start::Apostrophe => quoted_at(alloc, rest, b'\''),
         Start::Angle => embedded_at(alloc, rest, inner),
@@ -140,7 +110,7 @@ fn pieces_at(alloc: Global, texts: bool, text: &[u8], inner: u8) -> crate::Resul
 {
     let mut content = Vec::new(alloc);
     let mut rest = text;
-    'pieces: while Start::of_text(rest).begins_piece(texts) {
+    'pieces: while Start::of(rest).begins_piece(texts) {
         let (piece, after) = piece_at(alloc, rest, inner)?;
         append(&mut content, piece)?;
         rest = after_blank(after);
@@ -150,14 +120,14 @@ fn pieces_at(alloc: Global, texts: bool, text: &[u8], inner: u8) -> crate::Resul
 
 /// A byte string of definite length, and the blank after it.
 #[cycle(diag)]
-pub(super) fn byte_string_at(alloc: Global, text: &[u8], inner: u8) -> crate::Result<(ByteString, &[u8])>
+fn byte_string_at(alloc: Global, text: &[u8], inner: u8) -> crate::Result<(ByteString, &[u8])>
     requires { inner ≤ 129 }
     ensures gives { Gives (λ x. (byte_chunk x.0, x.1.now)) result
         (string_at (item_at (129 - inner)) bytes_kind text.now) }
     ensures well { IfOk result (λ x. IsByteChunk (byte_chunk x.0)) }
     ensures shorter { IfOk result (λ x. length x.1.now ≤ length text.now) }
 {
-    if !Start::of_text(text).begins_piece(false) {
+    if !Start::of(text).begins_piece(false) {
         return Err(Error::Notation);
     }
     let (content, rest) = pieces_at(alloc, false, text, inner)?;
@@ -166,18 +136,52 @@ pub(super) fn byte_string_at(alloc: Global, text: &[u8], inner: u8) -> crate::Re
 
 /// A text string of definite length, and the blank after it.
 #[cycle(diag)]
-pub(super) fn text_string_at(alloc: Global, text: &[u8], inner: u8) -> crate::Result<(TextString, &[u8])>
+fn text_string_at(alloc: Global, text: &[u8], inner: u8) -> crate::Result<(TextString, &[u8])>
     requires { inner ≤ 129 }
     ensures gives { Gives (λ x. (text_chunk x.0, x.1.now)) result
         (string_at (item_at (129 - inner)) text_kind text.now) }
     ensures well { IfOk result (λ x. IsTextChunk (text_chunk x.0)) }
     ensures shorter { IfOk result (λ x. length x.1.now ≤ length text.now) }
 {
-    let Start::Quote = Start::of_text(text) else {
+    let Start::Quote = Start::of(text) else {
         return Err(Error::Notation);
     };
     let (content, rest) = pieces_at(alloc, true, text, inner)?;
     Ok((text_string(content)?, rest))
+}
+
+/// A byte string, or `''_`, an indefinite one of no chunks.
+#[cycle(diag)]
+pub(super) fn byte_item_at(alloc: Global, text: &[u8], inner: u8) -> crate::Result<(DataItem, &[u8])>
+    requires low { 1 ≤ inner }
+    requires high { inner ≤ 129 }
+    ensures gives { Gives (λ x. (view x.0, x.1.now)) result
+        (byte_string_at (item_at (129 - inner)) text.now) }
+    ensures well { IfOk result (λ x. WellFormed (inner - 1) (view x.0)) }
+    ensures shorter { IfOk result (λ x. length x.1.now ≤ length text.now) }
+{
+    if let Some(rest) = after_word(text, b"''_") {
+        return Ok((DataItem::IndefiniteByteString(Vec::new(alloc)), rest));
+    }
+    let (string, rest) = byte_string_at(alloc, text, inner)?;
+    Ok((DataItem::ByteString(string), rest))
+}
+
+/// A text string, or `""_`, an indefinite one of no chunks.
+#[cycle(diag)]
+pub(super) fn text_item_at(alloc: Global, text: &[u8], inner: u8) -> crate::Result<(DataItem, &[u8])>
+    requires low { 1 ≤ inner }
+    requires high { inner ≤ 129 }
+    ensures gives { Gives (λ x. (view x.0, x.1.now)) result
+        (text_string_at (item_at (129 - inner)) text.now) }
+    ensures well { IfOk result (λ x. WellFormed (inner - 1) (view x.0)) }
+    ensures shorter { IfOk result (λ x. length x.1.now ≤ length text.now) }
+{
+    if let Some(rest) = after_word(text, b"\"\"_") {
+        return Ok((DataItem::IndefiniteTextString(Vec::new(alloc)), rest));
+    }
+    let (string, rest) = text_string_at(alloc, text, inner)?;
+    Ok((DataItem::TextString(string), rest))
 }
 
 /// The chunks of an indefinite byte string behind its opening, up to its close.
@@ -239,7 +243,7 @@ pub(super) fn chunks_at(alloc: Global, text: &[u8], inner: u8) -> crate::Result<
     ensures shorter { IfOk result (λ x. length x.1.now ≤ length text.now) }
 {
     let rest = after_blank(expect_byte(text, b'_')?);
-    match Start::of_text(rest) {
+    match Start::of(rest) {
         Start::Quote => {
             let (chunks, rest) = text_chunks_at(alloc, rest, inner)?;
             Ok((DataItem::IndefiniteTextString(chunks), rest))

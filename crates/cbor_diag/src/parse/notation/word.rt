@@ -1,11 +1,11 @@
 //! Simple values and floats.
-ghost use Rattle.std.specs.Prelude.{◌≡◌, ◌<◌, ◌≤◌, ℕ, length, nat_lt, IfOk};
+ghost use Rattle.std.specs.Prelude.{◌≡◌, ◌<◌, ◌≤◌, ◌^◌, ◌==◌, ℕ, length, nat_lt, position, IfOk};
 ghost use Rattle.std.specs.List.{list_all};
 ghost use Rattle.std.specs.Char.{digit_value};
 ghost use Rattle.cbor_diag.specs.View.{view};
-ghost use Rattle.cbor_diag.specs.WellFormed.{deepest, WellFormed};
+ghost use Rattle.cbor_diag.specs.WellFormed.{deepest, WellFormed, FitsFloat};
 ghost use Rattle.cbor_diag.specs.Reading.{Gives};
-ghost use Rattle.cbor_diag.specs.NotationReading.{numeral, named_at, simple_at, float_of, float_at, word_at};
+ghost use Rattle.cbor_diag.specs.NotationReading.{or_refused, numeral, named_at, simple_at, float_of, float_at, word_at};
 
 use super::number::number_at;
 use super::scan::{after_word, expect_byte};
@@ -35,31 +35,48 @@ fn simple_at(text: &[u8]) -> Result<(DataItem, &[u8])>
 
 impl FloatWidth {
     /// The width of a float of so many hex digits.
-    fn of_digits(count: usize) -> Option<FloatWidth>
-        ensures { result ≡ float_of count }
+    fn of_digits(count: usize) -> Result<FloatWidth>
+        ensures gives { Gives (λ w. w) result (or_refused (float_of count)) }
+        ensures fits { IfOk result (λ w. (bits : ℕ) → bits < 16 ^ count → FitsFloat w bits) }
+        ensures few { IfOk result (λ w. count ≤ 16) }
     {
         match count {
-            4 => Some(FloatWidth::Sixteen),
-            8 => Some(FloatWidth::ThirtyTwo),
-            16 => Some(FloatWidth::SixtyFour),
-            _ => None,
+            4 => Ok(FloatWidth::Sixteen),
+            8 => Ok(FloatWidth::ThirtyTwo),
+            16 => Ok(FloatWidth::SixtyFour),
+            _ => Err(Error::Notation),
         }
     }
 }
 
 /// The number that at most sixteen hex digits write, of either case.
-fn hex_number(digits: &[u8]) -> Option<u64>
+fn hex_number(digits: &[u8]) -> Result<u64>
     requires { length digits.now ≤ 16 }
-    ensures { result ≡ numeral 16 digits.now }
+    ensures gives { Gives (λ n. n) result (or_refused (numeral 16 digits.now)) }
+    ensures small { IfOk result (λ n. n < 16 ^ length digits.now) }
 {
     if digits.is_empty() {
-        return None;
+        return Err(Error::Notation);
     }
     let mut number = 0;
-    'digits: for digit in digits {
-        number = number * 16 + u64::from(char::from(*digit).to_digit(16)?);
+    'digits: for byte in digits {
+        let Some(digit) = char::from(*byte).to_digit(16) else {
+            return Err(Error::Notation);
+        };
+        number = number * 16 + u64::from(digit);
     }
-    Some(number)
+    Ok(number)
+}
+
+/// Where the first apostrophe stands.
+fn apostrophe_at(text: &[u8]) -> Result<usize>
+    ensures gives { Gives (λ n. n) result (or_refused (position (λ b. b == 39) text.now)) }
+    ensures within { IfOk result (λ n. n < length text.now) }
+{
+    match text.iter().position(|byte| *byte == b'\'') {
+        Some(place) => Ok(place),
+        None => Err(Error::Notation),
+    }
 }
 
 /// A float behind `float'`: 4, 8 or 16 hex digits and `'`.
@@ -68,15 +85,9 @@ fn float_at(text: &[u8]) -> Result<(DataItem, &[u8])>
     ensures well { IfOk result (λ x. (level : ℕ) → level ≤ deepest → WellFormed level (view x.0)) }
     ensures shorter { IfOk result (λ x. length x.1.now < length text.now) }
 {
-    let Some(count) = text.iter().position(|byte| *byte == b'\'') else {
-        return Err(Error::Notation);
-    };
-    let Some(bitwidth) = FloatWidth::of_digits(count) else {
-        return Err(Error::Notation);
-    };
-    let Some(bits) = hex_number(&text[..count]) else {
-        return Err(Error::Notation);
-    };
+    let count = apostrophe_at(text)?;
+    let bitwidth = FloatWidth::of_digits(count)?;
+    let bits = hex_number(&text[..count])?;
     Ok((DataItem::Float { bits, bitwidth }, &text[count + 1..]))
 }
 

@@ -38,6 +38,12 @@ decreases-strings::byte_string_at l = (130 - l.inner) * 9 + 5
 abbrev pub decreases-strings::text_string_at : goal.decreases-strings::text_string_at
 decreases-strings::text_string_at l = (130 - l.inner) * 9 + 5
 
+abbrev pub decreases-strings::byte_item_at : goal.decreases-strings::byte_item_at
+decreases-strings::byte_item_at l = (130 - l.inner) * 9 + 6
+
+abbrev pub decreases-strings::text_item_at : goal.decreases-strings::text_item_at
+decreases-strings::text_item_at l = (130 - l.inner) * 9 + 6
+
 abbrev pub decreases-strings::byte_chunks_at : goal.decreases-strings::byte_chunks_at
 decreases-strings::byte_chunks_at l = (130 - l.inner) * 9 + 6
 

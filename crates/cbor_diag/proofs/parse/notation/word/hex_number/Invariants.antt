@@ -4,4 +4,4 @@ use Rattle.cbor_diag.proofs.NotationTokens.{hex_after}
 use Rattle.cbor_diag.proofs.parse.notation.word.hex_number.Given as goal
 
 abbrev pub invariant-digits : goal.invariant-digits
-invariant-digits l = (hex_after l.number (drop l.digit-index l.digits) ≡ numeral 16 l.digits) × (l.number < 16 ^ l.digit-index)
+invariant-digits l = (hex_after l.number (drop l.byte-index l.digits) ≡ numeral 16 l.digits) × (l.number < 16 ^ l.byte-index)

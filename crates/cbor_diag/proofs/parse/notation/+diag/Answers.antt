@@ -1,0 +1,446 @@
+use Rattle.std.proofs.Common.{◌≡◌, ℕ, suc, ◌+◌, ◌-◌, ◌++◌, ◌∷◌, [], Bool, true, false, List, Ok, length, map, Some, None, refl, sym, ap, subst, ◌∙◌, arith}
+use Rattle.std.proofs.lemmas.Result.{err_from_is_err_and}
+use Rattle.std.proofs.lemmas.List.{map_push}
+use Rattle.cbor_diag.specs.declared.parse.notation.start.Start.TheVariants as start
+use Rattle.cbor_diag.specs.Item as spec
+use Rattle.cbor_diag.specs.Item.{Item, atom, negative, array, byte_chunks, text_chunks}
+use Rattle.cbor_diag.specs.View.{view, items_of, pairs_of, items_view, pairs_view, byte_chunk, text_chunk}
+use Rattle.cbor_diag.specs.WellFormed.{WellFormedItems, WellFormedPairs, IsByteChunk, IsTextChunk}
+use Rattle.cbor_diag.specs.Bytes.{bytes_kind, text_kind}
+use Rattle.cbor_diag.specs.Reading.{◌>>=◌, Gives, Fails}
+use Rattle.cbor_diag.specs.NotationReading.{blank_at, after_byte, after_word, end_at, integer_or_tag, sized_at, below_zero_at, length_at, array_at, map_at, pair_at, chunk_at, item_at, core_of, core_at, members_at, members_from, pieces_at, checked, begins_piece, begins_string, string_of, string_at}
+use Rattle.cbor_diag.proofs.Loops.{Fails-bind}
+use Rattle.cbor_diag.proofs.NotationLoops.{members_closed, members_begin, member_fails, member_last, no_comma, member_more}
+use Rattle.cbor_diag.proofs.NotationCores.{core_by, piece_by, no_piece, no_text, string_by, item_none, item_some, pieces_begin, pieces_end, piece_fails, piece_more, items_push, pair_view, pairs_push, all_push, array_well, map_well}
+use Rattle.cbor_diag.proofs.Views.{view-Array, view-Map, view-Negative}
+use Rattle.cbor_diag.proofs.parse.notation.+diag.Goals as goal
+
+pub items_at-returns-in-Some-clause-gives : goal.items_at-returns-in-Some-clause-gives
+items_at-returns-in-Some-clause-gives t c =
+    let read = item_at (129 - c.args.level) in
+    let close : ℕ = c.args.close in
+    let ended : end_at close (blank_at c.args.text.now) ≡ Some c.in-Some.after.now = ap (end_at close) (sym c.after_blank-rest.ensures.gives) ∙ sym c.in-Some.ensures.gives in
+    rw c.new-items.ensures.items (members_closed read close c.args.text.now c.in-Some.after.now ended)
+
+pub items_at-items-init : goal.items_at-items-init
+items_at-items-init t c =
+    let read = item_at (129 - c.args.level) in
+    let close : ℕ = c.args.close in
+    let begun = members_begin read close c.args.text.now c.after_blank-rest.result.now (map view c.new-items.result.items) (ap (map view) c.new-items.ensures.items) c.after_blank-rest.ensures.gives (sym c.in_default.ensures.gives) in
+    (begun.0, begun.1, begun.2, c.after_blank-rest.ensures.shorter, rw c.new-items.ensures.items tt)
+
+pub items_at-returns-in_err-item-clause-gives : goal.items_at-returns-in_err-item-clause-gives
+items_at-returns-in_err-item-clause-gives t c =
+    let p = err_from_is_err_and c.from_residual.result c.from_residual.ensures.1 in
+    let read = item_at (129 - c.args.level) in
+    let close : ℕ = c.args.close in
+    let total = members_at read close c.args.text.now in
+    let i = c.items.invariant in
+    rw (p.1, p.2) (member_fails read close (map view c.items.items.items) i.0 c.items.rest.now total i.1 i.2 c.in_err-item.field-0.0 c.in_err-item.ensures.gives)
+
+pub items_at-returns-in-Some-end_at-clause-gives : goal.items_at-returns-in-Some-end_at-clause-gives
+items_at-returns-in-Some-end_at-clause-gives t c =
+    let read = item_at (129 - c.args.level) in
+    let close : ℕ = c.args.close in
+    let total = members_at read close c.args.text.now in
+    let i = c.items.invariant in
+    let held = c.items.items.items in
+    let pushed : map view c.push.new.self.items ≡ map view held ++ (view c.in_ok-item.item) ∷ [] = rw c.in_ok-push.ensures.items (map_push view held c.in_ok-item.item) in
+    rw pushed (member_last read close (map view held) i.0 c.items.rest.now total i.1 i.2 (view c.in_ok-item.item) c.in_ok-item.after.now c.in-Some-end_at.end.now c.in_ok-item.ensures.gives (sym c.in-Some-end_at.ensures.gives))
+
+pub items_at-returns-in_err-rest-clause-gives : goal.items_at-returns-in_err-rest-clause-gives
+items_at-returns-in_err-rest-clause-gives t c =
+    let p = err_from_is_err_and c.from_residual-in_err-rest.result c.from_residual-in_err-rest.ensures.1 in
+    let read = item_at (129 - c.args.level) in
+    let close : ℕ = c.args.close in
+    let total = members_at read close c.args.text.now in
+    let i = c.items.invariant in
+    rw (p.1, p.2) (no_comma read close (map view c.items.items.items) i.0 c.items.rest.now total i.1 i.2 (view c.in_ok-item.item) c.in_ok-item.after.now c.in_err-rest.field-0.0 c.in_ok-item.ensures.gives (sym c.in_default-end_at.ensures.gives) c.in_err-rest.ensures.gives)
+
+pub items_at-items-preserved : goal.items_at-items-preserved
+items_at-items-preserved t c =
+    let read = item_at (129 - c.args.level) in
+    let close : ℕ = c.args.close in
+    let total = members_at read close c.args.text.now in
+    let i = c.items.invariant in
+    let held = c.items.items.items in
+    let pushed : map view c.push.new.self.items ≡ map view held ++ (view c.in_ok-item.item) ∷ [] = rw c.in_ok-push.ensures.items (map_push view held c.in_ok-item.item) in
+    let next = member_more read close (map view held) i.0 c.items.rest.now total i.1 i.2 (view c.in_ok-item.item) c.in_ok-item.after.now c.in_ok-rest.rest.now c.in_ok-item.ensures.gives (sym c.in_default-end_at.ensures.gives) c.in_ok-rest.ensures.gives c.in_ok-item.ensures.shorter c.in_ok-rest.ensures.shorter in
+    (next.0, next.1, rw pushed next.2, omega (arith, c.in_ok-rest.ensures.shorter, c.in_ok-item.ensures.shorter), rw c.in_ok-push.ensures.items (items_push c.args.level held c.in_ok-item.item i.4 c.in_ok-item.ensures.well))
+
+pub items_at-returns-in-Some-end_at-clause-well : goal.items_at-returns-in-Some-end_at-clause-well
+items_at-returns-in-Some-end_at-clause-well t c = rw c.in_ok-push.ensures.items (items_push c.args.level c.items.items.items c.in_ok-item.item c.items.invariant.4 c.in_ok-item.ensures.well)
+
+pub pairs_at-returns-in-Some-clause-gives : goal.pairs_at-returns-in-Some-clause-gives
+pairs_at-returns-in-Some-clause-gives t c =
+    let read = pair_at (item_at (129 - c.args.level)) in
+    let close : ℕ = 125 in
+    let ended : end_at close (blank_at c.args.text.now) ≡ Some c.in-Some.after.now = ap (end_at close) (sym c.after_blank-rest.ensures.gives) ∙ sym c.in-Some.ensures.gives in
+    rw c.new-pairs.ensures.items (members_closed read close c.args.text.now c.in-Some.after.now ended)
+
+pub pairs_at-pairs-init : goal.pairs_at-pairs-init
+pairs_at-pairs-init t c =
+    let read = pair_at (item_at (129 - c.args.level)) in
+    let close : ℕ = 125 in
+    let begun = members_begin read close c.args.text.now c.after_blank-rest.result.now (map pair_view c.new-pairs.result.items) (ap (map pair_view) c.new-pairs.ensures.items) c.after_blank-rest.ensures.gives (sym c.in_default.ensures.gives) in
+    (begun.0, begun.1, begun.2, c.after_blank-rest.ensures.shorter, rw c.new-pairs.ensures.items tt)
+
+pub pairs_at-returns-in_err-pair-clause-gives : goal.pairs_at-returns-in_err-pair-clause-gives
+pairs_at-returns-in_err-pair-clause-gives t c =
+    let p = err_from_is_err_and c.from_residual.result c.from_residual.ensures.1 in
+    let read = pair_at (item_at (129 - c.args.level)) in
+    let close : ℕ = 125 in
+    let total = members_at read close c.args.text.now in
+    let i = c.pairs.invariant in
+    rw (p.1, p.2) (member_fails read close (map pair_view c.pairs.pairs.items) i.0 c.pairs.rest.now total i.1 i.2 c.in_err-pair.field-0.0 c.in_err-pair.ensures.gives)
+
+pub pairs_at-returns-in-Some-end_at-clause-gives : goal.pairs_at-returns-in-Some-end_at-clause-gives
+pairs_at-returns-in-Some-end_at-clause-gives t c =
+    let read = pair_at (item_at (129 - c.args.level)) in
+    let close : ℕ = 125 in
+    let total = members_at read close c.args.text.now in
+    let i = c.pairs.invariant in
+    let held = c.pairs.pairs.items in
+    let pushed : map pair_view c.push.new.self.items ≡ map pair_view held ++ (pair_view c.in_ok-pair.pair) ∷ [] = rw c.in_ok-push.ensures.items (map_push pair_view held c.in_ok-pair.pair) in
+    rw pushed (member_last read close (map pair_view held) i.0 c.pairs.rest.now total i.1 i.2 (pair_view c.in_ok-pair.pair) c.in_ok-pair.after.now c.in-Some-end_at.end.now c.in_ok-pair.ensures.gives (sym c.in-Some-end_at.ensures.gives))
+
+pub pairs_at-returns-in_err-rest-clause-gives : goal.pairs_at-returns-in_err-rest-clause-gives
+pairs_at-returns-in_err-rest-clause-gives t c =
+    let p = err_from_is_err_and c.from_residual-in_err-rest.result c.from_residual-in_err-rest.ensures.1 in
+    let read = pair_at (item_at (129 - c.args.level)) in
+    let close : ℕ = 125 in
+    let total = members_at read close c.args.text.now in
+    let i = c.pairs.invariant in
+    rw (p.1, p.2) (no_comma read close (map pair_view c.pairs.pairs.items) i.0 c.pairs.rest.now total i.1 i.2 (pair_view c.in_ok-pair.pair) c.in_ok-pair.after.now c.in_err-rest.field-0.0 c.in_ok-pair.ensures.gives (sym c.in_default-end_at.ensures.gives) c.in_err-rest.ensures.gives)
+
+pub pairs_at-pairs-preserved : goal.pairs_at-pairs-preserved
+pairs_at-pairs-preserved t c =
+    let read = pair_at (item_at (129 - c.args.level)) in
+    let close : ℕ = 125 in
+    let total = members_at read close c.args.text.now in
+    let i = c.pairs.invariant in
+    let held = c.pairs.pairs.items in
+    let pushed : map pair_view c.push.new.self.items ≡ map pair_view held ++ (pair_view c.in_ok-pair.pair) ∷ [] = rw c.in_ok-push.ensures.items (map_push pair_view held c.in_ok-pair.pair) in
+    let next = member_more read close (map pair_view held) i.0 c.pairs.rest.now total i.1 i.2 (pair_view c.in_ok-pair.pair) c.in_ok-pair.after.now c.in_ok-rest.rest.now c.in_ok-pair.ensures.gives (sym c.in_default-end_at.ensures.gives) c.in_ok-rest.ensures.gives c.in_ok-pair.ensures.shorter c.in_ok-rest.ensures.shorter in
+    (next.0, next.1, rw pushed next.2, omega (arith, c.in_ok-rest.ensures.shorter, c.in_ok-pair.ensures.shorter), rw c.in_ok-push.ensures.items (pairs_push c.args.level held c.in_ok-pair.pair i.4 c.in_ok-pair.ensures.well_key c.in_ok-pair.ensures.well_value))
+
+pub pairs_at-returns-in-Some-end_at-clause-well : goal.pairs_at-returns-in-Some-end_at-clause-well
+pairs_at-returns-in-Some-end_at-clause-well t c = rw c.in_ok-push.ensures.items (pairs_push c.args.level c.pairs.pairs.items c.in_ok-pair.pair c.pairs.invariant.4 c.in_ok-pair.ensures.well_key c.in_ok-pair.ensures.well_value)
+
+pub strings::byte_chunks_at-returns-in-Some-clause-gives : goal.strings::byte_chunks_at-returns-in-Some-clause-gives
+strings::byte_chunks_at-returns-in-Some-clause-gives t c =
+    let read = chunk_at (item_at (129 - c.args.inner)) bytes_kind in
+    let close : ℕ = 41 in
+    let ended : end_at close (blank_at c.args.text.now) ≡ Some c.in-Some.after.now = ap (end_at close) (sym c.after_blank-rest.ensures.gives) ∙ sym c.in-Some.ensures.gives in
+    rw c.new-chunks.ensures.items (members_closed read close c.args.text.now c.in-Some.after.now ended)
+
+pub strings::byte_chunks_at-chunks-init : goal.strings::byte_chunks_at-chunks-init
+strings::byte_chunks_at-chunks-init t c =
+    let read = chunk_at (item_at (129 - c.args.inner)) bytes_kind in
+    let close : ℕ = 41 in
+    let begun = members_begin read close c.args.text.now c.after_blank-rest.result.now (map byte_chunk c.new-chunks.result.items) (ap (map byte_chunk) c.new-chunks.ensures.items) c.after_blank-rest.ensures.gives (sym c.in_default.ensures.gives) in
+    (begun.0, begun.1, begun.2, c.after_blank-rest.ensures.shorter, rw c.new-chunks.ensures.items tt)
+
+pub strings::byte_chunks_at-returns-in_err-chunk-clause-gives : goal.strings::byte_chunks_at-returns-in_err-chunk-clause-gives
+strings::byte_chunks_at-returns-in_err-chunk-clause-gives t c =
+    let p = err_from_is_err_and c.from_residual.result c.from_residual.ensures.1 in
+    let read = chunk_at (item_at (129 - c.args.inner)) bytes_kind in
+    let close : ℕ = 41 in
+    let total = members_at read close c.args.text.now in
+    let i = c.chunks.invariant in
+    rw (p.1, p.2) (member_fails read close (map byte_chunk c.chunks.chunks.items) i.0 c.chunks.rest.now total i.1 i.2 c.in_err-chunk.field-0.0 (subst (λ b. Fails c.in_err-chunk.field-0.0 (string_at (item_at (129 - c.args.inner)) bytes_kind b)) c.after_blank.ensures.gives c.in_err-chunk.ensures.gives))
+
+pub strings::byte_chunks_at-returns-in-Some-end_at-clause-gives : goal.strings::byte_chunks_at-returns-in-Some-end_at-clause-gives
+strings::byte_chunks_at-returns-in-Some-end_at-clause-gives t c =
+    let read = chunk_at (item_at (129 - c.args.inner)) bytes_kind in
+    let close : ℕ = 41 in
+    let total = members_at read close c.args.text.now in
+    let i = c.chunks.invariant in
+    let held = c.chunks.chunks.items in
+    let pushed : map byte_chunk c.push.new.self.items ≡ map byte_chunk held ++ (byte_chunk c.in_ok-chunk.chunk) ∷ [] = rw c.in_ok-push.ensures.items (map_push byte_chunk held c.in_ok-chunk.chunk) in
+    rw pushed (member_last read close (map byte_chunk held) i.0 c.chunks.rest.now total i.1 i.2 (byte_chunk c.in_ok-chunk.chunk) c.in_ok-chunk.after.now c.in-Some-end_at.end.now (ap (string_at (item_at (129 - c.args.inner)) bytes_kind) (sym c.after_blank.ensures.gives) ∙ c.in_ok-chunk.ensures.gives) (sym c.in-Some-end_at.ensures.gives))
+
+pub strings::byte_chunks_at-returns-in_err-rest-clause-gives : goal.strings::byte_chunks_at-returns-in_err-rest-clause-gives
+strings::byte_chunks_at-returns-in_err-rest-clause-gives t c =
+    let p = err_from_is_err_and c.from_residual-in_err-rest.result c.from_residual-in_err-rest.ensures.1 in
+    let read = chunk_at (item_at (129 - c.args.inner)) bytes_kind in
+    let close : ℕ = 41 in
+    let total = members_at read close c.args.text.now in
+    let i = c.chunks.invariant in
+    rw (p.1, p.2) (no_comma read close (map byte_chunk c.chunks.chunks.items) i.0 c.chunks.rest.now total i.1 i.2 (byte_chunk c.in_ok-chunk.chunk) c.in_ok-chunk.after.now c.in_err-rest.field-0.0 (ap (string_at (item_at (129 - c.args.inner)) bytes_kind) (sym c.after_blank.ensures.gives) ∙ c.in_ok-chunk.ensures.gives) (sym c.in_default-end_at.ensures.gives) c.in_err-rest.ensures.gives)
+
+pub strings::byte_chunks_at-chunks-preserved : goal.strings::byte_chunks_at-chunks-preserved
+strings::byte_chunks_at-chunks-preserved t c =
+    let read = chunk_at (item_at (129 - c.args.inner)) bytes_kind in
+    let close : ℕ = 41 in
+    let total = members_at read close c.args.text.now in
+    let i = c.chunks.invariant in
+    let held = c.chunks.chunks.items in
+    let pushed : map byte_chunk c.push.new.self.items ≡ map byte_chunk held ++ (byte_chunk c.in_ok-chunk.chunk) ∷ [] = rw c.in_ok-push.ensures.items (map_push byte_chunk held c.in_ok-chunk.chunk) in
+    let next = member_more read close (map byte_chunk held) i.0 c.chunks.rest.now total i.1 i.2 (byte_chunk c.in_ok-chunk.chunk) c.in_ok-chunk.after.now c.in_ok-rest.rest.now (ap (string_at (item_at (129 - c.args.inner)) bytes_kind) (sym c.after_blank.ensures.gives) ∙ c.in_ok-chunk.ensures.gives) (sym c.in_default-end_at.ensures.gives) c.in_ok-rest.ensures.gives (omega (arith, c.in_ok-chunk.ensures.shorter, c.after_blank.ensures.shorter)) c.in_ok-rest.ensures.shorter in
+    (next.0, next.1, rw pushed next.2, omega (arith, c.in_ok-rest.ensures.shorter, c.in_ok-chunk.ensures.shorter, c.after_blank.ensures.shorter), rw pushed (all_push IsByteChunk (map byte_chunk held) (byte_chunk c.in_ok-chunk.chunk) i.4 c.in_ok-chunk.ensures.well))
+
+pub strings::text_chunks_at-returns-in-Some-clause-gives : goal.strings::text_chunks_at-returns-in-Some-clause-gives
+strings::text_chunks_at-returns-in-Some-clause-gives t c =
+    let read = chunk_at (item_at (129 - c.args.inner)) text_kind in
+    let close : ℕ = 41 in
+    let ended : end_at close (blank_at c.args.text.now) ≡ Some c.in-Some.after.now = ap (end_at close) (sym c.after_blank-rest.ensures.gives) ∙ sym c.in-Some.ensures.gives in
+    rw c.new-chunks.ensures.items (members_closed read close c.args.text.now c.in-Some.after.now ended)
+
+pub strings::text_chunks_at-chunks-init : goal.strings::text_chunks_at-chunks-init
+strings::text_chunks_at-chunks-init t c =
+    let read = chunk_at (item_at (129 - c.args.inner)) text_kind in
+    let close : ℕ = 41 in
+    let begun = members_begin read close c.args.text.now c.after_blank-rest.result.now (map text_chunk c.new-chunks.result.items) (ap (map text_chunk) c.new-chunks.ensures.items) c.after_blank-rest.ensures.gives (sym c.in_default.ensures.gives) in
+    (begun.0, begun.1, begun.2, c.after_blank-rest.ensures.shorter, rw c.new-chunks.ensures.items tt)
+
+pub strings::text_chunks_at-returns-in_err-chunk-clause-gives : goal.strings::text_chunks_at-returns-in_err-chunk-clause-gives
+strings::text_chunks_at-returns-in_err-chunk-clause-gives t c =
+    let p = err_from_is_err_and c.from_residual.result c.from_residual.ensures.1 in
+    let read = chunk_at (item_at (129 - c.args.inner)) text_kind in
+    let close : ℕ = 41 in
+    let total = members_at read close c.args.text.now in
+    let i = c.chunks.invariant in
+    rw (p.1, p.2) (member_fails read close (map text_chunk c.chunks.chunks.items) i.0 c.chunks.rest.now total i.1 i.2 c.in_err-chunk.field-0.0 (subst (λ b. Fails c.in_err-chunk.field-0.0 (string_at (item_at (129 - c.args.inner)) text_kind b)) c.after_blank.ensures.gives c.in_err-chunk.ensures.gives))
+
+pub strings::text_chunks_at-returns-in-Some-end_at-clause-gives : goal.strings::text_chunks_at-returns-in-Some-end_at-clause-gives
+strings::text_chunks_at-returns-in-Some-end_at-clause-gives t c =
+    let read = chunk_at (item_at (129 - c.args.inner)) text_kind in
+    let close : ℕ = 41 in
+    let total = members_at read close c.args.text.now in
+    let i = c.chunks.invariant in
+    let held = c.chunks.chunks.items in
+    let pushed : map text_chunk c.push.new.self.items ≡ map text_chunk held ++ (text_chunk c.in_ok-chunk.chunk) ∷ [] = rw c.in_ok-push.ensures.items (map_push text_chunk held c.in_ok-chunk.chunk) in
+    rw pushed (member_last read close (map text_chunk held) i.0 c.chunks.rest.now total i.1 i.2 (text_chunk c.in_ok-chunk.chunk) c.in_ok-chunk.after.now c.in-Some-end_at.end.now (ap (string_at (item_at (129 - c.args.inner)) text_kind) (sym c.after_blank.ensures.gives) ∙ c.in_ok-chunk.ensures.gives) (sym c.in-Some-end_at.ensures.gives))
+
+pub strings::text_chunks_at-returns-in_err-rest-clause-gives : goal.strings::text_chunks_at-returns-in_err-rest-clause-gives
+strings::text_chunks_at-returns-in_err-rest-clause-gives t c =
+    let p = err_from_is_err_and c.from_residual-in_err-rest.result c.from_residual-in_err-rest.ensures.1 in
+    let read = chunk_at (item_at (129 - c.args.inner)) text_kind in
+    let close : ℕ = 41 in
+    let total = members_at read close c.args.text.now in
+    let i = c.chunks.invariant in
+    rw (p.1, p.2) (no_comma read close (map text_chunk c.chunks.chunks.items) i.0 c.chunks.rest.now total i.1 i.2 (text_chunk c.in_ok-chunk.chunk) c.in_ok-chunk.after.now c.in_err-rest.field-0.0 (ap (string_at (item_at (129 - c.args.inner)) text_kind) (sym c.after_blank.ensures.gives) ∙ c.in_ok-chunk.ensures.gives) (sym c.in_default-end_at.ensures.gives) c.in_err-rest.ensures.gives)
+
+pub strings::text_chunks_at-chunks-preserved : goal.strings::text_chunks_at-chunks-preserved
+strings::text_chunks_at-chunks-preserved t c =
+    let read = chunk_at (item_at (129 - c.args.inner)) text_kind in
+    let close : ℕ = 41 in
+    let total = members_at read close c.args.text.now in
+    let i = c.chunks.invariant in
+    let held = c.chunks.chunks.items in
+    let pushed : map text_chunk c.push.new.self.items ≡ map text_chunk held ++ (text_chunk c.in_ok-chunk.chunk) ∷ [] = rw c.in_ok-push.ensures.items (map_push text_chunk held c.in_ok-chunk.chunk) in
+    let next = member_more read close (map text_chunk held) i.0 c.chunks.rest.now total i.1 i.2 (text_chunk c.in_ok-chunk.chunk) c.in_ok-chunk.after.now c.in_ok-rest.rest.now (ap (string_at (item_at (129 - c.args.inner)) text_kind) (sym c.after_blank.ensures.gives) ∙ c.in_ok-chunk.ensures.gives) (sym c.in_default-end_at.ensures.gives) c.in_ok-rest.ensures.gives (omega (arith, c.in_ok-chunk.ensures.shorter, c.after_blank.ensures.shorter)) c.in_ok-rest.ensures.shorter in
+    (next.0, next.1, rw pushed next.2, omega (arith, c.in_ok-rest.ensures.shorter, c.in_ok-chunk.ensures.shorter, c.after_blank.ensures.shorter), rw pushed (all_push IsTextChunk (map text_chunk held) (text_chunk c.in_ok-chunk.chunk) i.4 c.in_ok-chunk.ensures.well))
+
+pub core_at-returns-in_err-number-in-Digit-clause-gives : goal.core_at-returns-in_err-number-in-Digit-clause-gives
+core_at-returns-in_err-number-in-Digit-clause-gives t c =
+    let p = err_from_is_err_and c.from_residual.result c.from_residual.ensures.1 in
+    let read = item_at (129 - c.args.inner) in
+    rw (p.1, p.2, core_by read c.args.text.now c.split-start.result.1.now start.Digit (sym c.in-Digit.is ∙ c.split-start.ensures.start) c.split-start.ensures.rest) (Fails-bind c.in_err-number-in-Digit.field-0.0 (sized_at c.args.text.now) (λ n. integer_or_tag read n.0.0 n.0.1 n.1 (after_byte 40 n.1)) c.in_err-number-in-Digit.ensures.gives)
+
+pub core_at-returns-in_ok-number-in-Digit-clause-gives : goal.core_at-returns-in_ok-number-in-Digit-clause-gives
+core_at-returns-in_ok-number-in-Digit-clause-gives t c =
+    let read = item_at (129 - c.args.inner) in
+    let here = core_by read c.args.text.now c.split-start.result.1.now start.Digit (sym c.in-Digit.is ∙ c.split-start.ensures.start) c.split-start.ensures.rest ∙ ap (λ r. r >>= λ n. integer_or_tag read n.0.0 n.0.1 n.1 (after_byte 40 n.1)) c.in_ok-number-in-Digit.ensures.gives in
+    rw here c.integer_or_tag.ensures.gives
+
+pub core_at-returns-in_err-value-in-Minus-clause-gives : goal.core_at-returns-in_err-value-in-Minus-clause-gives
+core_at-returns-in_err-value-in-Minus-clause-gives t c =
+    let p = err_from_is_err_and c.from_residual-in_err-value-in-Minus.result c.from_residual-in_err-value-in-Minus.ensures.1 in
+    let read = item_at (129 - c.args.inner) in
+    rw (p.1, p.2, core_by read c.args.text.now c.split-start.result.1.now start.Minus (sym c.in-Minus.is ∙ c.split-start.ensures.start) c.split-start.ensures.rest) (Fails-bind c.in_err-value-in-Minus.field-0.0 (below_zero_at c.split-start.result.1.now) (λ n. Ok (atom (negative n.0.0 n.0.1), n.1)) c.in_err-value-in-Minus.ensures.gives)
+
+pub core_at-returns-in_ok-value-in-Minus-clause-gives : goal.core_at-returns-in_ok-value-in-Minus-clause-gives
+core_at-returns-in_ok-value-in-Minus-clause-gives t c =
+    let read = item_at (129 - c.args.inner) in
+    core_by read c.args.text.now c.split-start.result.1.now start.Minus (sym c.in-Minus.is ∙ c.split-start.ensures.start) c.split-start.ensures.rest ∙ ap (λ r. r >>= λ n. Ok (atom (negative n.0.0 n.0.1), n.1)) c.in_ok-value-in-Minus.ensures.gives ∙ ap (λ i. Ok (i, c.in_ok-value-in-Minus.rest.now)) (sym (view-Negative c.in_ok-value-in-Minus.value c.in_ok-value-in-Minus.bitwidth))
+
+pub core_at-returns-in_err-content-in-Bracket-clause-gives : goal.core_at-returns-in_err-content-in-Bracket-clause-gives
+core_at-returns-in_err-content-in-Bracket-clause-gives t c =
+    let p = err_from_is_err_and c.from_residual-in_err-content-in-Bracket.result c.from_residual-in_err-content-in-Bracket.ensures.1 in
+    let read = item_at (129 - c.args.inner) in
+    let length_is = c.length_at-bitwidth.ensures.gives in
+    let failed = subst (λ b. Fails c.in_err-content-in-Bracket.field-0.0 (members_at read 93 b)) length_is.1 c.in_err-content-in-Bracket.ensures.gives in
+    rw (p.1, p.2, core_by read c.args.text.now c.split-start.result.1.now start.Bracket (sym c.in-Bracket.is ∙ c.split-start.ensures.start) c.split-start.ensures.rest) (Fails-bind c.in_err-content-in-Bracket.field-0.0 (members_at read 93 (length_at c.split-start.result.1.now).1) (λ is. Ok (array (items_of is.0) (length_at c.split-start.result.1.now).0, is.1)) failed)
+
+pub core_at-returns-in_ok-content-in-Bracket-clause-gives : goal.core_at-returns-in_ok-content-in-Bracket-clause-gives
+core_at-returns-in_ok-content-in-Bracket-clause-gives t c =
+    let read = item_at (129 - c.args.inner) in
+    let length_is = c.length_at-bitwidth.ensures.gives in
+    let text = c.split-start.result.1.now in
+    let found = ap (members_at read 93) (sym length_is.1) ∙ c.in_ok-content-in-Bracket.ensures.gives in
+    core_by read c.args.text.now c.split-start.result.1.now start.Bracket (sym c.in-Bracket.is ∙ c.split-start.ensures.start) c.split-start.ensures.rest ∙ ap (λ r. r >>= λ is. Ok (array (items_of is.0) (length_at text).0, is.1)) found ∙ ap (λ w. Ok (array (items_view c.in_ok-content-in-Bracket.content.items) w, c.in_ok-content-in-Bracket.rest.now)) (sym length_is.0) ∙ ap (λ i. Ok (i, c.in_ok-content-in-Bracket.rest.now)) (sym (view-Array c.in_ok-content-in-Bracket.content c.length_at-bitwidth.result.0))
+
+pub core_at-returns-in_ok-content-in-Bracket-clause-well : goal.core_at-returns-in_ok-content-in-Bracket-clause-well
+core_at-returns-in_ok-content-in-Bracket-clause-well t c = array_well c.args.inner c.in_ok-content-in-Bracket.content c.length_at-bitwidth.result.0 (omega arith) (omega arith) c.length_at-bitwidth.ensures.open c.in_ok-content-in-Bracket.ensures.well
+
+pub core_at-returns-in_err-content-in-Brace-clause-gives : goal.core_at-returns-in_err-content-in-Brace-clause-gives
+core_at-returns-in_err-content-in-Brace-clause-gives t c =
+    let p = err_from_is_err_and c.from_residual-in_err-content-in-Brace.result c.from_residual-in_err-content-in-Brace.ensures.1 in
+    let read = item_at (129 - c.args.inner) in
+    let length_is = c.length_at-bitwidth-in-Brace.ensures.gives in
+    let failed = subst (λ b. Fails c.in_err-content-in-Brace.field-0.0 (members_at (pair_at read) 125 b)) length_is.1 c.in_err-content-in-Brace.ensures.gives in
+    rw (p.1, p.2, core_by read c.args.text.now c.split-start.result.1.now start.Brace (sym c.in-Brace.is ∙ c.split-start.ensures.start) c.split-start.ensures.rest) (Fails-bind c.in_err-content-in-Brace.field-0.0 (members_at (pair_at read) 125 (length_at c.split-start.result.1.now).1) (λ ps. Ok (spec.map (pairs_of ps.0) (length_at c.split-start.result.1.now).0, ps.1)) failed)
+
+pub core_at-returns-in_ok-content-in-Brace-clause-gives : goal.core_at-returns-in_ok-content-in-Brace-clause-gives
+core_at-returns-in_ok-content-in-Brace-clause-gives t c =
+    let read = item_at (129 - c.args.inner) in
+    let length_is = c.length_at-bitwidth-in-Brace.ensures.gives in
+    let text = c.split-start.result.1.now in
+    let found = ap (members_at (pair_at read) 125) (sym length_is.1) ∙ c.in_ok-content-in-Brace.ensures.gives in
+    core_by read c.args.text.now c.split-start.result.1.now start.Brace (sym c.in-Brace.is ∙ c.split-start.ensures.start) c.split-start.ensures.rest ∙ ap (λ r. r >>= λ ps. Ok (spec.map (pairs_of ps.0) (length_at text).0, ps.1)) found ∙ ap (λ w. Ok (spec.map (pairs_view c.in_ok-content-in-Brace.content.items) w, c.in_ok-content-in-Brace.rest.now)) (sym length_is.0) ∙ ap (λ i. Ok (i, c.in_ok-content-in-Brace.rest.now)) (sym (view-Map c.in_ok-content-in-Brace.content c.length_at-bitwidth-in-Brace.result.0))
+
+pub core_at-returns-in_ok-content-in-Brace-clause-well : goal.core_at-returns-in_ok-content-in-Brace-clause-well
+core_at-returns-in_ok-content-in-Brace-clause-well t c = map_well c.args.inner c.in_ok-content-in-Brace.content c.length_at-bitwidth-in-Brace.result.0 (omega arith) (omega arith) c.length_at-bitwidth-in-Brace.ensures.open c.in_ok-content-in-Brace.ensures.well
+
+pub core_at-returns-in-Parenthesis-clause-gives : goal.core_at-returns-in-Parenthesis-clause-gives
+core_at-returns-in-Parenthesis-clause-gives t c =
+    let read = item_at (129 - c.args.inner) in
+    rw (core_by read c.args.text.now c.split-start.result.1.now start.Parenthesis (sym c.in-Parenthesis.is ∙ c.split-start.ensures.start) c.split-start.ensures.rest) c.chunks_at.ensures.gives
+
+pub core_at-returns-in-Other-clause-gives : goal.core_at-returns-in-Other-clause-gives
+core_at-returns-in-Other-clause-gives t c =
+    let read = item_at (129 - c.args.inner) in
+    rw (core_by read c.args.text.now c.split-start.result.1.now start.Other (sym c.in-Other.is ∙ c.split-start.ensures.start) c.split-start.ensures.rest) c.word_at.ensures.gives
+
+pub core_at-returns-in-Apostrophe-clause-gives : goal.core_at-returns-in-Apostrophe-clause-gives
+core_at-returns-in-Apostrophe-clause-gives t c =
+    let read = item_at (129 - c.args.inner) in
+    rw (core_by read c.args.text.now c.split-start.result.1.now start.Apostrophe (sym c.in-Apostrophe.is ∙ c.split-start.ensures.start) c.split-start.ensures.rest) c.byte_item_at.ensures.gives
+
+pub core_at-returns-in-Angle-clause-gives : goal.core_at-returns-in-Angle-clause-gives
+core_at-returns-in-Angle-clause-gives t c =
+    let read = item_at (129 - c.args.inner) in
+    rw (core_by read c.args.text.now c.split-start.result.1.now start.Angle (sym c.in-Angle.is ∙ c.split-start.ensures.start) c.split-start.ensures.rest) c.byte_item_at-in-Angle.ensures.gives
+
+pub core_at-returns-in-LetterB-clause-gives : goal.core_at-returns-in-LetterB-clause-gives
+core_at-returns-in-LetterB-clause-gives t c =
+    let read = item_at (129 - c.args.inner) in
+    rw (core_by read c.args.text.now c.split-start.result.1.now start.LetterB (sym c.in-LetterB.is ∙ c.split-start.ensures.start) c.split-start.ensures.rest) c.byte_item_at-in-LetterB.ensures.gives
+
+pub core_at-returns-in-LetterH-clause-gives : goal.core_at-returns-in-LetterH-clause-gives
+core_at-returns-in-LetterH-clause-gives t c =
+    let read = item_at (129 - c.args.inner) in
+    rw (core_by read c.args.text.now c.split-start.result.1.now start.LetterH (sym c.in-LetterH.is ∙ c.split-start.ensures.start) c.split-start.ensures.rest) c.byte_item_at-in-LetterH.ensures.gives
+
+pub core_at-returns-in-Quote-clause-gives : goal.core_at-returns-in-Quote-clause-gives
+core_at-returns-in-Quote-clause-gives t c =
+    let read = item_at (129 - c.args.inner) in
+    rw (core_by read c.args.text.now c.split-start.result.1.now start.Quote (sym c.in-Quote.is ∙ c.split-start.ensures.start) c.split-start.ensures.rest) c.text_item_at.ensures.gives
+
+pub item_at-returns-then-level-gt-DEEPEST-clause-gives : goal.item_at-returns-then-level-gt-DEEPEST-clause-gives
+item_at-returns-then-level-gt-DEEPEST-clause-gives t c = item_none (129 - c.args.level) c.args.text.now (omega arith)
+
+pub item_at-returns-in_err-item-clause-gives : goal.item_at-returns-in_err-item-clause-gives
+item_at-returns-in_err-item-clause-gives t c =
+    let p = err_from_is_err_and c.from_residual.result c.from_residual.ensures.1 in
+    let read = item_at (129 - (c.args.level + 1)) in
+    let failed = subst (λ b. Fails c.in_err-item.field-0.0 (core_at read b)) c.after_blank.ensures.gives c.in_err-item.ensures.gives in
+    rw (p.1, p.2, item_some (129 - c.args.level) (129 - (c.args.level + 1)) c.args.text.now (omega arith)) (Fails-bind c.in_err-item.field-0.0 (core_at read (blank_at c.args.text.now)) (λ i. Ok (i.0, blank_at i.1)) failed)
+
+pub item_at-returns-clause-gives : goal.item_at-returns-clause-gives
+item_at-returns-clause-gives t c =
+    let read = item_at (129 - (c.args.level + 1)) in
+    let found = ap (core_at read) (sym c.after_blank.ensures.gives) ∙ c.in_ok-item.ensures.gives in
+    item_some (129 - c.args.level) (129 - (c.args.level + 1)) c.args.text.now (omega arith) ∙ ap (λ r. r >>= λ i. Ok (i.0, blank_at i.1)) found ∙ ap (λ b. Ok (view c.in_ok-item.item, b)) (sym c.after_blank-2.ensures.gives)
+
+pub strings::piece_at-returns-in-Quote-clause-gives : goal.strings::piece_at-returns-in-Quote-clause-gives
+strings::piece_at-returns-in-Quote-clause-gives t c =
+    let read = item_at (129 - c.args.inner) in
+    rw (piece_by read c.args.text.now c.split-start.result.1.now start.Quote (sym c.in-Quote.is ∙ c.split-start.ensures.start) c.split-start.ensures.rest) c.quoted_at.ensures.gives
+
+pub strings::piece_at-returns-in-Apostrophe-clause-gives : goal.strings::piece_at-returns-in-Apostrophe-clause-gives
+strings::piece_at-returns-in-Apostrophe-clause-gives t c =
+    let read = item_at (129 - c.args.inner) in
+    rw (piece_by read c.args.text.now c.split-start.result.1.now start.Apostrophe (sym c.in-Apostrophe.is ∙ c.split-start.ensures.start) c.split-start.ensures.rest) c.quoted_at-in-Apostrophe.ensures.gives
+
+pub strings::piece_at-returns-in-Angle-clause-gives : goal.strings::piece_at-returns-in-Angle-clause-gives
+strings::piece_at-returns-in-Angle-clause-gives t c =
+    let read = item_at (129 - c.args.inner) in
+    rw (piece_by read c.args.text.now c.split-start.result.1.now start.Angle (sym c.in-Angle.is ∙ c.split-start.ensures.start) c.split-start.ensures.rest) c.embedded_at.ensures.gives
+
+pub strings::piece_at-returns-in-LetterB-clause-gives : goal.strings::piece_at-returns-in-LetterB-clause-gives
+strings::piece_at-returns-in-LetterB-clause-gives t c =
+    let read = item_at (129 - c.args.inner) in
+    rw (piece_by read c.args.text.now c.split-start.result.1.now start.LetterB (sym c.in-LetterB.is ∙ c.split-start.ensures.start) c.split-start.ensures.rest) c.b_notation.ensures.gives
+
+pub strings::piece_at-returns-in-LetterH-clause-gives : goal.strings::piece_at-returns-in-LetterH-clause-gives
+strings::piece_at-returns-in-LetterH-clause-gives t c =
+    let read = item_at (129 - c.args.inner) in
+    rw (piece_by read c.args.text.now c.split-start.result.1.now start.LetterH (sym c.in-LetterH.is ∙ c.split-start.ensures.start) c.split-start.ensures.rest) c.h_notation.ensures.gives
+
+pub strings::piece_at-returns-in_default-clause-gives : goal.strings::piece_at-returns-in_default-clause-gives
+strings::piece_at-returns-in_default-clause-gives t c =
+    let read = item_at (129 - c.args.inner) in
+    piece_by read c.args.text.now c.split-start.result.1.now c.split-start.result.0 c.split-start.ensures.start c.split-start.ensures.rest
+    ∙ no_piece read c.split-start.result.1.now c.split-start.result.0 c.in_default.not-Quote c.in_default.not-Apostrophe c.in_default.not-Angle c.in_default.not-LetterB c.in_default.not-LetterH
+
+pub strings::pieces_at-pieces-init : goal.strings::pieces_at-pieces-init
+strings::pieces_at-pieces-init t c =
+    let begun = pieces_begin (item_at (129 - c.args.inner)) c.args.texts c.args.text.now c.new-content.result.items c.new-content.ensures.items in
+    (begun.0, begun.1, begun.2, omega arith)
+
+pub strings::pieces_at-returns-in_err-piece-clause-gives : goal.strings::pieces_at-returns-in_err-piece-clause-gives
+strings::pieces_at-returns-in_err-piece-clause-gives t c =
+    let p = err_from_is_err_and c.from_residual.result c.from_residual.ensures.1 in
+    let read = item_at (129 - c.args.inner) in
+    let i = c.pieces.invariant in
+    let begins = sym (c.begins_piece.ensures ∙ ap (begins_piece c.args.texts) c.of.ensures) ∙ c.pieces-test.true in
+    rw (p.1, p.2) (piece_fails read c.args.texts c.pieces.content.items i.0 c.pieces.rest.now (pieces_at read c.args.texts (suc (length c.args.text.now)) c.args.text.now) i.1 i.2 c.in_err-piece.field-0.0 begins c.in_err-piece.ensures.gives)
+
+pub strings::pieces_at-pieces-preserved : goal.strings::pieces_at-pieces-preserved
+strings::pieces_at-pieces-preserved t c =
+    let read = item_at (129 - c.args.inner) in
+    let i = c.pieces.invariant in
+    let begins = sym (c.begins_piece.ensures ∙ ap (begins_piece c.args.texts) c.of.ensures) ∙ c.pieces-test.true in
+    let next = piece_more read c.args.texts c.pieces.content.items i.0 c.pieces.rest.now (pieces_at read c.args.texts (suc (length c.args.text.now)) c.args.text.now) i.1 i.2 c.in_ok-piece.piece.items c.in_ok-piece.after.now c.after_blank-rest.result.now begins c.in_ok-piece.ensures.gives c.after_blank-rest.ensures.gives c.in_ok-piece.ensures.shorter c.after_blank-rest.ensures.shorter in
+    (next.0, next.1, rw c.in_ok-append.ensures next.2, omega (arith, c.in_ok-piece.ensures.shorter, c.after_blank-rest.ensures.shorter))
+
+pub strings::pieces_at-returns-clause-gives : goal.strings::pieces_at-returns-clause-gives
+strings::pieces_at-returns-clause-gives t c =
+    let read = item_at (129 - c.args.inner) in
+    let i = c.pieces.invariant in
+    pieces_end read c.args.texts c.pieces.content.items i.0 c.pieces.rest.now (pieces_at read c.args.texts (suc (length c.args.text.now)) c.args.text.now) i.1 i.2 (sym (c.begins_piece.ensures ∙ ap (begins_piece c.args.texts) c.of.ensures) ∙ c.pieces-test.false)
+
+pub strings::byte_string_at-returns-then-not-begins_piece-clause-gives : goal.strings::byte_string_at-returns-then-not-begins_piece-clause-gives
+strings::byte_string_at-returns-then-not-begins_piece-clause-gives t c = string_by (item_at (129 - c.args.inner)) bytes_kind c.args.text.now false (sym (c.begins_piece.ensures ∙ ap (begins_piece false) c.of.ensures) ∙ c.if-not-begins_piece.true)
+
+pub strings::byte_string_at-returns-in_err-content-clause-gives : goal.strings::byte_string_at-returns-in_err-content-clause-gives
+strings::byte_string_at-returns-in_err-content-clause-gives t c =
+    let p = err_from_is_err_and c.from_residual.result c.from_residual.ensures.1 in
+    let read = item_at (129 - c.args.inner) in
+    let text = c.args.text.now in
+    rw (p.1, p.2, string_by read bytes_kind text true (sym (c.begins_piece.ensures ∙ ap (begins_piece false) c.of.ensures) ∙ c.if-not-begins_piece.false)) (Fails-bind c.in_err-content.field-0.0 (pieces_at read false (suc (length text)) text) (λ x. checked bytes_kind x.0 >>= λ k. Ok (k, x.1)) c.in_err-content.ensures.gives)
+
+pub strings::byte_string_at-returns-clause-gives : goal.strings::byte_string_at-returns-clause-gives
+strings::byte_string_at-returns-clause-gives t c =
+    let read = item_at (129 - c.args.inner) in
+    string_by read bytes_kind c.args.text.now true (sym (c.begins_piece.ensures ∙ ap (begins_piece false) c.of.ensures) ∙ c.if-not-begins_piece.false)
+    ∙ ap (λ r. r >>= λ x. checked bytes_kind x.0 >>= λ k. Ok (k, x.1)) c.in_ok-content.ensures.gives
+    ∙ ap (λ r. r >>= λ k. Ok (k, c.in_ok-content.rest.now)) (sym c.byte_string.ensures.gives)
+
+pub strings::text_string_at-returns-in_default-clause-gives : goal.strings::text_string_at-returns-in_default-clause-gives
+strings::text_string_at-returns-in_default-clause-gives t c = string_by (item_at (129 - c.args.inner)) text_kind c.args.text.now false (ap (begins_string text_kind) (sym c.of.ensures) ∙ no_text c.of.result c.in_default.not-Quote)
+
+pub strings::text_string_at-returns-in_err-content-clause-gives : goal.strings::text_string_at-returns-in_err-content-clause-gives
+strings::text_string_at-returns-in_err-content-clause-gives t c =
+    let p = err_from_is_err_and c.from_residual.result c.from_residual.ensures.1 in
+    let read = item_at (129 - c.args.inner) in
+    let text = c.args.text.now in
+    rw (p.1, p.2, string_by read text_kind text true (ap (begins_string text_kind) (sym c.in-Quote.ensures))) (Fails-bind c.in_err-content.field-0.0 (pieces_at read true (suc (length text)) text) (λ x. checked text_kind x.0 >>= λ k. Ok (k, x.1)) c.in_err-content.ensures.gives)
+
+pub strings::text_string_at-returns-in_err-text_string-clause-gives : goal.strings::text_string_at-returns-in_err-text_string-clause-gives
+strings::text_string_at-returns-in_err-text_string-clause-gives t c =
+    let p = err_from_is_err_and c.from_residual-in_err-text_string.result c.from_residual-in_err-text_string.ensures.1 in
+    let read = item_at (129 - c.args.inner) in
+    let text = c.args.text.now in
+    let begun = string_by read text_kind text true (ap (begins_string text_kind) (sym c.in-Quote.ensures)) ∙ ap (λ r. r >>= λ x. checked text_kind x.0 >>= λ k. Ok (k, x.1)) c.in_ok-content.ensures.gives in
+    rw (p.1, p.2, begun) (Fails-bind c.in_err-text_string.field-0.0 (checked text_kind c.in_ok-content.content.items) (λ k. Ok (k, c.in_ok-content.rest.now)) c.in_err-text_string.ensures.gives)
+
+pub strings::text_string_at-returns-clause-gives : goal.strings::text_string_at-returns-clause-gives
+strings::text_string_at-returns-clause-gives t c =
+    let read = item_at (129 - c.args.inner) in
+    string_by read text_kind c.args.text.now true (ap (begins_string text_kind) (sym c.in-Quote.ensures))
+    ∙ ap (λ r. r >>= λ x. checked text_kind x.0 >>= λ k. Ok (k, x.1)) c.in_ok-content.ensures.gives
+    ∙ ap (λ r. r >>= λ k. Ok (k, c.in_ok-content.rest.now)) c.in_ok-text_string.ensures.gives
