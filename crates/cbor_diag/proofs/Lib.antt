@@ -23,6 +23,8 @@ pub mod Cuts
 pub mod Digits
 pub mod Walks
 pub mod Members
+pub mod CommentLines
+pub mod DumpDigits
 pub mod DumpFits
 pub mod HexLines
 pub mod HexDigits

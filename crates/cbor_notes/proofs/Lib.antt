@@ -12,5 +12,6 @@ pub mod DecodedLineLemmas
 pub mod Groups
 pub mod HexLemmas
 pub mod OneColumn
+pub mod OneLine
 pub mod Places
 pub mod Trees

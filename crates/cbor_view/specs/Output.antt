@@ -5,6 +5,7 @@ use Rattle.cbor_diag.specs.declared.error.Error.TheVariants as refusal
 use Rattle.cbor_diag.specs.Item.{Item}
 use Rattle.cbor_diag.specs.Facts.{IsItem, IsNoItem}
 use Rattle.cbor_diag.specs.HexText.{IsHexOf, IsHexRefused}
+use Rattle.cbor_diag.specs.Dump.{dump}
 use Rattle.cbor_diag.specs.Written.{encoded}
 use Rattle.cbor_view.specs.declared.words.Source.{Source}
 use Rattle.cbor_view.specs.declared.words.Source.TheVariants as source
@@ -25,6 +26,7 @@ Refuses source.Hex input e =
 -- what is written of an item in that form
 abbrev pub output_of : To → Item → List ℕ
 output_of target.Bytes i = encoded i
+output_of target.Hex i = dump i
 
 -- the output for the input: the item that it is, in its form; or why it is none
 abbrev pub IsOutput : Source → To → List ℕ → Result (List ℕ) Error → Type 0

@@ -11,3 +11,4 @@ source_word source.Hex = codes "hex"
 
 abbrev pub target_word : To → List ℕ
 target_word target.Bytes = codes "bytes"
+target_word target.Hex = codes "hex"

@@ -39,5 +39,6 @@ fn write_item(alloc: Global, to: To, item: &DataItem) -> Result<Vec<u8>, Error>
 {
     match to {
         To::Bytes => item.to_bytes(alloc),
+        To::Hex => Ok(item.to_hex(alloc)?.into_bytes()),
     }
 }

@@ -1,7 +1,8 @@
 //! Converts one CBOR data item (RFC 7049): `cbor_view FROM TO` reads it from standard input, in the
 //! form FROM, and writes it to standard output, in the form TO.
 //!
-//! FROM is `bytes`, the item's own bytes, or `hex`, its bytes in hex with comments. TO is `bytes`.
+//! FROM is `bytes`, the item's own bytes, or `hex`, its bytes in hex with comments. TO is one of
+//! these two words, too.
 //!
 //! The exit status is 0 where the item was written. It is 1 where the input is no item, or can't be
 //! read, or the output can't be written; for an input that is no item nothing is written. It is 2,

@@ -16,6 +16,8 @@ pub enum Source {
 pub enum To {
     /// The bytes of the item.
     Bytes,
+    /// The bytes of the item in hex, each line with a comment.
+    Hex,
 }
 
 /// The form that a word names for the input: `bytes` or `hex`. Any other word names none.
@@ -30,13 +32,14 @@ pub fn from_word(word: &str) -> Option<Source>
     }
 }
 
-/// The form that a word names for the output: `bytes`. Any other word names none.
+/// The form that a word names for the output: `bytes` or `hex`. Any other word names none.
 pub fn to_word(word: &str) -> Option<To>
     ensures named { IfSome result (λ target. word.now ≡ target_word target) }
     ensures each_word { (target : To) → word.now ≡ target_word target → result ≡ Some target }
 {
     match word {
         "bytes" => Some(To::Bytes),
+        "hex" => Some(To::Hex),
         _ => None,
     }
 }
