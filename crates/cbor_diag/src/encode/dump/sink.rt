@@ -12,8 +12,11 @@ use std::alloc::{AllocError, Global};
 /// What takes the lines of a dump, one after the other.
 pub(super) trait Sink {
     ghost View: { Type 0 };
+
     ghost view: { Self → View };
+
     ghost step: { View → DumpLine → View };
+
     ghost room: { Self → ℕ };
 
     /// A line at a depth: bytes, shown as the form says, and what is said of them. Refused is it for want
@@ -39,8 +42,11 @@ pub(super) struct Widest {
 
 impl Sink for Widest {
     ghost View = { ℕ };
+
     ghost view = { λ widest. widest.width };
+
     ghost step = { λ width line. max width (reach line) };
+
     ghost room = { λ _. most_width };
 
     fn line(
@@ -97,8 +103,11 @@ impl Writer {
 
 impl Sink for Writer {
     ghost View = { ℕ × List ℕ };
+
     ghost view = { λ writer. (writer.width, string_bytes writer.out) };
+
     ghost step = { λ written line. (written.0, written.1 ++ line_text written.0 line) };
+
     ghost room = { λ writer. writer.width };
 
     fn line(

@@ -90,7 +90,12 @@ fn open_line<S: Sink>(
     ensures step { OnOk result (S.view sink.new ≡ S.step (S.view sink.old) (spec.open_line depth major name.now)) }
     ensures room { OnOk result (S.room sink.new ≡ S.room sink.old) }
 {
-    sink.line(depth, Form::Head, &[32 * major + 31], &Comment::Counted(name, None))
+    sink.line(
+        depth,
+        Form::Head,
+        &[32 * major + 31],
+        &Comment::Counted(name, None),
+    )
 }
 
 /// The line of a break.
@@ -231,7 +236,15 @@ fn byte_string<S: Sink>(
 {
     let length = string.content.len();
     let comment = Comment::Counted("bytes", Some(length));
-    number_line(sink, head, depth, 2, length as u64, string.bitwidth, &comment)?;
+    number_line(
+        sink,
+        head,
+        depth,
+        2,
+        length as u64,
+        string.bitwidth,
+        &comment,
+    )?;
     bytes_content(sink, depth + 1, encoding, &string.content)
 }
 
@@ -252,7 +265,15 @@ fn text_string<S: Sink>(
 {
     let length = string.content.len();
     let comment = Comment::Counted("text", Some(length));
-    number_line(sink, head, depth, 3, length as u64, string.bitwidth, &comment)?;
+    number_line(
+        sink,
+        head,
+        depth,
+        3,
+        length as u64,
+        string.bitwidth,
+        &comment,
+    )?;
     text_content(sink, depth + 1, &string.content)
 }
 
@@ -318,10 +339,26 @@ pub(super) fn walk_item<S: Sink>(
 {
     match item {
         DataItem::Integer { value, bitwidth } => {
-            number_line(sink, head, depth, 0, *value, *bitwidth, &Comment::Unsigned(*value))
+            number_line(
+                sink,
+                head,
+                depth,
+                0,
+                *value,
+                *bitwidth,
+                &Comment::Unsigned(*value),
+            )
         }
         DataItem::Negative { value, bitwidth } => {
-            number_line(sink, head, depth, 1, *value, *bitwidth, &Comment::Negative(*value))
+            number_line(
+                sink,
+                head,
+                depth,
+                1,
+                *value,
+                *bitwidth,
+                &Comment::Negative(*value),
+            )
         }
         DataItem::ByteString(string) => byte_string(sink, head, depth, encoding, string),
         DataItem::TextString(string) => text_string(sink, head, depth, string),
@@ -343,7 +380,13 @@ pub(super) fn walk_item<S: Sink>(
             value,
         } => {
             number_line(sink, head, depth, 6, tag.0, *bitwidth, &Comment::Tag(tag.0))?;
-            walk_item(sink, head, depth + 1, encoding_below(tag.0, encoding), value)
+            walk_item(
+                sink,
+                head,
+                depth + 1,
+                encoding_below(tag.0, encoding),
+                value,
+            )
         }
         DataItem::Float { bits, bitwidth } => float_line(sink, head, depth, *bits, *bitwidth),
         DataItem::Simple(simple) => simple_line(sink, head, depth, simple.0),

@@ -41,12 +41,16 @@ walk_item-walk_items-requires g t c κs within =
     let w = c.in-Array.bitwidth in
     let counted : item_count (items_view v.items) ≡ c.len.result = omega (arith, item_count_view v.items, v.ok.0) in
     let split = array_lines c.args.depth c.args.encoding c.args.item.now w c.len.result v c.in-Array.is counted in (
-      search (rules, the_lemmas), (within, (
-        array_members c.args.depth c.requires.well_formed.0 c.args.item.now w c.requires.well_formed.1 c.requires.well_formed.2 v c.in-Array.is,
-        members_here (item_lines c.args.depth c.args.encoding (view c.args.item.now)) (container_line c.args.depth 4 (codes "array") c.len.result w)
-            (items_lines (c.args.depth + 1) c.args.encoding (items_view v.items)) (close_lines (c.args.depth + 1) w) split (g.S.Sink.room c.args.sink.now)
-            (g.S.Sink.room c.container_line.new.sink) c.in_ok-container_line-in-Array.ensures.room c.requires.takes,
-      )),
+      search (rules, the_lemmas),
+      (
+        within,
+        (
+          array_members c.args.depth c.requires.well_formed.0 c.args.item.now w c.requires.well_formed.1 c.requires.well_formed.2 v c.in-Array.is,
+          members_here (item_lines c.args.depth c.args.encoding (view c.args.item.now)) (container_line c.args.depth 4 (codes "array") c.len.result w)
+              (items_lines (c.args.depth + 1) c.args.encoding (items_view v.items)) (close_lines (c.args.depth + 1) w) split (g.S.Sink.room c.args.sink.now)
+              (g.S.Sink.room c.container_line.new.sink) c.in_ok-container_line-in-Array.ensures.room c.requires.takes,
+        ),
+      ),
     )
 
 pub walk_item-close_lines-requires : goal.walk_item-close_lines-requires
@@ -91,12 +95,16 @@ walk_item-walk_pairs-requires g t c κs within =
     let w = c.in-Map.bitwidth in
     let counted : pair_count (pairs_view v.items) ≡ c.len-in-Map.result = omega (arith, pair_count_view v.items, v.ok.0) in
     let split = map_lines c.args.depth c.args.encoding c.args.item.now w c.len-in-Map.result v c.in-Map.is counted in (
-      search (rules, the_lemmas), (within, (
-        map_members c.args.depth c.requires.well_formed.0 c.args.item.now w c.requires.well_formed.1 c.requires.well_formed.2 v c.in-Map.is,
-        members_here (item_lines c.args.depth c.args.encoding (view c.args.item.now)) (container_line c.args.depth 5 (codes "map") c.len-in-Map.result w)
-            (pairs_lines (c.args.depth + 1) c.args.encoding (pairs_view v.items)) (close_lines (c.args.depth + 1) w) split (g.S.Sink.room c.args.sink.now)
-            (g.S.Sink.room c.container_line-in-Map.new.sink) c.in_ok-container_line-in-Map.ensures.room c.requires.takes,
-      )),
+      search (rules, the_lemmas),
+      (
+        within,
+        (
+          map_members c.args.depth c.requires.well_formed.0 c.args.item.now w c.requires.well_formed.1 c.requires.well_formed.2 v c.in-Map.is,
+          members_here (item_lines c.args.depth c.args.encoding (view c.args.item.now)) (container_line c.args.depth 5 (codes "map") c.len-in-Map.result w)
+              (pairs_lines (c.args.depth + 1) c.args.encoding (pairs_view v.items)) (close_lines (c.args.depth + 1) w) split (g.S.Sink.room c.args.sink.now)
+              (g.S.Sink.room c.container_line-in-Map.new.sink) c.in_ok-container_line-in-Map.ensures.room c.requires.takes,
+        ),
+      ),
     )
 
 pub walk_item-close_lines-requires-in-Map : goal.walk_item-close_lines-requires-in-Map
@@ -126,11 +134,15 @@ walk_items-walk_item-requires g t c κs within =
     let i = c.items.item-index in
     let split = items_left all i c.item-item.result c.item-item.is c.items-test.true c.args.depth c.args.encoding in
     let well = items_well all i c.item-item.result c.item-item.is c.items-test.true c.items.invariant.3 c.items.invariant.5 in (
-      search (rules, the_lemmas), (within, (
-        (c.items.invariant.3, c.items.invariant.4, well.0),
-        part_here (items_lines c.args.depth c.args.encoding (items_view (drop i all))) (item_lines c.args.depth c.args.encoding (view c.item-item.result))
-            (items_lines c.args.depth c.args.encoding (items_view (drop (i + 1) all))) split (g.S.Sink.room c.items.sink) c.items.invariant.1,
-      )),
+      search (rules, the_lemmas),
+      (
+        within,
+        (
+          (c.items.invariant.3, c.items.invariant.4, well.0),
+          part_here (items_lines c.args.depth c.args.encoding (items_view (drop i all))) (item_lines c.args.depth c.args.encoding (view c.item-item.result))
+              (items_lines c.args.depth c.args.encoding (items_view (drop (i + 1) all))) split (g.S.Sink.room c.items.sink) c.items.invariant.1,
+        ),
+      ),
     )
 
 pub walk_items-items-preserved : goal.walk_items-items-preserved
@@ -146,7 +158,9 @@ walk_items-items-preserved g t c =
       part_taken left here others split g.S.Sink.step (g.S.Sink.view c.items.sink) (g.S.Sink.view c.walk_item.new.sink) _ done.step c.items.invariant.0,
       part_left left here others split (g.S.Sink.room c.items.sink) (g.S.Sink.room c.walk_item.new.sink) done.room c.items.invariant.1,
       done.room ∙ c.items.invariant.2,
-      c.items.invariant.3, c.items.invariant.4, well.1,
+      c.items.invariant.3,
+      c.items.invariant.4,
+      well.1,
     )
 
 pub walk_pairs-walk_item-requires : goal.walk_pairs-walk_item-requires
@@ -156,12 +170,16 @@ walk_pairs-walk_item-requires g t c κs within =
     let p = c.pairs-item.result in
     let split = pairs_left all i p c.pairs-item.is c.pairs-test.true c.args.depth c.args.encoding in
     let well = pairs_well all i p c.pairs-item.is c.pairs-test.true c.pairs.invariant.3 c.pairs.invariant.5 in (
-      search (rules, the_lemmas), (within, (
-        (c.pairs.invariant.3, c.pairs.invariant.4, well.0),
-        part_here (pairs_lines c.args.depth c.args.encoding (pairs_view (drop i all))) (item_lines c.args.depth c.args.encoding (view p.0))
-            (item_lines c.args.depth c.args.encoding (view p.1) ++ pairs_lines c.args.depth c.args.encoding (pairs_view (drop (i + 1) all))) split
-            (g.S.Sink.room c.pairs.sink) c.pairs.invariant.1,
-      )),
+      search (rules, the_lemmas),
+      (
+        within,
+        (
+          (c.pairs.invariant.3, c.pairs.invariant.4, well.0),
+          part_here (pairs_lines c.args.depth c.args.encoding (pairs_view (drop i all))) (item_lines c.args.depth c.args.encoding (view p.0))
+              (item_lines c.args.depth c.args.encoding (view p.1) ++ pairs_lines c.args.depth c.args.encoding (pairs_view (drop (i + 1) all))) split
+              (g.S.Sink.room c.pairs.sink) c.pairs.invariant.1,
+        ),
+      ),
     )
 
 pub walk_pairs-walk_item-requires-in-pairs : goal.walk_pairs-walk_item-requires-in-pairs
@@ -202,5 +220,7 @@ walk_pairs-pairs-preserved g t c =
       part_taken (value ++ others) value others refl g.S.Sink.step (g.S.Sink.view c.walk_item.new.sink) (g.S.Sink.view c.walk_item-in-pairs.new.sink) _ second.step taken_key,
       part_left (value ++ others) value others refl (g.S.Sink.room c.walk_item.new.sink) (g.S.Sink.room c.walk_item-in-pairs.new.sink) second.room rest,
       second.room ∙ (first.room ∙ c.pairs.invariant.2),
-      c.pairs.invariant.3, c.pairs.invariant.4, well.2,
+      c.pairs.invariant.3,
+      c.pairs.invariant.4,
+      well.2,
     )
