@@ -23,6 +23,7 @@ pub mod Cuts
 pub mod Digits
 pub mod Walks
 pub mod Members
+pub mod ByteLaws
 pub mod CommentLines
 pub mod DumpDigits
 pub mod DumpFits

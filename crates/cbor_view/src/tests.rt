@@ -134,6 +134,7 @@ fn words_name_forms(rt: HostRuntime) {
     assert_eq!(rt; from_word("bytes"), Some(Source::Bytes));
     assert_eq!(rt; from_word("hex"), Some(Source::Hex));
     assert_eq!(rt; to_word("bytes"), Some(To::Bytes));
+    assert_eq!(rt; to_word("hex"), Some(To::Hex));
     for word in ["", "byte", "bytes ", "Bytes", "HEX", "hex\n", "-", "seq"] {
         assert_eq!(rt; from_word(word), None, "at {word:?}");
         assert_eq!(rt; to_word(word), None, "at {word:?}");
@@ -145,6 +146,8 @@ fn converts(rt: HostRuntime) -> Result<(), Fail> {
     let rows = [
         ("hex", "bytes", COMMENTED.as_bytes(), ITEM.as_slice()),
         ("bytes", "bytes", ITEM.as_slice(), ITEM.as_slice()),
+        ("bytes", "hex", ITEM.as_slice(), COMMENTED.as_bytes()),
+        ("hex", "hex", COMMENTED.as_bytes(), COMMENTED.as_bytes()),
         (
             "bytes",
             "bytes",

@@ -12,6 +12,11 @@ use Rattle.cbor_diag.specs.Dump.{dump, lines}
 use Rattle.cbor_diag.specs.Parts.{most_width}
 use Rattle.cbor_diag.specs.HexText.{strip}
 use Rattle.cbor_diag.proofs.DumpDigits.{item_are}
+use Rattle.hex.specs.Hex.{decode_of}
+use Rattle.hex.proofs.HexLemmas.{decode_of-encode_lower}
+use Rattle.cbor_diag.specs.Written.{encoded, resolve}
+use Rattle.cbor_diag.proofs.Strict.{strict_any, strict_encoded}
+use Rattle.cbor_diag.proofs.ByteLaws.{is_bytes, item_bytes}
 use Rattle.cbor_diag.proofs.DumpFits.{fits_of, item_fits, one_line_of, plain_of, takes_all, widest_is, written_is}
 use Rattle.cbor_diag.proofs.syntax.DataItem.to_hex.Goals as goal
 
@@ -75,3 +80,9 @@ returns-clause-digits c =
     let all = lines (view c.args.self.now) in
     let plain = plain_of all (item_fits 0 1 None (view c.args.self.now) (omega arith) c.requires) in
     ap strip (returns-clause-text c) ∙ digits_left (width_of all) all plain ∙ item_are 0 None (view c.args.self.now)
+
+pub returns-clause-read_back : goal.returns-clause-read_back
+returns-clause-read_back c =
+    let i = view c.args.self.now in
+    let bytes = is_bytes (encoded i) (item_bytes 1 i c.requires) in
+    (encoded i, ap decode_of (returns-clause-digits c) ∙ decode_of-encode_lower (encoded i) bytes, strict_any 1 (encoded i) (resolve i) (strict_encoded 1 i c.requires))
