@@ -18,7 +18,7 @@ pieces_none : (cut : List ℕ → ℕ) (n : ℕ) → pieces_of cut n [] ≡ []
 pieces_none cut zero = refl
 pieces_none cut (suc n) = refl
 
-shorter : (x : ℕ) (xs : List ℕ) (k n : ℕ) → 1 ≤ k → length (x ∷ xs) ≤ suc n → length (drop k (x ∷ xs)) ≤ n
+pub shorter : (x : ℕ) (xs : List ℕ) (k n : ℕ) → 1 ≤ k → length (x ∷ xs) ≤ suc n → length (drop k (x ∷ xs)) ≤ n
 shorter x xs k n some fits = let left = length-drop k (x ∷ xs) in omega arith
 
 enough : (cut : List ℕ → ℕ) → Cuts cut → (n m : ℕ) (bytes : List ℕ) → length bytes ≤ n → length bytes ≤ m → pieces_of cut n bytes ≡ pieces_of cut m bytes

@@ -1,5 +1,5 @@
 -- The lines of a dump can be laid out: they are not too deep, and their digits not too long.
-use Rattle.std.proofs.Common.{◌≡◌, ℕ, zero, suc, ◌+◌, ◌*◌, ◌<◌, ◌≤◌, Bool, true, false, cond, min, max, List, [], ◌∷◌, ◌++◌, map, length, take, drop, slice_index, nat_le, inl, inr, codes, Option, Some, None, refl, sym, ap, subst, ◌∙◌, arith, length-append, append_assoc, append-nil}
+use Rattle.std.proofs.Common.{◌≡◌, ◌≢◌, ℕ, zero, suc, ◌+◌, ◌*◌, ◌<◌, ◌≤◌, Bool, true, false, cond, min, max, List, [], ◌∷◌, ◌++◌, map, length, take, drop, slice_index, nat_le, inl, inr, codes, Option, Some, None, refl, sym, ap, subst, ◌∙◌, arith, length-append, append_assoc, append-nil}
 use Rattle.std.specs.List.{AllByRecursion, flat_map}
 use Rattle.std.specs.Int.{w8, w16, w32, w64}
 use Rattle.std.specs.Str.{IsAscii}
@@ -7,9 +7,12 @@ use Rattle.std.proofs.lemmas.Bool.Decides.{nat_tests}
 use Rattle.std.proofs.lemmas.Bool.{cases_lt}
 use Rattle.std.proofs.lemmas.Str.{IsAscii-append}
 use Rattle.std.proofs.lemmas.List.{length-take}
-use Rattle.hex.specs.Hex.{encode_lower}
+use Rattle.hex.specs.Hex.{encode_lower, lower_digits}
 use Rattle.cbor_notes.specs.Layout.{DumpLine, line_text, reach, width_of}
+use Rattle.cbor_notes.specs.Columns.{IsPlain, Lacks}
 use Rattle.cbor_notes.specs.LineTree.{IsFit}
+use Rattle.cbor_notes.proofs.OneLine.{Free, from_test, free_hex, lacks_of}
+use Rattle.cbor_diag.proofs.CommentLines.{unsigned_line, negative_line, float_line, simple_line, counted_line, tag_line, bytes_line, text_line, free_head}
 use Rattle.cbor_notes.proofs.HexLemmas.{IsAscii-encode_lower, IsAscii-from_test}
 use Rattle.cbor_notes.proofs.Trees.{all_both}
 use Rattle.cbor_diag.specs.declared.syntax.IntegerWidth.{IntegerWidth}
@@ -26,10 +29,27 @@ use Rattle.cbor_diag.specs.Written.{encoded_head, encoded_float, encoded_simple,
 use Rattle.cbor_diag.specs.Comments.{bytes_comment, text_comment, encoding_below}
 use Rattle.cbor_diag.specs.Pieces.{pieces_of, byte_pieces, text_pieces, last_start, text_cut, begins_character, piece_size, short_text}
 use Rattle.cbor_diag.specs.Dump.{head_hex, head_line, piece_line, content_lines, byte_string_lines, text_string_lines, byte_chunks_lines}
-use Rattle.cbor_diag.specs.Dump.{text_chunks_lines, open_line, break_line, atom_lines, container_line, close_lines, item_lines, items_lines, pairs_lines}
+use Rattle.cbor_diag.specs.Dump.{count_if_definite, text_chunks_lines, open_line, break_line, atom_lines, container_line, close_lines, item_lines, items_lines, pairs_lines}
 use Rattle.cbor_diag.specs.Parts.{Takes, taken, most_width}
 use Rattle.cbor_diag.proofs.Digits.{head_short, head_long, length-hex, length-head_short, length-head_long}
 use Rattle.cbor_diag.proofs.Cuts.{byte_cut, text_short, text_long}
+
+-- a line that can be laid out, and whose digits and comment keep to its line
+pub record IsGood (line : DumpLine) : Type 0 where
+  pub fit : IsFit line
+  pub plain : IsPlain line
+
+zero_hash : ◌≢◌ {A = ℕ} 0 35
+zero_hash e = cc e
+
+zero_feed : ◌≢◌ {A = ℕ} 0 10
+zero_feed e = cc e
+
+blank_hash : ◌≢◌ {A = ℕ} 32 35
+blank_hash e = cc e
+
+blank_feed : ◌≢◌ {A = ℕ} 32 10
+blank_feed e = cc e
 
 ascii_head : (bytes : List ℕ) → IsAscii (head_hex bytes)
 ascii_head bytes =
@@ -48,11 +68,28 @@ head_fits bytes few =
     ]
 
 -- a head at a depth that isn't too deep
-fit_head : (depth : ℕ) (bytes comment : List ℕ) → depth < 140 → length bytes ≤ 9 → IsFit (head_line depth bytes comment)
-fit_head depth bytes comment low few = record { level = low; short = head_fits bytes few; ascii = ascii_head bytes }
+fit_head : (depth : ℕ) (bytes comment : List ℕ) → depth < 140 → length bytes ≤ 9 → Free 10 comment → IsGood (head_line depth bytes comment)
+fit_head depth bytes comment low few said = record {
+  fit = record { level = low; short = head_fits bytes few; ascii = ascii_head bytes };
+  plain = record {
+    no_hash = lacks_of 35 (head_hex bytes) (free_head 35 zero_hash blank_hash (from_test 35 lower_digits refl) bytes);
+    no_feed = lacks_of 10 (head_hex bytes) (free_head 10 zero_feed blank_feed (from_test 10 lower_digits refl) bytes);
+    one_line = lacks_of 10 comment said;
+  };
+}
 
-fit_piece : (depth : ℕ) (piece comment : List ℕ) → depth < 140 → length piece ≤ 24 → IsFit (piece_line depth piece comment)
-fit_piece depth piece comment low few = record { level = low; short = (let digits = length-hex piece in omega arith); ascii = IsAscii-encode_lower piece }
+piece_short : (piece : List ℕ) → length piece ≤ 24 → length (encode_lower piece) ≤ 64
+piece_short piece few = let digits = length-hex piece in omega arith
+
+fit_piece : (depth : ℕ) (piece comment : List ℕ) → depth < 140 → length piece ≤ 24 → Free 10 comment → IsGood (piece_line depth piece comment)
+fit_piece depth piece comment low few said = record {
+  fit = record { level = low; short = piece_short piece few; ascii = IsAscii-encode_lower piece };
+  plain = record {
+    no_hash = lacks_of 35 (encode_lower piece) (free_hex 35 zero_hash (from_test 35 lower_digits refl) piece);
+    no_feed = lacks_of 10 (encode_lower piece) (free_hex 10 zero_feed (from_test 10 lower_digits refl) piece);
+    one_line = lacks_of 10 comment said;
+  };
+}
 
 head_length : (major n : ℕ) (w : IntegerWidth) → length (head major n w) ≤ 9
 head_length major n width.Unknown = omega arith
@@ -105,63 +142,65 @@ text_few (b ∷ text) =
       | inr short ↦ subst (AllByRecursion (λ p. length p ≤ 24)) (sym (text_short (b ∷ text) (omega arith) short)) (short, tt)
     ]
 
-lines_fit : (depth : ℕ) (comment : List ℕ → List ℕ) (pieces : List (List ℕ)) → depth < 140 → AllByRecursion (λ p. length p ≤ 24) pieces
-    → AllByRecursion IsFit (map (λ p. piece_line depth p (comment p)) pieces)
-lines_fit depth comment [] low few = tt
-lines_fit depth comment (p ∷ ps) low few = (fit_piece depth p (comment p) low few.0, lines_fit depth comment ps low few.1)
+lines_fit : (depth : ℕ) (comment : List ℕ → List ℕ) → ((piece : List ℕ) → Free 10 (comment piece)) → (pieces : List (List ℕ)) → depth < 140 → AllByRecursion (λ p. length p ≤ 24) pieces
+    → AllByRecursion IsGood (map (λ p. piece_line depth p (comment p)) pieces)
+lines_fit depth comment said [] low few = tt
+lines_fit depth comment said (p ∷ ps) low few = (fit_piece depth p (comment p) low few.0 (said p), lines_fit depth comment said ps low few.1)
 
-content_fits : (depth : ℕ) (comment : List ℕ → List ℕ) (pieces : List (List ℕ)) → depth < 140 → AllByRecursion (λ p. length p ≤ 24) pieces
-    → AllByRecursion IsFit (content_lines depth comment pieces)
-content_fits depth comment [] low few = (fit_piece depth [] (codes "\"\"") low (omega arith), tt)
-content_fits depth comment (p ∷ ps) low few = lines_fit depth comment (p ∷ ps) low few
+content_fits : (depth : ℕ) (comment : List ℕ → List ℕ) → ((piece : List ℕ) → Free 10 (comment piece)) → (pieces : List (List ℕ)) → depth < 140 → AllByRecursion (λ p. length p ≤ 24) pieces
+    → AllByRecursion IsGood (content_lines depth comment pieces)
+content_fits depth comment said [] low few = (fit_piece depth [] (codes "\"\"") low (omega arith) (from_test 10 (codes "\"\"") refl), tt)
+content_fits depth comment said (p ∷ ps) low few = lines_fit depth comment said (p ∷ ps) low few
 
-bytes_fit : (depth : ℕ) (encoding : Option Encoding) (c : Chunk) → depth + 1 < 140 → AllByRecursion IsFit (byte_string_lines depth encoding c)
+bytes_fit : (depth : ℕ) (encoding : Option Encoding) (c : Chunk) → depth + 1 < 140 → AllByRecursion IsGood (byte_string_lines depth encoding c)
 bytes_fit depth encoding c low = (
-  fit_head depth (encoded_head 2 (length c.bytes) c.width) _ (omega arith) (head_length 2 (length c.bytes) (stated c.width (length c.bytes))),
-  content_fits (depth + 1) (bytes_comment encoding c.bytes) (byte_pieces c.bytes) low (pieces_few byte_cut (λ bytes. omega arith) (length c.bytes) c.bytes),
+  fit_head depth (encoded_head 2 (length c.bytes) c.width) _ (omega arith) (head_length 2 (length c.bytes) (stated c.width (length c.bytes)))
+      (counted_line (codes "bytes") (Some (length c.bytes)) (from_test 10 (codes "bytes") refl)),
+  content_fits (depth + 1) (bytes_comment encoding c.bytes) (λ piece. bytes_line encoding c.bytes piece) (byte_pieces c.bytes) low (pieces_few byte_cut (λ bytes. omega arith) (length c.bytes) c.bytes),
 )
 
-text_fits : (depth : ℕ) (c : Chunk) → depth + 1 < 140 → AllByRecursion IsFit (text_string_lines depth c)
+text_fits : (depth : ℕ) (c : Chunk) → depth + 1 < 140 → AllByRecursion IsGood (text_string_lines depth c)
 text_fits depth c low = (
-  fit_head depth (encoded_head 3 (length c.bytes) c.width) _ (omega arith) (head_length 3 (length c.bytes) (stated c.width (length c.bytes))),
-  content_fits (depth + 1) text_comment (text_pieces c.bytes) low (text_few c.bytes),
+  fit_head depth (encoded_head 3 (length c.bytes) c.width) _ (omega arith) (head_length 3 (length c.bytes) (stated c.width (length c.bytes)))
+      (counted_line (codes "text") (Some (length c.bytes)) (from_test 10 (codes "text") refl)),
+  content_fits (depth + 1) text_comment text_line (text_pieces c.bytes) low (text_few c.bytes),
 )
 
-byte_chunks_fit : (depth : ℕ) (encoding : Option Encoding) (cs : List Chunk) → depth + 1 < 140 → AllByRecursion IsFit (flat_map (byte_string_lines depth encoding) cs)
+byte_chunks_fit : (depth : ℕ) (encoding : Option Encoding) (cs : List Chunk) → depth + 1 < 140 → AllByRecursion IsGood (flat_map (byte_string_lines depth encoding) cs)
 byte_chunks_fit depth encoding [] low = tt
 byte_chunks_fit depth encoding (c ∷ cs) low =
-    all_both IsFit (byte_string_lines depth encoding c) (flat_map (byte_string_lines depth encoding) cs) (bytes_fit depth encoding c low) (byte_chunks_fit depth encoding cs low)
+    all_both IsGood (byte_string_lines depth encoding c) (flat_map (byte_string_lines depth encoding) cs) (bytes_fit depth encoding c low) (byte_chunks_fit depth encoding cs low)
 
-text_chunks_fit : (depth : ℕ) (cs : List Chunk) → depth + 1 < 140 → AllByRecursion IsFit (flat_map (text_string_lines depth) cs)
+text_chunks_fit : (depth : ℕ) (cs : List Chunk) → depth + 1 < 140 → AllByRecursion IsGood (flat_map (text_string_lines depth) cs)
 text_chunks_fit depth [] low = tt
 text_chunks_fit depth (c ∷ cs) low =
-    all_both IsFit (text_string_lines depth c) (flat_map (text_string_lines depth) cs) (text_fits depth c low) (text_chunks_fit depth cs low)
+    all_both IsGood (text_string_lines depth c) (flat_map (text_string_lines depth) cs) (text_fits depth c low) (text_chunks_fit depth cs low)
 
-break_fits : (depth : ℕ) → depth < 140 → AllByRecursion IsFit (break_line depth ∷ [])
-break_fits depth low = (fit_head depth (break_byte ∷ []) _ low (omega arith), tt)
+break_fits : (depth : ℕ) → depth < 140 → AllByRecursion IsGood (break_line depth ∷ [])
+break_fits depth low = (fit_head depth (break_byte ∷ []) _ low (omega arith) (from_test 10 (codes "break") refl), tt)
 
-close_fits : (depth : ℕ) (w : Option IntegerWidth) → depth < 140 → AllByRecursion IsFit (close_lines depth w)
+close_fits : (depth : ℕ) (w : Option IntegerWidth) → depth < 140 → AllByRecursion IsGood (close_lines depth w)
 close_fits depth (Some w) low = tt
 close_fits depth None low = break_fits depth low
 
-atom_fits : (depth : ℕ) (encoding : Option Encoding) (a : Atom) → depth < 128 → AllByRecursion IsFit (atom_lines depth encoding a)
-atom_fits depth encoding (integer n w) low = (fit_head depth (encoded_head 0 n w) _ (omega arith) (head_length 0 n (stated w n)), tt)
-atom_fits depth encoding (negative n w) low = (fit_head depth (encoded_head 1 n w) _ (omega arith) (head_length 1 n (stated w n)), tt)
+atom_fits : (depth : ℕ) (encoding : Option Encoding) (a : Atom) → depth < 128 → AllByRecursion IsGood (atom_lines depth encoding a)
+atom_fits depth encoding (integer n w) low = (fit_head depth (encoded_head 0 n w) _ (omega arith) (head_length 0 n (stated w n)) (unsigned_line n), tt)
+atom_fits depth encoding (negative n w) low = (fit_head depth (encoded_head 1 n w) _ (omega arith) (head_length 1 n (stated w n)) (negative_line n), tt)
 atom_fits depth encoding (byte_string c) low = bytes_fit depth encoding c (omega arith)
 atom_fits depth encoding (text_string c) low = text_fits depth c (omega arith)
 atom_fits depth encoding (byte_chunks cs) low = (
-  fit_head depth (opening 2 ∷ []) _ (omega arith) (omega arith),
-  all_both IsFit (flat_map (byte_string_lines (depth + 1) encoding) cs) (break_line (depth + 1) ∷ []) (byte_chunks_fit (depth + 1) encoding cs (omega arith)) (break_fits (depth + 1) (omega arith)),
+  fit_head depth (opening 2 ∷ []) _ (omega arith) (omega arith) (counted_line (codes "bytes") None (from_test 10 (codes "bytes") refl)),
+  all_both IsGood (flat_map (byte_string_lines (depth + 1) encoding) cs) (break_line (depth + 1) ∷ []) (byte_chunks_fit (depth + 1) encoding cs (omega arith)) (break_fits (depth + 1) (omega arith)),
 )
 atom_fits depth encoding (text_chunks cs) low = (
-  fit_head depth (opening 3 ∷ []) _ (omega arith) (omega arith),
-  all_both IsFit (flat_map (text_string_lines (depth + 1)) cs) (break_line (depth + 1) ∷ []) (text_chunks_fit (depth + 1) cs (omega arith)) (break_fits (depth + 1) (omega arith)),
+  fit_head depth (opening 3 ∷ []) _ (omega arith) (omega arith) (counted_line (codes "text") None (from_test 10 (codes "text") refl)),
+  all_both IsGood (flat_map (text_string_lines (depth + 1)) cs) (break_line (depth + 1) ∷ []) (text_chunks_fit (depth + 1) cs (omega arith)) (break_fits (depth + 1) (omega arith)),
 )
-atom_fits depth encoding (float bits w) low = (fit_head depth (encoded_float bits w) _ (omega arith) (float_length bits w), tt)
-atom_fits depth encoding (simple n) low = (fit_head depth (encoded_simple n) _ (omega arith) (simple_length n), tt)
+atom_fits depth encoding (float bits w) low = (fit_head depth (encoded_float bits w) _ (omega arith) (float_length bits w) (float_line (encoded_float bits w)), tt)
+atom_fits depth encoding (simple n) low = (fit_head depth (encoded_simple n) _ (omega arith) (simple_length n) (simple_line n), tt)
 
-open_fits : (depth major : ℕ) (name : List ℕ) (n : ℕ) (w : Option IntegerWidth) → depth < 140 → IsFit (container_line depth major name n w)
-open_fits depth major name n w low = fit_head depth (encoded_open major n w) _ low (open_length major n w)
+open_fits : (depth major : ℕ) (name : List ℕ) (n : ℕ) (w : Option IntegerWidth) → depth < 140 → Free 10 name → IsGood (container_line depth major name n w)
+open_fits depth major name n w low said = fit_head depth (encoded_open major n w) _ low (open_length major n w) (counted_line name (count_if_definite n w) said)
 
 -- where a line below stands
 low_here : (depth level : ℕ) → depth < level → level ≤ deepest → depth < 128
@@ -177,31 +216,44 @@ low_first : (depth level : ℕ) → depth < level → level ≤ deepest → dept
 low_first depth level below few = omega arith
 
 mutual
-  pub item_fits : (depth level : ℕ) (encoding : Option Encoding) (i : Item) → depth < level → WellFormed level i → AllByRecursion IsFit (item_lines depth encoding i)
+  pub item_fits : (depth level : ℕ) (encoding : Option Encoding) (i : Item) → depth < level → WellFormed level i → AllByRecursion IsGood (item_lines depth encoding i)
   item_fits depth level encoding (atom a) below well = atom_fits depth encoding a (low_here depth level below well.0)
   item_fits depth level encoding (array is w) below well = (
-    open_fits depth 4 (codes "array") (item_count is) w (low_first depth level below well.0),
-    all_both IsFit (items_lines (depth + 1) encoding is) (close_lines (depth + 1) w) (items_fit (depth + 1) (level + 1) encoding is (low_below depth level below) well.2) (close_fits (depth + 1) w (low_end depth level below well.0)),
+    open_fits depth 4 (codes "array") (item_count is) w (low_first depth level below well.0) (from_test 10 (codes "array") refl),
+    all_both IsGood (items_lines (depth + 1) encoding is) (close_lines (depth + 1) w) (items_fit (depth + 1) (level + 1) encoding is (low_below depth level below) well.2) (close_fits (depth + 1) w (low_end depth level below well.0)),
   )
   item_fits depth level encoding (spec.map ps w) below well = (
-    open_fits depth 5 (codes "map") (pair_count ps) w (low_first depth level below well.0),
-    all_both IsFit (pairs_lines (depth + 1) encoding ps) (close_lines (depth + 1) w) (pairs_fit (depth + 1) (level + 1) encoding ps (low_below depth level below) well.2) (close_fits (depth + 1) w (low_end depth level below well.0)),
+    open_fits depth 5 (codes "map") (pair_count ps) w (low_first depth level below well.0) (from_test 10 (codes "map") refl),
+    all_both IsGood (pairs_lines (depth + 1) encoding ps) (close_lines (depth + 1) w) (pairs_fit (depth + 1) (level + 1) encoding ps (low_below depth level below) well.2) (close_fits (depth + 1) w (low_end depth level below well.0)),
   )
   item_fits depth level encoding (tagged t w i) below well = (
-    fit_head depth (encoded_head 6 t w) _ (low_first depth level below well.0) (head_length 6 t (stated w t)),
+    fit_head depth (encoded_head 6 t w) _ (low_first depth level below well.0) (head_length 6 t (stated w t)) (tag_line t),
     item_fits (depth + 1) (level + 1) (encoding_below t encoding) i (low_below depth level below) well.2,
   )
 
-  items_fit : (depth level : ℕ) (encoding : Option Encoding) (is : Items) → depth < level → WellFormedItems level is → AllByRecursion IsFit (items_lines depth encoding is)
+  items_fit : (depth level : ℕ) (encoding : Option Encoding) (is : Items) → depth < level → WellFormedItems level is → AllByRecursion IsGood (items_lines depth encoding is)
   items_fit depth level encoding no_items below well = tt
   items_fit depth level encoding (item i is) below well =
-      all_both IsFit (item_lines depth encoding i) (items_lines depth encoding is) (item_fits depth level encoding i below well.0) (items_fit depth level encoding is below well.1)
+      all_both IsGood (item_lines depth encoding i) (items_lines depth encoding is) (item_fits depth level encoding i below well.0) (items_fit depth level encoding is below well.1)
 
-  pairs_fit : (depth level : ℕ) (encoding : Option Encoding) (ps : Pairs) → depth < level → WellFormedPairs level ps → AllByRecursion IsFit (pairs_lines depth encoding ps)
+  pairs_fit : (depth level : ℕ) (encoding : Option Encoding) (ps : Pairs) → depth < level → WellFormedPairs level ps → AllByRecursion IsGood (pairs_lines depth encoding ps)
   pairs_fit depth level encoding no_pairs below well = tt
   pairs_fit depth level encoding (pair k v ps) below well =
-      all_both IsFit (item_lines depth encoding k) (item_lines depth encoding v ++ pairs_lines depth encoding ps) (item_fits depth level encoding k below well.0)
-      (all_both IsFit (item_lines depth encoding v) (pairs_lines depth encoding ps) (item_fits depth level encoding v below well.1) (pairs_fit depth level encoding ps below well.2))
+      all_both IsGood (item_lines depth encoding k) (item_lines depth encoding v ++ pairs_lines depth encoding ps) (item_fits depth level encoding k below well.0)
+      (all_both IsGood (item_lines depth encoding v) (pairs_lines depth encoding ps) (item_fits depth level encoding v below well.1) (pairs_fit depth level encoding ps below well.2))
+
+-- the two parts of what is known of each line
+pub fits_of : (lines : List DumpLine) → AllByRecursion IsGood lines → AllByRecursion IsFit lines
+fits_of [] good = tt
+fits_of (line ∷ lines) good = (good.0.fit, fits_of lines good.1)
+
+pub plain_of : (lines : List DumpLine) → AllByRecursion IsGood lines → AllByRecursion IsPlain lines
+plain_of [] good = tt
+plain_of (line ∷ lines) good = (good.0.plain, plain_of lines good.1)
+
+pub one_line_of : (lines : List DumpLine) → AllByRecursion IsPlain lines → AllByRecursion (λ line. Lacks 10 line.comment) lines
+one_line_of [] plain = tt
+one_line_of (line ∷ lines) plain = (plain.0.one_line, one_line_of lines plain.1)
 
 -- lines that fit, and do not reach past the room
 pub takes_all : (room : ℕ) (lines : List DumpLine) → AllByRecursion IsFit lines → width_of lines ≤ room → AllByRecursion (Takes room) lines

@@ -30,6 +30,9 @@ pub mod Cuts
 pub mod Digits
 pub mod Walks
 pub mod Members
+pub mod ByteLaws
+pub mod CommentLines
+pub mod DumpDigits
 pub mod DumpFits
 pub mod HexLines
 pub mod HexDigits

@@ -49,12 +49,12 @@ module _ (limit : ℕ) (text : List ℕ) where
       | inr other ↦ absurd (no_both i e (notation_of limit text) (notation_again limit text i is) other)
       ]
 
-  pub text_refused : (r : Result DataItem Error) → Gives view r (notation_of limit text) → RefusedSo r (MayRefuse limit text)
+  pub text_refused : (r : Result DataItem Error) → Gives view r (notation_of limit text) → RefusedSo r (λ e. MayRefuse limit text e × ((i : Item) → ¬ (Reads limit text i)))
   text_refused (Ok x) h = tt
   text_refused (Err e) h =
       elim (failed e (notation_of limit text) h) [
         inl memory ↦ λ ample. absurd (ample memory)
-      | inr is ↦ λ ample. subst (IsAnswered limit text) is (notation_sound limit text)
+      | inr is ↦ λ ample. (subst (IsAnswered limit text) is (notation_sound limit text), λ i read. no_both i e (notation_of limit text) (notation_again limit text i read) is)
       ]
 
   pub only_item : (r : Result DataItem Error) → Gives view r (notation_of limit text) → IfOk r (λ x. (other : ℕ) (j : Item) → Reads other text j → j ≡ view x)

@@ -6,7 +6,8 @@ use Rattle.cbor_diag.specs.declared.error.Error.TheVariants as refusal
 use Rattle.cbor_diag.specs.declared.syntax.DataItem.{DataItem}
 use Rattle.cbor_diag.specs.Item.{Item}
 use Rattle.cbor_diag.specs.View.{view}
-use Rattle.cbor_diag.specs.Notation.{Reads}
+use Rattle.cbor_diag.specs.WellFormed.{deepest}
+use Rattle.cbor_diag.specs.Notation.{Reads, IsNotation}
 
 -- `[`, `{`, `(` and `<`, behind which an item may stand deeper
 abbrev pub is_opening : ℕ → Bool
@@ -29,6 +30,10 @@ MayRefuse levels text refusal.PastWidth = HoldsByte 95 text
 MayRefuse levels text refusal.Utf8 = HoldsByte 34 text
 MayRefuse levels text refusal.Notation = Unit {0}
 MayRefuse levels text _ = ⊥
+
+-- why a text is no item that nests as deep as the deepest level: what the refusal says, and that it is none
+abbrev pub IsNoNotation : List ℕ → Error → Type 0
+IsNoNotation text e = MayRefuse deepest text e × ((i : Item) → ¬ (IsNotation text i))
 
 -- what a reader of a whole text answered holds of it, with so many levels
 abbrev pub IsAnswered : ℕ → List ℕ → Result Item Error → Type 0

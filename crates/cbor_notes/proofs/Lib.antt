@@ -18,6 +18,7 @@ pub mod Groups
 pub mod HexLemmas
 pub mod Moments
 pub mod OneColumn
+pub mod OneLine
 pub mod Places
 pub mod Trees
 pub mod Contents

@@ -5,6 +5,9 @@ use Rattle.cbor_diag.specs.declared.error.Error.TheVariants as refusal
 use Rattle.cbor_diag.specs.Item.{Item}
 use Rattle.cbor_diag.specs.Facts.{IsItem, IsNoItem, diag_of, pretty_of}
 use Rattle.cbor_diag.specs.HexText.{IsHexOf, IsHexRefused}
+use Rattle.cbor_diag.specs.Notation.{IsNotation}
+use Rattle.cbor_diag.specs.NotationRefused.{IsNoNotation}
+use Rattle.cbor_diag.specs.Dump.{dump}
 use Rattle.cbor_diag.specs.Written.{encoded}
 use Rattle.cbor_view.specs.declared.words.Source.{Source}
 use Rattle.cbor_view.specs.declared.words.Source.TheVariants as source
@@ -15,16 +18,20 @@ use Rattle.cbor_view.specs.declared.words.To.TheVariants as target
 abbrev pub Reads : Source → List ℕ → Item → Type 0
 Reads source.Bytes input i = IsItem input i
 Reads source.Hex input i = IsUtf8 input × IsHexOf input i
+Reads source.Diag input i = IsUtf8 input × IsNotation input i
 
 -- why the input is no item in that form
 abbrev pub Refuses : Source → List ℕ → Error → Type 0
 Refuses source.Bytes input e = IsNoItem input e
 Refuses source.Hex input e =
     (¬ IsUtf8 input × (e ≡ refusal.Utf8)) ⊎ (IsUtf8 input × IsHexRefused input e)
+Refuses source.Diag input e =
+    (¬ IsUtf8 input × (e ≡ refusal.Utf8)) ⊎ (IsUtf8 input × IsNoNotation input e)
 
 -- what is written of an item in that form
 abbrev pub output_of : To → Item → List ℕ
 output_of target.Bytes i = encoded i
+output_of target.Hex i = dump i
 output_of target.Diag i = diag_of i ++ 10 ∷ []
 output_of target.Pretty i = pretty_of i ++ 10 ∷ []
 

@@ -8,8 +8,10 @@ use Rattle.cbor_view.specs.declared.words.To.TheVariants as target
 abbrev pub source_word : Source → List ℕ
 source_word source.Bytes = codes "bytes"
 source_word source.Hex = codes "hex"
+source_word source.Diag = codes "diag"
 
 abbrev pub target_word : To → List ℕ
 target_word target.Bytes = codes "bytes"
+target_word target.Hex = codes "hex"
 target_word target.Diag = codes "diag"
 target_word target.Pretty = codes "pretty"

@@ -7,7 +7,7 @@ ghost use Rattle.cbor_diag.specs.Answer.{RefusedSo};
 ghost use Rattle.cbor_view.specs.Output.{Reads, Refuses, output_of, IsOutput};
 
 use crate::words::{Source, To};
-use cbor_diag::{DataItem, Error, parse_bytes, parse_hex};
+use cbor_diag::{DataItem, Error, parse_bytes, parse_diag, parse_hex};
 use std::alloc::Global;
 
 /// The output for an input.
@@ -30,6 +30,10 @@ fn read_item(alloc: Global, from: Source, input: &[u8]) -> Result<DataItem, Erro
             Ok(text) => parse_hex(alloc, text),
             Err(_) => Err(Error::Utf8),
         },
+        Source::Diag => match str::from_utf8(input) {
+            Ok(text) => parse_diag(alloc, text),
+            Err(_) => Err(Error::Utf8),
+        },
     }
 }
 
@@ -41,6 +45,7 @@ pub(crate) fn write_item(alloc: Global, to: To, item: &DataItem) -> Result<Vec<u
 {
     match to {
         To::Bytes => item.to_bytes(alloc),
+        To::Hex => Ok(item.to_hex(alloc)?.into_bytes()),
         To::Diag => ended_line(item.to_diag(alloc)?),
         To::Pretty => ended_line(item.to_diag_pretty(alloc)?),
     }

@@ -1,9 +1,9 @@
 //! Converts one CBOR data item (RFC 7049): `cbor_view FROM TO` reads it from standard input, in the
 //! form FROM, and writes it to standard output, in the form TO.
 //!
-//! FROM is `bytes`, the item's own bytes, or `hex`, its bytes in hex with comments. TO is `bytes`,
-//! `diag`, diagnostic notation on one line, or `pretty`, the same over several lines.
-//! Where FROM is `seq`, the input is the bytes of items one after the other (RFC 8742), and each is
+//! FROM is `bytes`, the item's own bytes, `hex`, its bytes in hex with comments, or `diag`, diagnostic
+//! notation. TO is `bytes`, `hex`, `diag`, diagnostic notation on one line, or `pretty`, the same over
+//! several lines. Where FROM is `seq`, the input is the bytes of items one after the other (RFC 8742), and each is
 //! written in the form TO, before the next is looked at.
 //!
 //! The exit status is 0 where the output was written. It is 1 where the input is no item, or no

@@ -133,7 +133,10 @@ fn run_on(alloc: Global, from: Source, to: To, input: &[u8]) -> (Vec<u8>, Result
 fn words_name_forms(rt: HostRuntime) {
     assert_eq!(rt; from_word("bytes"), Some(Source::Bytes));
     assert_eq!(rt; from_word("hex"), Some(Source::Hex));
+    assert_eq!(rt; from_word("diag"), Some(Source::Diag));
+    assert_eq!(rt; from_word("pretty"), None);
     assert_eq!(rt; to_word("bytes"), Some(To::Bytes));
+    assert_eq!(rt; to_word("hex"), Some(To::Hex));
     assert_eq!(rt; to_word("diag"), Some(To::Diag));
     assert_eq!(rt; to_word("pretty"), Some(To::Pretty));
     for word in ["", "byte", "bytes ", "Bytes", "HEX", "hex\n", "-", "seq"] {
@@ -147,6 +150,8 @@ fn converts(rt: HostRuntime) -> Result<(), Fail> {
     let rows = [
         ("hex", "bytes", COMMENTED.as_bytes(), ITEM.as_slice()),
         ("bytes", "bytes", ITEM.as_slice(), ITEM.as_slice()),
+        ("bytes", "hex", ITEM.as_slice(), COMMENTED.as_bytes()),
+        ("hex", "hex", COMMENTED.as_bytes(), COMMENTED.as_bytes()),
         (
             "bytes",
             "bytes",
@@ -154,6 +159,18 @@ fn converts(rt: HostRuntime) -> Result<(), Fail> {
             b"\x18\x05".as_slice(),
         ),
         ("hex", "bytes", b"01\r\n".as_slice(), b"\x01".as_slice()),
+        (
+            "diag",
+            "bytes",
+            b"32_0(\"https://example.com\")".as_slice(),
+            ITEM.as_slice(),
+        ),
+        (
+            "diag",
+            "diag",
+            b"[ 1, /two/ 2, ]\n".as_slice(),
+            b"[1,2]\n".as_slice(),
+        ),
         (
             "hex",
             "bytes",
@@ -200,6 +217,9 @@ fn refuses(rt: HostRuntime) -> Result<(), Fail> {
         ("hex", b"01\r".as_slice(), "an odd number of hex digits"),
         ("hex", b"0\t".as_slice(), "not a hex digit"),
         ("hex", b"1c".as_slice(), "no item can have this head"),
+        ("diag", b"".as_slice(), "not diagnostic notation"),
+        ("diag", b"300_0".as_slice(), "a number does not fit its width"),
+        ("diag", b"\"\xff\"".as_slice(), "a text is not UTF-8"),
         ("hex", b"01 # \xff".as_slice(), "a text is not UTF-8"),
     ];
     for (from, input, text) in rows {

@@ -9,6 +9,8 @@ pub enum Source {
     Bytes,
     /// The bytes of the item in hex, with comments.
     Hex,
+    /// The item in diagnostic notation.
+    Diag,
 }
 
 /// The form in which an item is written.
@@ -16,13 +18,15 @@ pub enum Source {
 pub enum To {
     /// The bytes of the item.
     Bytes,
+    /// The bytes of the item in hex, each line with a comment.
+    Hex,
     /// Diagnostic notation on one line, and a line feed.
     Diag,
     /// Diagnostic notation over several lines, and a line feed.
     Pretty,
 }
 
-/// The form that a word names for the input: `bytes` or `hex`. Any other word names none.
+/// The form that a word names for the input: `bytes`, `hex` or `diag`. Any other word names none.
 pub fn from_word(word: &str) -> Option<Source>
     ensures named { IfSome result (λ source. word.now ≡ source_word source) }
     ensures each_word { (source : Source) → word.now ≡ source_word source → result ≡ Some source }
@@ -30,17 +34,19 @@ pub fn from_word(word: &str) -> Option<Source>
     match word {
         "bytes" => Some(Source::Bytes),
         "hex" => Some(Source::Hex),
+        "diag" => Some(Source::Diag),
         _ => None,
     }
 }
 
-/// The form that a word names for the output: `bytes`, `diag` or `pretty`. Any other word names none.
+/// The form that a word names for the output: `bytes`, `hex`, `diag` or `pretty`. Any other word names none.
 pub fn to_word(word: &str) -> Option<To>
     ensures named { IfSome result (λ target. word.now ≡ target_word target) }
     ensures each_word { (target : To) → word.now ≡ target_word target → result ≡ Some target }
 {
     match word {
         "bytes" => Some(To::Bytes),
+        "hex" => Some(To::Hex),
         "diag" => Some(To::Diag),
         "pretty" => Some(To::Pretty),
         _ => None,

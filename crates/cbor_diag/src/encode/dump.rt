@@ -33,6 +33,15 @@ impl DataItem {
     pub fn to_hex(&self, alloc: Global) -> crate::Result<String>
         requires { IsWellFormed (view self.now) }
         ensures text { IfOk result (λ t. string_bytes t ≡ spec.dump (view self.now)) }
+        // Without its comments the dump is the item's encoding in hex.
+        ensures digits { IfOk result (λ t. strip (string_bytes t) ≡ encode_lower (encoded (view self.now))) }
+        // So it is read back as the item with its open widths resolved.
+        ensures read_back { IfOk result (λ t. IsHexOf (string_bytes t) (resolve (view self.now))) }
+        // No comment has a line feed, whatever the item carries.
+        ensures one_line { AllByRecursion (λ line. Lacks 10 line.comment) (spec.lines (view self.now)) }
+        // The first `#` of every line stands in one column.
+        ensures one_column { IfOk result (λ t.
+            IsColumn (width_of (spec.lines (view self.now)) + 1) (string_bytes t)) }
         ensures refused { IfErr result (λ e. e ≡ Error.Memory) }
     {
         let mut head = Vec::with_capacity(alloc, 9)?;

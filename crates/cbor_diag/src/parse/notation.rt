@@ -19,7 +19,7 @@ ghost use Rattle.cbor_diag.specs.WellFormed.{deepest, WellFormed, WellFormedItem
 ghost use Rattle.cbor_diag.specs.Facts.{IsWellFormed};
 ghost use Rattle.cbor_diag.specs.Item.{Item};
 ghost use Rattle.cbor_diag.specs.Notation.{IsNotation, ReadsUnder};
-ghost use Rattle.cbor_diag.specs.NotationRefused.{MayRefuse, GaveOrTooDeep};
+ghost use Rattle.cbor_diag.specs.NotationRefused.{IsNoNotation, GaveOrTooDeep};
 ghost use Rattle.cbor_diag.specs.Reading.{Gives};
 ghost use Rattle.cbor_diag.specs.NotationReading.{after_byte, core_at, integer_or_tag, item_at, members_at, notation_of, pair_at};
 
@@ -222,8 +222,8 @@ pub fn parse_diag(alloc: Global, text: &str) -> Result<DataItem>
     ensures one_item { IfOk result (λ i.
         (limit : ℕ) (other : Item) → ReadsUnder limit text.now other → other ≡ view i) }
 
-    // What a refusal says of the text.
-    ensures refused { RefusedSo result (MayRefuse deepest text.now) }
+    // Otherwise it is none, and this is what the refusal says of it.
+    ensures refused { RefusedSo result (IsNoNotation text.now) }
 
     // The item has an encoding.
     ensures well_formed { IfOk result (λ i. IsWellFormed (view i)) }

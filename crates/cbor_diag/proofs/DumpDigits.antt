@@ -1,0 +1,167 @@
+-- Without comments and blanks the lines of a dump are the encoding of the item, in hex.
+use Rattle.std.proofs.Common.{◌≡◌, ◌≢◌, ℕ, zero, suc, ◌+◌, ◌==◌, ◌<◌, ◌≤◌, not, List, [], ◌∷◌, ◌++◌, map, length, take, drop, codes, Option, Some, None, inl, inr, refl, sym, ap, subst, ◌∙◌, append_assoc, append-nil, arith}
+use Rattle.std.specs.List.{filter, flat_map}
+use Rattle.std.proofs.lemmas.Bool.{cases_lt, ne_eqb}
+use Rattle.std.proofs.lemmas.List.{take-append-drop}
+use Rattle.std.proofs.lemmas.List.Elements.{filter-append}
+use Rattle.std.proofs.lemmas.Grind.{flat_map-append}
+use Rattle.hex.specs.Hex.{encode_lower, encode_with, lower_digits}
+use Rattle.cbor_notes.specs.Layout.{DumpLine}
+use Rattle.cbor_notes.specs.Columns.{digits_of}
+use Rattle.cbor_notes.proofs.DecodedLineLemmas.{encode_with-append}
+use Rattle.cbor_notes.proofs.OneLine.{Free, free_hex, from_test}
+use Rattle.cbor_diag.specs.declared.syntax.IntegerWidth.{IntegerWidth}
+use Rattle.cbor_diag.specs.declared.encode.encoding.Encoding.{Encoding}
+use Rattle.cbor_diag.specs.Item as spec
+use Rattle.cbor_diag.specs.Item.{Chunk, Atom, integer, negative, byte_string, text_string, byte_chunks, text_chunks}
+use Rattle.cbor_diag.specs.Item.{float, simple, Item, atom, array, tagged, Items, no_items, item, Pairs, no_pairs, pair, item_count, pair_count}
+use Rattle.cbor_diag.specs.Head.{opening, break_byte}
+use Rattle.cbor_diag.specs.Written.{encoded_head, encoded_chunk, encoded_chunks, encoded_float, encoded_simple, encoded_atom, encoded_open, encoded_close, encoded, encoded_items, encoded_pairs}
+use Rattle.cbor_diag.specs.Comments.{unsigned_comment, negative_comment, float_comment, simple_comment, tag_comment, bytes_comment, text_comment, encoding_below, counted_comment}
+use Rattle.cbor_diag.specs.Pieces.{pieces_of, byte_pieces, text_pieces, text_cut}
+use Rattle.cbor_diag.specs.Dump.{head_hex, head_line, piece_line, content_lines, byte_string_lines, text_string_lines, byte_chunks_lines}
+use Rattle.cbor_diag.specs.Dump.{count_if_definite, text_chunks_lines, break_line, atom_lines, close_lines, item_lines, items_lines, pairs_lines}
+use Rattle.cbor_diag.proofs.Digits.{head_short, head_long}
+use Rattle.cbor_diag.proofs.Cuts.{Cuts, shorter, byte_cut, byte_cuts, text_cuts, text_short, text_long}
+
+-- what is left of digits without blanks
+abbrev shown : List ℕ → List ℕ
+shown hex = filter (λ b. not (b == 32)) hex
+
+keep_all : (xs : List ℕ) → Free 32 xs → shown xs ≡ xs
+keep_all [] free = refl
+keep_all (x ∷ xs) free = rw (ne_eqb x 32 free.0) (ap (λ rest. x ∷ rest) (keep_all xs free.1))
+
+zero_blank : ◌≢◌ {A = ℕ} 0 32
+zero_blank e = cc e
+
+shown_hex : (bytes : List ℕ) → shown (encode_lower bytes) ≡ encode_lower bytes
+shown_hex bytes = keep_all (encode_lower bytes) (free_hex 32 zero_blank (from_test 32 lower_digits refl) bytes)
+
+hex_both : (xs ys : List ℕ) → encode_lower (xs ++ ys) ≡ encode_lower xs ++ encode_lower ys
+hex_both xs ys = encode_with-append lower_digits xs ys
+
+-- a head
+shown_head : (bytes : List ℕ) → shown (head_hex bytes) ≡ encode_lower bytes
+shown_head bytes =
+    elim (cases_lt 1 (length bytes)) [
+      | inl long ↦
+          ap shown (head_long bytes long) ∙ filter-append (λ b. not (b == 32)) (encode_lower (take 1 bytes) ++ codes " ") (encode_lower (drop 1 bytes))
+          ∙ ap (λ x. x ++ shown (encode_lower (drop 1 bytes))) (filter-append (λ b. not (b == 32)) (encode_lower (take 1 bytes)) (codes " ") ∙ append-nil (shown (encode_lower (take 1 bytes))) ∙ shown_hex (take 1 bytes))
+          ∙ ap (λ x. encode_lower (take 1 bytes) ++ x) (shown_hex (drop 1 bytes)) ∙ sym (hex_both (take 1 bytes) (drop 1 bytes)) ∙ ap encode_lower (take-append-drop 1 bytes)
+      | inr short ↦ ap shown (head_short bytes short) ∙ shown_hex bytes
+    ]
+
+-- lines that are the digits of some bytes
+abbrev pub Are : List DumpLine → List ℕ → Type 0
+Are lines bytes = digits_of lines ≡ encode_lower bytes
+
+both : (xs ys : List DumpLine) (a b : List ℕ) → Are xs a → Are ys b → Are (xs ++ ys) (a ++ b)
+both xs ys a b h k =
+    flat_map-append (λ line. shown line.hex) xs ys ∙ ap (λ x. x ++ digits_of ys) h ∙ ap (λ x. encode_lower a ++ x) k ∙ sym (hex_both a b)
+
+headed : (depth : ℕ) (bytes comment : List ℕ) (lines : List DumpLine) (rest : List ℕ) → Are lines rest → Are (head_line depth bytes comment ∷ lines) (bytes ++ rest)
+headed depth bytes comment lines rest h =
+    ap (λ x. x ++ digits_of lines) (shown_head bytes) ∙ ap (λ x. encode_lower bytes ++ x) h ∙ sym (hex_both bytes rest)
+
+none : Are [] []
+unfolding encode_with
+none = refl
+
+alone : (depth : ℕ) (bytes comment : List ℕ) → Are (head_line depth bytes comment ∷ []) bytes
+alone depth bytes comment = subst (Are (head_line depth bytes comment ∷ [])) (append-nil bytes) (headed depth bytes comment [] [] none)
+
+-- the pieces of a string
+abbrev joined : List (List ℕ) → List ℕ
+joined pieces = flat_map (λ (p : List ℕ). p) pieces
+
+pieces_joined : (cut : List ℕ → ℕ) → Cuts cut → (n : ℕ) (bytes : List ℕ) → length bytes ≤ n → joined (pieces_of cut n bytes) ≡ bytes
+pieces_joined cut cuts zero [] fits = refl
+pieces_joined cut cuts (suc n) [] fits = refl
+pieces_joined cut cuts zero (x ∷ xs) fits = absurd (omega arith)
+pieces_joined cut cuts (suc n) (x ∷ xs) fits =
+    ap (λ rest. take (cut (x ∷ xs)) (x ∷ xs) ++ rest) (pieces_joined cut cuts n (drop (cut (x ∷ xs)) (x ∷ xs)) (shorter x xs (cut (x ∷ xs)) n (cuts (x ∷ xs) (omega arith)) fits))
+    ∙ take-append-drop (cut (x ∷ xs)) (x ∷ xs)
+
+text_joined : (text : List ℕ) → joined (text_pieces text) ≡ text
+text_joined [] = refl
+text_joined (x ∷ xs) =
+    elim (cases_lt 24 (length (x ∷ xs))) [
+      | inl long ↦ ap joined (text_long (x ∷ xs) long) ∙ pieces_joined text_cut text_cuts (length (x ∷ xs)) (x ∷ xs) (omega arith)
+      | inr short ↦ ap joined (text_short (x ∷ xs) (omega arith) short) ∙ append-nil (x ∷ xs)
+    ]
+
+pieces_are : (depth : ℕ) (comment : List ℕ → List ℕ) (pieces : List (List ℕ)) → Are (map (λ p. piece_line depth p (comment p)) pieces) (joined pieces)
+pieces_are depth comment [] = none
+pieces_are depth comment (p ∷ ps) =
+    ap (λ x. x ++ digits_of (map (λ q. piece_line depth q (comment q)) ps)) (shown_hex p) ∙ ap (λ x. encode_lower p ++ x) (pieces_are depth comment ps) ∙ sym (hex_both p (joined ps))
+
+nothing_shown : (depth : ℕ) (comment : List ℕ) → Are (piece_line depth [] comment ∷ []) []
+unfolding encode_with
+nothing_shown depth comment = refl
+
+content_are : (depth : ℕ) (comment : List ℕ → List ℕ) (pieces : List (List ℕ)) → Are (content_lines depth comment pieces) (joined pieces)
+content_are depth comment [] = nothing_shown depth (codes "\"\"")
+content_are depth comment (p ∷ ps) = pieces_are depth comment (p ∷ ps)
+
+bytes_are : (depth : ℕ) (encoding : Option Encoding) (c : Chunk) → Are (byte_string_lines depth encoding c) (encoded_chunk 2 c)
+bytes_are depth encoding c =
+    headed depth (encoded_head 2 (length c.bytes) c.width) (counted_comment (codes "bytes") (Some (length c.bytes))) (content_lines (depth + 1) (bytes_comment encoding c.bytes) (byte_pieces c.bytes)) c.bytes
+    (subst (Are (content_lines (depth + 1) (bytes_comment encoding c.bytes) (byte_pieces c.bytes))) (pieces_joined byte_cut byte_cuts (length c.bytes) c.bytes (omega arith))
+    (content_are (depth + 1) (bytes_comment encoding c.bytes) (byte_pieces c.bytes)))
+
+text_are : (depth : ℕ) (c : Chunk) → Are (text_string_lines depth c) (encoded_chunk 3 c)
+text_are depth c =
+    headed depth (encoded_head 3 (length c.bytes) c.width) (counted_comment (codes "text") (Some (length c.bytes))) (content_lines (depth + 1) text_comment (text_pieces c.bytes)) c.bytes
+    (subst (Are (content_lines (depth + 1) text_comment (text_pieces c.bytes))) (text_joined c.bytes) (content_are (depth + 1) text_comment (text_pieces c.bytes)))
+
+byte_chunks_are : (depth : ℕ) (encoding : Option Encoding) (cs : List Chunk) → Are (flat_map (byte_string_lines depth encoding) cs) (flat_map (encoded_chunk 2) cs)
+byte_chunks_are depth encoding [] = none
+byte_chunks_are depth encoding (c ∷ cs) =
+    both (byte_string_lines depth encoding c) (flat_map (byte_string_lines depth encoding) cs) (encoded_chunk 2 c) (flat_map (encoded_chunk 2) cs) (bytes_are depth encoding c) (byte_chunks_are depth encoding cs)
+
+text_chunks_are : (depth : ℕ) (cs : List Chunk) → Are (flat_map (text_string_lines depth) cs) (flat_map (encoded_chunk 3) cs)
+text_chunks_are depth [] = none
+text_chunks_are depth (c ∷ cs) =
+    both (text_string_lines depth c) (flat_map (text_string_lines depth) cs) (encoded_chunk 3 c) (flat_map (encoded_chunk 3) cs) (text_are depth c) (text_chunks_are depth cs)
+
+close_are : (depth : ℕ) (w : Option IntegerWidth) → Are (close_lines depth w) (encoded_close w)
+close_are depth (Some w) = none
+close_are depth None = alone depth (break_byte ∷ []) (codes "break")
+
+atom_are : (depth : ℕ) (encoding : Option Encoding) (a : Atom) → Are (atom_lines depth encoding a) (encoded_atom a)
+atom_are depth encoding (integer n w) = alone depth (encoded_head 0 n w) (unsigned_comment n)
+atom_are depth encoding (negative n w) = alone depth (encoded_head 1 n w) (negative_comment n)
+atom_are depth encoding (byte_string c) = bytes_are depth encoding c
+atom_are depth encoding (text_string c) = text_are depth c
+atom_are depth encoding (byte_chunks cs) =
+    headed depth (opening 2 ∷ []) (counted_comment (codes "bytes") None) (flat_map (byte_string_lines (depth + 1) encoding) cs ++ break_line (depth + 1) ∷ []) (flat_map (encoded_chunk 2) cs ++ break_byte ∷ [])
+    (both (flat_map (byte_string_lines (depth + 1) encoding) cs) (break_line (depth + 1) ∷ []) (flat_map (encoded_chunk 2) cs) (break_byte ∷ []) (byte_chunks_are (depth + 1) encoding cs) (alone (depth + 1) (break_byte ∷ []) (codes "break")))
+atom_are depth encoding (text_chunks cs) =
+    headed depth (opening 3 ∷ []) (counted_comment (codes "text") None) (flat_map (text_string_lines (depth + 1)) cs ++ break_line (depth + 1) ∷ []) (flat_map (encoded_chunk 3) cs ++ break_byte ∷ [])
+    (both (flat_map (text_string_lines (depth + 1)) cs) (break_line (depth + 1) ∷ []) (flat_map (encoded_chunk 3) cs) (break_byte ∷ []) (text_chunks_are (depth + 1) cs) (alone (depth + 1) (break_byte ∷ []) (codes "break")))
+atom_are depth encoding (float bits w) = alone depth (encoded_float bits w) (float_comment (encoded_float bits w))
+atom_are depth encoding (simple n) = alone depth (encoded_simple n) (simple_comment n)
+
+mutual
+  pub item_are : (depth : ℕ) (encoding : Option Encoding) (i : Item) → Are (item_lines depth encoding i) (encoded i)
+  item_are depth encoding (atom a) = atom_are depth encoding a
+  item_are depth encoding (array is w) =
+      headed depth (encoded_open 4 (item_count is) w) (counted_comment (codes "array") (count_if_definite (item_count is) w)) (items_lines (depth + 1) encoding is ++ close_lines (depth + 1) w) (encoded_items is ++ encoded_close w)
+      (both (items_lines (depth + 1) encoding is) (close_lines (depth + 1) w) (encoded_items is) (encoded_close w) (items_are (depth + 1) encoding is) (close_are (depth + 1) w))
+  item_are depth encoding (spec.map ps w) =
+      headed depth (encoded_open 5 (pair_count ps) w) (counted_comment (codes "map") (count_if_definite (pair_count ps) w)) (pairs_lines (depth + 1) encoding ps ++ close_lines (depth + 1) w) (encoded_pairs ps ++ encoded_close w)
+      (both (pairs_lines (depth + 1) encoding ps) (close_lines (depth + 1) w) (encoded_pairs ps) (encoded_close w) (pairs_are (depth + 1) encoding ps) (close_are (depth + 1) w))
+  item_are depth encoding (tagged t w i) =
+      headed depth (encoded_head 6 t w) (tag_comment t) (item_lines (depth + 1) (encoding_below t encoding) i) (encoded i) (item_are (depth + 1) (encoding_below t encoding) i)
+
+  items_are : (depth : ℕ) (encoding : Option Encoding) (is : Items) → Are (items_lines depth encoding is) (encoded_items is)
+  items_are depth encoding no_items = none
+  items_are depth encoding (item i is) =
+      both (item_lines depth encoding i) (items_lines depth encoding is) (encoded i) (encoded_items is) (item_are depth encoding i) (items_are depth encoding is)
+
+  pairs_are : (depth : ℕ) (encoding : Option Encoding) (ps : Pairs) → Are (pairs_lines depth encoding ps) (encoded_pairs ps)
+  pairs_are depth encoding no_pairs = none
+  pairs_are depth encoding (pair k v ps) =
+      both (item_lines depth encoding k) (item_lines depth encoding v ++ pairs_lines depth encoding ps) (encoded k) (encoded v ++ encoded_pairs ps) (item_are depth encoding k)
+      (both (item_lines depth encoding v) (pairs_lines depth encoding ps) (encoded v) (encoded_pairs ps) (item_are depth encoding v) (pairs_are depth encoding ps))
