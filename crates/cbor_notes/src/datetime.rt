@@ -143,9 +143,7 @@ fn split_fraction(text: &[u8]) -> Option<(&[u8], &[u8])>
 fn leading_digits(text: &[u8]) -> usize
     ensures count { result ≡ length (take_while is_ascii_digit text.now) }
 {
-    text.iter()
-        .take_while(|byte| byte.is_ascii_digit())
-        .count()
+    text.iter().take_while(|byte| byte.is_ascii_digit()).count()
 }
 
 /// The seconds that the clock of a zone is ahead of UTC.

@@ -30,5 +30,7 @@ pub use element::{element_size, element_text, push_element_text};
 pub use identifier::uuid_lines;
 pub use line::{Line, merge, put_line};
 pub use tags::tag_name;
-pub use text::{escaped_text, grouped, push_escaped_text, push_grouped, push_quoted_bytes, quoted_bytes};
+pub use text::{
+    escaped_text, grouped, push_escaped_text, push_grouped, push_quoted_bytes, quoted_bytes,
+};
 pub use url_text::url_verdict;

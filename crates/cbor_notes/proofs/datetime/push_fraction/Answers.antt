@@ -1,5 +1,4 @@
-use Rattle.std.proofs.Common.{◌≡◌, ℕ, ◌==◌, [], ◌∷◌, ◌++◌, take, true, false, ◌∙◌, sym, ap, refl, append-nil, append_assoc, arith}
-use Rattle.std.proofs.lemmas.Bool.Decides.{nat_tests}
+use Rattle.std.proofs.Common.{◌≡◌, [], ◌∷◌, ◌++◌, take, ◌∙◌, sym, ap, append-nil, append_assoc, arith}
 use Rattle.std.proofs.lemmas.Result.{on_ok_weaker}
 use Rattle.std.proofs.lemmas.Str.{IsAscii-take}
 use Rattle.std.specs.Str.{IsAscii}
@@ -25,6 +24,8 @@ returns c =
     let some : shown (nine_digits digits) ≡ 0 → ⊥ = λ none. c.if-shown-eq0.false (count ∙ none) in
     let dot = rw (c.in_ok-push.ensures.ascii (omega arith)) at c.in_ok-push.ensures.bytes in
     let end : (46 ∷ []) ++ take c.shown_digits-shown.result c.nine_digits-nine.result ≡ fraction_text digits = rw (count, c.nine_digits-nine.ensures) (sym (fraction_shown digits some)) in
-    record { text = on_ok_weaker c.push_digits.result
-      (λ q. q ∙ ap (λ t. t ++ take c.shown_digits-shown.result c.nine_digits-nine.result) dot ∙ append_assoc (string_bytes c.args.text.now) (46 ∷ []) (take c.shown_digits-shown.result c.nine_digits-nine.result) ∙ ap (λ t. string_bytes c.args.text.now ++ t) end)
-      c.push_digits.ensures.text }
+    record {
+      text = on_ok_weaker c.push_digits.result
+          (λ q. q ∙ ap (λ t. t ++ take c.shown_digits-shown.result c.nine_digits-nine.result) dot ∙ append_assoc (string_bytes c.args.text.now) (46 ∷ []) (take c.shown_digits-shown.result c.nine_digits-nine.result) ∙ ap (λ t. string_bytes c.args.text.now ++ t) end)
+          c.push_digits.ensures.text;
+    }

@@ -1,10 +1,9 @@
-use Rattle.std.proofs.Common.{◌≡◌, ◌≤◌, ◌++◌, ◌⊎◌, ◌∷◌, [], ◌∙◌, sym, ap, inl, inr, drop, length, get_or, take, ℤ, pos, ◌+ℤ◌, ◌-ℤ◌, ◌*ℤ◌, to_z, of_z, w32, w64, FitsSigned, arith}
+use Rattle.std.proofs.Common.{◌≡◌, ◌++◌, ◌⊎◌, ◌∷◌, [], ◌∙◌, sym, ap, inl, inr, drop, length, take, pos, ◌+ℤ◌, ◌-ℤ◌, ◌*ℤ◌, to_z, of_z, w32, w64, FitsSigned, arith}
 use Rattle.std.proofs.lemmas.Int.{to_z-of_z}
 use Rattle.std.proofs.lemmas.List.{take-append-drop}
-use Rattle.jiff.proofs.SpanFacts.{signed_arith}
 use Rattle.jiff.specs.Words.{epoch_day}
 use Rattle.cbor_notes.specs.Date.{clock_text, date_text}
-use Rattle.cbor_notes.proofs.DateTimeTexts.{Pieces, datetime_pieces, five_parts, time_parts, zone_fits}
+use Rattle.cbor_notes.proofs.DateTimeTexts.{datetime_pieces, five_parts, time_parts, zone_fits}
 use Rattle.cbor_notes.proofs.datetime.read_datetime.Goals as goal
 use Rattle.cbor_notes.proofs.datetime.read_datetime.Goals.{else-separator-ne84-via-then-separator-ne84+else-separator-ne116, else-separator-ne84-via-else-separator-ne84}
 
@@ -91,9 +90,9 @@ returns-clause-found c =
       | else-separator-ne84-via-else-separator-ne84 w ↦ inl (ap (λ s. s ∷ []) w.if-separator-ne84.false)
     ] in
     let first : text ≡ date_text c.in_ok-date-2.date ++ c.in_ok-date.rest.now =
-      sym (take-append-drop 10 text) ∙ ap (λ t. t ++ drop 10 text) (sym chunk.0 ∙ day.1) ∙ ap (λ t. date_text c.in_ok-date-2.date ++ t) (sym chunk.1) in
+    sym (take-append-drop 10 text) ∙ ap (λ t. t ++ drop 10 text) (sym chunk.0 ∙ day.1) ∙ ap (λ t. date_text c.in_ok-date-2.date ++ t) (sym chunk.1) in
     let third : c.in_ok-separator.rest.now ≡ clock_text clock.0 clock.1 clock.2 ++ c.in_ok-clock.rest.now =
-      sym (take-append-drop 8 c.in_ok-separator.rest.now) ∙ ap (λ t. t ++ drop 8 c.in_ok-separator.rest.now) (sym after.0 ∙ clock.6) ∙ ap (λ t. clock_text clock.0 clock.1 clock.2 ++ t) (sym after.1) in
+    sym (take-append-drop 8 c.in_ok-separator.rest.now) ∙ ap (λ t. t ++ drop 8 c.in_ok-separator.rest.now) (sym after.0 ∙ clock.6) ∙ ap (λ t. clock_text clock.0 clock.1 clock.2 ++ t) (sym after.1) in
     record {
       date = c.in_ok-date-2.date;
       hour = clock.0;

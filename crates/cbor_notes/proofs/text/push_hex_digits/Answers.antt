@@ -1,4 +1,4 @@
-use Rattle.std.proofs.Common.{[], ◌∷◌, take, slice_index, ◌∙◌, append_assoc, append-nil, ap, sym, arith}
+use Rattle.std.proofs.Common.{[], ◌∷◌, take, slice_index, ◌∙◌, append_assoc, append-nil, sym}
 use Rattle.std.specs.String.{string_bytes}
 use Rattle.hex.specs.Hex.{encode_lower}
 use Rattle.cbor_notes.proofs.DecodedLineLemmas.{encode_lower_more, encode_lower_none}
