@@ -1,5 +1,5 @@
 -- What is read of the texts of fractions, offsets and zones.
-use Rattle.std.proofs.Common.{FitsSigned, append_assoc, ◌≤ℤ◌, ne_eqb, ◌==◌, Bool, false, cond, append-nil, ◌-◌, min, replicate, ◌⊎◌, inl, inr, neg_ℤ, ◌*◌, ap, sym, ◌∙◌, to_z, of_z, w32, ◌-ℤ◌, ◌≡◌, ◌≢◌, ℕ, zero, suc, ◌+◌, ◌^◌, ◌<◌, ◌≤◌, ℤ, pos, List, [], ◌∷◌, ◌++◌, length, take, drop, get_or, true, refl, arith}
+use Rattle.std.proofs.Common.{FitsSigned, append_assoc, ◌≤ℤ◌, ne_eqb, ◌==◌, Bool, false, cond, append-nil, ◌-◌, min, replicate, ◌⊎◌, inl, inr, neg_ℤ, ap, sym, ◌∙◌, to_z, of_z, w32, ◌-ℤ◌, ◌≡◌, ◌≢◌, ℕ, ◌+◌, ◌^◌, ◌<◌, ◌≤◌, ℤ, pos, List, [], ◌∷◌, ◌++◌, length, take, drop, get_or, true, refl, arith}
 use Rattle.std.proofs.lemmas.Bool.Decides.{nat_tests}
 use Rattle.std.proofs.lemmas.Int.{to_z-of_z, to_z_pos}
 use Rattle.std.proofs.Math.Seq.{drop-cons, drop-append_seam, take-append-add, take-append_seam}
@@ -14,7 +14,7 @@ use Rattle.std.specs.List.{list_all, prefix_len}
 use Rattle.std.specs.Str.{IsAscii}
 use Rattle.std.specs.Prelude.{IsTrue, take_while}
 use Rattle.jiff.proofs.SpanFacts.{signed_arith}
-use Rattle.cbor_notes.specs.DateTime.{IsFraction, no_fraction, some_digits, IsOffset, IsZone, ahead, behind, IsDateTimeText, fraction_text, nine_digits, shown}
+use Rattle.cbor_notes.specs.DateTime.{IsFraction, no_fraction, some_digits, IsZone, ahead, behind, IsDateTimeText, fraction_text, nine_digits, shown}
 use Rattle.cbor_notes.specs.Date.{clock_text, date_text}
 use Rattle.cbor_notes.proofs.DateTexts.{clock_text-eight, date_text-ten}
 use Rattle.jiff.specs.Types.{Date}

@@ -1,10 +1,10 @@
 -- Seconds as a day and a time of day.
-use Rattle.std.proofs.Common.{append_assoc, ◌≡◌, ℕ, ◌+◌, ◌*◌, ◌/◌, ◌%◌, ◌<◌, ◌≤◌, ℤ, pos, negsuc, ◌+ℤ◌, ◌*ℤ◌, nat_abs, List, ◌++◌, codes, refl, sym, ap, ◌∙◌, arith}
+use Rattle.std.proofs.Common.{append_assoc, ◌≡◌, ℕ, ◌+◌, ◌*◌, ◌/◌, ◌%◌, ◌<◌, ℤ, pos, negsuc, ◌+ℤ◌, ◌*ℤ◌, nat_abs, List, ◌++◌, codes, refl, sym, ap, ◌∙◌, arith}
 use Rattle.std.specs.Int.{int_div_euclid, int_rem_euclid}
 use Rattle.jiff.proofs.SpanFacts.{signed_arith}
 use Rattle.jiff.specs.Types.{Date}
 use Rattle.jiff.specs.Words.{epoch_day}
-use Rattle.cbor_notes.specs.Date.{IsMomentText, civil_seconds, clock_text, date_text}
+use Rattle.cbor_notes.specs.Date.{IsMomentText, clock_text, date_text}
 use Rattle.cbor_notes.proofs.DateTexts.{date_text_same}
 
 -- the day and the seconds from midnight

@@ -1,4 +1,4 @@
-use Rattle.std.proofs.Common.{◌≡◌, ◌∙◌, sym, pos, ◌+ℤ◌, FitsSigned, w64, arith}
+use Rattle.std.proofs.Common.{◌≡◌, ◌∙◌, sym, ◌+ℤ◌, FitsSigned, w64, arith}
 use Rattle.std.proofs.lemmas.Result.{IfOk-weaker}
 use Rattle.std.proofs.lemmas.Int.{to_z-of_z}
 use Rattle.jiff.proofs.SpanFacts.{signed_arith, date_add-days, can_add-days}

@@ -1,4 +1,4 @@
-use Rattle.std.proofs.Common.{◌≡◌, ◌∙◌, sym, ap, FitsSigned, w64, arith}
+use Rattle.std.proofs.Common.{◌≡◌, ◌∙◌, sym, FitsSigned, w64}
 use Rattle.std.proofs.lemmas.Int.{to_z-of_z}
 use Rattle.jiff.proofs.Family.{epoch_day_range}
 use Rattle.jiff.specs.Words.{IsEpochDay, epoch_day}

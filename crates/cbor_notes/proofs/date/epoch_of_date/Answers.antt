@@ -1,4 +1,4 @@
-use Rattle.std.proofs.Common.{◌≡◌, ◌∙◌, sym, ap, ℤ, pos, unsigned_abs, to_z, of_z, w32, FitsSigned, arith}
+use Rattle.std.proofs.Common.{◌≡◌, ◌∙◌, ap, pos, unsigned_abs, to_z, of_z, w32, FitsSigned, arith}
 use Rattle.std.proofs.lemmas.Int.{to_z-of_z}
 use Rattle.std.specs.Int.Signed.{lt_z}
 use Rattle.std.specs.String.{string_bytes}

@@ -1,4 +1,4 @@
-use Rattle.std.proofs.Common.{◌≡◌, ◌∙◌, nat_abs, to_z, of_z, w8, w16, arith}
+use Rattle.std.proofs.Common.{◌≡◌, ◌∙◌, to_z, of_z, w16, arith}
 use Rattle.std.proofs.lemmas.Int.{to_z-of_z}
 use Rattle.std.proofs.lemmas.Result.{on_ok_weaker}
 use Rattle.jiff.proofs.SpanFacts.{signed_arith}

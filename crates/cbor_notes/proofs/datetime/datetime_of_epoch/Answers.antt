@@ -1,11 +1,10 @@
-use Rattle.std.proofs.Common.{[], refl, ◌≡◌, ◌<◌, ◌∙◌, sym, ap, ℤ, pos, nat_abs, ◌+ℤ◌, ◌*ℤ◌, to_z, of_z, FitsSigned, w64, arith}
+use Rattle.std.proofs.Common.{[], refl, ◌≡◌, ◌<◌, ◌∙◌, pos, nat_abs, ◌+ℤ◌, ◌*ℤ◌, FitsSigned, w64, arith}
 use Rattle.std.proofs.lemmas.Int.{to_z-of_z}
-use Rattle.std.specs.Int.{int_div_euclid, int_rem_euclid}
+use Rattle.std.specs.Int.{int_rem_euclid}
 use Rattle.std.specs.String.{string_bytes}
 use Rattle.jiff.proofs.Family.{epoch_day_range}
 use Rattle.jiff.proofs.SpanFacts.{signed_arith}
 use Rattle.jiff.specs.Words.{IsEpochDay, epoch_day}
-use Rattle.cbor_notes.specs.Date.{IsMomentText, date_text, clock_text}
 use Rattle.cbor_notes.proofs.Moments.{day_and_clock, four_pieces, moment_found, moment_only, moment_text, one_day}
 use Rattle.cbor_notes.proofs.datetime.datetime_of_epoch.Goals as goal
 

@@ -1,4 +1,3 @@
-use Rattle.std.proofs.Common.{◌≡◌, arith}
 use Rattle.cbor_notes.proofs.DateTimeTexts.{nine_places}
 use Rattle.cbor_notes.proofs.datetime.nine_digits.Goals as goal
 

@@ -1,4 +1,4 @@
-use Rattle.std.proofs.Common.{◌≡◌, ◌∷◌, [], ◌∙◌, ap, get_or, inl, inr, arith}
+use Rattle.std.proofs.Common.{◌∷◌, [], ◌∙◌, ap, get_or, inl, inr, arith}
 use Rattle.cbor_notes.proofs.DateTexts.{clock_of_parts, clock_text-eight}
 use Rattle.cbor_notes.proofs.datetime.read_clock.Goals as goal
 

@@ -1,5 +1,5 @@
-use Rattle.std.proofs.Common.{sym, ◌≡◌, ◌+◌, ◌*◌, ◌∷◌, [], ◌∙◌, ap, get_or, inl, inr, pos, neg_ℤ, to_z, of_z, w32, arith}
-use Rattle.cbor_notes.specs.DateTime.{IsOffset, ahead, behind}
+use Rattle.std.proofs.Common.{sym, ◌+◌, ◌*◌, ◌∙◌, ap, inl, inr, pos, w32, arith}
+use Rattle.cbor_notes.specs.DateTime.{ahead, behind}
 use Rattle.std.proofs.lemmas.Int.{to_z_pos}
 use Rattle.cbor_notes.proofs.DateTexts.{IsOffset-parts, offset_text}
 use Rattle.cbor_notes.proofs.DateTimeTexts.{negated}

@@ -1,6 +1,5 @@
 use Rattle.std.proofs.Common.{◌≡◌, ℕ, ◌∙◌, ap, sym, inl, inr, length, arith}
 use Rattle.std.proofs.lemmas.Option.{IfSome_then}
-use Rattle.cbor_notes.specs.DateTime.{IsOffset}
 use Rattle.cbor_notes.proofs.datetime.read_zone.Goals as goal
 
 pub returns-in_ok-as_array-in_default-clause-found : goal.returns-in_ok-as_array-in_default-clause-found

@@ -1,4 +1,4 @@
-use Rattle.std.proofs.Common.{sym, refl}
+use Rattle.std.proofs.Common.{refl}
 use Rattle.cbor_notes.proofs.datetime.shown_digits.Goals as goal
 
 pub returns-then-ends_with-3-clause-count : goal.returns-then-ends_with-3-clause-count

@@ -1,6 +1,5 @@
-use Rattle.std.proofs.Common.{◌≡◌, ◌<◌, ℕ, get_or, take, length, ◌∙◌, ap, sym, arith}
+use Rattle.std.proofs.Common.{◌<◌, ℕ, get_or, arith}
 use Rattle.std.proofs.lemmas.List.{take_all}
-use Rattle.std.specs.Int.Digits.{number_from_digits}
 use Rattle.cbor_notes.proofs.ElementLemmas.{number_below, next_number}
 use Rattle.cbor_notes.proofs.element.number.Goals as goal
 

@@ -1,8 +1,7 @@
-use Rattle.std.proofs.Common.{sym, append-nil, ◌≡◌, ◌==◌, ◌≤◌, ◌++◌, List, ℕ, [], ◌∷◌, length, false, true, refl, ap, ◌∙◌, codes, arith}
+use Rattle.std.proofs.Common.{sym, append-nil, ◌≡◌, ◌==◌, ℕ, length, false, true, refl, ap, ◌∙◌, arith}
 use Rattle.std.proofs.lemmas.Bool.Decides.{nat_tests}
 use Rattle.std.specs.String.{string_bytes}
-use Rattle.cbor_notes.specs.Element as spec
-use Rattle.cbor_notes.specs.Element.{element_text, is_typed_array, size}
+use Rattle.cbor_notes.specs.Element.{element_text, size}
 use Rattle.cbor_notes.proofs.ElementLemmas.{length_either, size_small}
 use Rattle.cbor_notes.proofs.Moments.{four_pieces}
 use Rattle.cbor_notes.proofs.element.push_element_text.Goals as goal
