@@ -146,3 +146,6 @@ opened_level left outer inner top under b h g rest bottom e parts is =
 pub some_depth : (outer : List Frame) (top : Option Frame) → IsSome top → 0 < depth_of outer top
 some_depth outer None h = absurd cc
 some_depth outer (Some f) h = omega arith
+
+pub opened_depth : (outer inner : List Frame) (top under : Option Frame) (g : Frame) → IsStack outer top → inner ≡ pushed outer top → under ≡ Some g → depth_of inner under ≡ depth_of outer top + 1
+opened_depth outer inner top under g bottom parts is = rw (is, parts) (let d = pushed_depth outer top bottom in omega arith)
