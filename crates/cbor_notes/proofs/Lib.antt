@@ -7,7 +7,10 @@ pub mod Base32Padding
 pub mod Base58Digits
 pub mod Base58Lemmas
 pub mod Base64Digits
+pub mod Blanks
 pub mod DecodedLineLemmas
 pub mod Groups
 pub mod HexLemmas
+pub mod OneColumn
 pub mod Places
+pub mod Trees

@@ -3,6 +3,11 @@ pub mod AreBytes
 pub mod Base32
 pub mod Base58
 pub mod Base64
+pub mod Columns
 pub mod DecodedLines
 pub mod Identifier
+pub mod Layout
+pub mod LayoutExamples
+pub mod LineTree
+pub mod TagNames
 pub mod Text

@@ -1,12 +1,16 @@
 //! What the definitions of `specs/` say of a few inputs: each is computed when the crate is checked, so
 //! that a wrong definition does not pass. Nothing calls these functions.
-ghost use Rattle.std.specs.Prelude.{◌≡◌, [], ◌∷◌, ◌++◌, map, replicate, codes, true, false};
+ghost use Rattle.std.specs.Prelude.{◌≡◌, [], ◌∷◌, ◌++◌, map, replicate, codes, true, false, Some, None};
 ghost use Rattle.cbor_notes.specs.Address.{ipv4_text, ipv6_text, mac_text};
 ghost use Rattle.cbor_notes.specs.Base32.{base32, base32hex};
 ghost use Rattle.cbor_notes.specs.Base58.{base58_of};
 ghost use Rattle.cbor_notes.specs.Base64.{standard, url_safe};
+ghost use Rattle.cbor_notes.specs.Columns.{digits_of, uncommented};
 ghost use Rattle.cbor_notes.specs.DecodedLines.{decoded_lines};
 ghost use Rattle.cbor_notes.specs.Identifier.{fields_line, base16_line, base64_line, uuid_lines};
+ghost use Rattle.cbor_notes.specs.Layout.{layout, line_text, reach, width_of};
+ghost use Rattle.cbor_notes.specs.LayoutExamples.{bare, deep, head, number};
+ghost use Rattle.cbor_notes.specs.TagNames.{tag_name};
 ghost use Rattle.cbor_notes.specs.Text.{escaped_text, grouped, quoted_bytes};
 
 /// The test vectors of RFC 4648, section 10.
@@ -84,4 +88,36 @@ pub(crate) fn identifiers()
         ∷ 0xc9 ∷ 0x1e ∷ 0x6b ∷ 0xf6 ∷ []) ≡ codes "base16(f81d4fae-7dec-11d0-a765-00a0c91e6bf6)" }
     ensures base64 { base64_line (0xf8 ∷ 0x1d ∷ 0x4f ∷ 0xae ∷ 0x7d ∷ 0xec ∷ 0x11 ∷ 0xd0 ∷ 0xa7 ∷ 0x65 ∷ 0x00 ∷ 0xa0
         ∷ 0xc9 ∷ 0x1e ∷ 0x6b ∷ 0xf6 ∷ []) ≡ codes "base64(+B1Prn3sEdCnZQCgyR5r9g)" }
+{}
+
+/// A tag with a note, the lines of an empty string, and no lines: the width is that of the farthest
+/// digits, and a line without digits is as wide.
+pub(crate) fn laid_out()
+    ensures reach { reach number ≡ 5 }
+    ensures width { width_of (head ∷ number ∷ bare ∷ []) ≡ 5 }
+    ensures note { layout (head ∷ number ∷ bare ∷ [])
+        ≡ codes "d8 20 # tag" ++ 10 ∷ codes "   01 #   one" ++ 10 ∷ codes "      #   note" ++ 10 ∷ [] }
+    ensures first { line_text 9 head ≡ codes "d8 20     # tag" ++ 10 ∷ [] }
+    ensures deeper { layout (deep ∷ []) ≡ codes "      ff #     break" ++ 10 ∷ [] }
+    ensures bare { layout (bare ∷ []) ≡ codes " #   note" ++ 10 ∷ [] }
+    ensures nothing { layout [] ≡ [] }
+{}
+
+/// What is left of a layout without its comments is the digits.
+pub(crate) fn without_comments()
+    ensures text { uncommented (layout (head ∷ number ∷ bare ∷ [])) ≡ codes "d82001" }
+    ensures digits { digits_of (head ∷ number ∷ bare ∷ []) ≡ codes "d82001" }
+{}
+
+/// Tags at the ends of the table and beside its gaps.
+pub(crate) fn tag_names()
+    ensures first { tag_name 0 ≡ Some (codes "standard datetime string") }
+    ensures none { tag_name 6 ≡ None }
+    ensures arrays { tag_name 64 ≡ Some (codes "typed array of u8") }
+    ensures signed { tag_name 72 ≡ Some (codes "typed array of i8") }
+    ensures gap { tag_name 76 ≡ None }
+    ensures last_array { tag_name 87 ≡ Some (codes "typed array of f128, little endian") }
+    ensures after_arrays { tag_name 88 ≡ None }
+    ensures last { tag_name 55799 ≡ Some (codes "self describe cbor") }
+    ensures beyond { tag_name 55800 ≡ None }
 {}

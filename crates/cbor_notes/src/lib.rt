@@ -11,6 +11,8 @@ mod base58_text;
 mod base64_text;
 mod examples;
 mod identifier;
+mod line;
+mod tags;
 mod text;
 
 pub use address::{ipv4_text, ipv6_text, mac_text};
@@ -18,4 +20,8 @@ pub use base32::{base32_decode, base32hex_decode};
 pub use base58_text::base58;
 pub use base64_text::{base64_any_decode, base64_lines};
 pub use identifier::uuid_lines;
-pub use text::{escaped_text, grouped, quoted_bytes};
+pub use line::{Line, merge, put_line};
+pub use tags::tag_name;
+pub use text::{
+    escaped_text, grouped, push_escaped_text, push_grouped, push_quoted_bytes, quoted_bytes,
+};

@@ -22,9 +22,9 @@ pub fn quoted_bytes(alloc: Global, bytes: &[u8]) -> Result<String, AllocError>
     Ok(text)
 }
 
-/// Appends what [`quoted_bytes`] writes of `bytes` to `text`. After a refusal `text` may end with a
-/// part of it.
-pub(crate) fn push_quoted_bytes(text: &mut String, bytes: &[u8]) -> Result<(), AllocError>
+/// Appends what [`quoted_bytes`] writes of `bytes` to `text`. The only refusal is want of memory, and
+/// after it `text` may end with a part of what was to be appended.
+pub fn push_quoted_bytes(text: &mut String, bytes: &[u8]) -> Result<(), AllocError>
     ensures text { OnOk result
         (string_bytes text.new ≡ string_bytes text.old ++ spec.quoted_bytes bytes.now) }
 {
@@ -74,10 +74,20 @@ pub fn escaped_text(alloc: Global, text: &str) -> Result<String, AllocError>
     ensures text { IfOk result (λ escaped. string_bytes escaped ≡ spec.escaped_text text.now) }
 {
     let mut escaped = String::with_capacity(alloc, text.len())?;
-    for character in text.chars() {
-        push_escaped_char(&mut escaped, character)?;
-    }
+    push_escaped_text(&mut escaped, text)?;
     Ok(escaped)
+}
+
+/// Appends what [`escaped_text`] writes of `text` to `escaped`. The only refusal is want of memory, and
+/// after it `escaped` may end with a part of what was to be appended.
+pub fn push_escaped_text(escaped: &mut String, text: &str) -> Result<(), AllocError>
+    ensures text { OnOk result
+        (string_bytes escaped.new ≡ string_bytes escaped.old ++ spec.escaped_text text.now) }
+{
+    for character in text.chars() {
+        push_escaped_char(escaped, character)?;
+    }
+    Ok(())
 }
 
 fn push_escaped_char(text: &mut String, character: char) -> Result<(), AllocError>
@@ -109,12 +119,21 @@ pub fn grouped(alloc: Global, number: u128, negative: bool) -> Result<String, Al
         (λ text. spec.IsGroupedNumber number negative (string_bytes text)) }
 {
     let mut text = String::new(alloc);
+    push_grouped(&mut text, number, negative)?;
+    Ok(text)
+}
+
+/// Appends what [`grouped`] writes of `number` to `text`. The only refusal is want of memory, and after
+/// it `text` may end with a part of what was to be appended.
+pub fn push_grouped(text: &mut String, number: u128, negative: bool) -> Result<(), AllocError>
+    ensures text { OnOk result
+        (string_bytes text.new ≡ string_bytes text.old ++ spec.grouped number negative) }
+{
     if negative {
         text.push('-')?;
     }
     let mut digits = itoa::Buffer::new();
-    push_in_groups(&mut text, digits.format(number).as_bytes())?;
-    Ok(text)
+    push_in_groups(text, digits.format(number).as_bytes())
 }
 
 fn push_in_groups(text: &mut String, digits: &[u8]) -> Result<(), AllocError>

@@ -14,6 +14,8 @@ mod malformed;
 #[cfg(test)]
 mod notes_base;
 #[cfg(test)]
+mod notes_lines;
+#[cfg(test)]
 mod notes_text;
 #[cfg(test)]
 mod readme;

@@ -3,3 +3,4 @@ pub mod Errors
 pub mod Counting
 pub mod Output
 pub mod Running
+pub mod Sequence

@@ -38,7 +38,8 @@ fn read_item(alloc: Global, from: Source, input: &[u8]) -> Result<DataItem, Erro
     }
 }
 
-fn write_item(alloc: Global, to: To, item: &DataItem) -> Result<Vec<u8>, Error>
+/// The output of an item.
+pub(crate) fn write_item(alloc: Global, to: To, item: &DataItem) -> Result<Vec<u8>, Error>
     requires { IsWellFormed (view item.now) }
     ensures written { IfOk result (λ output. output.items ≡ output_of to (view item.now)) }
     ensures memory { IfErr result (λ e. e ≡ Error.Memory) }

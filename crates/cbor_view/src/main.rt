@@ -2,18 +2,24 @@
 //! form FROM, and writes it to standard output, in the form TO.
 //!
 //! FROM is `bytes`, the item's own bytes, or `hex`, its bytes in hex with comments. TO is `bytes`.
+//! Where FROM is `seq`, the input is the bytes of items one after the other (RFC 8742), and each is
+//! written in the form TO, before the next is looked at.
 //!
-//! The exit status is 0 where the item was written. It is 1 where the input is no item, or can't be
-//! read, or the output can't be written; for an input that is no item nothing is written. It is 2,
-//! and nothing is read, where the arguments are not two such words. Standard error then says why.
+//! The exit status is 0 where the output was written. It is 1 where the input is no item, or no
+//! sequence of items, or can't be read, or the output can't be written, or memory is wanting; of an
+//! input that is no item nothing is written, and of a sequence the items before a fault. It is 2, and
+//! nothing is read, where the arguments are not two such words. Standard error then says why.
 #![tactic(auto)]
 
 mod convert;
 mod counted;
 mod error;
 mod run;
+mod run_seq;
 #[cfg(test)]
 mod tests;
+#[cfg(test)]
+mod tests_seq;
 mod words;
 
 use crate::counted::Counted;
@@ -43,29 +49,58 @@ impl Failure {
     }
 }
 
-/// The forms that the two words after the program's name stand for.
-fn forms(rt: &(impl Env + Alloc)) -> Result<(Source, To), Failure> {
+/// What the two words ask for.
+enum Job {
+    /// One item, from one form to the other.
+    One(Source, To),
+    /// Items one after the other, each to this form.
+    Sequence(To),
+}
+
+/// What the two words after the program's name ask for.
+fn asked(rt: &(impl Env + Alloc)) -> Result<Job, Failure> {
     let mut arguments = env::args(rt).map_err(|_| Failure::Usage)?;
     let _program = arguments.next();
     let (Some(from), Some(to), None) = (arguments.next(), arguments.next(), arguments.next()) else {
         return Err(Failure::Usage);
     };
-    match (from_word(from.as_str()), to_word(to.as_str())) {
-        (Some(from), Some(to)) => Ok((from, to)),
+    match (
+        from.as_str(),
+        from_word(from.as_str()),
+        to_word(to.as_str()),
+    ) {
+        ("seq", _, Some(to)) => Ok(Job::Sequence(to)),
+        (_, Some(from), Some(to)) => Ok(Job::One(from, to)),
         _ => Err(Failure::Usage),
     }
 }
 
-/// Tests the words, and only then reads.
+/// Tests the words, and only then reads. What stands written before the end of a sequence is flushed
+/// before its refusal is told; a flush that fails is told in its place.
 fn view(
     rt: &(impl Env + AllocGlobal),
     input: impl Read + Drop,
     output: impl Write + Drop,
 ) -> Result<(), Failure> {
-    let (from, to) = forms(rt)?;
+    let job = asked(rt)?;
     let mut input = Counted::new(input);
     let mut output = Counted::new(output);
-    run::run(rt.alloc(), from, to, &mut input, &mut output).map_err(Failure::View)?;
+    match job {
+        Job::One(from, to) => {
+            run::run(rt.alloc(), from, to, &mut input, &mut output).map_err(Failure::View)?;
+            flush(&mut output)
+        }
+        Job::Sequence(to) => {
+            let end = run_seq::run_seq(rt.alloc(), to, &mut input, &mut output);
+            if let Ok(()) | Err(ViewError::Item(_)) = end {
+                flush(&mut output)?;
+            }
+            end.map_err(Failure::View)
+        }
+    }
+}
+
+fn flush(output: &mut Counted<impl Write>) -> Result<(), Failure> {
     output.flush().map_err(|_| Failure::View(ViewError::Write))
 }
 

@@ -59,7 +59,10 @@ pub fn run<R: Read, W: Write>(
 }
 
 /// All that the reader has.
-fn read_to_end<R: Read>(alloc: Global, input: &mut Counted<R>) -> Result<Vec<u8>, ViewError>
+pub(crate) fn read_to_end<R: Read>(
+    alloc: Global,
+    input: &mut Counted<R>,
+) -> Result<Vec<u8>, ViewError>
     ensures all { IfOk result (λ bytes. HadAll R.remaining input.old bytes.items) }
     ensures read_out { OnOk result (IsReadOut R.remaining input.new) }
     ensures failures { failures_of input.new
@@ -114,7 +117,7 @@ fn read_after<R: Read>(
 }
 
 /// Writes all of the bytes, or a beginning of them.
-fn write_whole<W: Write>(output: &mut Counted<W>, bytes: &[u8]) -> Result<(), ViewError>
+pub(crate) fn write_whole<W: Write>(output: &mut Counted<W>, bytes: &[u8]) -> Result<(), ViewError>
     ensures ok { OnOk result (Gains W.contents output.old output.new bytes.now) }
     ensures part { OnErr result (GainsPart W.contents output.old output.new bytes.now) }
     ensures failures { MatchBool (is_write_error result) (Stops output.old output.new)

@@ -23,11 +23,11 @@ d8 20                                        # uri, tag(32)
 
 /// Reads by one byte a call, and fails at one of its calls, counted from 1.
 #[derive(Drop)]
-struct Dripping<'a> {
-    bytes: &'a [u8],
-    calls: usize,
-    failing: usize,
-    kind: ErrorKind,
+pub(crate) struct Dripping<'a> {
+    pub(crate) bytes: &'a [u8],
+    pub(crate) calls: usize,
+    pub(crate) failing: usize,
+    pub(crate) kind: ErrorKind,
 }
 
 impl Read for Dripping<'_> {
@@ -43,11 +43,11 @@ impl Read for Dripping<'_> {
 
 /// Takes one byte a call, and fails at one of its calls, counted from 1.
 #[derive(Drop)]
-struct Sipping {
-    bytes: Vec<u8>,
-    calls: usize,
-    failing: usize,
-    kind: ErrorKind,
+pub(crate) struct Sipping {
+    pub(crate) bytes: Vec<u8>,
+    pub(crate) calls: usize,
+    pub(crate) failing: usize,
+    pub(crate) kind: ErrorKind,
 }
 
 impl Write for Sipping {
@@ -67,7 +67,7 @@ impl Write for Sipping {
 
 /// Takes nothing, and can't be flushed.
 #[derive(Drop)]
-struct Full;
+pub(crate) struct Full;
 
 impl Write for Full {
     fn write(&mut self, _buf: &[u8]) -> io::Result<usize> {

@@ -1,0 +1,34 @@
+-- How the lines of a dump stand in columns: hex digits on the left, comments on the right.
+use Rattle.std.specs.Prelude.{ℕ, ◌+◌, ◌-◌, ◌*◌, ◌==◌, List, [], ◌∷◌, ◌++◌, length, max, replicate, codes, flat_map, if◌then◌else◌}
+
+-- a line: how deep it stands, its hex digits, of which there may be none, and its comment
+pub record DumpLine : Type 0 where
+  pub depth : ℕ
+  pub hex : List ℕ
+  pub comment : List ℕ
+
+abbrev pub blanks : ℕ → List ℕ
+blanks n = replicate n 32
+
+-- where the digits of a line end, and 0 of a line without digits
+abbrev pub reach : DumpLine → ℕ
+reach line = if length line.hex == 0 then 0 else 3 * line.depth + length line.hex
+
+-- the width of the left column: the farthest that any digits reach
+abbrev pub width_of : List DumpLine → ℕ
+width_of [] = 0
+width_of (line ∷ lines) = max (reach line) (width_of lines)
+
+-- the left column of a line: three blanks for each depth and the digits, or nothing, and blanks up to the width
+abbrev pub left_column : ℕ → DumpLine → List ℕ
+left_column width line =
+    if length line.hex == 0 then blanks width
+    else blanks (3 * line.depth) ++ line.hex ++ blanks (width - reach line)
+
+-- a line: its left column, ` # `, two blanks for each depth, the comment, and a line feed
+abbrev pub line_text : ℕ → DumpLine → List ℕ
+line_text width line = left_column width line ++ codes " # " ++ blanks (2 * line.depth) ++ line.comment ++ codes "\n"
+
+-- all lines, one after the other, with their comments in one column
+abbrev pub layout : List DumpLine → List ℕ
+layout lines = flat_map (line_text (width_of lines)) lines

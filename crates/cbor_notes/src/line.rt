@@ -1,0 +1,247 @@
+//! The lines of a dump, in two columns: hex digits on the left, comments on the right.
+
+ghost use Rattle.std.specs.Prelude.{◌≡◌, ◌≤◌, ◌<◌, ◌+◌, ◌*◌, ◌++◌, ℕ, [], length, replicate, IfOk, IsOk, OnOk, OnErr, IsTrue, ◌↔◌};
+ghost use Rattle.std.specs.List.{AllByRecursion, flat_map};
+ghost use Rattle.std.specs.String.{string_bytes, string_len, string_capacity};
+ghost use Rattle.std.specs.Str.{IsAscii};
+ghost use Rattle.cbor_notes.specs.Columns.{IsColumn, IsPlain, digits_of, uncommented};
+ghost use Rattle.cbor_notes.specs.Layout.{left_column, line_text, layout, reach, width_of};
+ghost use Rattle.cbor_notes.specs.LineTree.{Fits, IsFit, first_line, forest_lines, most_hex, most_levels, tree_lines};
+ghost use Rattle.cbor_notes.specs.declared.line.Line.{out-Line};
+
+use std::alloc::{AllocError, Global};
+
+/// The most levels that a tree of lines may have to be laid out.
+const MOST_LEVELS: usize = 140;
+
+/// The most bytes that the hex of a line may have.
+const MOST_HEX: usize = 64;
+
+const BLANKS: &str = "                                                                ";
+
+/// A line of a dump, with the lines that stand below it.
+#[derive(Drop)]
+pub struct Line {
+    /// The hex digits; a line may have none.
+    pub hex: String,
+    /// The comment beside them.
+    pub comment: String,
+    /// The lines below this one, one deeper.
+    pub sublines: Vec<Line>,
+}
+
+impl Line {
+    /// A line without sublines. It takes no memory.
+    pub fn new(alloc: Global, hex: String, comment: String) -> Line
+        ensures hex { (out-Line result).hex ≡ hex }
+        ensures comment { (out-Line result).comment ≡ comment }
+        ensures sublines { (out-Line result).sublines.items ≡ [] }
+    {
+        Line {
+            hex,
+            comment,
+            sublines: Vec::new(alloc),
+        }
+    }
+
+    /// Whether `merge` lays the tree out: it has at most 140 levels, and the hex of each line is ASCII of at
+    /// most 64 bytes. It takes no memory, and goes no deeper than that.
+    pub fn fits(&self) -> bool
+        ensures { IsTrue result ↔ Fits self.now }
+    {
+        self.fits_at(0)
+    }
+
+    /// Whether this line can be laid out at a depth.
+    fn is_fit(&self, depth: usize) -> bool
+        ensures { IsTrue result ↔ IsFit (first_line self.now depth) }
+    {
+        depth < MOST_LEVELS && self.hex.len() <= MOST_HEX && self.hex.is_ascii()
+    }
+
+    /// The same of a tree whose first line stands at a depth.
+    #[cycle(fits)]
+    fn fits_at(&self, depth: usize) -> bool
+        requires { depth ≤ most_levels }
+        ensures { IsTrue result ↔ AllByRecursion IsFit (tree_lines self.now depth) }
+    {
+        self.is_fit(depth) && all_fit_at(&self.sublines, depth + 1)
+    }
+
+    /// Where the digits of this line end at a depth, or 0 if it has none.
+    fn reach(&self, depth: usize) -> usize
+        requires { IsFit (first_line self.now depth) }
+        ensures { result ≡ reach (first_line self.now depth) }
+    {
+        if self.hex.is_empty() {
+            0
+        } else {
+            3 * depth + self.hex.len()
+        }
+    }
+
+    /// The width of the left column, of a tree whose first line stands at a depth.
+    #[cycle(width)]
+    fn width_at(&self, depth: usize) -> usize
+        requires { AllByRecursion IsFit (tree_lines self.now depth) }
+        ensures { result ≡ width_of (tree_lines self.now depth) }
+    {
+        self.reach(depth)
+            .max(greatest_width_at(&self.sublines, depth + 1))
+    }
+
+    /// Appends a tree whose first line stands at a depth.
+    #[cycle(put)]
+    fn put_at(&self, out: &mut String, width: usize, depth: usize) -> Result<(), AllocError>
+        requires fits { AllByRecursion IsFit (tree_lines self.now depth) }
+        requires width { width_of (tree_lines self.now depth) ≤ width }
+        requires most { width ≤ 3 * most_levels + most_hex }
+        ensures { OnOk result (string_bytes out.new ≡ string_bytes out.old
+            ++ flat_map (line_text width) (tree_lines self.now depth)) }
+    {
+        put_line(out, width, depth, &self.hex, &self.comment)?;
+        put_all_at(out, &self.sublines, width, depth + 1)
+    }
+}
+
+#[cycle(fits)]
+fn all_fit_at(lines: &Vec<Line>, depth: usize) -> bool
+    requires { depth ≤ most_levels }
+    ensures { IsTrue result ↔ AllByRecursion IsFit (forest_lines lines.now.items depth) }
+{
+    'lines: for line in lines {
+        if !line.fits_at(depth) {
+            return false;
+        }
+    }
+    true
+}
+
+#[cycle(width)]
+fn greatest_width_at(lines: &Vec<Line>, depth: usize) -> usize
+    requires { AllByRecursion IsFit (forest_lines lines.now.items depth) }
+    ensures { result ≡ width_of (forest_lines lines.now.items depth) }
+{
+    let mut width = 0;
+    'lines: for line in lines {
+        width = line.width_at(depth).max(width);
+    }
+    width
+}
+
+#[cycle(put)]
+fn put_all_at(
+    out: &mut String,
+    lines: &Vec<Line>,
+    width: usize,
+    depth: usize,
+) -> Result<(), AllocError>
+    requires fits { AllByRecursion IsFit (forest_lines lines.now.items depth) }
+    requires width { width_of (forest_lines lines.now.items depth) ≤ width }
+    requires most { width ≤ 3 * most_levels + most_hex }
+    ensures { OnOk result (string_bytes out.new ≡ string_bytes out.old
+        ++ flat_map (line_text width) (forest_lines lines.now.items depth)) }
+{
+    'lines: for line in lines {
+        line.put_at(out, width, depth)?;
+    }
+    Ok(())
+}
+
+/// The text of a tree of lines: each line and then its sublines, one deeper, with all comments in one
+/// column, as [`put_line`] writes them. The width of the left column is the farthest that the digits of any
+/// line reach.
+///
+/// The tree has to fit, which [`Line::fits`] tells. The only refusal is want of memory.
+pub fn merge(alloc: Global, line: &Line) -> Result<String, AllocError>
+    requires { Fits line.now }
+    ensures text { IfOk result (λ text. string_bytes text ≡ layout (tree_lines line.now 0)) }
+    // Where no digit is a `#` and no line feed stands in the tree, its lines are those of the text, and the
+    // first `#` of each stands in one column.
+    ensures one_column { AllByRecursion IsPlain (tree_lines line.now 0) → IfOk result (λ text.
+        IsColumn (width_of (tree_lines line.now 0) + 1) (string_bytes text)) }
+    // And without comments and blanks the text is the digits.
+    ensures digits { AllByRecursion IsPlain (tree_lines line.now 0) → IfOk result (λ text.
+        uncommented (string_bytes text) ≡ digits_of (tree_lines line.now 0)) }
+{
+    let width = line.width_at(0);
+    let mut text = String::new(alloc);
+    line.put_at(&mut text, width, 0)?;
+    Ok(text)
+}
+
+/// That many blanks.
+fn blanks(count: usize) -> &'static str
+    requires { count ≤ 64 }
+    ensures value { result.now ≡ replicate count 32 }
+    ensures len { length result.now ≡ count }
+{
+    &BLANKS[..count]
+}
+
+/// Appends `count` blanks.
+fn push_blanks(out: &mut String, count: usize) -> Result<(), AllocError>
+    ensures bytes { OnOk result (string_bytes out.new ≡ string_bytes out.old ++ replicate count 32) }
+    ensures len { OnOk result (string_len out.new ≡ string_len out.old + count) }
+    ensures capacity { string_capacity out.old ≤ string_capacity out.new }
+    ensures full { OnErr result (string_capacity out.old < string_len out.old + count) }
+{
+    let mut left = count;
+    'more: while left > 64 {
+        out.push_str(blanks(64))?;
+        left -= 64;
+    }
+    out.push_str(blanks(left))
+}
+
+/// Appends the left column of a line: its hex behind three blanks for each depth, and blanks up to a
+/// width.
+fn push_left(out: &mut String, width: usize, depth: usize, hex: &str) -> Result<(), AllocError>
+    requires depth { depth ≤ most_levels }
+    requires short { length hex.now ≤ most_hex }
+    requires reach { 0 < length hex.now → 3 * depth + length hex.now ≤ width }
+    ensures bytes { OnOk result (string_bytes out.new ≡ string_bytes out.old
+        ++ left_column width (record { depth = depth; hex = hex.now; comment = [] })) }
+    ensures len { OnOk result (string_len out.new ≡ string_len out.old + width) }
+    ensures capacity { string_capacity out.old ≤ string_capacity out.new }
+    ensures full { OnErr result (string_capacity out.old < string_len out.old + width) }
+{
+    if hex.is_empty() {
+        return push_blanks(out, width);
+    }
+    let indent = 3 * depth;
+    push_blanks(out, indent)?;
+    out.push_str(hex)?;
+    push_blanks(out, width - indent - hex.len())
+}
+
+/// Appends one line of a dump to `out`: the digits of `hex` behind three blanks for each `depth`, with
+/// blanks up to `width`, or `width` blanks alone where `hex` is empty; then ` # `, two blanks for each
+/// `depth`, `comment` and a line feed.
+///
+/// `depth` is at most 140, `hex` is ASCII of at most 64 bytes, `width` is at most 484, and hex that isn't
+/// empty fits `width`: `3 * depth + hex.len()` is at most that. The only refusal is want of memory, and
+/// after it `out` is unchanged.
+pub fn put_line(
+    out: &mut String,
+    width: usize,
+    depth: usize,
+    hex: &str,
+    comment: &str,
+) -> Result<(), AllocError>
+    requires depth { depth ≤ most_levels }
+    requires ascii { IsAscii hex.now }
+    requires short { length hex.now ≤ most_hex }
+    requires width { width ≤ 3 * most_levels + most_hex }
+    requires reach { 0 < length hex.now → 3 * depth + length hex.now ≤ width }
+    ensures line { OnOk result (string_bytes out.new ≡ string_bytes out.old
+        ++ line_text width (record { depth = depth; hex = hex.now; comment = comment.now })) }
+    ensures unchanged { OnErr result (string_bytes out.new ≡ string_bytes out.old) }
+{
+    out.reserve(comment.len() + (width + 2 * depth + 4))?;
+    push_left(out, width, depth, hex)?;
+    out.push_str(" # ")?;
+    push_blanks(out, 2 * depth)?;
+    out.push_str(comment)?;
+    out.push('\n')
+}
