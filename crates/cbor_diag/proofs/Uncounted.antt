@@ -1,15 +1,14 @@
 -- Counted reading reads what reading reads.
-use Rattle.std.proofs.Common.{◌≡◌, ℕ, zero, suc, ◌+◌, ◌<◌, ◌≤◌, List, [], ◌∷◌, length, Option, Some, None, Ok, Err, ◌⊎◌, inl, inr, refl, sym, ap, ◌∙◌, arith}
+use Rattle.std.proofs.Common.{◌≡◌, ℕ, zero, suc, ◌<◌, ◌≤◌, List, [], ◌∷◌, length, Option, Some, None, Ok, Err, ◌⊎◌, inl, inr, refl, sym, ap, ◌∙◌, arith}
 use Rattle.cbor_diag.specs.declared.syntax.IntegerWidth.{IntegerWidth}
-use Rattle.cbor_diag.specs.declared.error.Error.{Error}
 use Rattle.cbor_diag.specs.declared.error.Error.TheVariants as refusal
 use Rattle.cbor_diag.specs.declared.parse.binary.head.ItemHead.{ItemHead}
 use Rattle.cbor_diag.specs.declared.parse.binary.head.ItemHead.TheVariants as item_head
 use Rattle.cbor_diag.specs.Item as spec
 use Rattle.cbor_diag.specs.Item.{Chunk, Item, byte_chunks, text_chunks, atom, array, tagged, Items, no_items, item, Pairs, no_pairs, pair}
 use Rattle.cbor_diag.specs.Bytes.{StringKind, bytes_kind, text_kind}
-use Rattle.cbor_diag.specs.Reading.{Read, ◌>>=◌, head_at, chunk_at, more_chunks, chunks_at, break_at, unless_break, items_at, pair_at, pairs_at, open_items_at, open_pairs_at, body_at, item_at}
-use Rattle.cbor_diag.specs.Counting.{Counted, later, go_on, ◌>>-◌, counted_more, counted_chunks, joined, joined_pairs, Wanted, so_many, to_break, width_of, Frame, items_in, pairs_in, value_of, tag_of, tagged_with, put, end_at, closed, close_or, goes_on, opened, part_at, counted_item}
+use Rattle.cbor_diag.specs.Reading.{Read, ◌>>=◌, head_at, chunk_at, more_chunks, chunks_at, break_at, items_at, pairs_at, open_items_at, open_pairs_at, body_at, item_at}
+use Rattle.cbor_diag.specs.Counting.{Counted, go_on, ◌>>-◌, counted_more, counted_chunks, joined, joined_pairs, Wanted, so_many, to_break, Frame, items_in, pairs_in, value_of, tag_of, tagged_with, goes_on, opened, part_at, counted_item}
 use Rattle.cbor_diag.proofs.Shorter.{item_shorter}
 use Rattle.cbor_diag.proofs.Refusals.{item_nothing}
 use Rattle.cbor_diag.proofs.Counting.{Shortens}
@@ -128,7 +127,7 @@ module _ (read : List ℕ → Counted Item) (r : List ℕ → Read Item) (same :
       elim (break_cases (break_at b)) [
         | inl stops ↦ rw stops.1 (array_end is None stops.0)
         | inr none ↦ rw none (first_then (read b) (r b) _ _ (same b) (λ x e. let s = short b x e in parts_first n m (items_in (joined is (item x.0 no_items)) to_break) x.1 (omega arith) (omega arith))
-          ∙ more_items is None (r b) (open_items_at r m))
+            ∙ more_items is None (r b) (open_items_at r m))
       ]
   parts_first (suc n) m (pairs_in ps (so_many zero w)) b lt le = map_end ps (Some w) b
   parts_first (suc n) m (pairs_in ps (so_many (suc k) w)) b lt le =
@@ -140,7 +139,7 @@ module _ (read : List ℕ → Counted Item) (r : List ℕ → Read Item) (same :
       elim (break_cases (break_at b)) [
         | inl stops ↦ rw stops.1 (map_end ps None stops.0)
         | inr none ↦ rw none (first_then (read b) (r b) _ _ (same b) (λ x e. let s = short b x e in parts_first n m (value_of ps x.0 to_break) x.1 (omega arith) (omega arith))
-          ∙ more_pairs ps None (r b) r (open_pairs_at r m))
+            ∙ more_pairs ps None (r b) r (open_pairs_at r m))
       ]
   parts_first (suc n) m (value_of ps k wanted) b lt le =
       first_then (read b) (r b) _ _ (same b) (λ x e. let s = short b x e in parts_first n m (pairs_in (joined_pairs ps (pair k x.0 no_pairs)) wanted) x.1 (omega arith) (omega arith))

@@ -25,8 +25,8 @@ use crate::parse::turns::Turns;
 use crate::syntax::{DEEPEST, DataItem, Simple, Tag};
 use head::{ItemHead, head_at};
 use open::Open;
-use std::alloc::Global;
 use stack::Stack;
+use std::alloc::Global;
 use strings::{byte_chunks_at, bytes_at, text_at, text_chunks_at};
 
 /// Why no item can stand below the deepest level: there are bytes for one, or there are none.

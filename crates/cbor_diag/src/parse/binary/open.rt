@@ -46,7 +46,11 @@ pub(super) enum Open {
 /// For how many members room is made at once: no more than are claimed, than can be there, and than a few.
 fn room(count: u64, following: usize) -> usize {
     let most = ROOM.min(following);
-    if count < most as u64 { count as usize } else { most }
+    if count < most as u64 {
+        count as usize
+    } else {
+        most
+    }
 }
 
 /// The bytes behind the break at the front, where one stands there.

@@ -1,13 +1,13 @@
-use Rattle.std.proofs.Common.{◌≡◌, None, Some, Err, ◌+◌, ◌-◌, ◌≤◌, length, ap, sym, subst, ◌∙◌, refl, arith}
+use Rattle.std.proofs.Common.{◌≡◌, Err, ◌+◌, ◌-◌, ap, sym, subst, ◌∙◌, arith}
 use Rattle.std.specs.Prelude.{option_map}
 use Rattle.std.proofs.lemmas.Result.{err_from_is_err_and}
 use Rattle.cbor_diag.specs.View.{view}
 use Rattle.cbor_diag.specs.Reading.{Fails}
-use Rattle.cbor_diag.specs.Counting.{Stops, later, wanted_at, depth_of, resume, deliver, opened, atom_at, pushed}
-use Rattle.cbor_diag.specs.Stack.{frame, outer_of, top_of, depth, resumed}
+use Rattle.cbor_diag.specs.Counting.{Stops, later, wanted_at, atom_at}
+use Rattle.cbor_diag.specs.Stack.{frame, outer_of, top_of, depth}
 use Rattle.cbor_diag.specs.declared.error.Error.TheVariants as refusal
 use Rattle.cbor_diag.proofs.HeadRefusals.{err_is}
-use Rattle.cbor_diag.proofs.Turning.{closes, wanted_stops, wanted_opens, opened_holds, some_holds, pushed_depth, opens, opened_level, opened_depth, atom_stops, atom_whole}
+use Rattle.cbor_diag.proofs.Turning.{closes, wanted_stops, wanted_opens, opened_holds, some_holds, opens, opened_level, opened_depth, atom_stops, atom_whole}
 use Rattle.cbor_diag.proofs.Counting.{later_later}
 use Rattle.cbor_diag.proofs.parse.binary.turn.Goals as goal
 
