@@ -1,10 +1,9 @@
 -- Counted reading, one step after the other.
-use Rattle.std.proofs.Common.{◌≡◌, ℕ, zero, suc, ◌+◌, ◌-◌, ◌<◌, ◌≤◌, List, [], ◌∷◌, ◌++◌, length, Option, Some, None, Result, Ok, Err, refl, sym, ap, ◌∙◌, arith}
-use Rattle.std.proofs.lemmas.List.{length-append}
+use Rattle.std.proofs.Common.{◌≡◌, ℕ, zero, suc, ◌+◌, ◌-◌, ◌<◌, List, [], ◌∷◌, ◌++◌, length, Option, Some, None, Ok, Err, refl, sym, ap, ◌∙◌, arith}
 use Rattle.cbor_diag.specs.declared.error.Error.{Error}
 use Rattle.cbor_diag.specs.Item.{Item}
 use Rattle.cbor_diag.specs.Reading.{Read}
-use Rattle.cbor_diag.specs.Counting.{Counted, later, go_on, ◌>>-◌, Frame, put, end_at, closed, close_or, goes_on, parts_at, counted_item, opened, closing, pushed, depth_of, resume, deliver, IsStack}
+use Rattle.cbor_diag.specs.Counting.{Counted, later, go_on, ◌>>-◌, Frame, put, end_at, closed, close_or, goes_on, parts_at, counted_item, closing, resume, deliver}
 
 -- ---- turns before
 

@@ -1,13 +1,13 @@
 -- What an open container is with one more part.
-use Rattle.std.proofs.Common.{◌≡◌, ℕ, zero, suc, ◌+◌, ◌-◌, List, [], ◌∷◌, ◌++◌, length, refl, sym, ap, ◌∙◌, add-one, arith}
+use Rattle.std.proofs.Common.{◌≡◌, ℕ, zero, suc, ◌+◌, ◌-◌, List, [], ◌∷◌, ◌++◌, length, refl, sym, ap, ◌∙◌, arith}
 use Rattle.std.proofs.lemmas.List.{length-append}
 use Rattle.cbor_diag.specs.declared.syntax.IntegerWidth.{IntegerWidth}
 use Rattle.cbor_diag.specs.declared.syntax.DataItem.{DataItem}
 use Rattle.cbor_diag.specs.declared.parse.binary.open.Length.{Length}
 use Rattle.cbor_diag.specs.declared.parse.binary.open.Length.TheVariants.{Definite, Indefinite}
-use Rattle.cbor_diag.specs.Item.{Item, no_items, item, no_pairs, pair}
+use Rattle.cbor_diag.specs.Item.{no_items, item, no_pairs, pair}
 use Rattle.cbor_diag.specs.View.{view, items_view, pairs_view}
-use Rattle.cbor_diag.specs.Counting.{joined, joined_pairs, Wanted, so_many, to_break, one_less}
+use Rattle.cbor_diag.specs.Counting.{joined, joined_pairs, so_many, one_less}
 use Rattle.cbor_diag.specs.Stack.{wanted}
 
 -- one item more at the end of those that were read

@@ -1,5 +1,5 @@
 -- From what counted reading gives to what an input is, and to its turns.
-use Rattle.std.proofs.Common.{◌≡◌, ◌≢◌, ℕ, ◌+◌, ◌*◌, ◌≤◌, List, length, take, Option, Some, None, Result, Ok, Err, IfOk, IfSome, refl, sym, ap, ◌∙◌, arith}
+use Rattle.std.proofs.Common.{◌≡◌, ◌≢◌, ℕ, ◌+◌, ◌*◌, ◌≤◌, List, take, Option, Some, None, Result, Ok, Err, IfOk, IfSome, refl, sym, ap, ◌∙◌, arith}
 use Rattle.std.proofs.lemmas.List.{length-take}
 use Rattle.cbor_diag.specs.declared.error.Error.{Error}
 use Rattle.cbor_diag.specs.declared.error.Error.TheVariants as refusal
@@ -12,7 +12,7 @@ use Rattle.cbor_diag.specs.Answer.{HasOutcome, HasTurns, RefusedSo}
 use Rattle.cbor_diag.specs.Reading.{Fails, item_at}
 use Rattle.cbor_diag.specs.Counting.{Counted, later, Stops, counted_item}
 use Rattle.cbor_diag.proofs.Uncounted.{item_first}
-use Rattle.cbor_diag.proofs.ItemTurns.{item_cost, counted_is, turns_few}
+use Rattle.cbor_diag.proofs.ItemTurns.{counted_is, turns_few}
 use Rattle.cbor_diag.proofs.Spent.{cut_turns, fault_turns}
 
 -- what reading gives

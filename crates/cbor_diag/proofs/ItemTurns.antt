@@ -1,5 +1,5 @@
 -- The turns of an item that counted reading gives are those of the item, at most twice its bytes.
-use Rattle.std.proofs.Common.{◌≡◌, ℕ, zero, suc, ◌+◌, ◌*◌, ◌<◌, ◌≤◌, List, [], ◌∷◌, ◌++◌, length, Option, Some, None, Ok, Err, inl, inr, refl, ap, subst, ◌∙◌, arith}
+use Rattle.std.proofs.Common.{◌≡◌, ℕ, zero, suc, ◌+◌, ◌*◌, ◌≤◌, List, [], ◌∷◌, ◌++◌, length, Option, Some, None, Ok, Err, inl, inr, refl, ap, subst, ◌∙◌, arith}
 use Rattle.std.proofs.lemmas.List.{length-append}
 use Rattle.cbor_diag.specs.declared.syntax.IntegerWidth.{IntegerWidth}
 use Rattle.cbor_diag.specs.declared.parse.binary.head.ItemHead.{ItemHead}
@@ -10,7 +10,7 @@ use Rattle.cbor_diag.specs.Bytes.{StringKind, bytes_kind, text_kind, any, Member
 use Rattle.cbor_diag.specs.Head.{break_byte}
 use Rattle.cbor_diag.specs.Reading.{Read, ◌>>=◌, head_at, content_at, chunk_at, break_at, item_at}
 use Rattle.cbor_diag.specs.Turns.{atom_turns, item_turns, items_turns, pairs_turns}
-use Rattle.cbor_diag.specs.Counting.{Counted, go_on, ◌>>-◌, counted_more, counted_chunks, joined, joined_pairs, so_many, to_break, Frame, items_in, pairs_in, value_of, tag_of, tagged_with, put, goes_on, opened, atom_at, part_at, counted_item}
+use Rattle.cbor_diag.specs.Counting.{Counted, go_on, ◌>>-◌, counted_more, counted_chunks, joined, joined_pairs, so_many, to_break, Frame, items_in, pairs_in, value_of, tag_of, tagged_with, put, goes_on, opened, part_at, counted_item}
 use Rattle.cbor_diag.proofs.Heads.{head_shorter}
 use Rattle.cbor_diag.proofs.Found.{item_again}
 use Rattle.cbor_diag.proofs.Sizes.{open_bound, one_byte}

@@ -1,5 +1,5 @@
 -- The turns of an input that is cut or has a fault: those of what is whole of it, and the one that fails.
-use Rattle.std.proofs.Common.{◌≡◌, ℕ, zero, suc, ◌+◌, ◌*◌, ◌<◌, ◌≤◌, List, [], ◌∷◌, ◌++◌, length, Option, Some, None, Ok, Err, inl, inr, refl, sym, ap, ◌∙◌, append_assoc, arith}
+use Rattle.std.proofs.Common.{◌≡◌, ℕ, zero, suc, ◌+◌, ◌*◌, ◌<◌, ◌≤◌, List, [], ◌∷◌, ◌++◌, length, None, Err, inl, inr, refl, sym, ap, ◌∙◌, append_assoc, arith}
 use Rattle.cbor_diag.specs.declared.syntax.IntegerWidth.{IntegerWidth}
 use Rattle.cbor_diag.specs.declared.error.Error.{Error}
 use Rattle.cbor_diag.specs.declared.error.Error.TheVariants as refusal
@@ -7,9 +7,9 @@ use Rattle.cbor_diag.specs.declared.parse.binary.head.ItemHead.TheVariants as it
 use Rattle.cbor_diag.specs.Item.{Chunk, Item, no_items, no_pairs}
 use Rattle.cbor_diag.specs.Head.{HeadThen}
 use Rattle.cbor_diag.specs.Bytes.{StringKind, bytes_kind, text_kind, major_of, SpellsChunks}
-use Rattle.cbor_diag.specs.Refused.{SpelledParts, Next, part, part_or_break, Inside, in_tag, in_array, in_map, in_open_array, at_open_key, at_open_value, InsideString, Cut, nothing, in_head, in_content, in_chunk, in_part, BeginsWithBreak, NoBreakAt, BadHead, Fault, too_deep, bad_head, bad_text, bad_chunk_head, bad_chunk_text, bad_part}
+use Rattle.cbor_diag.specs.Refused.{SpelledParts, Next, Inside, in_tag, in_array, in_map, in_open_array, at_open_key, at_open_value, InsideString, Cut, nothing, in_head, in_content, in_chunk, in_part, BeginsWithBreak, NoBreakAt, BadHead, Fault, too_deep, bad_head, bad_text, bad_chunk_head, bad_chunk_text, bad_part}
 use Rattle.cbor_diag.specs.Turns.{item_turns, parts_turns, front_turns, cut_spent, fault_spent}
-use Rattle.cbor_diag.specs.Reading.{numbered, unnumbered, head_at, break_at, item_at}
+use Rattle.cbor_diag.specs.Reading.{numbered, unnumbered, head_at, break_at}
 use Rattle.cbor_diag.specs.Counting.{Counted, later, ◌>>-◌, counted_chunks, so_many, to_break, Frame, items_in, pairs_in, value_of, tag_of, tagged_with, put, end_at, parts_at, counted_item}
 use Rattle.cbor_diag.proofs.Heads.{head_again, open_again}
 use Rattle.cbor_diag.proofs.Chunks.{chunk_again, chunk_parts}
@@ -21,7 +21,7 @@ use Rattle.cbor_diag.proofs.Refusals.{cut_no_break}
 use Rattle.cbor_diag.proofs.CutShort.{cut_again}
 use Rattle.cbor_diag.proofs.Faults.{left_at, fault_level}
 use Rattle.cbor_diag.proofs.Found.{spelled_begins, no_break_at}
-use Rattle.cbor_diag.proofs.Counting.{Shortens, parts_more}
+use Rattle.cbor_diag.proofs.Counting.{parts_more}
 use Rattle.cbor_diag.proofs.Uncounted.{item_shortens}
 use Rattle.cbor_diag.proofs.ItemTurns.{counted_again}
 

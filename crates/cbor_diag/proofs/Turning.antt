@@ -1,5 +1,5 @@
 -- What one turn does: it closes a container, or reads a head.
-use Rattle.std.proofs.Common.{◌≡◌, ℕ, zero, suc, ◌+◌, ◌-◌, ◌<◌, ◌≤◌, List, [], ◌∷◌, ◌++◌, length, Option, Some, None, Result, Ok, Err, refl, sym, ap, subst, ◌∙◌, arith}
+use Rattle.std.proofs.Common.{◌≡◌, ℕ, zero, suc, ◌+◌, ◌-◌, ◌<◌, ◌≤◌, List, [], ◌∷◌, ◌++◌, length, Option, Some, None, Ok, refl, sym, ap, subst, ◌∙◌, arith}
 use Rattle.std.specs.Prelude.{IsSome, option_and_then, option_to_list}
 use Rattle.std.proofs.lemmas.List.{length-append}
 use Rattle.cbor_diag.specs.declared.error.Error.{Error}
@@ -8,7 +8,7 @@ use Rattle.cbor_diag.specs.declared.parse.binary.head.ItemHead.{ItemHead}
 use Rattle.cbor_diag.specs.declared.parse.binary.head.ItemHead.TheVariants as item_head
 use Rattle.cbor_diag.specs.Item.{Item}
 use Rattle.cbor_diag.specs.Answer.{MayWantMemory}
-use Rattle.cbor_diag.specs.Reading.{Read, Fails, HoldsContent, head_at}
+use Rattle.cbor_diag.specs.Reading.{Fails, HoldsContent, head_at}
 use Rattle.cbor_diag.specs.Counting.{Counted, later, go_on, ◌>>-◌, Stops, Frame, put, end_at, closed, parts_at, opened, atom_at, part_at, wanted_at, counted_item, closing, pushed, depth_of, resume, deliver, IsStack}
 use Rattle.cbor_diag.proofs.Heads.{IsBytes}
 use Rattle.cbor_diag.proofs.Outcomes.{memory_opens}
@@ -146,3 +146,6 @@ opened_level left outer inner top under b h g rest bottom e parts is =
 pub some_depth : (outer : List Frame) (top : Option Frame) → IsSome top → 0 < depth_of outer top
 some_depth outer None h = absurd cc
 some_depth outer (Some f) h = omega arith
+
+pub opened_depth : (outer inner : List Frame) (top under : Option Frame) (g : Frame) → IsStack outer top → inner ≡ pushed outer top → under ≡ Some g → depth_of inner under ≡ depth_of outer top + 1
+opened_depth outer inner top under g bottom parts is = rw (is, parts) (let d = pushed_depth outer top bottom in omega arith)

@@ -1,15 +1,14 @@
 -- Counted reading reads what reading reads.
-use Rattle.std.proofs.Common.{◌≡◌, ℕ, zero, suc, ◌+◌, ◌<◌, ◌≤◌, List, [], ◌∷◌, length, Option, Some, None, Ok, Err, ◌⊎◌, inl, inr, refl, sym, ap, ◌∙◌, arith}
+use Rattle.std.proofs.Common.{◌≡◌, ℕ, zero, suc, ◌<◌, ◌≤◌, List, [], ◌∷◌, length, Option, Some, None, Ok, Err, ◌⊎◌, inl, inr, refl, sym, ap, ◌∙◌, arith}
 use Rattle.cbor_diag.specs.declared.syntax.IntegerWidth.{IntegerWidth}
-use Rattle.cbor_diag.specs.declared.error.Error.{Error}
 use Rattle.cbor_diag.specs.declared.error.Error.TheVariants as refusal
 use Rattle.cbor_diag.specs.declared.parse.binary.head.ItemHead.{ItemHead}
 use Rattle.cbor_diag.specs.declared.parse.binary.head.ItemHead.TheVariants as item_head
 use Rattle.cbor_diag.specs.Item as spec
 use Rattle.cbor_diag.specs.Item.{Chunk, Item, byte_chunks, text_chunks, atom, array, tagged, Items, no_items, item, Pairs, no_pairs, pair}
 use Rattle.cbor_diag.specs.Bytes.{StringKind, bytes_kind, text_kind}
-use Rattle.cbor_diag.specs.Reading.{Read, ◌>>=◌, head_at, chunk_at, more_chunks, chunks_at, break_at, unless_break, items_at, pair_at, pairs_at, open_items_at, open_pairs_at, body_at, item_at}
-use Rattle.cbor_diag.specs.Counting.{Counted, later, go_on, ◌>>-◌, counted_more, counted_chunks, joined, joined_pairs, Wanted, so_many, to_break, width_of, Frame, items_in, pairs_in, value_of, tag_of, tagged_with, put, end_at, closed, close_or, goes_on, opened, part_at, counted_item}
+use Rattle.cbor_diag.specs.Reading.{Read, ◌>>=◌, head_at, chunk_at, more_chunks, chunks_at, break_at, items_at, pairs_at, open_items_at, open_pairs_at, body_at, item_at}
+use Rattle.cbor_diag.specs.Counting.{Counted, go_on, ◌>>-◌, counted_more, counted_chunks, joined, joined_pairs, Wanted, so_many, to_break, Frame, items_in, pairs_in, value_of, tag_of, tagged_with, goes_on, opened, part_at, counted_item}
 use Rattle.cbor_diag.proofs.Shorter.{item_shorter}
 use Rattle.cbor_diag.proofs.Refusals.{item_nothing}
 use Rattle.cbor_diag.proofs.Counting.{Shortens}

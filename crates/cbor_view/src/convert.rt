@@ -10,12 +10,18 @@ use crate::words::{Source, To};
 use cbor_diag::{DataItem, Error, parse_bytes, parse_diag, parse_hex};
 use std::alloc::Global;
 
-/// The output for an input.
-pub(crate) fn convert(alloc: Global, from: Source, to: To, input: &[u8]) -> Result<Vec<u8>, Error>
-    ensures ok { IfOk result (λ output. IsOutput from to input.now (Ok output.items)) }
-    ensures refused { RefusedSo result (λ e. IsOutput from to input.now (Err e)) }
+/// The output for an input, which is let go as soon as its item is read.
+pub(crate) fn convert(
+    alloc: Global,
+    from: Source,
+    to: To,
+    input: Vec<u8>,
+) -> Result<Vec<u8>, Error>
+    ensures ok { IfOk result (λ output. IsOutput from to input.items (Ok output.items)) }
+    ensures refused { RefusedSo result (λ e. IsOutput from to input.items (Err e)) }
 {
-    let item = read_item(alloc, from, input)?;
+    let item = read_item(alloc, from, &input)?;
+    drop(input);
     write_item(alloc, to, &item)
 }
 

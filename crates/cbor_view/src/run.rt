@@ -53,7 +53,7 @@ pub fn run<R: Read, W: Write>(
         (failures_of output.new ≡ failures_of output.old) }
 {
     let all = read_to_end(alloc, input)?;
-    let bytes = convert(alloc, from, to, &all)?;
+    let bytes = convert(alloc, from, to, all)?;
     write_whole(output, &bytes)?;
     Ok(())
 }

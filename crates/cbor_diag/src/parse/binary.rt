@@ -1,8 +1,9 @@
-//! Reads an item from bytes (RFC 7049 section 2), by recursion over the levels of nesting.
+//! Reads an item from bytes (RFC 7049 section 2), by a loop over turns and a stack of the containers that
+//! are open.
 //!
 //! Each private function takes the bytes that are left and gives a value with the bytes after it, or
 //! the first refusal from the left, `CutShort` where the bytes end. What a head claims is never
-//! believed: no memory is taken for a length or a count, only for the bytes and members that are there.
+//! believed: memory is taken for the bytes and members that are there, and for a few members at once.
 mod head;
 mod open;
 mod stack;
@@ -22,7 +23,7 @@ ghost use Rattle.cbor_diag.specs.Stack.{outer_of, top_of, depth, resumed, resume
 
 use crate::error::{Error, Result};
 use crate::parse::turns::Turns;
-use crate::syntax::{DEEPEST, DataItem, Simple, Tag};
+use crate::syntax::{DEEPEST, DataItem, Simple};
 use head::{ItemHead, head_at};
 use open::Open;
 use stack::Stack;
@@ -54,7 +55,8 @@ fn wanted_head_at(bytes: &[u8], level: usize) -> Result<(ItemHead, &[u8])>
     head_at(bytes)
 }
 
-/// The item without parts behind its head.
+/// The item without parts behind its head. A break is none, and ends nothing where a head is wanted; the
+/// heads of containers are none either, but `Open::new` takes them before.
 fn atom_at<'a>(
     alloc: Global,
     head: ItemHead,
@@ -90,13 +92,19 @@ fn atom_at<'a>(
             let (chunks, rest) = text_chunks_at(alloc, bytes, turns)?;
             Ok((DataItem::IndefiniteTextString(chunks), rest))
         }
-        _ => Err(Error::Head),
+        ItemHead::Array(..)
+        | ItemHead::Map(..)
+        | ItemHead::Tag(..)
+        | ItemHead::OpenArray
+        | ItemHead::OpenMap
+        | ItemHead::Break => Err(Error::Head),
     }
 }
 
 /// One turn: closes the innermost container where it ends, or else reads the head that stands next, with
 /// the content of a string. Gives the item that is whole with it, if one is, and the bytes that are left;
-/// the outermost item stands at `level`.
+/// the outermost item stands at `level`. Each turn takes bytes or closes what an earlier one opened, so they
+/// are at most two for each byte.
 fn turn<'a>(
     alloc: Global,
     stack: &mut Stack,
@@ -106,7 +114,7 @@ fn turn<'a>(
 ) -> Result<(Option<DataItem>, &'a [u8])>
     requires level { level + depth stack.old ≤ deepest + 1 }
     requires bottom { IsStack (outer_of stack.old) (top_of stack.old) }
-    requires room { turns.old + 2 * length bytes.now < 2 ^ 120 }
+    requires room { turns.old + 2 * length bytes.now < 2 ^ 126 }
     ensures gives { IfOk result (λ x. later turns.old (resumed (deepest + 1 - level) stack.old bytes.now)
         ≡ later turns.new (resumed_with (deepest + 1 - level) stack.new (option_map view x.0) x.1.now)) }
     ensures stops { IfErr result (λ e. Stops e turns.new
@@ -146,7 +154,7 @@ fn item_at<'a>(
     turns: &mut Turns,
 ) -> Result<(DataItem, &'a [u8])>
     requires level { level ≤ deepest + 1 }
-    requires room { turns.old + 2 * length bytes.now < 2 ^ 110 }
+    requires room { turns.old + 2 * length bytes.now < 2 ^ 126 }
     ensures gives { Runs (λ x. (view x.0, x.1.now)) turns.old turns.new result
         (counted_item (deepest + 1 - level) bytes.now) }
     ensures few { turns.new ≤ turns.old + 2 * length bytes.now + 1 }

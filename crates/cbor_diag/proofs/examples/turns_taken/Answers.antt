@@ -4,7 +4,7 @@ use Rattle.cbor_diag.specs.declared.syntax.IntegerWidth.TheVariants.{Zero}
 use Rattle.cbor_diag.specs.Item.{item, array, no_items}
 use Rattle.std.specs.Prelude.{Some}
 use Rattle.cbor_diag.specs.Refused.{Cut, nothing, in_part, part, in_array, Fault, too_deep, bad_part}
-use Rattle.cbor_diag.specs.Turns.{cut_spent, fault_spent}
+use Rattle.cbor_diag.specs.Turns.{fault_spent}
 use Rattle.cbor_diag.specs.Examples.{small, nested_bytes}
 use Rattle.cbor_diag.proofs.examples.turns_taken.Goals as goal
 

@@ -1,7 +1,7 @@
-use Rattle.std.proofs.Common.{◌≡◌, ℕ, ◌<◌, ◌+◌, ◌⊎◌, inl, inr, None, sym, ap, subst, ◌∙◌, arith}
+use Rattle.std.proofs.Common.{inl, inr, sym, subst, ◌∙◌, arith}
 use Rattle.cbor_diag.specs.Answer.{MayWantMemory}
 use Rattle.cbor_diag.proofs.Turning.{some_depth}
-use Rattle.cbor_diag.specs.Stack.{depth, top_of, outer_of}
+use Rattle.cbor_diag.specs.Stack.{top_of, outer_of}
 use Rattle.cbor_diag.proofs.parse.binary.item_at.Goals as goal
 
 pub returns-in_err-outermost-clause-memory : goal.returns-in_err-outermost-clause-memory

@@ -1,4 +1,4 @@
-use Rattle.std.proofs.Common.{◌≡◌, ℕ, ◌+◌, ◌-◌, ◌*◌, ◌≤◌, length, ◌⊎◌}
+use Rattle.std.proofs.Common.{◌≡◌, ◌+◌, ◌-◌, ◌*◌, ◌≤◌, length, ◌⊎◌}
 use Rattle.cbor_diag.specs.WellFormed.{deepest}
 use Rattle.cbor_diag.specs.Answer.{MayWantMemory}
 use Rattle.cbor_diag.specs.Counting.{later, counted_item, IsStack}

@@ -1,13 +1,13 @@
-use Rattle.std.proofs.Common.{◌≡◌, None, Some, Err, ◌+◌, ◌-◌, ◌≤◌, length, ap, sym, subst, ◌∙◌, refl, arith}
+use Rattle.std.proofs.Common.{◌≡◌, Err, ◌+◌, ◌-◌, ap, sym, subst, ◌∙◌, arith}
 use Rattle.std.specs.Prelude.{option_map}
 use Rattle.std.proofs.lemmas.Result.{err_from_is_err_and}
 use Rattle.cbor_diag.specs.View.{view}
 use Rattle.cbor_diag.specs.Reading.{Fails}
-use Rattle.cbor_diag.specs.Counting.{Stops, later, wanted_at, depth_of, resume, deliver, opened, atom_at, pushed}
-use Rattle.cbor_diag.specs.Stack.{frame, outer_of, top_of, depth, resumed}
+use Rattle.cbor_diag.specs.Counting.{Stops, later, wanted_at, atom_at}
+use Rattle.cbor_diag.specs.Stack.{frame, outer_of, top_of, depth}
 use Rattle.cbor_diag.specs.declared.error.Error.TheVariants as refusal
 use Rattle.cbor_diag.proofs.HeadRefusals.{err_is}
-use Rattle.cbor_diag.proofs.Turning.{closes, wanted_stops, wanted_opens, opened_holds, some_holds, pushed_depth, opens, opened_level, atom_stops, atom_whole}
+use Rattle.cbor_diag.proofs.Turning.{closes, wanted_stops, wanted_opens, opened_holds, some_holds, opens, opened_level, opened_depth, atom_stops, atom_whole}
 use Rattle.cbor_diag.proofs.Counting.{later_later}
 use Rattle.cbor_diag.proofs.parse.binary.turn.Goals as goal
 
@@ -78,3 +78,10 @@ returns-in_ok-item-in-None-clause-gives c =
     let is = sym c.in_ok-container.ensures.opens ∙ ap (option_map frame) c.in-None.is in
     let whole = ap (λ t. later t (atom_at c.in_ok-head.head c.in_ok-head.rest.now)) (sym c.rise.ensures) ∙ c.in_ok-item-in-None.ensures.gives in
     atom_whole (129 - c.args.level) c.args.turns.now c.atom_at.new.turns (outer_of s) (top_of s) c.args.bytes.now c.in_ok-head.head c.in_ok-head.rest.now (view c.in_ok-item-in-None.item) c.in_ok-item-in-None.rest.now c.in_default.ensures wanted is whole
+
+pub returns-in_ok-open-in-Some-2-clause-falls : goal.returns-in_ok-open-in-Some-2-clause-falls
+returns-in_ok-open-in-Some-2-clause-falls c =
+    let s = c.args.stack.now in
+    let t = c.open.new.self in
+    let deeper = opened_depth (outer_of s) (outer_of t) (top_of s) (top_of t) (frame c.in-Some-2.container) c.requires.bottom c.in_ok-open-in-Some-2.ensures.outer c.in_ok-open-in-Some-2.ensures.top in
+    omega (arith, c.in_ok-head.ensures.shorter)

@@ -1,9 +1,8 @@
-use Rattle.std.proofs.Common.{◌≡◌, ◌++◌, ◌∷◌, [], map, length, ◌+◌, arith}
+use Rattle.std.proofs.Common.{◌≡◌, ◌++◌, ◌∷◌, [], map, arith}
 use Rattle.std.proofs.lemmas.Result.{err_from_is_err_and}
 use Rattle.std.proofs.lemmas.List.{map_push}
 use Rattle.cbor_diag.specs.View.{byte_chunk}
 use Rattle.cbor_diag.specs.Bytes.{bytes_kind}
-use Rattle.cbor_diag.specs.Counting.{later, counted_chunks}
 use Rattle.cbor_diag.proofs.ChunkLoops.{chunk_fails, more_chunk, no_more_chunk}
 use Rattle.cbor_diag.proofs.parse.binary.strings.byte_chunks_at.Goals as goal
 

@@ -1,8 +1,5 @@
-use Rattle.std.proofs.Common.{◌≡◌, ◌++◌, ◌∷◌, [], length, refl, ap, ◌∙◌}
+use Rattle.std.proofs.Common.{length, refl}
 use Rattle.cbor_diag.specs.declared.syntax.DataItem.{DataItem}
-use Rattle.cbor_diag.specs.View.{view, items_view, pairs_view}
-use Rattle.cbor_diag.specs.Counting.{items_in, pairs_in}
-use Rattle.cbor_diag.specs.Stack.{wanted}
 use Rattle.cbor_diag.proofs.Frames.{item_joins, pair_joins, wanted_less, wanted_pushed}
 use Rattle.cbor_diag.proofs.parse.binary.open.Open.put.Goals as goal
 

@@ -1,5 +1,5 @@
-use Rattle.std.proofs.Common.{◌≡◌, Some, sym, ap, ◌-◌, length, ◌∙◌}
-use Rattle.std.specs.Prelude.{option_map, option_and_then, slice_get}
+use Rattle.std.proofs.Common.{◌≡◌, Some, ap, ◌∙◌}
+use Rattle.std.specs.Prelude.{option_map, option_and_then}
 use Rattle.cbor_diag.specs.Counting.{end_at}
 use Rattle.cbor_diag.specs.Stack.{frame, last_of}
 use Rattle.cbor_diag.proofs.Tops.{get_last}

@@ -1,6 +1,6 @@
-use Rattle.std.proofs.Common.{ap, ◌∙◌}
+use Rattle.std.proofs.Common.{ap}
 use Rattle.std.specs.Prelude.{option_map}
-use Rattle.cbor_diag.specs.Stack.{frame, last_of, before_last}
+use Rattle.cbor_diag.specs.Stack.{frame}
 use Rattle.cbor_diag.proofs.Tops.{last_pushed, outer_pushed}
 use Rattle.cbor_diag.proofs.parse.binary.stack.Stack.open.Goals as goal
 
