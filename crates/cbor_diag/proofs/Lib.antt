@@ -28,3 +28,4 @@ pub mod TextParts
 pub mod NormalForm
 pub mod NormalWell
 pub mod NormalText
+pub mod PrettyForms

@@ -158,7 +158,7 @@ module _ (left : ℕ) (write : Writer) (same : (e : Encoding) (shown : Content) 
   atom_resolved e shown (negative n w) h = ap (λ v. codes "-" ++ number (n + 1) v) (stated_is w n h)
   atom_resolved e shown (byte_string c) h = refl
   atom_resolved e shown (text_string c) h = refl
-  atom_resolved e shown (byte_chunks cs) h = ap (chunks_text Joined (codes "\'\'_")) (bytes_resolved (λ s. quoted e s.bytes) (λ c. refl) cs)
+  atom_resolved e shown (byte_chunks cs) h = ap (chunks_text Joined (codes "''_")) (bytes_resolved (λ s. quoted e s.bytes) (λ c. refl) cs)
   atom_resolved e shown (text_chunks cs) h = ap (chunks_text Joined (codes "\"\"_")) (bytes_resolved (λ s. text s.bytes) (λ c. refl) cs)
   atom_resolved e shown (float bits w) h = ap (float_text bits) (float_kept w h)
   atom_resolved e shown (simple n) h = refl
@@ -235,15 +235,18 @@ embeds level left levels b all (Some e) is =
     let well = spells_well level b e (bytes_at b all) s in
     let n = (normal_serves level left levels content.Bytes e well).well in
     let t = strict_any level (encoded (into_normal left e)) (resolve (into_normal left e)) (strict_encoded level (into_normal left e) n) in
-    inr (e, record {
-      is = is;
-      well = well;
-      states = normal_stated left content.Bytes e (spelled_stated level b e s);
-      normal_well = n;
-      again = spells_embedded level left (encoded (into_normal left e)) (resolve (into_normal left e)) levels t;
-      some = one_byte level b e s;
-      some_again = one_byte level (encoded (into_normal left e)) (resolve (into_normal left e)) t;
-    })
+    inr (
+      e,
+      record {
+        is = is;
+        well = well;
+        states = normal_stated left content.Bytes e (spelled_stated level b e s);
+        normal_well = n;
+        again = spells_embedded level left (encoded (into_normal left e)) (resolve (into_normal left e)) levels t;
+        some = one_byte level b e s;
+        some_again = one_byte level (encoded (into_normal left e)) (resolve (into_normal left e)) t;
+      },
+    )
 
 record Sequences (level left : ℕ) (b : List ℕ) : Type 0 where
   pub well : WellFormedItems level (sequence_at left b).0
@@ -331,7 +334,7 @@ module _ (level left : ℕ) (levels : level + left ≡ 129) (same : (e : Encodin
   atom_normal_text e content.Item (byte_string c) h = embedded_normal_text e c.bytes h.bytes
   atom_normal_text e content.Sequence (byte_string c) h = sequence_normal_text e c.bytes h.bytes
   atom_normal_text e shown (text_string c) h = refl
-  atom_normal_text e shown (byte_chunks cs) h = ap (chunks_text Joined (codes "\'\'_")) (bytes_normal (λ s. quoted e s.bytes) (λ c. refl) cs)
+  atom_normal_text e shown (byte_chunks cs) h = ap (chunks_text Joined (codes "''_")) (bytes_normal (λ s. quoted e s.bytes) (λ c. refl) cs)
   atom_normal_text e shown (text_chunks cs) h = ap (chunks_text Joined (codes "\"\"_")) (bytes_normal (λ s. text s.bytes) (λ c. refl) cs)
   atom_normal_text e shown (float bits w) h = float_normal_text bits w
   atom_normal_text e shown (simple n) h = refl
