@@ -222,9 +222,13 @@ fn push_sequence(
 }
 
 impl DataItem {
-    /// The item in diagnostic notation on one line, without blanks (RFC 7049 section 6).
+    /// The item in diagnostic notation on one line, without blanks (RFC 7049 section 6): widths of
+    /// numbers and tags as `_0` to `_3`, byte strings in hex or as tags 21 to 23 ask, items that are
+    /// embedded below tags 24 and 63 in `<<` `>>` where they can be read, and else as bytes. Widths of
+    /// lengths are not told; docs/NOTATION.md says what is.
     ///
-    /// The item has to be well formed, which `is_well_formed` tells. Refuses with `Memory` alone.
+    /// The item has to be well formed, which `is_well_formed` tells. Refuses with `Memory` alone, also
+    /// where memory is wanted to read embedded items.
     pub fn to_diag(&self, alloc: Global) -> Result<String>
         requires { IsWellFormed (view self.now) }
         ensures text { IfOk result (λ s. string_bytes s ≡ diag_of (view self.now)) }
@@ -238,9 +242,12 @@ impl DataItem {
         Ok(out)
     }
 
-    /// The item in diagnostic notation over several lines (RFC 7049 section 6).
+    /// The item as `to_diag` writes it, but over several lines: a container that is short, by an estimate
+    /// of its text, stands on one line with blanks behind commas and colons; of a longer one each member
+    /// has a line, with four blanks more than the line of the container (docs/NOTATION.md).
     ///
-    /// The item has to be well formed, which `is_well_formed` tells. Refuses with `Memory` alone.
+    /// The item has to be well formed, which `is_well_formed` tells. Refuses with `Memory` alone, also
+    /// where memory is wanted to read embedded items.
     pub fn to_diag_pretty(&self, alloc: Global) -> Result<String>
         requires { IsWellFormed (view self.now) }
         ensures text { IfOk result (λ s. string_bytes s ≡ pretty_of (view self.now)) }
