@@ -49,3 +49,4 @@ pub mod NotationLoops
 pub mod NotationTokens
 pub mod NotationCores
 pub mod NotationReaders
+pub mod PrettyForms

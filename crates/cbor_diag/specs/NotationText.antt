@@ -225,13 +225,19 @@ abbrev pub chunks_text : Listing → List ℕ → List (List ℕ) → List ℕ
 chunks_text l empty [] = empty
 chunks_text l empty ms = bracketed l (opened l (codes "(") None) ms (codes ")")
 
+abbrev pub byte_chunks_text : Encoding → Listing → List Chunk → List ℕ
+byte_chunks_text e l cs = chunks_text l (codes "''_") (map (λ s. quoted e s.bytes) cs)
+
+abbrev pub text_chunks_text : Listing → List Chunk → List ℕ
+text_chunks_text l cs = chunks_text l (codes "\"\"_") (map (λ s. text s.bytes) cs)
+
 abbrev pub atom_text : ℕ → (Context → Item → List ℕ) → Context → Atom → List ℕ
 atom_text left write c (integer n w) = number n w
 atom_text left write c (negative n w) = codes "-" ++ number (n + 1) w
 atom_text left write c (byte_string s) = content_text left write c.content c s.bytes
 atom_text left write c (text_string s) = text s.bytes
-atom_text left write c (byte_chunks cs) = chunks_text (listing c.layout (full_atom (byte_chunks cs))) (codes "''_") (map (λ s. quoted c.encoding s.bytes) cs)
-atom_text left write c (text_chunks cs) = chunks_text (listing c.layout (full_atom (text_chunks cs))) (codes "\"\"_") (map (λ s. text s.bytes) cs)
+atom_text left write c (byte_chunks cs) = byte_chunks_text c.encoding (listing c.layout (full_atom (byte_chunks cs))) cs
+atom_text left write c (text_chunks cs) = text_chunks_text (listing c.layout (full_atom (text_chunks cs))) cs
 atom_text left write c (float n w) = float_text n w
 atom_text left write c (simple n) = simple_text n
 

@@ -1,11 +1,29 @@
 -- Diagnostic notation over several lines (RFC 7049 section 6): a container that is short stands in one
 -- line, of another each member has a line.
-use Rattle.std.specs.Prelude.{ℕ, ◌-◌, List}
+use Rattle.std.specs.Prelude.{ℕ, ◌+◌, ◌-◌, List}
 use Rattle.cbor_diag.specs.declared.encode.notation.context.Encoding.{Encoding}
 use Rattle.cbor_diag.specs.declared.encode.notation.context.Layout.TheVariants.{Pretty}
-use Rattle.cbor_diag.specs.Item.{Item}
-use Rattle.cbor_diag.specs.NotationText.{in_encoding, text_at}
+use Rattle.cbor_diag.specs.declared.encode.notation.context.Listing.{Listing}
+use Rattle.cbor_diag.specs.declared.encode.notation.context.Listing.TheVariants.{Row, Lines}
+use Rattle.cbor_diag.specs.Item as spec
+use Rattle.cbor_diag.specs.Item.{Item, atom, array, byte_chunks, text_chunks}
+use Rattle.cbor_diag.specs.NotationText.{in_encoding, array_text, map_text, byte_chunks_text, text_chunks_text, text_at}
 
 -- an item that stands at this level, its byte strings in this encoding, its lines with so many blanks
 abbrev pub pretty : Encoding → ℕ → ℕ → Item → List ℕ
 pretty e level indent i = text_at (129 - level) (in_encoding (Pretty indent) e) i
+
+-- a container at this level, its members laid out so, however long it is; an item that has none as it is
+abbrev pub laid_out : Listing → Encoding → ℕ → ℕ → Item → List ℕ
+laid_out l e level indent (array is w) = array_text (text_at (129 - (level + 1))) (in_encoding (Pretty indent) e) l is w
+laid_out l e level indent (spec.map ps w) = map_text (text_at (129 - (level + 1))) (in_encoding (Pretty indent) e) l ps w
+laid_out l e level indent (atom (byte_chunks cs)) = byte_chunks_text e l cs
+laid_out l e level indent (atom (text_chunks cs)) = text_chunks_text l cs
+laid_out l e level indent i = pretty e level indent i
+
+-- on one line, and with a line for each member
+abbrev pub in_one_line : Encoding → ℕ → ℕ → Item → List ℕ
+in_one_line e level indent i = laid_out (Row indent) e level indent i
+
+abbrev pub in_lines : Encoding → ℕ → ℕ → Item → List ℕ
+in_lines e level indent i = laid_out (Lines indent) e level indent i

@@ -1,4 +1,5 @@
-//! Reads one CBOR data item (RFC 7049) from bytes or from hex with comments, and writes it as bytes,
+//! Reads one CBOR data item (RFC 7049) from bytes or from hex with comments, and writes it as bytes or in
+//! diagnostic notation,
 //! keeping how it was encoded: the width of each number and length, and which form a length has.
 //!
 //! A call that allocates takes an allocator first and answers `Error::Memory` where a growth was

@@ -1,14 +1,14 @@
 // Items in diagnostic notation (docs/NOTATION.md).
 
-use cbor_diag::{DataItem, FloatWidth, IntegerWidth, Result, parse_bytes};
+use cbor_diag::{DataItem, FloatWidth, IntegerWidth, parse_bytes};
 use std::alloc::{AllocError, Global};
 use std::test::Fail;
 
-fn diag(alloc: Global, bytes: &[u8]) -> Result<String> {
+fn diag(alloc: Global, bytes: &[u8]) -> cbor_diag::Result<String> {
     parse_bytes(alloc, bytes)?.to_diag(alloc)
 }
 
-fn pretty(alloc: Global, bytes: &[u8]) -> Result<String> {
+fn pretty(alloc: Global, bytes: &[u8]) -> cbor_diag::Result<String> {
     parse_bytes(alloc, bytes)?.to_diag_pretty(alloc)
 }
 
@@ -58,7 +58,10 @@ fn open_widths(rt: HostRuntime) -> Result<(), Fail> {
     assert_eq!(rt; item.to_diag(rt.alloc())?.as_str(), "100");
     let (bits, bitwidth) = (0x3c00, FloatWidth::Unknown);
     let item = DataItem::Float { bits, bitwidth };
-    assert_eq!(rt; item.to_diag(rt.alloc())?.as_str(), "float'0000000000003c00'");
+    assert_eq!(rt;
+        item.to_diag(rt.alloc())?.as_str(),
+        "float'0000000000003c00'"
+    );
     Ok(())
 }
 
@@ -132,10 +135,18 @@ fn embedded_items(rt: HostRuntime) -> Result<(), Fail> {
             "24_0(<<24_0(<<false>>)>>)",
             "24_0(<<24_0(<<false>>)>>)",
         ),
-        (b"\xd8\x18\x42\x7f\xff", "24_0(<<\"\"_>>)", "24_0(<<\"\"_>>)"),
+        (
+            b"\xd8\x18\x42\x7f\xff",
+            "24_0(<<\"\"_>>)",
+            "24_0(<<\"\"_>>)",
+        ),
         (b"\xd8\x3f\x40", "63_0(<<>>)", "63_0(<<>>)"),
         (b"\xd8\x3f\x41\xff", "63_0(<<>>h'ff')", "63_0(<<>> h'ff')"),
-        (b"\xd8\x3f\x42\x01\xff", "63_0(<<1>>h'ff')", "63_0(<<1>> h'ff')"),
+        (
+            b"\xd8\x3f\x42\x01\xff",
+            "63_0(<<1>>h'ff')",
+            "63_0(<<1>> h'ff')",
+        ),
         (
             b"\xd8\x3f\x43\x01\x20\xf6",
             "63_0(<<1,-1,null>>)",
@@ -150,7 +161,7 @@ fn embedded_items(rt: HostRuntime) -> Result<(), Fail> {
 }
 
 // The head of a byte string of that length, below 65536.
-fn push_byte_head(bytes: &mut Vec<u8>, len: usize) -> std::result::Result<(), AllocError> {
+fn push_byte_head(bytes: &mut Vec<u8>, len: usize) -> Result<(), AllocError> {
     if len < 24 {
         bytes.push(0x40 + len.min(23) as u8)?;
     } else if len < 256 {
@@ -194,7 +205,7 @@ fn repeated(
     member: &[u8],
     count: usize,
     after: &[u8],
-) -> std::result::Result<Vec<u8>, AllocError> {
+) -> Result<Vec<u8>, AllocError> {
     let mut bytes = Vec::from_slice(alloc, before)?;
     for _ in 0..count {
         bytes.extend_from_slice(member)?;
@@ -210,7 +221,7 @@ fn lines(
     member: &str,
     count: usize,
     after: &str,
-) -> std::result::Result<String, AllocError> {
+) -> Result<String, AllocError> {
     let mut text = String::from_str(alloc, before)?;
     text.push('\n')?;
     for _ in 0..count {
@@ -265,7 +276,8 @@ fn long_containers_have_a_line_for_each_member(rt: HostRuntime) -> Result<(), Fa
 fn lines_in_lines(rt: HostRuntime) -> Result<(), Fail> {
     let alloc = rt.alloc();
     let bytes = repeated(alloc, b"\xa1\x01\x82\x80\x8c", b"\x01", 12, b"")?;
-    let text = "{\n    1: [\n        [],\n        [\n            1,\n            1,\n            1,\n            1,\n            1,\n            1,\n            1,\n            1,\n            1,\n            1,\n            1,\n            1,\n        ],\n    ],\n}";
+    let text =
+        "{\n    1: [\n        [],\n        [\n            1,\n            1,\n            1,\n            1,\n            1,\n            1,\n            1,\n            1,\n            1,\n            1,\n            1,\n            1,\n        ],\n    ],\n}";
     assert_eq!(rt; pretty(alloc, &bytes)?.as_str(), text);
     Ok(())
 }
@@ -303,7 +315,11 @@ fn what_each_member_counts(rt: HostRuntime) -> Result<(), Fail> {
                 bytes.push(b'a')?;
             }
             let text = pretty(alloc, &bytes)?;
-            assert_eq!(rt; !text.as_bytes().contains(&b'\n'), is_row, "at {member:?}, {len}");
+            assert_eq!(rt;
+                !text.as_bytes().contains(&b'\n'),
+                is_row,
+                "at {member:?}, {len}"
+            );
         }
     }
     Ok(())
