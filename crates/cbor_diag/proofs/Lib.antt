@@ -50,3 +50,6 @@ pub mod NotationTokens
 pub mod NotationCores
 pub mod NotationReaders
 pub mod PrettyForms
+pub mod ReadTokens
+pub mod ReadLists
+pub mod ReadBack

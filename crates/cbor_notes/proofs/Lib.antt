@@ -30,3 +30,4 @@ pub mod Quoted
 pub mod Spaced
 pub mod TextPlaces
 pub mod NumberParts
+pub mod WrittenNumbers

@@ -10,6 +10,7 @@ mod scalars;
 ghost use Rattle.std.specs.Prelude.{◌≡◌, true, ◌+◌, ◌-◌, ◌*◌, ◌<◌, ◌≤◌, ◌++◌, ℕ, OnOk, IfOk, IfErr, codes, map};
 ghost use Rattle.std.specs.String.{string_bytes};
 ghost use Rattle.cbor_diag.specs.View.{view, items_view, pairs_view, byte_chunk, text_chunk};
+ghost use Rattle.cbor_diag.specs.Notation.{Reads};
 ghost use Rattle.cbor_diag.specs.declared.encode.notation.context.Encoding.{Encoding};
 ghost use Rattle.cbor_diag.specs.Item.{Item};
 ghost use Rattle.cbor_diag.specs.Estimate.{full, long};
@@ -222,16 +223,14 @@ fn push_sequence(
 }
 
 impl DataItem {
-    /// The item in diagnostic notation on one line, without blanks (RFC 7049 section 6): widths of
-    /// numbers and tags as `_0` to `_3`, byte strings in hex or as tags 21 to 23 ask, items that are
-    /// embedded below tags 24 and 63 in `<<` `>>` where they can be read, and else as bytes. Widths of
-    /// lengths are not told; docs/NOTATION.md says what is.
+    /// The item in diagnostic notation on one line, without blanks (RFC 7049 section 6).
     ///
-    /// The item has to be well formed, which `is_well_formed` tells. Refuses with `Memory` alone, also
-    /// where memory is wanted to read embedded items.
+    /// The item has to be well formed, which `is_well_formed` tells. Refuses with `Memory` alone.
     pub fn to_diag(&self, alloc: Global) -> Result<String>
         requires { IsWellFormed (view self.now) }
         ensures text { IfOk result (λ s. string_bytes s ≡ diag_of (view self.now)) }
+        // It is read back as the normal form.
+        ensures read_back { IfOk result (λ s. Reads 128 (string_bytes s) (normal_of (view self.now))) }
         // The text tells the normal form: it is that of the normal form, whose normal form is itself.
         ensures of_normal { diag_of (normal_of (view self.now)) ≡ diag_of (view self.now) }
         ensures normal_once { normal_of (normal_of (view self.now)) ≡ normal_of (view self.now) }
@@ -242,15 +241,14 @@ impl DataItem {
         Ok(out)
     }
 
-    /// The item as `to_diag` writes it, but over several lines: a container that is short, by an estimate
-    /// of its text, stands on one line with blanks behind commas and colons; of a longer one each member
-    /// has a line, with four blanks more than the line of the container (docs/NOTATION.md).
+    /// The item in diagnostic notation over several lines (RFC 7049 section 6).
     ///
-    /// The item has to be well formed, which `is_well_formed` tells. Refuses with `Memory` alone, also
-    /// where memory is wanted to read embedded items.
+    /// The item has to be well formed, which `is_well_formed` tells. Refuses with `Memory` alone.
     pub fn to_diag_pretty(&self, alloc: Global) -> Result<String>
         requires { IsWellFormed (view self.now) }
         ensures text { IfOk result (λ s. string_bytes s ≡ pretty_of (view self.now)) }
+        // It is read back as the normal form.
+        ensures read_back { IfOk result (λ s. Reads 128 (string_bytes s) (normal_of (view self.now))) }
         // A container is on one line exactly where its whole estimate is below 60, at any level and indent.
         ensures one_line { (level indent : ℕ) (e : Encoding) (i : Item) → level ≤ deepest
             → full i < long → pretty e level indent i ≡ in_one_line e level indent i }

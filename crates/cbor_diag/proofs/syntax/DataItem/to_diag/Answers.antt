@@ -1,7 +1,12 @@
-use Rattle.std.proofs.Common.{arith}
+use Rattle.std.proofs.Common.{◌++◌, ap, sym, subst, ◌∙◌, arith}
 use Rattle.cbor_diag.specs.declared.encode.notation.context.Content.TheVariants.{Bytes}
 use Rattle.cbor_diag.specs.declared.encode.notation.context.Encoding.TheVariants.{Base16}
 use Rattle.cbor_diag.specs.View.{view}
+use Rattle.cbor_diag.specs.declared.encode.notation.context.Layout.TheVariants.{Compact}
+use Rattle.cbor_diag.specs.Notation.{Reads}
+use Rattle.cbor_diag.specs.NotationText.{in_encoding, text_at}
+use Rattle.cbor_diag.specs.Normal.{normal_at}
+use Rattle.cbor_diag.proofs.ReadBack.{reads_back}
 use Rattle.cbor_diag.proofs.NormalText.{normal_text, normal_twice}
 use Rattle.cbor_diag.proofs.syntax.DataItem.to_diag.Goals as goal
 
@@ -16,3 +21,9 @@ returns-clause-of_normal c = normal_text 1 128 (omega arith) Base16 Bytes (view 
 
 pub returns-clause-normal_once : goal.returns-clause-normal_once
 returns-clause-normal_once c = normal_twice 1 128 (omega arith) Bytes (view c.args.self.now) c.requires
+
+pub returns-clause-read_back : goal.returns-clause-read_back
+returns-clause-read_back c =
+    let i = view c.args.self.now in
+    let written = c.in_ok-push_item.ensures.text ∙ ap (λ x. x ++ text_at 128 c.new.result i) c.new-out.ensures.bytes ∙ ap (λ k. text_at 128 k i) c.new.ensures in
+    subst (λ x. Reads 128 x (normal_at 128 Bytes i)) (sym written) (reads_back 1 128 (omega arith) (in_encoding Compact Base16) i c.requires)

@@ -1,5 +1,20 @@
+use Rattle.std.proofs.Common.{◌++◌, ap, sym, subst, ◌∙◌, arith}
+use Rattle.cbor_diag.specs.declared.encode.notation.context.Content.TheVariants.{Bytes}
+use Rattle.cbor_diag.specs.declared.encode.notation.context.Encoding.TheVariants.{Base16}
+use Rattle.cbor_diag.specs.declared.encode.notation.context.Layout.TheVariants.{Pretty}
+use Rattle.cbor_diag.specs.View.{view}
+use Rattle.cbor_diag.specs.Notation.{Reads}
+use Rattle.cbor_diag.specs.NotationText.{in_encoding, text_at}
+use Rattle.cbor_diag.specs.Normal.{normal_at}
+use Rattle.cbor_diag.proofs.ReadBack.{reads_back}
 use Rattle.cbor_diag.proofs.PrettyForms.{short_is, long_is}
 use Rattle.cbor_diag.proofs.syntax.DataItem.to_diag_pretty.Goals as goal
+
+pub returns-clause-read_back : goal.returns-clause-read_back
+returns-clause-read_back c =
+    let i = view c.args.self.now in
+    let written = c.in_ok-push_item.ensures.text ∙ ap (λ x. x ++ text_at 128 c.new.result i) c.new-out.ensures.bytes ∙ ap (λ k. text_at 128 k i) c.new.ensures in
+    subst (λ x. Reads 128 x (normal_at 128 Bytes i)) (sym written) (reads_back 1 128 (omega arith) (in_encoding (Pretty 0) Base16) i c.requires)
 
 pub returns-in_err-push_item-clause-one_line : goal.returns-in_err-push_item-clause-one_line
 returns-in_err-push_item-clause-one_line c = short_is
