@@ -16,7 +16,7 @@ use Rattle.cbor_diag.proofs.Heads.{IsBytes, IsBytes-drop, IsBytes-take}
 use Rattle.cbor_diag.proofs.Readers.{whole_well_formed}
 use Rattle.cbor_diag.proofs.Sizes.{one_byte}
 use Rattle.cbor_diag.proofs.Found.{item_again, item_takes}
-use Rattle.cbor_diag.proofs.MemberLoops.{item_at-nothing}
+use Rattle.cbor_diag.proofs.Refusals.{item_nothing}
 use Rattle.cbor_diag.proofs.Three.{outcome_reads}
 use Rattle.cbor_diag.proofs.Loops.{joined, joined-none, item_joins}
 
@@ -156,7 +156,7 @@ module _ (level left : ℕ) (levels : level + left ≡ 129) where
   unfolding sequence_of
   sequence_spells zero b enough fits =
       let none : b ≡ [] = nil_from_length b (omega arith) in
-      record { spelled_so = refl; error = refusal.CutShort; ends = ap (item_at left) none ∙ item_at-nothing left; rest_bytes = fits }
+      record { spelled_so = refl; error = refusal.CutShort; ends = ap (item_at left) none ∙ item_nothing left; rest_bytes = fits }
   sequence_spells (suc n) b enough fits = sequence_step n b fits (sequence_spells n) enough (item_at left b) refl
 
   -- Items that are spelled one after the other, and a rest that begins with no item, are read as such a sequence.

@@ -53,3 +53,4 @@ pub mod PrettyForms
 pub mod ReadTokens
 pub mod ReadLists
 pub mod ReadBack
+pub mod TextsAlike

@@ -23,6 +23,7 @@ members_begin read close text rest front none blank e = (suc (length rest), omeg
   onto_nothing : {X : Type 0} (r : Read (List X)) → onto (λ xs. [] ++ xs) r ≡ r
   onto_nothing (Ok r) = refl
   onto_nothing (Err e) = refl
+
   whole : onto (λ xs. front ++ xs) (members_from read close (suc (length rest)) rest) ≡ members_at read close text
   whole =
       ap (λ f. onto (λ xs. f ++ xs) (members_from read close (suc (length rest)) rest)) none ∙ onto_nothing (members_from read close (suc (length rest)) rest)

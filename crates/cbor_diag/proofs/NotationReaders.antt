@@ -45,16 +45,16 @@ module _ (limit : ℕ) (text : List ℕ) where
   gave_text (Ok x) i h is = item_of (view x) i (notation_of limit text) h (notation_again limit text i is)
   gave_text (Err e) i h is =
       elim (failed e (notation_of limit text) h) [
-        inl memory ↦ memory
-      | inr other ↦ absurd (no_both i e (notation_of limit text) (notation_again limit text i is) other)
+        | inl memory ↦ memory
+        | inr other ↦ absurd (no_both i e (notation_of limit text) (notation_again limit text i is) other)
       ]
 
   pub text_refused : (r : Result DataItem Error) → Gives view r (notation_of limit text) → RefusedSo r (λ e. MayRefuse limit text e × ((i : Item) → ¬ (Reads limit text i)))
   text_refused (Ok x) h = tt
   text_refused (Err e) h =
       elim (failed e (notation_of limit text) h) [
-        inl memory ↦ λ ample. absurd (ample memory)
-      | inr is ↦ λ ample. (subst (IsAnswered limit text) is (notation_sound limit text), λ i read. no_both i e (notation_of limit text) (notation_again limit text i read) is)
+        | inl memory ↦ λ ample. absurd (ample memory)
+        | inr is ↦ λ ample. (subst (IsAnswered limit text) is (notation_sound limit text), λ i read. no_both i e (notation_of limit text) (notation_again limit text i read) is)
       ]
 
   pub only_item : (r : Result DataItem Error) → Gives view r (notation_of limit text) → IfOk r (λ x. (other : ℕ) (j : Item) → Reads other text j → j ≡ view x)
@@ -64,14 +64,14 @@ module _ (limit : ℕ) (text : List ℕ) where
   pub larger_limit : (r : Result DataItem Error) (larger : ℕ) (i : Item) → limit ≤ larger → Gives view r (notation_of limit text) → Reads larger text i → GaveOrTooDeep limit text r i
   larger_limit (Ok x) larger i le h is =
       elim (read_or_too_deep limit larger text i le is) [
-        inl deep ↦ absurd (no_both (view x) refusal.TooDeep (notation_of limit text) h deep)
-      | inr found ↦ item_of (view x) i (notation_of limit text) h found
+        | inl deep ↦ absurd (no_both (view x) refusal.TooDeep (notation_of limit text) h deep)
+        | inr found ↦ item_of (view x) i (notation_of limit text) h found
       ]
   larger_limit (Err e) larger i le h is =
       elim (failed e (notation_of limit text) h) [
-        inl memory ↦ inl memory
-      | inr other ↦ elim (read_or_too_deep limit larger text i le is) [
-          inl deep ↦ inr (error_of e refusal.TooDeep (notation_of limit text) other deep, λ read. no_both i refusal.TooDeep (notation_of limit text) (notation_again limit text i read) deep)
-        | inr found ↦ absurd (no_both i e (notation_of limit text) found other)
+        | inl memory ↦ inl memory
+        | inr other ↦ elim (read_or_too_deep limit larger text i le is) [
+          | inl deep ↦ inr (error_of e refusal.TooDeep (notation_of limit text) other deep, λ read. no_both i refusal.TooDeep (notation_of limit text) (notation_again limit text i read) deep)
+          | inr found ↦ absurd (no_both i e (notation_of limit text) found other)
         ]
       ]

@@ -18,7 +18,6 @@ use Rattle.cbor_notes.proofs.TextPlaces.{part_and_rest}
 use Rattle.cbor_diag.specs.Reading.{Read, ◌>>=◌}
 use Rattle.cbor_diag.specs.NotationReading.{or_refused, blank_at, number_at, after_byte, after_space, numeral, simple_value, simple_at}
 
-
 pub blank_left : (text : List ℕ) (end : ℕ) → IsLongest (Blank true) (slice_range text 0 end) (drop end text) → take (length text - end) (drop end text) ≡ blank_at text
 blank_left text end longest = take_rest text end ∙ after_longest_blank true (slice_range text 0 end) (drop end text) longest ∙ ap (after_blank true) (sym (part_and_rest text 0 end (omega arith)))
 

@@ -24,7 +24,7 @@ use Rattle.cbor_diag.specs.Estimate.{full_atom, full}
 use Rattle.cbor_diag.specs.Notation.{IsBlank, Blanked, Members, Listed, list_of, pairs_list, PairOf, Notation, as_items, Joined, one, more, StringOf, ChunksOf, AtomCore, Core, Reads}
 use Rattle.cbor_diag.specs.NotationText.{number, quoted, text, listing, members_layout, bracketed, opened, colon, rest_gap, content_below, below, inside, item_texts, pair_texts, item_text, embedded_text, rest_text, items_text, sequence_text, content_text, chunks_text, atom_text, text_with, text_at}
 use Rattle.cbor_diag.specs.Normal.{normal_width, normal_chunk, normal_items, normal_pairs, normal_embedded, normal_sequence, normal_content, normal_atom, normal_with, normal_at}
-use Rattle.cbor_diag.proofs.MemberLoops.{item_at-nothing}
+use Rattle.cbor_diag.proofs.Refusals.{item_nothing}
 use Rattle.cbor_diag.proofs.Resolved.{spells_well}
 use Rattle.cbor_diag.proofs.TextParts.{well_level}
 use Rattle.cbor_diag.proofs.EmbeddedItems.{embedded_spells, sequence_spells}
@@ -62,7 +62,7 @@ text_chunks_each Read (s ∷ cs) h =
     let Is : List ℕ → Type 0 = λ core. StringOf text_kind Read core (normal_chunk s) in
     (λ gap b. blank_before Is gap (text s.bytes) b (plain Is (text s.bytes) (text_read Read s.bytes h.0.utf8)), text_chunks_each Read cs h.1)
 
-byte_chunks_read : (Read : List ℕ → Item → Type 0) (c : Context) (l : Listing) (cs : List Chunk) → AllByRecursion IsByteChunk cs → AtomCore Read (chunks_text l (codes "\'\'_") (map (λ s. quoted c.encoding s.bytes) cs)) (byte_chunks (map normal_chunk cs))
+byte_chunks_read : (Read : List ℕ → Item → Type 0) (c : Context) (l : Listing) (cs : List Chunk) → AllByRecursion IsByteChunk cs → AtomCore Read (chunks_text l (codes "''_") (map (λ s. quoted c.encoding s.bytes) cs)) (byte_chunks (map normal_chunk cs))
 byte_chunks_read Read c l [] h = inl (refl, refl)
 byte_chunks_read Read c l (s ∷ cs) h = inr (listed {X = Chunk} (λ m x. Blanked (λ core. StringOf bytes_kind Read core x) m) l (codes "(") (codes ")") None _ (map normal_chunk (s ∷ cs)) (byte_chunks_each Read c (s ∷ cs) h))
 
@@ -85,7 +85,7 @@ colon_blank (listing.Lines k) = one_space
 
 -- no bytes are no item
 nothing_embedded : (left : ℕ) (e : Item) → embedded_at left [] ≡ Some e → ⊥
-nothing_embedded left e h = let none : if_whole (item_at left []) ≡ None = ap if_whole (item_at-nothing left) in absurd cc
+nothing_embedded left e h = let none : if_whole (item_at left []) ≡ None = ap if_whole (item_nothing left) in absurd cc
 
 -- what of a sequence is no item follows it
 rest_read : {Read : List ℕ → Item → Type 0} (c : Context) (shown bytes rest : List ℕ) → Notation Read shown bytes → AllBytes rest → Joined (Notation Read) (shown ++ rest_text c rest) (bytes ++ rest)

@@ -33,10 +33,6 @@ unfolding members
 row_is k [] = refl
 row_is k (m ∷ ms) = ap (λ r. codes ", " ++ (m ++ r)) (row_is k ms)
 
-
-
-
-
 regroup : (a b c d : List ℕ) → (codes "," ++ (a ++ (b ++ c))) ++ d ≡ codes "," ++ ((a ++ b) ++ (c ++ d))
 regroup a b c d = simp append_assoc
 

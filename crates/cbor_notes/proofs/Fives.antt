@@ -62,9 +62,10 @@ bits_again group is =
     let number : ℕ = forty_bits group / 32 ^ (8 - k) in
     let scaled : forty_bits group < 32 ^ k * 32 ^ (8 - k) =
     rw (← pow-add 32 k (8 - k)) (let whole : k + (8 - k) ≡ 8 = omega arith in rw whole bits.small) in
-    let small : number < 32 ^ k = div_below (forty_bits group) (32 ^ (8 - k)) (32 ^ k) (one-le-pow (8 - k) 32 (lit< tt)) scaled in
-    (ap length (values_are group k few) ∙ length-places 32 k number,
-    ap (λ (v : List ℕ). number_from_digits 32 v * 32 ^ (8 - k)) (values_are group k few) ∙ (ap (λ (n : ℕ). n * 32 ^ (8 - k)) (number-places 32 k number (lit< tt) small) ∙ bits.whole))
+    let small : number < 32 ^ k = div_below (forty_bits group) (32 ^ (8 - k)) (32 ^ k) (one-le-pow (8 - k) 32 (lit< tt)) scaled in (
+      ap length (values_are group k few) ∙ length-places 32 k number,
+      ap (λ (v : List ℕ). number_from_digits 32 v * 32 ^ (8 - k)) (values_are group k few) ∙ (ap (λ (n : ℕ). n * 32 ^ (8 - k)) (number-places 32 k number (lit< tt) small) ∙ bits.whole),
+    )
 
 bytes_again : (group : List ℕ) (n : ℕ) → n ≡ length group → n ≤ 5 → AreBytes group → take n (places 256 5 (number_from_digits 256 group * 256 ^ (5 - n))) ≡ group
 bytes_again group n n_is few all =

@@ -32,7 +32,8 @@ pub use identifier::uuid_lines;
 pub use line::{Line, merge, put_line};
 pub use tags::tag_name;
 pub use text::{
-    escaped_text, grouped, push_escaped_text, push_grouped, push_hex, push_quoted_bytes, quoted_bytes,
+    escaped_text, grouped, push_escaped_text, push_grouped, push_hex, push_quoted_bytes,
+    quoted_bytes,
 };
 pub use token::{blank_end, digits_at, number_at, quoted_at};
 pub use url_text::url_verdict;

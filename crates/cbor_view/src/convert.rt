@@ -11,12 +11,7 @@ use cbor_diag::{DataItem, Error, parse_bytes, parse_diag, parse_hex};
 use std::alloc::Global;
 
 /// The output for an input, which is let go as soon as its item is read.
-pub(crate) fn convert(
-    alloc: Global,
-    from: Source,
-    to: To,
-    input: Vec<u8>,
-) -> Result<Vec<u8>, Error>
+pub(crate) fn convert(alloc: Global, from: Source, to: To, input: Vec<u8>) -> Result<Vec<u8>, Error>
     ensures ok { IfOk result (λ output. IsOutput from to input.items (Ok output.items)) }
     ensures refused { RefusedSo result (λ e. IsOutput from to input.items (Err e)) }
 {

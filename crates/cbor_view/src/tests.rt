@@ -218,7 +218,11 @@ fn refuses(rt: HostRuntime) -> Result<(), Fail> {
         ("hex", b"0\t".as_slice(), "not a hex digit"),
         ("hex", b"1c".as_slice(), "no item can have this head"),
         ("diag", b"".as_slice(), "not diagnostic notation"),
-        ("diag", b"300_0".as_slice(), "a number does not fit its width"),
+        (
+            "diag",
+            b"300_0".as_slice(),
+            "a number does not fit its width",
+        ),
         ("diag", b"\"\xff\"".as_slice(), "a text is not UTF-8"),
         ("hex", b"01 # \xff".as_slice(), "a text is not UTF-8"),
     ];

@@ -63,6 +63,7 @@ six_bits-lt : (digit : ℕ) → six_bits digit < 64
 six_bits-lt digit = by_tests ((digit == 43) || (digit == 45)) ((digit == 47) || (digit == 95)) where
   letters : List ℕ
   letters = codes "ABCDEFGHIJKLMNOPQRSTUVWXYZabcdefghijklmnopqrstuvwxyz0123456789"
+
   by_tests : (s t : Bool) → (if s then 62 else if t then 63 else value_in letters digit) < 64
   by_tests true t = lit< tt
   by_tests false true = lit< tt
@@ -93,10 +94,13 @@ unfolding base64_of
 base64_found digits bytes e = by_first (if_encoded url_safe digits answer) refl e where
   values : List ℕ
   values = map six_bits (unpadded digits)
+
   answer : List ℕ
   answer = from_sixes values
+
   are : AreBytes answer
   are = from_sixes_are values (all_six_bits (unpadded digits))
+
   by_first : (r : Option (List ℕ)) → if_encoded url_safe digits answer ≡ r → either r (if_encoded standard digits answer) ≡ Some bytes → AreBytes bytes × ((digits ≡ url_safe bytes) ⊎ (digits ≡ standard bytes))
   by_first None first is =
       let found = encoded_is standard digits answer bytes is in

@@ -20,8 +20,8 @@ holds_of test [] b all some = cc some
 holds_of test (c ∷ bytes) b all some =
     let parts = and_parts (test c) (list_all test bytes) all in
     elim (or_cases (c == b) (is_one_of bytes b) some) [
-      inl is ↦ subst (λ (x : ℕ). test x ≡ true) (eqb-true c b is) parts.0
-    | inr more ↦ holds_of test bytes b parts.1 more
+      | inl is ↦ subst (λ (x : ℕ). test x ≡ true) (eqb-true c b is) parts.0
+      | inr more ↦ holds_of test bytes b parts.1 more
     ]
 
 -- the text begins with one of them

@@ -95,11 +95,11 @@ module _ (few many : List ℕ → Read Item) (grows : (text : List ℕ) → Grow
   pieces_grow texts zero text = inr (no_pieces few texts text ∙ sym (no_pieces many texts text))
   pieces_grow texts (suc n) text =
       elim (cases_Bool (begins_piece texts (first_start text))) [
-        inl e ↦
-          rw (pieces_go few texts n text e, pieces_go many texts n text e)
-          (grows_then (piece_at few text) (piece_at many text) _ _ (piece_grows text) (λ x.
-          grows_made (pieces_at few texts n (blank_at x.1)) (pieces_at many texts n (blank_at x.1)) _ (pieces_grow texts n (blank_at x.1))))
-      | inr e ↦ inr (pieces_stop few texts n text e ∙ sym (pieces_stop many texts n text e))
+        | inl e ↦
+            rw (pieces_go few texts n text e, pieces_go many texts n text e)
+            (grows_then (piece_at few text) (piece_at many text) _ _ (piece_grows text) (λ x.
+            grows_made (pieces_at few texts n (blank_at x.1)) (pieces_at many texts n (blank_at x.1)) _ (pieces_grow texts n (blank_at x.1))))
+        | inr e ↦ inr (pieces_stop few texts n text e ∙ sym (pieces_stop many texts n text e))
       ]
 
   string_of_grows : (kind : StringKind) (text : List ℕ) (begins : Bool) → Grows (string_of few kind text begins) (string_of many kind text begins)

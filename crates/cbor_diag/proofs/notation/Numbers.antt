@@ -28,8 +28,8 @@ pub at_one_of : (P : ℕ → Type 0) (bytes : List ℕ) (b : ℕ) → AllByRecur
 at_one_of P [] b all some = cc some
 at_one_of P (c ∷ bytes) b all some =
     elim (or_cases (c == b) (is_one_of bytes b) some) [
-      inl is ↦ subst P (eqb-true c b is) all.0
-    | inr more ↦ at_one_of P bytes b all.1 more
+      | inl is ↦ subst P (eqb-true c b is) all.0
+      | inr more ↦ at_one_of P bytes b all.1 more
     ]
 
 decimal_digit : (d : ℕ) → digit_value d < 10 → is_one_of digits d ≡ true

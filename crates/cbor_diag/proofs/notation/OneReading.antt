@@ -24,8 +24,8 @@ same_item few many text i j is is_too (inr e) =
 pub one_reading : (limit other : ℕ) (text : List ℕ) (i j : Item) → Reads limit text i → Reads other text j → i ≡ j
 one_reading limit other text i j is is_too =
     elim (cases_lt limit other) [
-      inl less ↦ same_item limit other text i j is is_too (levels_more limit other text (omega arith))
-    | inr le ↦ sym (same_item other limit text j i is_too is (levels_more other limit text le))
+      | inl less ↦ same_item limit other text i j is is_too (levels_more limit other text (omega arith))
+      | inr le ↦ sym (same_item other limit text j i is_too is (levels_more other limit text le))
     ]
 
 -- what a limit reads is read under a smaller one too, or is TooDeep there

@@ -162,7 +162,7 @@ module _ (Reads : List ℕ → Item → Type 0) (read : List ℕ → Read Item) 
         piece_again Reads read it kind text bytes (after ++ rest) is,
         follows_passed after rest is_blank follows,
         pieces_stop read (may_have_texts kind) n rest (ends_there (may_have_texts kind) rest follows),
-        append-nil bytes
+        append-nil bytes,
       ) refl
   joined_again kind (suc (suc n)) text bytes after rest lt is_blank follows (more first blank others bytes_first bytes_rest text_is bytes_is is blank_is then) =
       let tail : List ℕ = others ++ (after ++ rest) in
@@ -176,5 +176,5 @@ module _ (Reads : List ℕ → Item → Type 0) (read : List ℕ → Read Item) 
         piece_again Reads read it kind first bytes_first (blank ++ tail) is,
         starts_passed blank tail blank_is starts,
         joined_again kind (suc n) others bytes_rest after rest shorter is_blank follows then,
-        bytes_is
+        bytes_is,
       ) refl

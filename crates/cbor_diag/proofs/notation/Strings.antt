@@ -49,7 +49,7 @@ string_again Reads read it kind text after rest c is is_blank follows =
     rw (
       string_goes kind whole begins,
       joined_again Reads read it kind (suc (length whole)) text c.bytes after rest enough is_blank follows is.2,
-      checked_again kind c is.0 is.3
+      checked_again kind c is.0 is.3,
     ) refl
 
 -- ---- no string begins as an indefinite one of no chunks does
@@ -77,10 +77,10 @@ quoted_no_word quote (c ∷ content) rest other ends =
     let tail : List ℕ = in_quotes quote content ++ quote ∷ rest in
     let parts : quote ∷ (in_quotes quote (c ∷ content) ++ quote ∷ rest) ≡ quote ∷ (escaped_byte quote c ++ tail) = ap (λ (t : List ℕ). quote ∷ t) (append_assoc (escaped_byte quote c) (in_quotes quote content) (quote ∷ rest)) in
     ap (after_word (empty_word quote)) parts ∙ elim (cases_Bool ((c == quote) || (c == 92))) [
-      inl special ↦ rw special (no_word (empty_word quote) (quote ∷ 92 ∷ c ∷ tail) (rw (eq-eqb quote quote refl, ne_eqb quote 92 other) refl))
-    | inr plain ↦
-        let apart : quote ≢ c = λ e. eqb-false c quote (or_parts (c == quote) (c == 92) plain).0 (sym e) in
-        rw plain (no_word (empty_word quote) (quote ∷ c ∷ tail) (rw (eq-eqb quote quote refl, ne_eqb quote c apart) refl))
+      | inl special ↦ rw special (no_word (empty_word quote) (quote ∷ 92 ∷ c ∷ tail) (rw (eq-eqb quote quote refl, ne_eqb quote 92 other) refl))
+      | inr plain ↦
+          let apart : quote ≢ c = λ e. eqb-false c quote (or_parts (c == quote) (c == 92) plain).0 (sym e) in
+          rw plain (no_word (empty_word quote) (quote ∷ c ∷ tail) (rw (eq-eqb quote quote refl, ne_eqb quote c apart) refl))
     ]
 
 -- the quote of each kind

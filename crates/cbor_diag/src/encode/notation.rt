@@ -10,7 +10,7 @@ mod scalars;
 ghost use Rattle.std.specs.Prelude.{◌≡◌, true, ◌+◌, ◌-◌, ◌*◌, ◌<◌, ◌≤◌, ◌++◌, ℕ, OnOk, IfOk, IfErr, codes, map};
 ghost use Rattle.std.specs.String.{string_bytes};
 ghost use Rattle.cbor_diag.specs.View.{view, items_view, pairs_view, byte_chunk, text_chunk};
-ghost use Rattle.cbor_diag.specs.Notation.{Reads};
+ghost use Rattle.cbor_diag.specs.Notation.{IsNotation};
 ghost use Rattle.cbor_diag.specs.declared.encode.notation.context.Encoding.{Encoding};
 ghost use Rattle.cbor_diag.specs.Item.{Item};
 ghost use Rattle.cbor_diag.specs.Estimate.{full, long};
@@ -230,10 +230,15 @@ impl DataItem {
         requires { IsWellFormed (view self.now) }
         ensures text { IfOk result (λ s. string_bytes s ≡ diag_of (view self.now)) }
         // It is read back as the normal form.
-        ensures read_back { IfOk result (λ s. Reads 128 (string_bytes s) (normal_of (view self.now))) }
+        ensures read_back { IfOk result (λ s.
+            IsNotation (string_bytes s) (normal_of (view self.now))) }
         // The text tells the normal form: it is that of the normal form, whose normal form is itself.
         ensures of_normal { diag_of (normal_of (view self.now)) ≡ diag_of (view self.now) }
         ensures normal_once { normal_of (normal_of (view self.now)) ≡ normal_of (view self.now) }
+        // Two items have the same text exactly where their normal forms are the same.
+        ensures alike { (other : Item) → IsWellFormed other
+            → (diag_of (view self.now) ≡ diag_of other)
+                ↔ (normal_of (view self.now) ≡ normal_of other) }
         ensures refused { IfErr result (λ e. e ≡ Error.Memory) }
     {
         let mut out = String::new(alloc);
@@ -248,7 +253,8 @@ impl DataItem {
         requires { IsWellFormed (view self.now) }
         ensures text { IfOk result (λ s. string_bytes s ≡ pretty_of (view self.now)) }
         // It is read back as the normal form.
-        ensures read_back { IfOk result (λ s. Reads 128 (string_bytes s) (normal_of (view self.now))) }
+        ensures read_back { IfOk result (λ s.
+            IsNotation (string_bytes s) (normal_of (view self.now))) }
         // A container is on one line exactly where its whole estimate is below 60, at any level and indent.
         ensures one_line { (level indent : ℕ) (e : Encoding) (i : Item) → level ≤ deepest
             → full i < long → pretty e level indent i ≡ in_one_line e level indent i }

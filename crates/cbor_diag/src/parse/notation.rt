@@ -147,11 +147,7 @@ fn items_at(alloc: Global, close: u8, text: &[u8], level: u8) -> Result<(Vec<Dat
 
 /// The pairs of a map behind its opening, up to its close.
 #[cycle(diag)]
-fn pairs_at(
-    alloc: Global,
-    text: &[u8],
-    level: u8,
-) -> Result<(Vec<(DataItem, DataItem)>, &[u8])>
+fn pairs_at(alloc: Global, text: &[u8], level: u8) -> Result<(Vec<(DataItem, DataItem)>, &[u8])>
     requires { level ≤ 129 }
     ensures gives { Gives (λ x. (map (λ p. (view p.0, view p.1)) x.0.items, x.1.now)) result
         (members_at (pair_at (item_at (129 - level))) 125 text.now) }

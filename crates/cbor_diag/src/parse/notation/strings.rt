@@ -152,7 +152,11 @@ fn text_string_at(alloc: Global, text: &[u8], inner: u8) -> crate::Result<(TextS
 
 /// A byte string, or `''_`, an indefinite one of no chunks.
 #[cycle(diag)]
-pub(super) fn byte_item_at(alloc: Global, text: &[u8], inner: u8) -> crate::Result<(DataItem, &[u8])>
+pub(super) fn byte_item_at(
+    alloc: Global,
+    text: &[u8],
+    inner: u8,
+) -> crate::Result<(DataItem, &[u8])>
     requires low { 1 ≤ inner }
     requires high { inner ≤ 129 }
     ensures gives { Gives (λ x. (view x.0, x.1.now)) result
@@ -169,7 +173,11 @@ pub(super) fn byte_item_at(alloc: Global, text: &[u8], inner: u8) -> crate::Resu
 
 /// A text string, or `""_`, an indefinite one of no chunks.
 #[cycle(diag)]
-pub(super) fn text_item_at(alloc: Global, text: &[u8], inner: u8) -> crate::Result<(DataItem, &[u8])>
+pub(super) fn text_item_at(
+    alloc: Global,
+    text: &[u8],
+    inner: u8,
+) -> crate::Result<(DataItem, &[u8])>
     requires low { 1 ≤ inner }
     requires high { inner ≤ 129 }
     ensures gives { Gives (λ x. (view x.0, x.1.now)) result

@@ -8,6 +8,7 @@ use Rattle.cbor_diag.specs.NotationText.{in_encoding, text_at}
 use Rattle.cbor_diag.specs.Normal.{normal_at}
 use Rattle.cbor_diag.proofs.ReadBack.{reads_back}
 use Rattle.cbor_diag.proofs.NormalText.{normal_text, normal_twice}
+use Rattle.cbor_diag.proofs.TextsAlike.{texts_alike}
 use Rattle.cbor_diag.proofs.syntax.DataItem.to_diag.Goals as goal
 
 pub returns-in_err-push_item-clause-of_normal : goal.returns-in_err-push_item-clause-of_normal
@@ -27,3 +28,9 @@ returns-clause-read_back c =
     let i = view c.args.self.now in
     let written = c.in_ok-push_item.ensures.text ∙ ap (λ x. x ++ text_at 128 c.new.result i) c.new-out.ensures.bytes ∙ ap (λ k. text_at 128 k i) c.new.ensures in
     subst (λ x. Reads 128 x (normal_at 128 Bytes i)) (sym written) (reads_back 1 128 (omega arith) (in_encoding Compact Base16) i c.requires)
+
+pub returns-in_err-push_item-clause-alike : goal.returns-in_err-push_item-clause-alike
+returns-in_err-push_item-clause-alike c = λ other well. texts_alike (view c.args.self.now) other c.requires well
+
+pub returns-clause-alike : goal.returns-clause-alike
+returns-clause-alike c = λ other well. texts_alike (view c.args.self.now) other c.requires well
