@@ -1,8 +1,8 @@
 -- A few items and their bytes, for which the definitions are computed.
-use Rattle.std.specs.Prelude.{ℕ, List, ◌∷◌, codes, Some, None}
+use Rattle.std.specs.Prelude.{ℕ, List, [], ◌∷◌, codes, Some, None}
 use Rattle.cbor_diag.specs.declared.syntax.IntegerWidth.TheVariants.{Unknown, Zero, Eight}
 use Rattle.cbor_diag.specs.Item as spec
-use Rattle.cbor_diag.specs.Item.{Item, atom, array, tagged, integer, byte_string, text_string, byte_chunks, simple, no_items, item, no_pairs, pair}
+use Rattle.cbor_diag.specs.Item.{Chunk, Item, atom, array, tagged, integer, byte_string, text_string, byte_chunks, simple, no_items, item, no_pairs, pair}
 
 abbrev pub small : ℕ → Item
 small n = atom (integer n Zero)
@@ -27,3 +27,18 @@ open_count = array (item (small 0) no_items) (Some Unknown)
 
 abbrev pub resolved_count : Item
 resolved_count = array (item (small 0) no_items) (Some Zero)
+
+-- byte strings of an open width
+abbrev pub chunk : List ℕ → Chunk
+chunk content = record { bytes = content; width = Unknown }
+
+abbrev pub bytes : List ℕ → Item
+bytes content = atom (byte_string (chunk content))
+
+-- texts that are no item in diagnostic notation
+abbrev pub no_items_in_notation : List (List ℕ)
+no_items_in_notation =
+    codes "" ∷ codes "/x" ∷ codes "1_4" ∷ codes "1.5" ∷ codes "-0" ∷ codes "300_0" ∷ codes "18446744073709551616" ∷ codes "32 (1)"
+    ∷ codes "[1,]" ∷ codes "[1,/x/ ]" ∷ codes "[,1]" ∷ codes "{1}" ∷ codes "h' '" ∷ codes "h'0'" ∷ codes "b32'MZXW7==='" ∷ codes "'\\n'"
+    ∷ codes "h'61' \"b\"" ∷ codes "h''_" ∷ codes "(_''_)" ∷ codes "<<1> >"
+    ∷ codes "simple(256)" ∷ codes "simple( 1)" ∷ codes "float'3c0'" ∷ codes "1 2" ∷ []

@@ -1,6 +1,7 @@
 // Items read from diagnostic notation.
 
 use cbor_diag::{DataItem, Error, FloatWidth, IntegerWidth, Simple, parse_bytes, parse_diag};
+use std::alloc::Global;
 use std::test::Fail;
 
 // Texts, and the item that each is, in hex.
@@ -114,8 +115,8 @@ fn widths_are_kept(rt: HostRuntime) -> Result<(), Fail> {
 }
 
 // So many times the opening, the middle, and so many times the close.
-fn nested(rt: &impl Alloc, count: usize, open: &str, middle: &str, close: &str) -> Result<String, Fail> {
-    let mut text = String::new(rt.alloc());
+fn nested(alloc: Global, count: usize, open: &str, middle: &str, close: &str) -> Result<String, Fail> {
+    let mut text = String::new(alloc);
     for _ in 0..count {
         text.push_str(open)?;
     }
@@ -139,7 +140,7 @@ fn levels_are_128(rt: HostRuntime) -> Result<(), Fail> {
         (200_000, "[", "", "", Some(Error::TooDeep)),
     ];
     for (count, open, middle, close, error) in rows {
-        let text = nested(&rt, count, open, middle, close)?;
+        let text = nested(rt.alloc(), count, open, middle, close)?;
         assert_eq!(rt; parse_diag(rt.alloc(), &text).err(), error, "{count} {open}");
     }
     Ok(())
