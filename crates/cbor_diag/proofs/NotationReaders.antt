@@ -75,3 +75,10 @@ module _ (limit : ℕ) (text : List ℕ) where
           | inr found ↦ absurd (no_both i e (notation_of limit text) found other)
         ]
       ]
+
+-- what reading gives a text is what the text is, and a text that it refuses is nothing
+pub is_read : (limit : ℕ) (text : List ℕ) (i : Item) → notation_of limit text ≡ Ok i → Reads limit text i
+is_read limit text i e = subst (IsAnswered limit text) e (notation_sound limit text)
+
+pub not_read : (limit : ℕ) (text : List ℕ) (e : Error) → notation_of limit text ≡ Err e → (i : Item) → ¬ (Reads limit text i)
+not_read limit text e refused i is = no_both i e (notation_of limit text) (notation_again limit text i is) refused

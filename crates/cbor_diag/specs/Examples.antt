@@ -2,7 +2,7 @@
 use Rattle.std.specs.Prelude.{ℕ, zero, suc, List, [], ◌∷◌, codes, Some, None}
 use Rattle.cbor_diag.specs.declared.syntax.IntegerWidth.TheVariants.{Unknown, Zero, Eight}
 use Rattle.cbor_diag.specs.Item as spec
-use Rattle.cbor_diag.specs.Item.{Item, Items, atom, array, tagged, integer, byte_string, text_string, byte_chunks, simple}
+use Rattle.cbor_diag.specs.Item.{Chunk, Item, Items, atom, array, tagged, integer, byte_string, text_string, byte_chunks, simple}
 use Rattle.cbor_diag.specs.Item.{no_items, item, no_pairs, pair}
 
 abbrev pub small : ℕ → Item
@@ -67,3 +67,17 @@ nested (suc n) = array (item (nested n) no_items) (Some Zero)
 abbrev pub nested_bytes : ℕ → List ℕ
 nested_bytes zero = 1 ∷ []
 nested_bytes (suc n) = 0x81 ∷ nested_bytes n
+-- byte strings of an open width
+abbrev pub chunk : List ℕ → Chunk
+chunk content = record { bytes = content; width = Unknown }
+
+abbrev pub open_bytes : List ℕ → Item
+open_bytes content = atom (byte_string (chunk content))
+
+-- texts that are no item in diagnostic notation
+abbrev pub no_items_in_notation : List (List ℕ)
+no_items_in_notation =
+    codes "" ∷ codes "/x" ∷ codes "1_4" ∷ codes "1.5" ∷ codes "-0" ∷ codes "300_0" ∷ codes "18446744073709551616" ∷ codes "32 (1)"
+    ∷ codes "[1,]" ∷ codes "[1,/x/ ]" ∷ codes "[,1]" ∷ codes "{1}" ∷ codes "h' '" ∷ codes "h'0'" ∷ codes "b32'MZXW7==='" ∷ codes "'\\n'"
+    ∷ codes "h'61' \"b\"" ∷ codes "h''_" ∷ codes "(_''_)" ∷ codes "<<1> >"
+    ∷ codes "simple(256)" ∷ codes "simple( 1)" ∷ codes "float'3c0'" ∷ codes "1 2" ∷ []

@@ -1,9 +1,10 @@
 //! What the definitions of `specs/` say of a few inputs: each is computed, or shown by a witness,
 //! when the crate is checked, so that a wrong definition does not pass. Nothing calls these functions.
 ghost use Rattle.std.specs.Prelude.{◌≡◌, [], ◌∷◌, ◌++◌, codes};
+ghost use Rattle.std.specs.List.{AllByRecursion};
 ghost use Rattle.cbor_diag.specs.declared.error.Error.TheVariants.{Head, Utf8, TooDeep};
 ghost use Rattle.cbor_diag.specs.declared.syntax.IntegerWidth.TheVariants.{Unknown, Zero, Eight, Sixteen};
-ghost use Rattle.cbor_diag.specs.Item.{atom, array, simple, integer, byte_chunks, item, no_items};
+ghost use Rattle.cbor_diag.specs.Item.{atom, array, simple, integer, byte_chunks, item, no_items, Item, tagged, negative, float, text_chunks};
 ghost use Rattle.cbor_diag.specs.WellFormed.{WellFormed};
 ghost use Rattle.cbor_diag.specs.Written.{encoded, encoded_open, resolve};
 ghost use Rattle.cbor_diag.specs.Bytes.{any, strict, Spells};
@@ -14,8 +15,10 @@ ghost use Rattle.cbor_diag.specs.Estimate.{full};
 ghost use Rattle.cbor_diag.specs.Normal.{normal};
 ghost use Rattle.cbor_diag.specs.Pretty.{pretty};
 ghost use Rattle.cbor_diag.specs.HexText.{strip};
-ghost use Rattle.cbor_diag.specs.Examples.{small, uri, uri_bytes, three, open_map, open_count, resolved_count, over_bytes, nested_tag, encodings, ones, two_chunks, nested, nested_bytes};
+ghost use Rattle.cbor_diag.specs.Examples.{small, uri, uri_bytes, three, open_map, open_count, resolved_count, over_bytes, nested_tag, encodings, ones, two_chunks, nested, nested_bytes, bytes, no_items_in_notation, open_bytes};
 ghost use Rattle.cbor_diag.specs.Turns.{item_turns, cut_spent, fault_spent};
+ghost use Rattle.cbor_diag.specs.Notation.{ReadsUnder};
+ghost use Rattle.cbor_diag.specs.declared.syntax.FloatWidth.TheVariants as float_width;
 
 /// Items in bytes. A count of 255 takes one byte, and a simple value below 24 takes no second one.
 pub(crate) fn written()
@@ -122,4 +125,41 @@ pub(crate) fn turns_taken()
     ensures nothing { (c : Cut 1 []) × (cut_spent c ≡ 0) }
     ensures member { (c : Cut 1 (0x82 ∷ 0x81 ∷ 1 ∷ [])) × (cut_spent c ≡ 4) }
     ensures too_deep { (f : Fault 1 (nested_bytes 128) TooDeep) × (fault_spent f ≡ 128) }
+{}
+
+/// Texts that are an item in diagnostic notation: numbers in bases, with leading zeros and indicators, blanks
+/// round them, tags, and last commas.
+pub(crate) fn notation_items()
+    ensures blanks { ReadsUnder 1 (codes "/x/ 1 //") (small 1) }
+    ensures hex { ReadsUnder 1 (codes "0x18") (atom (integer 24 Unknown)) }
+    ensures octal { ReadsUnder 1 (codes "0o30") (atom (integer 24 Unknown)) }
+    ensures binary { ReadsUnder 1 (codes "0b11_1") (atom (integer 3 Sixteen)) }
+    ensures zeros { ReadsUnder 1 (codes "001_00") (atom (integer 1 Eight)) }
+    ensures negative { ReadsUnder 1 (codes "-0x18") (atom (negative 23 Zero)) }
+    ensures least { ReadsUnder 1 (codes "-256_0") (atom (negative 255 Eight)) }
+    ensures tag { ReadsUnder 2 (codes "32( 1 )") (tagged 32 Unknown (small 1)) }
+    ensures last_comma { ReadsUnder 2 (codes "[1, ]") (array (item (small 1) no_items) (Some Unknown)) }
+    ensures no_member { ReadsUnder 1 (codes "[/x/, ]") (array no_items (Some Unknown)) }
+    ensures open_map { ReadsUnder 2 (codes "{_ 1: 2}") open_map }
+    ensures simple { ReadsUnder 1 (codes "simple(032)") (atom (simple 32)) }
+    ensures float { ReadsUnder 1 (codes "float'3C00'") (atom (float 15360 float_width.Sixteen)) }
+{}
+
+/// Strings in diagnostic notation: each notation of bytes, and indefinite strings of no chunks.
+pub(crate) fn notation_strings()
+    ensures spaced { ReadsUnder 1 (codes "h'/x/0 1'") (open_bytes (1 ∷ [])) }
+    ensures base32 { ReadsUnder 1 (codes "b32'MZXW6==='") (open_bytes (codes "foo")) }
+    ensures base32hex { ReadsUnder 1 (codes "h32'CPNMU==='") (open_bytes (codes "foo")) }
+    ensures base64 { ReadsUnder 1 (codes "b64'/x/0'") (open_bytes (255 ∷ 31 ∷ 244 ∷ [])) }
+    ensures escaped { ReadsUnder 1 (codes "'it\\'s'") (open_bytes (codes "it's")) }
+    ensures embedded { ReadsUnder 2 (codes "<<1, >>") (open_bytes (1 ∷ [])) }
+    ensures no_chunks { ReadsUnder 1 (codes "(_ )") (atom (byte_chunks [])) }
+    ensures no_bytes { ReadsUnder 1 (codes "''_") (atom (byte_chunks [])) }
+    ensures no_texts { ReadsUnder 1 (codes "\"\"_") (atom (text_chunks [])) }
+{}
+
+/// Texts that are no item: an indicator past 3, a value past its width, no whitespace behind a last comma, a
+/// blank before the parenthesis of a tag, digits that encode nothing, an escape too many, and others.
+pub(crate) fn notation_refused()
+    ensures { AllByRecursion (λ text. (i : Item) → ¬ (ReadsUnder 128 text i)) no_items_in_notation }
 {}
