@@ -225,9 +225,9 @@ pub(crate) fn whole_at(alloc: Global, bytes: &[u8], level: u8) -> Result<DataIte
 /// Reads one item from all of the bytes (RFC 7049 section 2), keeping how it was encoded.
 ///
 /// Refuses with `CutShort` where the bytes end before the item does, `Remaining` where bytes follow
-/// it, and the first fault from the left otherwise: `Head`, `Utf8` or `TooDeep`. A claimed length or
-/// count takes no memory; an input that is empty, or whose first byte has major type 0, 1 or 7, takes
-/// none at all.
+/// it, and the first fault from the left otherwise: `Head`, `Utf8` or `TooDeep`. A claimed length takes
+/// no memory, and a claimed count room for a few members at most, where as many bytes follow; an input that
+/// is empty, or whose first byte has major type 0, 1 or 7, takes none at all.
 pub fn parse_bytes(alloc: Global, bytes: &[u8]) -> Result<DataItem>
     // The item that the bytes are, exactly where they are one.
     ensures ok { IfOk result (λ i. IsItem bytes.now (view i)) }
