@@ -67,6 +67,7 @@ nested (suc n) = array (item (nested n) no_items) (Some Zero)
 abbrev pub nested_bytes : ℕ → List ℕ
 nested_bytes zero = 1 ∷ []
 nested_bytes (suc n) = 0x81 ∷ nested_bytes n
+
 -- byte strings of an open width
 abbrev pub chunk : List ℕ → Chunk
 chunk content = record { bytes = content; width = Unknown }

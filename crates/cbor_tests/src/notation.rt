@@ -57,10 +57,44 @@ const READ: &[(&str, &str)] = &[
 
 // Texts that are no item.
 const REFUSED: &[&str] = &[
-    "", "/x", "1_4", "1.5", "-0", "0x", "18446744073709551616", "32 (\"x\")", "32(\"x\"", "h' '", "h'0'",
-    "b32'MZXW7==='", "b64'AA='", "'\\n'", "\"\\n\"", "h'61' \"b\"", "[1,]", "[1,/x/ ]", "[1, /x/]", "[,1]",
-    "[1 2]", "{1}", "(_ \"a\", h'62')", "\"\" _", "\"a\" \"\"_", "h''_", "<<>>_", "(_''_)", "( _)", "[ _ 1]",
-    "<<1> >", "simple(256)", "simple( 1)", "simple(0x1)", "simple()", "float'3c0'", "1 2", "nul",
+    "",
+    "/x",
+    "1_4",
+    "1.5",
+    "-0",
+    "0x",
+    "18446744073709551616",
+    "32 (\"x\")",
+    "32(\"x\"",
+    "h' '",
+    "h'0'",
+    "b32'MZXW7==='",
+    "b64'AA='",
+    "'\\n'",
+    "\"\\n\"",
+    "h'61' \"b\"",
+    "[1,]",
+    "[1,/x/ ]",
+    "[1, /x/]",
+    "[,1]",
+    "[1 2]",
+    "{1}",
+    "(_ \"a\", h'62')",
+    "\"\" _",
+    "\"a\" \"\"_",
+    "h''_",
+    "<<>>_",
+    "(_''_)",
+    "( _)",
+    "[ _ 1]",
+    "<<1> >",
+    "simple(256)",
+    "simple( 1)",
+    "simple(0x1)",
+    "simple()",
+    "float'3c0'",
+    "1 2",
+    "nul",
 ];
 
 #[test]
@@ -77,7 +111,11 @@ fn texts_are_items(rt: HostRuntime) -> Result<(), Fail> {
 #[test]
 fn texts_are_no_items(rt: HostRuntime) -> Result<(), Fail> {
     for text in REFUSED {
-        assert_eq!(rt; parse_diag(rt.alloc(), *text).err(), Some(Error::Notation), "{text}");
+        assert_eq!(rt;
+            parse_diag(rt.alloc(), *text).err(),
+            Some(Error::Notation),
+            "{text}"
+        );
     }
     Ok(())
 }
@@ -101,21 +139,45 @@ fn refusals_have_their_reasons(rt: HostRuntime) -> Result<(), Fail> {
 fn widths_are_kept(rt: HostRuntime) -> Result<(), Fail> {
     let alloc = rt.alloc();
     let (value, bitwidth) = (24, IntegerWidth::Unknown);
-    assert_eq!(rt; parse_diag(alloc, "24")?, DataItem::Integer { value, bitwidth });
+    assert_eq!(rt;
+        parse_diag(alloc, "24")?,
+        DataItem::Integer { value, bitwidth }
+    );
     let (value, bitwidth) = (23, IntegerWidth::Zero);
-    assert_eq!(rt; parse_diag(alloc, "-24")?, DataItem::Negative { value, bitwidth });
+    assert_eq!(rt;
+        parse_diag(alloc, "-24")?,
+        DataItem::Negative { value, bitwidth }
+    );
     let (value, bitwidth) = (1, IntegerWidth::Eight);
-    assert_eq!(rt; parse_diag(alloc, "1_0")?, DataItem::Integer { value, bitwidth });
+    assert_eq!(rt;
+        parse_diag(alloc, "1_0")?,
+        DataItem::Integer { value, bitwidth }
+    );
     let (content, bitwidth) = (Vec::new(alloc), Some(IntegerWidth::Unknown));
-    assert_eq!(rt; parse_diag(alloc, "[]")?, DataItem::Array { content, bitwidth });
+    assert_eq!(rt;
+        parse_diag(alloc, "[]")?,
+        DataItem::Array { content, bitwidth }
+    );
     let (bits, bitwidth) = (0x3c00, FloatWidth::Sixteen);
-    assert_eq!(rt; parse_diag(alloc, "float'3c00'")?, DataItem::Float { bits, bitwidth });
-    assert_eq!(rt; parse_diag(alloc, "simple(20)")?, DataItem::Simple(Simple::FALSE));
+    assert_eq!(rt;
+        parse_diag(alloc, "float'3c00'")?,
+        DataItem::Float { bits, bitwidth }
+    );
+    assert_eq!(rt;
+        parse_diag(alloc, "simple(20)")?,
+        DataItem::Simple(Simple::FALSE)
+    );
     Ok(())
 }
 
 // So many times the opening, the middle, and so many times the close.
-fn nested(alloc: Global, count: usize, open: &str, middle: &str, close: &str) -> Result<String, Fail> {
+fn nested(
+    alloc: Global,
+    count: usize,
+    open: &str,
+    middle: &str,
+    close: &str,
+) -> Result<String, Fail> {
     let mut text = String::new(alloc);
     for _ in 0..count {
         text.push_str(open)?;
@@ -141,7 +203,11 @@ fn levels_are_128(rt: HostRuntime) -> Result<(), Fail> {
     ];
     for (count, open, middle, close, error) in rows {
         let text = nested(rt.alloc(), count, open, middle, close)?;
-        assert_eq!(rt; parse_diag(rt.alloc(), &text).err(), error, "{count} {open}");
+        assert_eq!(rt;
+            parse_diag(rt.alloc(), &text).err(),
+            error,
+            "{count} {open}"
+        );
     }
     Ok(())
 }

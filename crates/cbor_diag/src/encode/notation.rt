@@ -238,7 +238,7 @@ impl DataItem {
         // Two items have the same text exactly where their normal forms are the same.
         ensures alike { (other : Item) → IsWellFormed other
             → (diag_of (view self.now) ≡ diag_of other)
-                ↔ (normal_of (view self.now) ≡ normal_of other) }
+            ↔ (normal_of (view self.now) ≡ normal_of other) }
         ensures refused { IfErr result (λ e. e ≡ Error.Memory) }
     {
         let mut out = String::new(alloc);
