@@ -54,3 +54,4 @@ pub mod ReadTokens
 pub mod ReadLists
 pub mod ReadBack
 pub mod TextsAlike
+pub mod Loops

@@ -186,11 +186,11 @@ fn pair_at(alloc: Global, text: &[u8], level: u8) -> Result<((DataItem, DataItem
 }
 
 /// The item that a text is, all of it.
-fn whole_text(alloc: Global, text: &[u8]) -> Result<DataItem>
+fn whole_text(alloc: Global, text: &str) -> Result<DataItem>
     ensures gives { Gives view result (notation_of deepest text.now) }
     ensures well_formed { IfOk result (λ i. IsWellFormed (view i)) }
 {
-    let (item, rest) = item_at(alloc, text, 1)?;
+    let (item, rest) = item_at(alloc, text.as_bytes(), 1)?;
     if !rest.is_empty() {
         return Err(Error::Notation);
     }
@@ -224,5 +224,5 @@ pub fn parse_diag(alloc: Global, text: &str) -> Result<DataItem>
     // The item has an encoding.
     ensures well_formed { IfOk result (λ i. IsWellFormed (view i)) }
 {
-    whole_text(alloc, text.as_bytes())
+    whole_text(alloc, text)
 }
