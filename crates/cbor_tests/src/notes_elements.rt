@@ -51,88 +51,69 @@ fn sizes_of_elements(rt: HostRuntime) -> Result<(), Fail> {
 
 #[test]
 fn whole_numbers(rt: HostRuntime) -> Result<(), Fail> {
-    let alloc = rt.alloc();
-    let ones = [0xff; 8];
-    let low = [0x00, 0x00, 0x00, 0x00, 0x00, 0x00, 0x00, 0x80];
-    let high = [0x80, 0x00, 0x00, 0x00, 0x00, 0x00, 0x00, 0x00];
-    assert_eq!(rt; shown(alloc, 64, &[0xff])?.as_str(), "unsigned(255)");
-    assert_eq!(rt; shown(alloc, 68, &[0x80])?.as_str(), "unsigned(128)");
-    assert_eq!(rt; shown(alloc, 65, &[0x01, 0x02])?.as_str(), "unsigned(258)");
-    assert_eq!(rt; shown(alloc, 69, &[0x01, 0x02])?.as_str(), "unsigned(513)");
-    assert_eq!(rt;
-        shown(alloc, 66, &[0, 0, 3, 0xe8])?.as_str(),
-        "unsigned(1,000)"
-    );
-    assert_eq!(rt;
-        shown(alloc, 70, &[0xe8, 3, 0, 0])?.as_str(),
-        "unsigned(1,000)"
-    );
-    assert_eq!(rt;
-        shown(alloc, 67, &ones)?.as_str(),
-        "unsigned(18,446,744,073,709,551,615)"
-    );
-    assert_eq!(rt;
-        shown(alloc, 71, &low)?.as_str(),
-        "unsigned(9,223,372,036,854,775,808)"
-    );
-    assert_eq!(rt; shown(alloc, 72, &[0xff])?.as_str(), "signed(-1)");
-    assert_eq!(rt; shown(alloc, 72, &[0x01])?.as_str(), "signed(1)");
-    assert_eq!(rt; shown(alloc, 72, &[0x7f])?.as_str(), "signed(127)");
-    assert_eq!(rt; shown(alloc, 72, &[0x80])?.as_str(), "signed(-128)");
-    assert_eq!(rt; shown(alloc, 72, &[0x00])?.as_str(), "signed(0)");
-    assert_eq!(rt;
-        shown(alloc, 73, &[0x80, 0x00])?.as_str(),
-        "signed(-32,768)"
-    );
-    assert_eq!(rt; shown(alloc, 77, &[0x80, 0x00])?.as_str(), "signed(128)");
-    assert_eq!(rt;
-        shown(alloc, 77, &[0x00, 0x80])?.as_str(),
-        "signed(-32,768)"
-    );
-    assert_eq!(rt;
-        shown(alloc, 74, &[0xff, 0xff, 0xfc, 0x18])?.as_str(),
-        "signed(-1,000)"
-    );
-    assert_eq!(rt;
-        shown(alloc, 78, &[0x18, 0xfc, 0xff, 0xff])?.as_str(),
-        "signed(-1,000)"
-    );
-    assert_eq!(rt; shown(alloc, 75, &ones)?.as_str(), "signed(-1)");
-    assert_eq!(rt;
-        shown(alloc, 75, &high)?.as_str(),
-        "signed(-9,223,372,036,854,775,808)"
-    );
-    assert_eq!(rt;
-        shown(alloc, 79, &low)?.as_str(),
-        "signed(-9,223,372,036,854,775,808)"
-    );
+    let rows = [
+        (64, "ff", "unsigned(255)"),
+        (68, "80", "unsigned(128)"),
+        (65, "0102", "unsigned(258)"),
+        (69, "0102", "unsigned(513)"),
+        (66, "000003e8", "unsigned(1,000)"),
+        (70, "e8030000", "unsigned(1,000)"),
+        (
+            67,
+            "ffffffffffffffff",
+            "unsigned(18,446,744,073,709,551,615)",
+        ),
+        (
+            71,
+            "0000000000000080",
+            "unsigned(9,223,372,036,854,775,808)",
+        ),
+        (72, "ff", "signed(-1)"),
+        (72, "01", "signed(1)"),
+        (72, "7f", "signed(127)"),
+        (72, "80", "signed(-128)"),
+        (72, "00", "signed(0)"),
+        (73, "8000", "signed(-32,768)"),
+        (77, "8000", "signed(128)"),
+        (77, "0080", "signed(-32,768)"),
+        (74, "fffffc18", "signed(-1,000)"),
+        (78, "18fcffff", "signed(-1,000)"),
+        (75, "ffffffffffffffff", "signed(-1)"),
+        (75, "8000000000000000", "signed(-9,223,372,036,854,775,808)"),
+        (79, "0000000000000080", "signed(-9,223,372,036,854,775,808)"),
+    ];
+    for (tag, digits, text) in rows {
+        let bytes = hex::decode(rt.alloc(), digits)?;
+        assert_eq!(rt; shown(rt.alloc(), tag, bytes.as_slice())?.as_str(), text);
+    }
     Ok(())
 }
 
 #[test]
 fn bits_of_floats(rt: HostRuntime) -> Result<(), Fail> {
-    let alloc = rt.alloc();
-    let bytes = [
-        0x00, 0x01, 0x02, 0x03, 0x04, 0x05, 0x06, 0x07, 0x08, 0x09, 0x0a, 0x0b, 0x0c, 0x0d, 0xef,
-        0xff,
+    let rows = [
+        (80, "0001", "float(0001)"),
+        (81, "00010203", "float(00010203)"),
+        (82, "0001020304050607", "float(0001020304050607)"),
+        (
+            83,
+            "000102030405060708090a0b0c0defff",
+            "float(000102030405060708090a0b0c0defff)",
+        ),
+        (84, "0001", "float(0100)"),
+        (84, "003c", "float(3c00)"),
+        (85, "00010203", "float(03020100)"),
+        (86, "0001020304050607", "float(0706050403020100)"),
+        (
+            87,
+            "000102030405060708090a0b0c0defff",
+            "float(ffef0d0c0b0a09080706050403020100)",
+        ),
     ];
-    let all = "float(000102030405060708090a0b0c0defff)";
-    let turned = "float(ffef0d0c0b0a09080706050403020100)";
-    assert_eq!(rt; shown(alloc, 80, &bytes[..2])?.as_str(), "float(0001)");
-    assert_eq!(rt; shown(alloc, 81, &bytes[..4])?.as_str(), "float(00010203)");
-    assert_eq!(rt;
-        shown(alloc, 82, &bytes[..8])?.as_str(),
-        "float(0001020304050607)"
-    );
-    assert_eq!(rt; shown(alloc, 83, &bytes)?.as_str(), all);
-    assert_eq!(rt; shown(alloc, 84, &bytes[..2])?.as_str(), "float(0100)");
-    assert_eq!(rt; shown(alloc, 85, &bytes[..4])?.as_str(), "float(03020100)");
-    assert_eq!(rt;
-        shown(alloc, 86, &bytes[..8])?.as_str(),
-        "float(0706050403020100)"
-    );
-    assert_eq!(rt; shown(alloc, 87, &bytes)?.as_str(), turned);
-    assert_eq!(rt; shown(alloc, 84, &[0x00, 0x3c])?.as_str(), "float(3c00)");
+    for (tag, digits, text) in rows {
+        let bytes = hex::decode(rt.alloc(), digits)?;
+        assert_eq!(rt; shown(rt.alloc(), tag, bytes.as_slice())?.as_str(), text);
+    }
     Ok(())
 }
 
