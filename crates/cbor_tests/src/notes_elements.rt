@@ -49,8 +49,9 @@ fn sizes_of_elements(rt: HostRuntime) -> Result<(), Fail> {
     Ok(())
 }
 
+// Whole numbers by their values, floats by their bits.
 #[test]
-fn whole_numbers(rt: HostRuntime) -> Result<(), Fail> {
+fn elements(rt: HostRuntime) -> Result<(), Fail> {
     let rows = [
         (64, "ff", "unsigned(255)"),
         (68, "80", "unsigned(128)"),
@@ -81,17 +82,6 @@ fn whole_numbers(rt: HostRuntime) -> Result<(), Fail> {
         (75, "ffffffffffffffff", "signed(-1)"),
         (75, "8000000000000000", "signed(-9,223,372,036,854,775,808)"),
         (79, "0000000000000080", "signed(-9,223,372,036,854,775,808)"),
-    ];
-    for (tag, digits, text) in rows {
-        let bytes = hex::decode(rt.alloc(), digits)?;
-        assert_eq!(rt; shown(rt.alloc(), tag, bytes.as_slice())?.as_str(), text);
-    }
-    Ok(())
-}
-
-#[test]
-fn bits_of_floats(rt: HostRuntime) -> Result<(), Fail> {
-    let rows = [
         (80, "0001", "float(0001)"),
         (81, "00010203", "float(00010203)"),
         (82, "0001020304050607", "float(0001020304050607)"),
