@@ -1,6 +1,5 @@
 -- What numbers are made of, for who reads them.
-use Rattle.std.proofs.Common.{◌≡◌, ℕ, ◌<◌, List, [], ◌∷◌, ◌++◌, codes, Option, Some, None, refl, ap, subst, sym, ◌∙◌, append-nil, append_assoc, arith}
-use Rattle.std.specs.Char.{digit_value}
+use Rattle.std.proofs.Common.{◌≡◌, ℕ, List, [], ◌∷◌, ◌++◌, Option, Some, None, ap, subst, sym, ◌∙◌, append-nil, append_assoc, arith}
 use Rattle.std.specs.Str.Parse.{AllDigits}
 use Rattle.cbor_notes.specs.declared.token.number.Base.TheVariants.{Decimal, Hexadecimal, Octal, Binary}
 use Rattle.cbor_notes.specs.declared.token.number.Base.{Base}

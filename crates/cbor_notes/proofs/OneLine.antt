@@ -1,7 +1,7 @@
 -- Characters that the texts of comments don't have.
 use lib.Utf8.{encode}
-use Rattle.std.proofs.Common.{◌≡◌, ◌≢◌, ℕ, zero, suc, ◌+◌, ◌*◌, ◌/◌, ◌%◌, ◌==◌, ◌<◌, ◌≤◌, ◌||◌, ◌&&◌, Bool, true, false, not, cond, nat_le, ltb, List, [], ◌∷◌, ◌++◌, length, get_or, replicate, codes, decimal, Option, Some, None, inl, inr, refl, sym, subst, arith}
-use Rattle.std.specs.List.{All, AllByRecursion, flat_map, list_all}
+use Rattle.std.proofs.Common.{◌≡◌, ◌≢◌, ℕ, zero, suc, ◌+◌, ◌*◌, ◌/◌, ◌%◌, ◌==◌, ◌<◌, ◌||◌, ◌&&◌, Bool, true, false, not, cond, nat_le, ltb, List, [], ◌∷◌, ◌++◌, length, get_or, replicate, codes, decimal, Option, Some, None, inl, inr, refl, sym, subst, arith}
+use Rattle.std.specs.List.{AllByRecursion, flat_map, list_all}
 use Rattle.std.specs.Str.{chars}
 use Rattle.std.specs.Fmt.{digits, digits_onto, digit_glyph}
 use Rattle.std.proofs.lemmas.Bool.{cases_eq}

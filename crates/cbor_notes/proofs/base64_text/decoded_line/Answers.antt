@@ -1,4 +1,4 @@
-use Rattle.std.proofs.Common.{◌∙◌, sym, refl, arith}
+use Rattle.std.proofs.Common.{◌∙◌, arith}
 use Rattle.std.specs.String.{string_bytes}
 use Rattle.hex.specs.Hex.{encode_lower}
 use Rattle.cbor_notes.proofs.DecodedLineLemmas.{blanks_more, line_is}

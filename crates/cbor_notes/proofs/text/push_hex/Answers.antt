@@ -1,4 +1,4 @@
-use Rattle.std.proofs.Common.{◌∙◌, ◌++◌, ap, sym, append-nil, append_assoc, string_bytes, refl}
+use Rattle.std.proofs.Common.{◌∙◌, append-nil, append_assoc, refl}
 use Rattle.cbor_notes.proofs.DecodedLineLemmas.{encode_lower_more, encode_lower_none}
 use Rattle.cbor_notes.proofs.text.push_hex.Goals as goal
 
