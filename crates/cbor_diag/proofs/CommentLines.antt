@@ -1,11 +1,9 @@
 -- No comment of a dump has a line feed, and no digits have a line feed or a `#`.
-use Rattle.std.proofs.Common.{◌≡◌, ◌≢◌, ℕ, ◌+◌, ◌==◌, ◌&&◌, Bool, true, false, cond, nat_le, List, [], ◌∷◌, ◌++◌, length, take, drop, codes, decimal, not, Option, Some, None, refl}
-use Rattle.std.specs.List.{list_all, flat_map}
-use Rattle.std.specs.Str.{chars}
+use Rattle.std.proofs.Common.{◌≢◌, ℕ, ◌+◌, ◌==◌, ◌&&◌, true, false, nat_le, List, ◌++◌, length, take, drop, codes, decimal, Option, Some, None, refl}
 use Rattle.hex.specs.Hex.{encode_lower, lower_digits}
 use Rattle.cbor_notes.specs.Base64.{standard, url_safe}
 use Rattle.cbor_notes.specs.TagNames.{tag_name}
-use Rattle.cbor_notes.specs.Text.{grouped, quoted_bytes, escaped_text}
+use Rattle.cbor_notes.specs.Text.{grouped, escaped_text}
 use Rattle.cbor_notes.proofs.OneLine.{Free, FreeName, named, unnamed, from_test, free_both, free_cond, free_hex, hex_line, standard_line, url_safe_line, decimal_line, grouped_line, quoted_line, escaped_line, tag_name_free}
 use Rattle.cbor_diag.specs.declared.encode.encoding.Encoding.{Encoding}
 use Rattle.cbor_diag.specs.declared.encode.encoding.Encoding.TheVariants.{Base16, Base64, Base64Url}

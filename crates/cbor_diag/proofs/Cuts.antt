@@ -1,14 +1,12 @@
 -- Where a string is cut into pieces, and what the pieces are.
-use lib.Utf8.{encode, encodes}
-use Rattle.std.proofs.Common.{◌≡◌, ℕ, zero, suc, ◌+◌, ◌-◌, ◌<◌, ◌≤◌, ◌==◌, Bool, true, false, cond, min, max, List, [], ◌∷◌, ◌++◌, length, take, drop, get_or, slice_index, nat_le, inl, inr, refl, sym, ap, ◌∙◌, arith, length-drop, length-append}
-use Rattle.std.specs.List.{AllByRecursion}
+use lib.Utf8.{encodes}
+use Rattle.std.proofs.Common.{◌≡◌, ℕ, zero, suc, ◌+◌, ◌<◌, ◌≤◌, ◌==◌, true, false, min, List, [], ◌∷◌, length, take, drop, slice_index, nat_le, inl, inr, refl, sym, ap, ◌∙◌, arith, length-drop}
 use Rattle.std.specs.Char.{len_utf8}
 use Rattle.std.specs.Str.{IsUtf8, IsCharBoundary}
 use Rattle.std.proofs.lemmas.Bool.Decides.{nat_tests}
 use Rattle.std.proofs.lemmas.Bool.{cases_lt, false_from_ne_true}
-use Rattle.std.proofs.lemmas.List.{take-append-drop}
 use Rattle.std.proofs.lemmas.Str.{IsCharBoundary-end, IsCharBoundary-past_char, len_utf8_bounds}
-use Rattle.cbor_diag.specs.Pieces.{pieces_of, byte_pieces, text_pieces, begins_character, last_start, piece_size, text_cut, short_text}
+use Rattle.cbor_diag.specs.Pieces.{pieces_of, text_pieces, begins_character, last_start, piece_size, text_cut, short_text}
 
 -- a cut takes something off whatever is left
 abbrev pub Cuts : (List ℕ → ℕ) → Type 0

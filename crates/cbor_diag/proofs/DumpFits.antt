@@ -1,7 +1,6 @@
 -- The lines of a dump can be laid out: they are not too deep, and their digits not too long.
-use Rattle.std.proofs.Common.{◌≡◌, ◌≢◌, ℕ, zero, suc, ◌+◌, ◌*◌, ◌<◌, ◌≤◌, Bool, true, false, cond, min, max, List, [], ◌∷◌, ◌++◌, map, length, take, drop, slice_index, nat_le, inl, inr, codes, Option, Some, None, refl, sym, ap, subst, ◌∙◌, arith, length-append, append_assoc, append-nil}
+use Rattle.std.proofs.Common.{◌≡◌, ◌≢◌, ℕ, zero, suc, ◌+◌, ◌<◌, ◌≤◌, true, false, cond, max, List, [], ◌∷◌, ◌++◌, map, length, take, drop, slice_index, nat_le, inl, inr, codes, Option, Some, None, refl, sym, ap, subst, ◌∙◌, arith, append_assoc, append-nil}
 use Rattle.std.specs.List.{AllByRecursion, flat_map}
-use Rattle.std.specs.Int.{w8, w16, w32, w64}
 use Rattle.std.specs.Str.{IsAscii}
 use Rattle.std.proofs.lemmas.Bool.Decides.{nat_tests}
 use Rattle.std.proofs.lemmas.Bool.{cases_lt}
@@ -27,11 +26,11 @@ use Rattle.cbor_diag.specs.Head.{head, stated, opening, break_byte}
 use Rattle.cbor_diag.specs.WellFormed.{WellFormed, WellFormedItems, WellFormedPairs, deepest}
 use Rattle.cbor_diag.specs.Written.{encoded_head, encoded_float, encoded_simple, encoded_open}
 use Rattle.cbor_diag.specs.Comments.{bytes_comment, text_comment, encoding_below}
-use Rattle.cbor_diag.specs.Pieces.{pieces_of, byte_pieces, text_pieces, last_start, text_cut, begins_character, piece_size, short_text}
-use Rattle.cbor_diag.specs.Dump.{head_hex, head_line, piece_line, content_lines, byte_string_lines, text_string_lines, byte_chunks_lines}
-use Rattle.cbor_diag.specs.Dump.{count_if_definite, text_chunks_lines, open_line, break_line, atom_lines, container_line, close_lines, item_lines, items_lines, pairs_lines}
-use Rattle.cbor_diag.specs.Parts.{Takes, taken, most_width}
-use Rattle.cbor_diag.proofs.Digits.{head_short, head_long, length-hex, length-head_short, length-head_long}
+use Rattle.cbor_diag.specs.Pieces.{pieces_of, byte_pieces, text_pieces, last_start, text_cut, begins_character, piece_size}
+use Rattle.cbor_diag.specs.Dump.{head_hex, head_line, piece_line, content_lines, byte_string_lines, text_string_lines}
+use Rattle.cbor_diag.specs.Dump.{count_if_definite, break_line, atom_lines, container_line, close_lines, item_lines, items_lines, pairs_lines}
+use Rattle.cbor_diag.specs.Parts.{Takes, taken}
+use Rattle.cbor_diag.proofs.Digits.{length-hex, length-head_short, length-head_long}
 use Rattle.cbor_diag.proofs.Cuts.{byte_cut, text_short, text_long}
 
 -- a line that can be laid out, and whose digits and comment keep to its line

@@ -1,5 +1,5 @@
 -- What the walk does with a container and its members.
-use Rattle.std.proofs.Common.{◌≡◌, ℕ, suc, ◌+◌, ◌<◌, ◌≤◌, List, [], ◌∷◌, ◌++◌, map, length, drop, get_or, codes, Option, Vec, Global, refl, sym, ap, subst, ◌∙◌, append_assoc, arith}
+use Rattle.std.proofs.Common.{◌≡◌, ℕ, ◌+◌, ◌<◌, List, ◌∷◌, ◌++◌, length, drop, get_or, codes, Option, Vec, Global, sym, ap, subst, ◌∙◌, arith}
 use Rattle.std.specs.List.{AllByRecursion}
 use Rattle.std.proofs.lemmas.List.{drop_more}
 use Rattle.cbor_notes.specs.Layout.{DumpLine}
@@ -9,7 +9,7 @@ use Rattle.cbor_diag.specs.declared.syntax.DataItem.{DataItem, Array, Map}
 use Rattle.cbor_diag.specs.declared.encode.encoding.Encoding.{Encoding}
 use Rattle.cbor_diag.specs.Item.{item_count, pair_count}
 use Rattle.cbor_diag.specs.View.{view, items_view, pairs_view}
-use Rattle.cbor_diag.specs.WellFormed.{WellFormed, WellFormedItems, WellFormedPairs, FitsCount, deepest}
+use Rattle.cbor_diag.specs.WellFormed.{WellFormed, WellFormedItems, WellFormedPairs, FitsCount}
 use Rattle.cbor_diag.specs.Dump.{item_lines, items_lines, pairs_lines, container_line, close_lines}
 use Rattle.cbor_diag.specs.Parts.{Takes, taken}
 use Rattle.cbor_diag.proofs.Views.{view-Array, view-Map}

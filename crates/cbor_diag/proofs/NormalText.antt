@@ -1,8 +1,7 @@
 -- The text of an item is that of its normal form, and the normal form of a normal form is itself.
-use Rattle.std.proofs.Common.{◌≡◌, ℕ, zero, suc, ◌+◌, ◌-◌, ◌≤◌, List, [], ◌∷◌, ◌++◌, length, map, codes, Option, Some, None, Ok, Err, ◌⊎◌, inl, inr, refl, sym, ap, subst, ◌∙◌, append_assoc, arith}
+use Rattle.std.proofs.Common.{◌≡◌, ℕ, zero, suc, ◌+◌, ◌≤◌, List, [], ◌∷◌, ◌++◌, length, map, codes, Option, Some, None, ◌⊎◌, inl, inr, refl, sym, ap, ◌∙◌, arith}
 use Rattle.std.proofs.lemmas.Bool.{cases_lt, lt-ltb, le-ltb}
 use Rattle.std.specs.Fmt.{decimal}
-use Rattle.std.specs.List.{AllByRecursion, flat_map}
 use Rattle.cbor_diag.specs.declared.syntax.IntegerWidth.{IntegerWidth}
 use Rattle.cbor_diag.specs.declared.syntax.IntegerWidth.TheVariants.{Unknown, Zero, Eight, Sixteen, ThirtyTwo, SixtyFour}
 use Rattle.cbor_diag.specs.declared.syntax.FloatWidth.{FloatWidth}
@@ -15,21 +14,20 @@ use Rattle.cbor_diag.specs.declared.encode.notation.context.Listing.TheVariants.
 use Rattle.cbor_diag.specs.declared.encode.notation.context.Context.{Context}
 use Rattle.cbor_diag.specs.Item as spec
 use Rattle.cbor_diag.specs.Item.{Chunk, Atom, integer, negative, byte_string, text_string, byte_chunks, text_chunks, float, simple, Item, atom, array, tagged, Items, no_items, item, Pairs, no_pairs, pair}
-use Rattle.cbor_diag.specs.Head.{FitsStated, stated, HeadThen}
-use Rattle.cbor_diag.specs.WellFormed.{IsByteChunk, WellFormedAtom, WellFormed, WellFormedItems, WellFormedPairs}
-use Rattle.cbor_diag.specs.Bytes.{any, SpellsAtom, SpellsFloat, MembersThen, Spells, SpellsItems, SpellsPairs}
-use Rattle.cbor_diag.specs.Written.{encoded, encoded_items, resolve_chunk, resolve_float, resolve_atom, resolve_count, resolve, resolve_items, resolve_pairs}
-use Rattle.cbor_diag.specs.Reading.{item_at}
-use Rattle.cbor_diag.specs.Embedded.{embedded_at, sequence_of, sequence_at}
-use Rattle.cbor_diag.specs.NotationText.{number, indicator, bracketed, inside, float_text, encoding_below, quoted, text, colon, opened, content_below, item_texts, pair_texts, item_text, embedded_text, rest_text, items_text, pairs_text, sequence_text, content_text, chunks_text, atom_text, array_text, map_text, text_with, text_at}
-use Rattle.cbor_diag.specs.Normal.{normal_width, normal_chunk, normal_count, normal_items, normal_pairs, normal_embedded, normal_sequence, normal_content, normal_atom, normal_with, normal_at}
+use Rattle.cbor_diag.specs.Head.{FitsStated}
+use Rattle.cbor_diag.specs.WellFormed.{WellFormedAtom, WellFormed, WellFormedItems, WellFormedPairs}
+use Rattle.cbor_diag.specs.Bytes.{any, SpellsAtom, SpellsFloat, Spells, SpellsItems, SpellsPairs}
+use Rattle.cbor_diag.specs.Written.{encoded, encoded_items, resolve_chunk, resolve_float, resolve_atom, resolve, resolve_items, resolve_pairs}
+use Rattle.cbor_diag.specs.Embedded.{embedded_at, sequence_at}
+use Rattle.cbor_diag.specs.NotationText.{number, indicator, bracketed, inside, float_text, encoding_below, quoted, text, content_below, item_texts, pair_texts, embedded_text, rest_text, sequence_text, content_text, chunks_text, atom_text, text_with, text_at}
+use Rattle.cbor_diag.specs.Normal.{normal_width, normal_chunk, normal_items, normal_pairs, normal_embedded, normal_sequence, normal_content, normal_atom, normal_with, normal_at}
 use Rattle.cbor_diag.proofs.Strict.{stated_is, strict_any, strict_encoded, items_enc, items_any}
 use Rattle.cbor_diag.proofs.Resolved.{spells_well}
 use Rattle.cbor_diag.proofs.Sizes.{one_byte}
 use Rattle.cbor_diag.proofs.TextParts.{well_level}
-use Rattle.cbor_diag.proofs.EmbeddedItems.{embedded_spells, spells_embedded, Sequenced, sequence_spells, sequence_again}
+use Rattle.cbor_diag.proofs.EmbeddedItems.{embedded_spells, spells_embedded, sequence_spells, sequence_again}
 use Rattle.cbor_diag.proofs.NormalForm.{AllBytes, bytes_at}
-use Rattle.cbor_diag.proofs.NormalWell.{Serves, items_serve, items_well, normal_serves}
+use Rattle.cbor_diag.proofs.NormalWell.{items_serve, items_well, normal_serves}
 
 -- ---- items whose numbers, tags and floats have stated widths, as those that are spelled have
 

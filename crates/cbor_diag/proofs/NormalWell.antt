@@ -1,5 +1,5 @@
 -- The normal form of a well-formed item is well formed, and its encoding is no longer.
-use Rattle.std.proofs.Common.{◌≡◌, ℕ, zero, suc, ◌+◌, ◌-◌, ◌≤◌, List, [], ◌∷◌, ◌++◌, length, map, Option, Some, None, inl, inr, refl, sym, ap, subst, ◌∙◌, arith}
+use Rattle.std.proofs.Common.{◌≡◌, ℕ, zero, suc, ◌+◌, ◌≤◌, List, [], ◌∷◌, ◌++◌, length, map, Option, Some, None, inl, inr, refl, ap, subst, arith}
 use Rattle.std.specs.List.{AllByRecursion, flat_map}
 use Rattle.std.proofs.lemmas.Bool.{cases_lt, lt-ltb, le-ltb}
 use Rattle.std.proofs.lemmas.List.{length-append}
@@ -11,17 +11,16 @@ use Rattle.cbor_diag.specs.declared.encode.notation.context.Content.{Content}
 use Rattle.cbor_diag.specs.declared.encode.notation.context.Content.TheVariants as content
 use Rattle.cbor_diag.specs.Item as spec
 use Rattle.cbor_diag.specs.Item.{Chunk, Atom, integer, negative, byte_string, text_string, byte_chunks, text_chunks, float, simple, Item, atom, array, tagged, Items, no_items, item, Pairs, no_pairs, pair, item_count, pair_count}
-use Rattle.cbor_diag.specs.Head.{FitsWidth, FitsStated, stated, head, break_byte, HeadThen}
-use Rattle.cbor_diag.specs.WellFormed.{IsByteChunk, IsTextChunk, FitsFloat, WellFormedAtom, FitsCount, WellFormed, WellFormedItems, WellFormedPairs}
+use Rattle.cbor_diag.specs.Head.{FitsWidth, head, break_byte, HeadThen}
+use Rattle.cbor_diag.specs.WellFormed.{IsByteChunk, IsTextChunk, WellFormedAtom, FitsCount, WellFormed, WellFormedItems, WellFormedPairs}
 use Rattle.cbor_diag.specs.Bytes.{StringKind, bytes_kind, text_kind, major_of, any, ChunkThen, SpellsChunks, SpellsAtom, SpellsFloat, SpellsSimple, MembersThen, Spells, SpellsItems, SpellsPairs}
-use Rattle.cbor_diag.specs.Written.{encoded_head, encoded_chunk, encoded_chunks, encoded_float, encoded_simple, encoded_atom, encoded_open, encoded_close, encoded, encoded_items, encoded_pairs, resolve_float}
-use Rattle.cbor_diag.specs.Embedded.{embedded_at, sequence_of, sequence_at}
+use Rattle.cbor_diag.specs.Written.{encoded_head, encoded_chunk, encoded_float, encoded_simple, encoded_atom, encoded_open, encoded_close, encoded, encoded_items, encoded_pairs}
+use Rattle.cbor_diag.specs.Embedded.{embedded_at, sequence_at}
 use Rattle.cbor_diag.specs.NotationText.{content_below}
 use Rattle.cbor_diag.specs.Normal.{normal_width, normal_chunk, normal_count, normal_items, normal_pairs, normal_embedded, normal_sequence, normal_content, normal_atom, normal_with, normal_at}
-use Rattle.cbor_diag.proofs.Heads.{IsBytes}
 use Rattle.cbor_diag.proofs.Strict.{stated_is}
 use Rattle.cbor_diag.proofs.Resolved.{spells_well}
-use Rattle.cbor_diag.proofs.EmbeddedItems.{embedded_spells, Sequenced, sequence_spells}
+use Rattle.cbor_diag.proofs.EmbeddedItems.{embedded_spells, sequence_spells}
 use Rattle.cbor_diag.proofs.NormalForm.{AllBytes, all_bytes-append, all_bytes-front, all_bytes-rest, bytes_at, open_fits, head_no_longer, normal_fits, normal_head, normal_float, float_fits, encoded_bytes, items_bytes}
 
 -- ---- the encoding of a spelled item is no longer than its spelling

@@ -1,11 +1,9 @@
 -- Reading the members of a list and the pieces of a string one after the other, as a loop does.
-use Rattle.std.proofs.Common.{◌≡◌, ℕ, zero, suc, ◌+◌, ◌<◌, ◌≤◌, Bool, true, false, List, [], ◌∷◌, ◌++◌, length, Some, None, Ok, Err, refl, sym, ap, subst, ◌∙◌, append_assoc, arith}
+use Rattle.std.proofs.Common.{◌≡◌, ℕ, zero, suc, ◌<◌, ◌≤◌, List, [], ◌∷◌, ◌++◌, length, Some, None, Ok, Err, refl, sym, ap, subst, ◌∙◌, append_assoc, arith}
 use Rattle.std.proofs.lemmas.List.{append-nil}
 use Rattle.cbor_diag.specs.declared.error.Error.{Error}
-use Rattle.cbor_diag.specs.declared.error.Error.TheVariants as refusal
-use Rattle.cbor_diag.specs.Item.{Item}
 use Rattle.cbor_diag.specs.Reading.{Read, ◌>>=◌, Fails}
-use Rattle.cbor_diag.specs.NotationReading.{or_refused, after_byte, end_at, blank_at, more_members, members_from, members_or_end, members_at, begins_piece, first_start, piece_at, pieces_at}
+use Rattle.cbor_diag.specs.NotationReading.{or_refused, after_byte, end_at, blank_at, more_members, members_from, members_or_end, members_at}
 use Rattle.cbor_diag.proofs.Loops.{Fails-bind, onto, onto_fails}
 
 -- ---- the members of a list

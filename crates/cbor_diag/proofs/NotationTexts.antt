@@ -1,8 +1,8 @@
 -- Texts that are written piece by piece: hex digits, and escaped text.
-use Rattle.std.proofs.Common.{◌≡◌, ℕ, ◌+◌, ◌-◌, ◌/◌, ◌%◌, ◌<◌, ◌≤◌, Bool, true, false, Result, Ok, Err, eqb, eqb-true, List, [], ◌∷◌, ◌++◌, length, map, codes, Option, Some, None, slice_index, get_or, take, drop, refl, sym, ap, ◌∙◌, append_assoc, arith, rules}
+use Rattle.std.proofs.Common.{◌≡◌, ℕ, ◌+◌, ◌/◌, ◌%◌, ◌<◌, ◌≤◌, Bool, true, false, Result, Ok, Err, eqb, eqb-true, List, [], ◌∷◌, ◌++◌, length, map, codes, None, slice_index, get_or, take, drop, refl, sym, ap, ◌∙◌, append_assoc, arith}
 use Rattle.std.specs.List.{flat_map}
 use Rattle.std.specs.Result.{MatchResult, IsOk}
-use Rattle.std.proofs.lemmas.List.{length-take, take_more, drop_more, drop-append-le, drop-take, drop_at, append-nil}
+use Rattle.std.proofs.lemmas.List.{length-take, take_more, drop_more, drop-append-le, drop_at, append-nil}
 use Rattle.std.proofs.lemmas.Grind.{flat_map-append}
 use Rattle.std.proofs.lemmas.Bool.Decides.{nat_tests}
 use Rattle.hex.specs.Hex.{encode_lower, encode_with, lower_digits}

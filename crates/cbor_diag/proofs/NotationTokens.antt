@@ -1,5 +1,5 @@
 -- What the calls of cbor_notes answer, beside what reading gives.
-use Rattle.std.proofs.Common.{◌≡◌, ℕ, ◌≤◌, List, [], ◌∷◌, ◌++◌, ◌+◌, ◌-◌, ◌*◌, ◌^◌, ◌<◌, ◌≢◌, Bool, false, not, nat_lt, ◌==◌, cond, if◌then◌else◌, true, option_and_then, length, take, drop, get_or, position, Option, Some, None, Ok, Err, slice_range, refl, sym, ap, subst, ◌∙◌, arith}
+use Rattle.std.proofs.Common.{◌≡◌, ℕ, ◌≤◌, List, [], ◌∷◌, ◌++◌, ◌+◌, ◌-◌, ◌*◌, ◌^◌, ◌<◌, ◌≢◌, Bool, false, not, nat_lt, ◌==◌, if◌then◌else◌, true, option_and_then, length, take, drop, position, Option, Some, None, Ok, Err, slice_range, refl, sym, ap, ◌∙◌, arith}
 use Rattle.std.specs.Char.{digit_value}
 use Rattle.std.specs.List.{list_all}
 use Rattle.std.specs.Str.Parse.{digits_value_after}
@@ -7,7 +7,7 @@ use Rattle.std.proofs.lemmas.List.{take_rest}
 use Rattle.std.proofs.lemmas.Bool.{cond-true, lt-ltb}
 use Rattle.std.proofs.Math.Nat.{pow-le-pow_right}
 use Rattle.cbor_diag.specs.declared.error.Error.TheVariants as refusal
-use Rattle.cbor_notes.specs.Token.{Blank, IsLongest, IsNumber, IsSomeNumber, capped, is_whitespace}
+use Rattle.cbor_notes.specs.Token.{Blank, IsLongest, IsNumber, IsSomeNumber, is_whitespace}
 use Rattle.cbor_notes.specs.Token.{in_quotes, DigitsBetween}
 use Rattle.cbor_notes.specs.TokenReading.{after_blank, number_of, unquoted, digits_of}
 use Rattle.cbor_notes.proofs.Blanks.{after_longest_blank}
@@ -15,8 +15,8 @@ use Rattle.cbor_notes.proofs.Numbers.{IsNumber-number_of, number_of-longest}
 use Rattle.cbor_notes.proofs.Quoted.{in_quotes-unquoted, unquoted-in_quotes}
 use Rattle.cbor_notes.proofs.Spaced.{DigitsBetween-digits_of, digits_of-DigitsBetween}
 use Rattle.cbor_notes.proofs.TextPlaces.{part_and_rest}
-use Rattle.cbor_diag.specs.Reading.{Read, ◌>>=◌}
-use Rattle.cbor_diag.specs.NotationReading.{or_refused, blank_at, number_at, after_byte, after_space, numeral, simple_value, simple_at}
+use Rattle.cbor_diag.specs.Reading.{◌>>=◌}
+use Rattle.cbor_diag.specs.NotationReading.{or_refused, blank_at, number_at, after_byte, after_space, numeral}
 
 pub blank_left : (text : List ℕ) (end : ℕ) → IsLongest (Blank true) (slice_range text 0 end) (drop end text) → take (length text - end) (drop end text) ≡ blank_at text
 blank_left text end longest = take_rest text end ∙ after_longest_blank true (slice_range text 0 end) (drop end text) longest ∙ ap (after_blank true) (sym (part_and_rest text 0 end (omega arith)))

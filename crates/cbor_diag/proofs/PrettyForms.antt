@@ -1,5 +1,5 @@
 -- A container is on one line exactly where its estimate is below 60.
-use Rattle.std.proofs.Common.{◌≡◌, ℕ, ◌-◌, ◌<◌, ◌≤◌, refl, ap, ◌∙◌}
+use Rattle.std.proofs.Common.{◌≡◌, ℕ, ◌<◌, ◌≤◌, refl, ap, ◌∙◌}
 use Rattle.std.proofs.lemmas.Bool.{lt-ltb, le-ltb}
 use Rattle.cbor_diag.specs.declared.encode.notation.context.Encoding.{Encoding}
 use Rattle.cbor_diag.specs.declared.encode.notation.context.Layout.TheVariants.{Pretty}

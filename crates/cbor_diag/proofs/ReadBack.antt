@@ -1,10 +1,9 @@
 -- The text of an item, compact or pretty, is read as its normal form.
-use Rattle.std.proofs.Common.{◌≡◌, ℕ, zero, suc, ◌+◌, ◌-◌, ◌<◌, ◌≤◌, List, [], ◌∷◌, ◌++◌, length, map, codes, Option, Some, None, inl, inr, refl, sym, ap, subst, ◌∙◌, append_assoc, arith}
+use Rattle.std.proofs.Common.{◌≡◌, ℕ, zero, suc, ◌+◌, List, [], ◌∷◌, ◌++◌, length, map, codes, Option, Some, None, inl, inr, refl, sym, ap, subst, ◌∙◌, append_assoc, arith}
 use Rattle.std.specs.List.{AllByRecursion}
 use Rattle.std.proofs.lemmas.List.{append-nil}
-use Rattle.cbor_notes.specs.Token.{Blank, nothing}
+use Rattle.cbor_notes.specs.Token.{nothing}
 use Rattle.cbor_notes.proofs.Blanks.{Blank-append}
-use Rattle.cbor_diag.specs.declared.syntax.IntegerWidth.{IntegerWidth}
 use Rattle.cbor_diag.specs.declared.syntax.IntegerWidth.TheVariants.{Unknown}
 use Rattle.cbor_diag.specs.declared.encode.notation.context.Content.{Content}
 use Rattle.cbor_diag.specs.declared.encode.notation.context.Content.TheVariants as content
@@ -21,9 +20,9 @@ use Rattle.cbor_diag.specs.Written.{encoded, encoded_items}
 use Rattle.cbor_diag.specs.Reading.{item_at}
 use Rattle.cbor_diag.specs.Embedded.{if_whole, embedded_at, sequence_at}
 use Rattle.cbor_diag.specs.Estimate.{full_atom, full}
-use Rattle.cbor_diag.specs.Notation.{IsBlank, Blanked, Members, Listed, list_of, pairs_list, PairOf, Notation, as_items, Joined, one, more, StringOf, ChunksOf, AtomCore, Core, Reads}
-use Rattle.cbor_diag.specs.NotationText.{number, quoted, text, listing, members_layout, bracketed, opened, colon, rest_gap, content_below, below, inside, item_texts, pair_texts, item_text, embedded_text, rest_text, items_text, sequence_text, content_text, chunks_text, atom_text, text_with, text_at}
-use Rattle.cbor_diag.specs.Normal.{normal_width, normal_chunk, normal_items, normal_pairs, normal_embedded, normal_sequence, normal_content, normal_atom, normal_with, normal_at}
+use Rattle.cbor_diag.specs.Notation.{IsBlank, Blanked, list_of, pairs_list, PairOf, Notation, as_items, Joined, one, more, StringOf, AtomCore, Core, Reads}
+use Rattle.cbor_diag.specs.NotationText.{number, quoted, text, listing, members_layout, colon, rest_gap, below, inside, item_texts, pair_texts, embedded_text, rest_text, items_text, sequence_text, content_text, chunks_text, atom_text, text_with, text_at}
+use Rattle.cbor_diag.specs.Normal.{normal_chunk, normal_items, normal_pairs, normal_embedded, normal_sequence, normal_content, normal_atom, normal_with, normal_at}
 use Rattle.cbor_diag.proofs.Refusals.{item_nothing}
 use Rattle.cbor_diag.proofs.Resolved.{spells_well}
 use Rattle.cbor_diag.proofs.TextParts.{well_level}
@@ -31,7 +30,7 @@ use Rattle.cbor_diag.proofs.EmbeddedItems.{embedded_spells, sequence_spells}
 use Rattle.cbor_diag.proofs.NormalForm.{AllBytes, bytes_at}
 use Rattle.cbor_diag.proofs.NormalWell.{items_well, normal_serves}
 use Rattle.cbor_diag.proofs.ReadTokens.{one_space, number_read, negative_read, quoted_read, bytes_read, text_read, float_read, simple_read}
-use Rattle.cbor_diag.proofs.ReadLists.{Each, members_read, opening_of, opens, listed}
+use Rattle.cbor_diag.proofs.ReadLists.{Each, opening_of, opens, listed}
 
 -- ---- blanks round a core
 

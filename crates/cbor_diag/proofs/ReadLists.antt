@@ -1,13 +1,12 @@
 -- What is written of members between brackets is read as a list of them.
-use Rattle.std.proofs.Common.{◌≡◌, ℕ, zero, suc, ◌+◌, ◌<◌, Bool, true, false, List, [], ◌∷◌, ◌++◌, length, replicate, codes, Option, Some, None, inl, inr, refl, sym, ap, subst, ◌∙◌, append_assoc, arith}
-use Rattle.std.proofs.lemmas.List.{append-nil}
-use Rattle.cbor_notes.specs.Token.{Blank, nothing}
+use Rattle.std.proofs.Common.{◌≡◌, ℕ, ◌+◌, true, false, List, [], ◌∷◌, ◌++◌, codes, Option, Some, None, inl, inr, refl, sym, ap, subst, ◌∙◌, append_assoc, arith}
+use Rattle.cbor_notes.specs.Token.{nothing}
 use Rattle.cbor_notes.proofs.Blanks.{Blank-append}
 use Rattle.cbor_diag.specs.declared.syntax.IntegerWidth.{IntegerWidth}
 use Rattle.cbor_diag.specs.declared.encode.notation.context.Listing.{Listing}
 use Rattle.cbor_diag.specs.declared.encode.notation.context.Listing.TheVariants as listing
-use Rattle.cbor_diag.specs.Notation.{IsBlank, Closes, Further, Members, Listed, Opens}
-use Rattle.cbor_diag.specs.NotationText.{line, start, end, members, last_line, bracketed, mark, opened}
+use Rattle.cbor_diag.specs.Notation.{IsBlank, Further, Members, Listed, Opens}
+use Rattle.cbor_diag.specs.NotationText.{line, members, last_line, bracketed, opened}
 use Rattle.cbor_diag.specs.Normal.{normal_count}
 use Rattle.cbor_diag.proofs.ReadTokens.{new_line, one_space}
 

@@ -1,7 +1,6 @@
 -- What is written of numbers, strings, floats and simple values is read as these.
-use Rattle.std.proofs.Common.{◌≡◌, ℕ, zero, suc, ◌+◌, ◌*◌, ◌/◌, ◌%◌, ◌^◌, ◌<◌, ◌≤◌, Bool, true, false, cond, IsTrue, List, [], ◌∷◌, ◌++◌, length, replicate, slice_index, codes, Option, Some, None, Ok, ◌⊎◌, inl, inr, refl, sym, ap, subst, ◌∙◌, append_assoc, arith}
-use Rattle.std.proofs.lemmas.Bool.{cases_eq, eq-eqb, ne_eqb, cases_lt, lt-ltb, le-ltb}
-use Rattle.std.proofs.lemmas.List.{append-nil}
+use Rattle.std.proofs.Common.{◌≡◌, ℕ, zero, suc, ◌+◌, ◌*◌, ◌/◌, ◌%◌, ◌^◌, ◌<◌, ◌≤◌, Bool, true, false, cond, IsTrue, List, [], ◌∷◌, ◌++◌, length, replicate, slice_index, codes, Option, Some, None, ◌⊎◌, inl, inr, refl, sym, ap, subst, ◌∙◌, arith}
+use Rattle.std.proofs.lemmas.Bool.{cases_eq, eq-eqb, ne_eqb, lt-ltb}
 use Rattle.std.proofs.lemmas.Nat.{from_be_bytes-to_be_bytes_4, from_be_bytes-to_be_bytes_8}
 use Rattle.std.proofs.lemmas.Bool.{false≢true}
 use Rattle.std.proofs.lemmas.Fmt.{decimal_is_IsNumeral}
@@ -9,11 +8,11 @@ use Rattle.std.specs.List.{AllByRecursion}
 use Rattle.std.specs.Char.{digit_value}
 use Rattle.std.specs.Fmt.{decimal, digits}
 use Rattle.std.specs.Str.{IsUtf8}
-use Rattle.std.specs.Str.Parse.{AllDigits, IsNumeral, digits_value_after, digits_value}
-use Rattle.std.specs.Int.{w16, w32, w64, to_be_bytes, from_be_bytes}
-use Rattle.hex.specs.Hex.{decode_of, encode_lower, encode_with, lower_digits}
+use Rattle.std.specs.Str.Parse.{AllDigits, digits_value_after}
+use Rattle.std.specs.Int.{w16, w32, w64, to_be_bytes}
+use Rattle.hex.specs.Hex.{encode_lower, encode_with, lower_digits}
 use Rattle.hex.proofs.HexLemmas.{decode_of-encode_lower}
-use Rattle.base64.specs.Rfc4648.{encode_group, encode_two, encode_one, encode_symbols, encode, padding_len}
+use Rattle.base64.specs.Rfc4648.{encode_group, encode_symbols, padding_len}
 use Rattle.cbor_notes.specs.Base64.{standard, url_safe}
 use Rattle.cbor_notes.specs.Token.{Blank, nothing, whitespace, IsNumber, AreDigits, Indicates, is_digit, Spaced, blank, digit, DigitsBetween, in_quotes}
 use Rattle.cbor_notes.proofs.WrittenNumbers.{decimal_IsNumber}
@@ -28,8 +27,8 @@ use Rattle.cbor_diag.specs.Head.{FitsWidth}
 use Rattle.cbor_diag.specs.WellFormed.{FitsFloat}
 use Rattle.cbor_diag.specs.Bytes.{bytes_kind, text_kind}
 use Rattle.cbor_diag.specs.Written.{resolve_float}
-use Rattle.cbor_diag.specs.Notation.{NumberOf, NegativeOf, number_width, HasWidth, DigitsIn, Notation, in_base16, in_base64, StringOf, Joined, one, NamedSimple, SimpleOf, FloatOf}
-use Rattle.cbor_diag.specs.NotationText.{indicator, number, encoded_bytes, quoted, text, float_text, simple_text}
+use Rattle.cbor_diag.specs.Notation.{NumberOf, NegativeOf, number_width, Notation, in_base16, in_base64, StringOf, one, SimpleOf, FloatOf}
+use Rattle.cbor_diag.specs.NotationText.{indicator, number, quoted, text, float_text, simple_text}
 use Rattle.cbor_diag.specs.Normal.{normal_width}
 use Rattle.cbor_diag.proofs.NormalForm.{AllBytes, normal_fits}
 

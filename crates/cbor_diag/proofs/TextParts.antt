@@ -1,6 +1,5 @@
 -- The text of an item, put together from its parts.
-use Rattle.std.proofs.Common.{◌≡◌, ℕ, suc, ◌+◌, ◌-◌, ◌<◌, ◌≤◌, Bool, true, false, List, [], ◌∷◌, ◌++◌, length, drop, get_or, codes, Option, refl, sym, ap, ◌∙◌, append_assoc, arith}
-use Rattle.std.proofs.lemmas.List.{append-nil}
+use Rattle.std.proofs.Common.{◌≡◌, ℕ, suc, ◌+◌, ◌-◌, ◌<◌, ◌≤◌, true, List, ◌∷◌, ◌++◌, length, drop, get_or, codes, Option, sym, ap, ◌∙◌, append_assoc, arith}
 use Rattle.cbor_diag.specs.declared.syntax.IntegerWidth.{IntegerWidth}
 use Rattle.cbor_diag.specs.declared.syntax.DataItem.{DataItem}
 use Rattle.cbor_diag.specs.declared.encode.notation.context.Context.{Context}
@@ -8,10 +7,10 @@ use Rattle.cbor_diag.specs.declared.encode.notation.context.Listing.{Listing}
 use Rattle.cbor_diag.specs.Item as spec
 use Rattle.cbor_diag.specs.Item.{Item, Items, Pairs, atom, array, tagged}
 use Rattle.cbor_diag.specs.View.{view, items_view, pairs_view}
-use Rattle.cbor_diag.specs.WellFormed.{deepest, WellFormed}
+use Rattle.cbor_diag.specs.WellFormed.{WellFormed}
 use Rattle.cbor_diag.specs.Estimate.{full}
-use Rattle.cbor_diag.specs.NotationText.{number, below, inside, listing, members_layout, start, end, members, last_line, opened, colon, item_texts, pair_texts, array_text, map_text, text_with, text_at}
-use Rattle.cbor_diag.proofs.NotationTexts.{drop_here, member_more}
+use Rattle.cbor_diag.specs.NotationText.{number, below, inside, listing, members_layout, members, last_line, opened, colon, item_texts, pair_texts, array_text, map_text, text_with, text_at}
+use Rattle.cbor_diag.proofs.NotationTexts.{drop_here}
 
 -- how many levels are left below an item
 abbrev pub left_below : ℕ → ℕ

@@ -1,6 +1,6 @@
 -- What a text tells of an item: two items have the same compact text exactly where their normal forms are
 -- equal.
-use Rattle.std.specs.Prelude.{ℕ, zero, suc, ◌-◌, ◌<◌, List, ◌++◌, map, Option, Some, None, nat_lt, ◌==◌, if◌then◌else◌}
+use Rattle.std.specs.Prelude.{ℕ, zero, suc, ◌-◌, List, ◌++◌, map, Option, Some, None, nat_lt, if◌then◌else◌}
 use Rattle.cbor_diag.specs.declared.syntax.IntegerWidth.{IntegerWidth}
 use Rattle.cbor_diag.specs.declared.syntax.IntegerWidth.TheVariants.{Unknown, Zero}
 use Rattle.cbor_diag.specs.declared.encode.notation.context.Content.{Content}

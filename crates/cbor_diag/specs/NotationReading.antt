@@ -14,7 +14,7 @@ use Rattle.cbor_notes.specs.Base64 as base64
 use Rattle.cbor_notes.specs.Token.{is_whitespace}
 use Rattle.cbor_notes.specs.TokenReading.{after_blank, number_of, unquoted, digits_of}
 use Rattle.cbor_diag.specs.declared.syntax.IntegerWidth.{IntegerWidth}
-use Rattle.cbor_diag.specs.declared.syntax.IntegerWidth.TheVariants.{Unknown, Zero, Eight, Sixteen, ThirtyTwo, SixtyFour}
+use Rattle.cbor_diag.specs.declared.syntax.IntegerWidth.TheVariants.{Unknown, Zero, Eight, Sixteen, ThirtyTwo}
 use Rattle.cbor_diag.specs.declared.syntax.FloatWidth.{FloatWidth}
 use Rattle.cbor_diag.specs.declared.syntax.FloatWidth.TheVariants as float_width
 use Rattle.cbor_diag.specs.declared.error.Error.{Error}

@@ -1,5 +1,5 @@
 -- Items: what is read of a text is what the grammar says it is, and a refusal says what is true of it.
-use Rattle.std.proofs.Common.{◌≡◌, ℕ, zero, suc, ◌+◌, ◌<◌, ◌≤◌, Bool, true, false, ◌==◌, List, [], ◌∷◌, ◌++◌, codes, length, Option, Some, None, Result, Ok, Err, refl, sym, ap, subst, ◌∙◌, append_assoc, append-nil, length-append, ◌⊎◌, inl, inr, arith}
+use Rattle.std.proofs.Common.{◌≡◌, ℕ, zero, suc, ◌<◌, true, List, [], ◌∷◌, ◌++◌, codes, length, Option, Some, None, Ok, Err, refl, sym, ap, subst, ◌∙◌, append_assoc, append-nil, length-append, inl, inr, arith}
 use Rattle.cbor_notes.specs.Token.{Blank, nothing, whitespace, comment}
 use Rattle.cbor_notes.proofs.Blanks.{blank_left, Blank-append, at_whitespace}
 use Rattle.cbor_diag.specs.declared.parse.notation.start.Start.{Start}
@@ -10,8 +10,8 @@ use Rattle.cbor_diag.specs.Item.{Chunk, byte_string, text_string, byte_chunks, t
 use Rattle.cbor_diag.specs.View.{items_of, pairs_of}
 use Rattle.cbor_diag.specs.Bytes.{StringKind, bytes_kind, text_kind}
 use Rattle.cbor_diag.specs.Reading.{Read, ◌>>=◌}
-use Rattle.cbor_diag.specs.Notation.{IsBlank, Blanked, Closes, Members, list_of, pairs_list, PairOf, StringOf, Core, Reads}
-use Rattle.cbor_diag.specs.NotationReading.{or_refused, blank_at, after_byte, after_word, members_at, pair_at, length_of, array_at, map_at, first_start, start_of, chunk_at, byte_chunks_at, text_chunks_at, chunks_of, chunks_at, byte_string_of, byte_string_at, text_string_of, text_string_at, core_of, core_at, item_at, whole, notation_of, integer_at, negative_at, word_at, string_at}
+use Rattle.cbor_diag.specs.Notation.{IsBlank, Blanked, Closes, Members, pairs_list, PairOf, StringOf, Core, Reads}
+use Rattle.cbor_diag.specs.NotationReading.{or_refused, blank_at, after_byte, after_word, members_at, pair_at, length_of, array_at, map_at, first_start, start_of, chunk_at, byte_chunks_at, text_chunks_at, chunks_of, chunks_at, byte_string_of, text_string_of, core_of, core_at, item_at, whole, notation_of, integer_at, negative_at, word_at, string_at}
 use Rattle.cbor_diag.specs.NotationRefused.{is_opening, IsAnswered}
 use Rattle.cbor_diag.proofs.sound.Steps.{Sound, moved, moved_in, weaker, weaker_here, sound_then, sound_map, sound_option, after_byte_is, after_word_is}
 use Rattle.cbor_diag.proofs.sound.Lists.{members_sound}

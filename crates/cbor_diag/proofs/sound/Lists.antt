@@ -1,5 +1,5 @@
 -- Lists of members, read up to what closes them.
-use Rattle.std.proofs.Common.{◌≡◌, ℕ, zero, suc, ◌+◌, ◌<◌, Bool, true, false, not, nat_lt, List, [], ◌∷◌, ◌++◌, length, take, drop, Option, Some, None, Ok, Err, refl, sym, ap, ◌∙◌, append_assoc, take-append-drop, inl, inr, arith}
+use Rattle.std.proofs.Common.{◌≡◌, ℕ, zero, suc, ◌+◌, ◌<◌, Bool, true, false, not, nat_lt, List, [], ◌∷◌, ◌++◌, length, take, drop, Option, Some, None, Ok, refl, sym, ap, ◌∙◌, append_assoc, take-append-drop, inl, inr, arith}
 use Rattle.std.specs.List.{prefix_len}
 use Rattle.std.proofs.lemmas.List.{length-take-le}
 use borrow.Author.Tests.{ltb-true}
@@ -7,7 +7,7 @@ use Rattle.cbor_notes.specs.Token.{Blank, nothing, whitespace, is_whitespace}
 use Rattle.cbor_notes.proofs.Blanks.{blank_left}
 use Rattle.cbor_diag.specs.Reading.{Read, ◌>>=◌}
 use Rattle.cbor_diag.specs.Notation.{IsBlank, IsSpace, Closes, Further, Members}
-use Rattle.cbor_diag.specs.NotationReading.{or_refused, blank_at, after_byte, after_space, end_at, more_members, members_from, members_or_end, members_at}
+use Rattle.cbor_diag.specs.NotationReading.{blank_at, after_byte, after_space, end_at, more_members, members_from, members_or_end, members_at}
 use Rattle.std.proofs.lemmas.Bool.{cases_eq, eq-eqb, ne_eqb}
 use Rattle.cbor_diag.proofs.sound.Steps.{none_some, a_test, Sound, moved, weaker, sound_then, sound_map, sound_option, after_byte_is}
 

@@ -1,5 +1,5 @@
 -- Strings of one piece or more, and chunks of them.
-use Rattle.std.proofs.Common.{◌≡◌, ◌≢◌, ℕ, zero, suc, ◌<◌, Bool, true, false, cond, ◌==◌, ◌&&◌, nat_le, List, [], ◌∷◌, ◌++◌, codes, length, Option, Some, None, Result, Ok, Err, refl, sym, ap, subst, ◌∙◌, append_assoc, append-nil, ◌⊎◌, inl, inr, arith}
+use Rattle.std.proofs.Common.{◌≡◌, ℕ, zero, suc, Bool, true, false, cond, ◌==◌, ◌&&◌, nat_le, List, [], ◌∷◌, ◌++◌, length, Ok, Err, refl, sym, ap, subst, ◌∙◌, append_assoc, append-nil, ◌⊎◌, inl, inr, arith}
 use Rattle.std.specs.Str.{is_utf8, IsUtf8}
 use Rattle.std.proofs.lemmas.Bool.{cases_eq, eq-eqb, ne_eqb}
 use Rattle.std.proofs.lemmas.List.Sums.{sum_by-cons}
@@ -18,10 +18,10 @@ use Rattle.cbor_diag.specs.View.{items_of}
 use Rattle.cbor_diag.specs.Bytes.{StringKind, bytes_kind, text_kind}
 use Rattle.cbor_diag.specs.Reading.{Read, ◌>>=◌}
 use Rattle.cbor_diag.specs.Written.{encoded_items}
-use Rattle.cbor_diag.specs.Notation.{IsBlank, Blanked, Members, list_of, QuotedBy, Notation, as_text, as_items, PieceOf, Joined, one, more, BeginsAs, StringOf}
+use Rattle.cbor_diag.specs.Notation.{IsBlank, Blanked, Members, QuotedBy, Notation, as_text, as_items, PieceOf, Joined, one, more, StringOf}
 use Rattle.cbor_diag.specs.NotationReading.{or_refused, blank_at, after_byte, members_at, h_notation, b_notation, embedded_at, start_of, first_start, begins_piece, piece_of, piece_at, pieces_at, begins_string, may_have_texts, checked, string_of, string_at, chunk_at}
 use Rattle.cbor_diag.specs.NotationRefused.{MayRefuse, HoldsByte}
-use Rattle.cbor_diag.proofs.sound.Steps.{none_some, a_test, Sound, moved, moved_in, weaker, sound_then, sound_map, sound_check, sound_option, sound_refused, after_byte_is}
+use Rattle.cbor_diag.proofs.sound.Steps.{a_test, Sound, moved, moved_in, weaker, sound_then, sound_map, sound_check, sound_option, sound_refused, after_byte_is}
 use Rattle.cbor_diag.proofs.sound.Lists.{members_sound}
 use Rattle.cbor_diag.proofs.sound.Strings.{list_of-items_of, members_more, h_sound, b_sound}
 

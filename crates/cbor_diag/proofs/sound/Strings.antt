@@ -1,27 +1,18 @@
 -- Strings: notations of bytes, pieces, chunks.
-use Rattle.std.proofs.Common.{◌≡◌, ◌≢◌, ℕ, zero, suc, ◌<◌, Bool, true, false, ◌==◌, ◌&&◌, ◌||◌, nat_le, List, [], ◌∷◌, ◌++◌, codes, length, map, Option, Some, None, Result, Ok, Err, IsTrue, refl, sym, ap, subst, ◌∙◌, append_assoc, append-nil, ◌⊎◌, inl, inr, arith}
-use Rattle.std.specs.Str.{is_utf8}
-use Rattle.std.proofs.lemmas.Bool.{cases_eq, eq-eqb, ne_eqb, eqb-true}
-use Rattle.std.proofs.lemmas.List.Sums.{sum_by-append, sum_by-cons}
+use Rattle.std.proofs.Common.{◌≡◌, ℕ, Bool, true, false, List, [], ◌∷◌, ◌++◌, codes, map, Option, Some, None, Result, Ok, Err, refl, sym, ap, subst, ◌∙◌, append_assoc, ◌⊎◌, inl, inr}
 use Rattle.hex.specs.declared.error.FromHexError.{FromHexError}
 use Rattle.hex.specs.Hex.{decode_of}
 use Rattle.cbor_notes.specs.AreBytes.{AreBytes}
 use Rattle.cbor_notes.specs.Base32 as base32
 use Rattle.cbor_notes.specs.Base64 as base64
-use Rattle.cbor_notes.specs.Token.{Blank, nothing, whitespace, comment, in_quotes, DigitsBetween}
-use Rattle.cbor_notes.specs.TokenReading.{unquoted, digits_of}
-use Rattle.cbor_notes.proofs.Blanks.{blank_left, Blank-append}
-use Rattle.cbor_notes.proofs.Quoted.{in_quotes-unquoted}
+use Rattle.cbor_notes.specs.TokenReading.{digits_of}
 use Rattle.cbor_notes.proofs.Spaced.{DigitsBetween-digits_of}
-use Rattle.cbor_diag.specs.declared.error.Error.{Error}
-use Rattle.cbor_diag.specs.Item.{Chunk, Item, Items}
+use Rattle.cbor_diag.specs.Item.{Item}
 use Rattle.cbor_diag.specs.View.{items_of}
 use Rattle.cbor_diag.specs.Reading.{Read, ◌>>=◌}
-use Rattle.cbor_diag.specs.Written.{encoded_items}
-use Rattle.cbor_diag.specs.Notation.{IsBlank, Closes, Further, Members, list_of, QuotedBy, DigitsIn, Notation, in_base16, in_base32, in_base32hex, in_base64, as_text, as_items}
-use Rattle.cbor_diag.specs.NotationReading.{or_refused, after_byte, after_word, members_at, if_encoded, from_fives, from_sixes, six_bits, value_in, unpadded, base32_of, base32hex_of, either, base64_of, base16_bytes, base16_of, decoded_at, either_word, h_notation, b_notation, embedded_at}
-use Rattle.cbor_diag.proofs.sound.Steps.{none_some, a_test, Sound, moved, moved_in, weaker, sound_then, sound_map, sound_check, sound_option, sound_refused, after_byte_is, after_word_is}
-use Rattle.cbor_diag.proofs.sound.Lists.{members_sound}
+use Rattle.cbor_diag.specs.Notation.{Closes, Further, Members, list_of, DigitsIn, Notation, in_base16, in_base32, in_base32hex, in_base64}
+use Rattle.cbor_diag.specs.NotationReading.{or_refused, after_word, if_encoded, from_fives, from_sixes, six_bits, value_in, unpadded, base32_of, base32hex_of, either, base64_of, base16_bytes, base16_of, decoded_at, either_word, h_notation, b_notation}
+use Rattle.cbor_diag.proofs.sound.Steps.{none_some, Sound, moved, sound_option, after_word_is}
 use Rattle.cbor_diag.proofs.sound.Digits.{fives_are_bytes, sixes_are_bytes, encoded_so}
 
 -- ---- one notation of bytes

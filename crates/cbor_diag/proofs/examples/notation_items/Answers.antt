@@ -1,9 +1,9 @@
-use Rattle.std.proofs.Common.{codes, refl, List, ℕ}
+use Rattle.std.proofs.Common.{codes, refl}
 use Rattle.hex.specs.Hex.{decode_pairs}
 use Rattle.base64.specs.Rfc4648.{encode_symbols}
 use Rattle.cbor_notes.specs.Base32.{encode}
 use Rattle.cbor_diag.specs.NotationReading.{item_at, core_at, start_of, members_at, members_from, piece_at, pieces_at, string_at, from_fives, from_sixes, base32_of, base32hex_of, base64_of}
-use Rattle.cbor_diag.proofs.NotationReaders.{is_read, not_read}
+use Rattle.cbor_diag.proofs.NotationReaders.{is_read}
 use Rattle.cbor_diag.proofs.examples.notation_items.Goals as goal
 
 pub returns-clause-blanks : goal.returns-clause-blanks

@@ -1,6 +1,4 @@
-use Rattle.std.proofs.Common.{◌+◌, ◌-◌, length, ap, sym, ◌∙◌, arith}
-use Rattle.cbor_diag.specs.Reading.{item_at}
-use Rattle.cbor_diag.proofs.Found.{item_again}
+use Rattle.std.proofs.Common.{◌-◌, length, arith}
 use Rattle.cbor_diag.proofs.EmbeddedItems.{embedded_spells, spells_embedded, sequence_spells, no_item_before}
 use Rattle.cbor_diag.proofs.laws.embedded_items.Goals as goal
 

@@ -1,5 +1,3 @@
-use Rattle.cbor_diag.proofs.NotationReaders.{text_is}
-use Rattle.cbor_diag.proofs.sound.Lists.{members_sound}
 use Rattle.cbor_diag.proofs.sound.Items.{notation_sound}
 use Rattle.cbor_diag.proofs.laws.notation_read.Goals as goal
 

@@ -1,14 +1,14 @@
-use Rattle.std.proofs.Common.{◌≡◌, ℕ, suc, ◌+◌, ◌-◌, ◌++◌, ◌∷◌, [], Bool, true, false, List, Ok, length, map, Some, None, refl, sym, ap, subst, ◌∙◌, arith}
+use Rattle.std.proofs.Common.{◌≡◌, ℕ, suc, ◌+◌, ◌-◌, ◌++◌, ◌∷◌, [], true, false, Ok, length, map, Some, sym, ap, subst, ◌∙◌, arith}
 use Rattle.std.proofs.lemmas.Result.{err_from_is_err_and}
 use Rattle.std.proofs.lemmas.List.{map_push}
 use Rattle.cbor_diag.specs.declared.parse.notation.start.Start.TheVariants as start
 use Rattle.cbor_diag.specs.Item as spec
 use Rattle.cbor_diag.specs.Item.{Item, atom, negative, array, byte_chunks, text_chunks}
 use Rattle.cbor_diag.specs.View.{view, items_of, pairs_of, items_view, pairs_view, byte_chunk, text_chunk}
-use Rattle.cbor_diag.specs.WellFormed.{WellFormedItems, WellFormedPairs, IsByteChunk, IsTextChunk}
+use Rattle.cbor_diag.specs.WellFormed.{IsByteChunk, IsTextChunk}
 use Rattle.cbor_diag.specs.Bytes.{bytes_kind, text_kind}
-use Rattle.cbor_diag.specs.Reading.{◌>>=◌, Gives, Fails}
-use Rattle.cbor_diag.specs.NotationReading.{blank_at, after_byte, after_word, end_at, integer_or_tag, sized_at, below_zero_at, length_at, array_at, map_at, pair_at, chunk_at, item_at, core_of, core_at, members_at, members_from, pieces_at, checked, begins_piece, begins_string, string_of, string_at}
+use Rattle.cbor_diag.specs.Reading.{◌>>=◌, Fails}
+use Rattle.cbor_diag.specs.NotationReading.{blank_at, after_byte, end_at, integer_or_tag, sized_at, below_zero_at, length_at, pair_at, chunk_at, item_at, core_at, members_at, pieces_at, checked, begins_piece, begins_string, string_at}
 use Rattle.cbor_diag.proofs.Loops.{Fails-bind}
 use Rattle.cbor_diag.proofs.NotationLoops.{members_closed, members_begin, member_fails, member_last, no_comma, member_more}
 use Rattle.cbor_diag.proofs.NotationCores.{core_by, piece_by, no_piece, no_text, string_by, item_none, item_some, pieces_begin, pieces_end, piece_fails, piece_more, items_push, pair_view, pairs_push, all_push, array_well, map_well}

@@ -1,4 +1,4 @@
-use Rattle.std.proofs.Common.{◌≡◌, ◌≤◌, ◌∙◌, ◌++◌, ◌+◌, ℕ, List, [], None, max, ap, sym, subst, arith, refl}
+use Rattle.std.proofs.Common.{◌≡◌, ◌≤◌, ◌∙◌, ◌++◌, ◌+◌, ℕ, List, None, max, ap, sym, subst, arith}
 use Rattle.std.specs.List.{AllByRecursion, flat_map}
 use Rattle.std.specs.String.{string_bytes}
 use Rattle.cbor_notes.specs.Columns.{IsColumn, Lacks}
@@ -8,7 +8,7 @@ use Rattle.cbor_diag.specs.Item.{Item}
 use Rattle.cbor_notes.specs.Layout.{line_text, width_of}
 use Rattle.cbor_notes.proofs.Trees.{fit_width}
 use Rattle.cbor_diag.specs.View.{view}
-use Rattle.cbor_diag.specs.Dump.{dump, lines}
+use Rattle.cbor_diag.specs.Dump.{lines}
 use Rattle.cbor_diag.specs.Parts.{most_width}
 use Rattle.cbor_diag.specs.HexText.{strip}
 use Rattle.cbor_diag.proofs.DumpDigits.{item_are}

@@ -1,4 +1,4 @@
-use Rattle.cbor_diag.proofs.DumpFits.{item_fits, takes_all, widest_is}
+use Rattle.cbor_diag.proofs.DumpFits.{item_fits}
 use Rattle.cbor_diag.proofs.encode.dump.comment.push_base64_digits.Goals as goal
 
 pub returns-then-url : goal.returns-then-url

@@ -1,9 +1,9 @@
-use Rattle.std.proofs.Common.{◌≡◌, ◌∙◌, ◌+◌, ◌++◌, ◌∷◌, ℕ, List, drop, codes, OnOk, ap, sym, subst, arith, rules, refl}
+use Rattle.std.proofs.Common.{◌≡◌, ◌∙◌, ◌+◌, ◌++◌, drop, codes, OnOk, ap, sym, subst, arith, rules, refl}
 use Rattle.cbor_diag.specs.declared.syntax.DataItem.{the_lemmas}
 use Rattle.cbor_diag.specs.Item.{Item, item_count, pair_count}
 use Rattle.cbor_diag.specs.View.{view, items_view, pairs_view}
 use Rattle.cbor_diag.specs.Dump.{item_lines, items_lines, pairs_lines, container_line, close_lines}
-use Rattle.cbor_diag.specs.Parts.{Takes, taken}
+use Rattle.cbor_diag.specs.Parts.{taken}
 use Rattle.cbor_diag.proofs.Views.{view-Integer, view-Negative, item_count_view, pair_count_view}
 use Rattle.cbor_diag.proofs.Walks.{part_here, part_left, part_taken}
 use Rattle.cbor_diag.proofs.Members.{first_here, members_here, end_here, whole_taken, array_lines, map_lines, array_fits, map_fits, array_members, map_members}

@@ -1,9 +1,8 @@
-use Rattle.std.proofs.Common.{◌≡◌, ◌∙◌, ◌+◌, ◌++◌, [], ◌∷◌, ℕ, List, map, drop, ap, sym, subst}
-use Rattle.std.specs.List.{AllByRecursion, flat_map}
+use Rattle.std.proofs.Common.{◌∙◌, ◌+◌, ◌++◌, [], ◌∷◌, map, drop}
+use Rattle.std.specs.List.{flat_map}
 use Rattle.cbor_diag.specs.View.{byte_chunk}
 use Rattle.cbor_diag.specs.WellFormed.{IsByteChunk}
 use Rattle.cbor_diag.specs.Dump.{byte_string_lines, break_line}
-use Rattle.cbor_diag.specs.Parts.{Takes, taken}
 use Rattle.cbor_diag.proofs.Walks.{part_here, part_left, part_taken, chunk_lines, chunks_after}
 use Rattle.cbor_diag.proofs.encode.dump.walk.byte_chunks.Goals as goal
 

@@ -1,4 +1,4 @@
-use Rattle.std.proofs.Common.{◌≡◌, ◌∙◌, ◌<◌, ℕ, List, length, take, drop, ap, sym, subst, refl}
+use Rattle.std.proofs.Common.{◌∙◌, ℕ, List, length, take, drop, ap, sym, subst, refl}
 use Rattle.std.specs.List.{AllByRecursion}
 use Rattle.cbor_notes.specs.Layout.{DumpLine}
 use Rattle.cbor_diag.specs.Comments.{bytes_comment}

@@ -1,4 +1,4 @@
-use Rattle.std.proofs.Common.{◌≡◌, length, map}
+use Rattle.std.proofs.Common.{◌≡◌, length}
 use Rattle.std.specs.List.{AllByRecursion}
 use Rattle.cbor_diag.specs.Comments.{bytes_comment}
 use Rattle.cbor_diag.specs.Pieces.{byte_pieces}

@@ -1,9 +1,8 @@
-use Rattle.std.proofs.Common.{◌≡◌, ◌∙◌, ◌+◌, ◌++◌, [], ◌∷◌, ℕ, List, map, drop, ap, sym, subst}
-use Rattle.std.specs.List.{AllByRecursion, flat_map}
+use Rattle.std.proofs.Common.{◌∙◌, ◌+◌, ◌++◌, [], ◌∷◌, map, drop}
+use Rattle.std.specs.List.{flat_map}
 use Rattle.cbor_diag.specs.View.{text_chunk}
 use Rattle.cbor_diag.specs.WellFormed.{IsTextChunk}
 use Rattle.cbor_diag.specs.Dump.{text_string_lines, break_line}
-use Rattle.cbor_diag.specs.Parts.{Takes, taken}
 use Rattle.cbor_diag.proofs.Walks.{part_here, part_left, part_taken, chunk_lines, chunks_after}
 use Rattle.cbor_diag.proofs.encode.dump.walk.text_chunks.Goals as goal
 

@@ -1,11 +1,11 @@
-use Rattle.std.proofs.Common.{◌≡◌, ◌∙◌, ◌<◌, ℕ, List, length, take, drop, ap, sym, subst, arith}
+use Rattle.std.proofs.Common.{◌∙◌, ℕ, List, length, take, drop, ap, sym, subst, arith}
 use Rattle.std.specs.Str.{IsUtf8}
 use Rattle.std.proofs.lemmas.Str.{IsUtf8-drop}
 use Rattle.cbor_notes.specs.Layout.{DumpLine}
 use Rattle.cbor_diag.specs.Comments.{text_comment}
 use Rattle.cbor_diag.specs.Dump.{piece_line}
 use Rattle.cbor_diag.specs.Pieces.{text_cut}
-use Rattle.cbor_diag.specs.Parts.{Takes, taken}
+use Rattle.cbor_diag.specs.Parts.{Takes}
 use Rattle.cbor_diag.proofs.Cuts.{text_cuts, some_left}
 use Rattle.cbor_diag.proofs.Walks.{piece_here, pieces_left, pieces_taken}
 use Rattle.cbor_diag.proofs.encode.dump.walk.text_content.Goals as goal

@@ -1,4 +1,4 @@
-use Rattle.std.proofs.Common.{◌≡◌, ◌+◌, drop, ap, sym, ◌∙◌, arith}
+use Rattle.std.proofs.Common.{ap, ◌∙◌, arith}
 use Rattle.std.proofs.lemmas.List.{drop_all}
 use Rattle.cbor_diag.specs.View.{view, items_view, pairs_view}
 use Rattle.cbor_diag.specs.Estimate.{full, full_items, full_pairs}

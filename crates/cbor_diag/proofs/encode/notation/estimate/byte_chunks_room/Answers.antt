@@ -1,10 +1,10 @@
-use Rattle.std.proofs.Common.{◌+◌, ℕ, map, drop, ap, arith}
+use Rattle.std.proofs.Common.{◌+◌, ℕ, map, ap, arith}
 use Rattle.std.specs.Prelude.{sum_by}
 use Rattle.std.proofs.lemmas.List.{drop_all}
 use Rattle.cbor_diag.specs.Item.{Chunk}
 use Rattle.cbor_diag.specs.View.{byte_chunk}
 use Rattle.cbor_diag.specs.Estimate.{full_bytes}
-use Rattle.cbor_diag.proofs.Rooms.{no_room, room_behind, chunks_here}
+use Rattle.cbor_diag.proofs.Rooms.{no_room, chunks_here}
 use Rattle.cbor_diag.proofs.encode.notation.estimate.byte_chunks_room.Goals as goal
 
 abbrev size : Chunk → ℕ

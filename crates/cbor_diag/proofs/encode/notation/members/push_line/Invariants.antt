@@ -1,4 +1,4 @@
-use Rattle.std.proofs.Common.{◌≡◌, [], ◌∷◌, ◌++◌, replicate}
+use Rattle.std.proofs.Common.{◌≡◌, ◌∷◌, ◌++◌, replicate}
 use Rattle.std.specs.String.{string_bytes}
 use Rattle.cbor_diag.proofs.encode.notation.members.push_line.Given as goal
 

@@ -1,10 +1,10 @@
-use Rattle.std.proofs.Common.{◌≡◌, ◌+◌, List, ℕ, [], ◌∷◌, ◌++◌, map, codes, length, drop, sym, ap, ◌∙◌, arith}
+use Rattle.std.proofs.Common.{◌≡◌, ◌+◌, List, ℕ, [], ◌∷◌, ◌++◌, codes, drop, sym, ap, ◌∙◌}
 use Rattle.std.proofs.lemmas.List.{drop_all}
 use Rattle.std.proofs.lemmas.Result.{on_ok_weaker}
 use Rattle.std.specs.String.{string_bytes}
 use Rattle.cbor_diag.specs.Item.{Chunk}
 use Rattle.cbor_diag.specs.View.{text_chunk}
-use Rattle.cbor_diag.specs.NotationText.{text, members}
+use Rattle.cbor_diag.specs.NotationText.{text}
 use Rattle.cbor_diag.proofs.NotationTexts.{drop_here, member_more, members_end, chunks_written}
 use Rattle.cbor_diag.proofs.encode.notation.members.push_text_chunks.Goals as goal
 

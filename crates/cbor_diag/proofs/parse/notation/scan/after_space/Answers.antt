@@ -1,4 +1,4 @@
-use Rattle.std.proofs.Common.{◌≡◌, Bool, not, List, drop, position, rules, sym, ap, ◌∙◌, tests, option_map}
+use Rattle.std.proofs.Common.{not, rules, sym, ap, ◌∙◌, tests}
 use Rattle.std.proofs.lemmas.List.{take_rest}
 use Rattle.std.proofs.lemmas.Iterator.{YieldsList-from_slice}
 use Rattle.std.proofs.lemmas.Iterator.Search.{position_from_yields_List}
