@@ -3,26 +3,18 @@ use Rattle.std.proofs.Common.{◌≡◌, ℕ, ◌+◌, ◌-◌, ◌*◌, ◌/◌
 use Rattle.std.specs.Int.{div_ceil}
 use Rattle.std.specs.List.{range_with_len}
 use Rattle.std.specs.Fork.{slice_chunk}
-use Rattle.std.proofs.lemmas.List.{append_assoc, drop-drop, take_at, drop_at, length-drop, take_more, replicate_more, take_min, drop_min}
+use Rattle.std.proofs.lemmas.List.{append_assoc, drop-drop, take_at, drop_at, length-drop, replicate_more, take_min, drop_min}
 use Rattle.std.proofs.lemmas.List.FromFn.{map-range_with_len_more}
-use Rattle.hex.specs.Hex.{encode_lower, encode_with, lower_digits}
+use Rattle.hex.specs.Hex.{encode_lower, encode_with}
 use Rattle.cbor_notes.specs.Text.{quoted_bytes}
 use Rattle.cbor_notes.specs.DecodedLines.{decoded_line, decoded_lines}
 
+-- the digits of two lists, one after the other
 pub encode_with-append : (t xs ys : List ℕ) → encode_with t (xs ++ ys) ≡ encode_with t xs ++ encode_with t ys
 unfolding encode_with
 encode_with-append t [] ys = refl
 encode_with-append t (x ∷ xs) ys =
     ap (λ (l : List ℕ). slice_index t (x / 16) ∷ slice_index t (x % 16) ∷ l) (encode_with-append t xs ys)
-
--- the digits of one more byte
-pub encode_lower_more : (xs : List ℕ) (i : ℕ) → i < length xs
-    → encode_lower (take (i + 1) xs) ≡ encode_lower (take i xs) ++ encode_lower (slice_index xs i ∷ [])
-encode_lower_more xs i small = ap encode_lower (take_more xs i 0 small) ∙ encode_with-append lower_digits (take i xs) (slice_index xs i ∷ [])
-
-pub encode_lower_none : encode_lower [] ≡ []
-unfolding encode_with
-encode_lower_none = refl
 
 -- one more blank
 pub blanks_more : (line after blank : List ℕ) (counter start : ℕ) → start ≤ counter → after ≡ line ++ replicate (counter - start) 32

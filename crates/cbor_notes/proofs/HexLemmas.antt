@@ -1,11 +1,14 @@
--- The hex digits of a byte.
-use Rattle.std.proofs.Common.{◌≡◌, ℕ, true, ltb, List, [], ◌∷◌, get_or, refl, arith}
+-- The hex digits of bytes.
+use Rattle.std.proofs.Common.{◌≡◌, ℕ, true, ltb, eqb, eqb-true, List, [], ◌∷◌, ◌++◌, length, get_or, Result, Ok, Err, refl, sym, ap, ◌∙◌, append_assoc, arith}
 use Rattle.std.proofs.lemmas.Bool.Decides.{nat_tests}
+use Rattle.std.proofs.lemmas.List.{append-nil}
 use Rattle.std.proofs.lemmas.Str.Ascii.{IsAscii-nil, IsAscii-cons}
 use Rattle.std.specs.List.{list_all}
+use Rattle.std.specs.Result.{MatchResult, IsOk}
 use Rattle.std.specs.Str.{IsAscii}
 use Rattle.hex.specs.Hex.{encode_lower, encode_with, lower_digits}
 use Rattle.hex.proofs.HexLemmas.{IsAscii-encode_with}
+use Rattle.cbor_notes.proofs.DecodedLineLemmas.{encode_with-append}
 
 -- bytes that pass a test of each are ASCII
 pub IsAscii-from_test : (bs : List ℕ) → list_all (λ b. ltb b 128) bs ≡ true → IsAscii bs
@@ -21,3 +24,19 @@ IsAscii-encode_lower bs = IsAscii-encode_with lower_digits bs (IsAscii-from_test
 pub encode_lower-byte : (b : ℕ) (digits : List ℕ) → digits ≡ encode_lower (b ∷ []) → encode_lower (b ∷ []) ≡ get_or digits 0 0 ∷ get_or digits 1 0 ∷ []
 unfolding encode_with
 encode_lower-byte b digits e = rw e refl
+
+-- a piece more is written
+pub hex_more : (out piece after rest whole : List ℕ) → piece ++ after ≡ rest → out ++ encode_lower rest ≡ whole → (out ++ encode_lower piece) ++ encode_lower after ≡ whole
+hex_more out piece after rest whole parts h =
+    append_assoc out (encode_lower piece) (encode_lower after) ∙ ap (λ x. out ++ x) (sym (encode_with-append lower_digits piece after)) ∙ ap (λ x. out ++ encode_lower x) parts ∙ h
+
+-- all is written
+pub hex_end : (out rest whole : List ℕ) → eqb (length rest) 0 ≡ true → out ++ encode_lower rest ≡ whole → out ≡ whole
+unfolding encode_with
+hex_end out [] whole none h = sym (append-nil out) ∙ h
+hex_end out (x ∷ rest) whole none h = absurd (omega (arith, eqb-true (length (x ∷ rest)) 0 none))
+
+-- a test of UTF-8 passes
+pub utf8_passes : {T E U : Type 0} (P : T → Type 0) (Q : E → Type 0) (r : Result T E) → MatchResult r P (λ e. (¬ U) × Q e) → U → IsOk r
+utf8_passes P Q (Ok x) h u = refl
+utf8_passes P Q (Err e) h u = absurd (h.0 u)

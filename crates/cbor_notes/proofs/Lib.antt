@@ -7,6 +7,8 @@ pub mod Base32Padding
 pub mod Base58Digits
 pub mod Base58Lemmas
 pub mod Base64Digits
+pub mod Base64Texts
+pub mod CalendarDays
 pub mod Spaces
 pub mod Blanks
 pub mod DateTexts
@@ -21,13 +23,18 @@ pub mod OneColumn
 pub mod OneLine
 pub mod Places
 pub mod Trees
+pub mod CommentTexts
 pub mod Contents
 pub mod Longest
 pub mod NumberFronts
 pub mod NumberRuns
 pub mod Numbers
 pub mod Quoted
+pub mod Searches
 pub mod Spaced
 pub mod TextPlaces
 pub mod NumberParts
 pub mod WrittenNumbers
+pub mod DateNotes
+pub mod DateLines
+pub mod DateTimeNotes

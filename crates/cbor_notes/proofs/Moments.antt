@@ -1,5 +1,5 @@
 -- Seconds as a day and a time of day.
-use Rattle.std.proofs.Common.{append_assoc, ◌≡◌, ℕ, ◌+◌, ◌*◌, ◌/◌, ◌%◌, ◌<◌, ℤ, pos, negsuc, ◌+ℤ◌, ◌*ℤ◌, nat_abs, List, ◌++◌, codes, refl, sym, ap, ◌∙◌, arith}
+use Rattle.std.proofs.Common.{append_assoc, ◌≡◌, ℕ, ◌+◌, ◌*◌, ◌/◌, ◌%◌, ◌<◌, ℤ, pos, negsuc, ◌+ℤ◌, ◌*ℤ◌, nat_abs, List, ◌++◌, codes, FitsSigned, w64, refl, sym, ap, ◌∙◌, arith}
 use Rattle.std.specs.Int.{int_div_euclid, int_rem_euclid}
 use Rattle.jiff.proofs.SpanFacts.{signed_arith}
 use Rattle.jiff.specs.Types.{Date}
@@ -11,6 +11,12 @@ use Rattle.cbor_notes.proofs.DateTexts.{date_text_same}
 pub day_and_clock : (s q r : ℤ) → q ≡ int_div_euclid s (pos 86400) → r ≡ int_rem_euclid s (pos 86400) → (s ≡ q *ℤ pos 86400 +ℤ pos (nat_abs r)) × (nat_abs r < 86400)
 day_and_clock (pos a) q r q_is r_is = rw (q_is, r_is) (omega (arith, signed_arith), omega (arith, signed_arith))
 day_and_clock (negsuc a) q r q_is r_is = rw (q_is, r_is) (omega (arith, signed_arith), omega (arith, signed_arith))
+
+-- the day is small
+pub day_fits : (s q : ℤ) → FitsSigned w64 s → q ≡ int_div_euclid s (pos 86400) → FitsSigned w64 q
+day_fits s q fits is =
+    let parts = day_and_clock s q (int_rem_euclid s (pos 86400)) is refl in
+    omega (arith, signed_arith)
 
 -- they are the only ones
 pub one_day : (s q d : ℤ) (n k : ℕ) → s ≡ q *ℤ pos 86400 +ℤ pos n → s ≡ d *ℤ pos 86400 +ℤ pos k → n < 86400 → k < 86400 → (d ≡ q) × (k ≡ n)

@@ -29,7 +29,7 @@ pub free_flat : {X : Type 0} (c : ℕ) (f : X → List ℕ) → ((x : X) → Fre
 free_flat c f each [] = tt
 free_flat c f each (x ∷ xs) = free_both c (f x) (flat_map f xs) (each x) (free_flat c f each xs)
 
-free_same : (c b n : ℕ) → b ≢ c → Free c (replicate n b)
+pub free_same : (c b n : ℕ) → b ≢ c → Free c (replicate n b)
 free_same c b zero other = tt
 free_same c b (suc n) other = (other, free_same c b n other)
 
@@ -45,7 +45,7 @@ pub lacks_of : (c : ℕ) (text : List ℕ) → Free c text → Lacks c text
 lacks_of c text free = lacks_at c text free
 
 -- a digit of a table, and 0 past its end
-free_digit : (c : ℕ) (table : List ℕ) (k : ℕ) → 0 ≢ c → Free c table → get_or table k 0 ≢ c
+pub free_digit : (c : ℕ) (table : List ℕ) (k : ℕ) → 0 ≢ c → Free c table → get_or table k 0 ≢ c
 free_digit c [] k other free = other
 free_digit c (x ∷ table) zero other free = free.0
 free_digit c (x ∷ table) (suc k) other free = free_digit c table k other free.1
@@ -58,14 +58,14 @@ free_with c table other free (b ∷ bytes) = (free_digit c table (b / 16) other 
 pub free_hex : (c : ℕ) → 0 ≢ c → Free c lower_digits → (bytes : List ℕ) → Free c (encode_lower bytes)
 free_hex c other free bytes = free_with c lower_digits other free bytes
 
-zero_other : ◌≢◌ {A = ℕ} 0 10
+pub zero_other : ◌≢◌ {A = ℕ} 0 10
 zero_other e = cc e
 
 pub hex_line : (bytes : List ℕ) → Free 10 (encode_lower bytes)
 hex_line bytes = free_hex 10 zero_other (from_test 10 lower_digits refl) bytes
 
 -- base 64
-free_symbols : (table : List ℕ) → Free 10 table → (bytes : List ℕ) → Free 10 (encode_symbols table bytes)
+pub free_symbols : (table : List ℕ) → Free 10 table → (bytes : List ℕ) → Free 10 (encode_symbols table bytes)
 unfolding encode_symbols
 free_symbols table free [] = tt
 free_symbols table free (a ∷ []) = (free_digit 10 table (a / 4) zero_other free, (free_digit 10 table (a % 4 * 16) zero_other free, tt))
@@ -106,7 +106,7 @@ free_onto (suc k) base upper n text free =
     free_cond 10 (n / base == 0) (digit_glyph upper (n % base) ∷ text) (digits_onto k base upper (n / base) (digit_glyph upper (n % base) ∷ text)) more
     (free_onto k base upper (n / base) (digit_glyph upper (n % base) ∷ text) more)
 
-digits_line : (base : ℕ) (n : ℕ) → Free 10 (digits base false n)
+pub digits_line : (base : ℕ) (n : ℕ) → Free 10 (digits base false n)
 unfolding digits
 digits_line base n = free_onto 64 base false n [] tt
 

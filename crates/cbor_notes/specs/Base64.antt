@@ -1,6 +1,8 @@
 -- Base 64: RFC 4648, section 4, and section 5 without padding.
-use Rattle.std.specs.Prelude.{ℕ, Bool, true, false, ◌==◌, ◌||◌, if◌then◌else◌, List, codes}
+use Rattle.std.specs.Prelude.{ℕ, Bool, true, false, ◌==◌, ◌||◌, if◌then◌else◌, Option, List, codes}
 use Rattle.base64.specs.Rfc4648.{encode}
+use Rattle.base64.specs.GeneralPurpose.{decoded_of}
+use Rattle.base64.specs.Engines as engines
 
 -- the encoding in the standard alphabet, with `=` up to a multiple of four characters
 abbrev pub standard : List ℕ → List ℕ
@@ -17,3 +19,9 @@ is_standard_only digit = (digit == 43) || (digit == 47) || (digit == 61)
 -- the encoding that is safe in URLs, or the standard one
 abbrev pub encoding : Bool → List ℕ → List ℕ
 encoding url bytes = if url then url_safe bytes else standard bytes
+
+-- the bytes that digits encode, in the alphabet that is safe in URLs, without padding, or else in the
+-- standard one with padding; None where they encode nothing in that one
+unfoldable pub decoded : Bool → List ℕ → Option (List ℕ)
+decoded url digits =
+    if url then decoded_of engines.url_safe_no_pad digits else decoded_of engines.standard digits

@@ -6,12 +6,14 @@ pub mod Base64
 pub mod Columns
 pub mod Date
 pub mod DateTime
+pub mod Days
 pub mod DecodedLines
 pub mod Element
 pub mod Identifier
 pub mod Layout
 pub mod LayoutExamples
 pub mod LineTree
+pub mod Search
 pub mod TagNames
 pub mod Text
 pub mod Token

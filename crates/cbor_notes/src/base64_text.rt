@@ -1,12 +1,12 @@
 //! Base 64, decoded: RFC 4648, sections 4 and 5.
 
-ghost use Rattle.std.specs.Prelude.{◌≡◌, ◌≢◌, ◌⊎◌, ◌*◌, ◌≤◌, ℕ, List, length, map, IfSome, IfNone, IfOk, IsSomeAnd};
+ghost use Rattle.std.specs.Prelude.{◌≡◌, ◌≢◌, ◌⊎◌, ◌*◌, ◌≤◌, ℕ, List, length, map, option_map, IfSome, IfNone, IfOk, IsSomeAnd};
 ghost use Rattle.std.specs.List.{list_any};
 ghost use Rattle.std.specs.String.{string_bytes};
-ghost use Rattle.base64.specs.GeneralPurpose.{IsStrict, encode_of};
+ghost use Rattle.base64.specs.GeneralPurpose.{IsStrict, decoded_of, encode_of};
 ghost use Rattle.cbor_notes.specs.AreBytes.{AreBytes};
-ghost use Rattle.cbor_notes.specs.Base64.{encoding, is_standard_only, standard, url_safe};
-ghost use Rattle.cbor_notes.specs.DecodedLines.{decoded_line, decoded_lines};
+ghost use Rattle.cbor_notes.specs.Base64.{decoded, encoding, is_standard_only, standard, url_safe};
+ghost use Rattle.cbor_notes.specs.DecodedLines.{base64_lines, decoded_line, decoded_lines};
 
 use crate::text::{push_hex, push_quoted_bytes};
 use base64::DecodeAllocError;
@@ -50,6 +50,9 @@ pub fn base64_lines(alloc: Global, text: &str, url: bool) -> Result<Option<Vec<S
     ensures only { (bytes : List ℕ) → AreBytes bytes → text.now ≡ encoding url bytes
         → IfOk result (λ found. IsSomeAnd found
         (λ lines. map string_bytes lines.items ≡ decoded_lines bytes)) }
+    // The same as a function of the text.
+    ensures value { IfOk result
+        (λ found. option_map (λ lines. map string_bytes lines.items) found ≡ base64_lines url text.now) }
 {
     match decode(alloc, text.as_bytes(), url)? {
         Some(bytes) => Ok(Some(decoded_lines(alloc, &bytes)?)),
@@ -103,6 +106,8 @@ fn decode(alloc: Global, digits: &[u8], url: bool) -> Result<Option<Vec<u8>>, Al
         (λ bytes. AreBytes bytes.items × (digits.now ≡ encoding url bytes.items))) }
     ensures only { (bytes : List ℕ) → AreBytes bytes → digits.now ≡ encoding url bytes
         → IfOk result (λ found. IsSomeAnd found (λ answer. answer.items ≡ bytes)) }
+    ensures value { IfOk result
+        (λ found. option_map (λ bytes. bytes.items) found ≡ decoded url digits.now) }
 {
     if url {
         decode_with(&URL_SAFE_NO_PAD, alloc, digits)
@@ -122,6 +127,8 @@ fn decode_with(
         (λ bytes. AreBytes bytes.items × (digits.now ≡ encode_of engine.now bytes.items))) }
     ensures only { (bytes : List ℕ) → AreBytes bytes → digits.now ≡ encode_of engine.now bytes
         → IfOk result (λ found. IsSomeAnd found (λ answer. answer.items ≡ bytes)) }
+    ensures value { IfOk result
+        (λ found. option_map (λ bytes. bytes.items) found ≡ decoded_of engine.now digits.now) }
 {
     match engine.decode(alloc, digits) {
         Ok(bytes) => Ok(Some(bytes)),

@@ -1,6 +1,6 @@
 //! Dates, as texts and as days from 1970-01-01.
 
-ghost use Rattle.std.specs.Prelude.{◌≡◌, ◌↔◌, ◌++◌, ℕ, ◌<◌, [], ◌∷◌, pos, IsSome, IfSome, IfOk, OnOk, IsSomeAnd};
+ghost use Rattle.std.specs.Prelude.{◌≡◌, ◌↔◌, ◌++◌, ℕ, ◌<◌, [], ◌∷◌, pos, IsSome, IfSome, IfOk, OnOk, IsSomeAnd, option_map};
 ghost use Rattle.std.specs.String.{string_bytes};
 ghost use Rattle.jiff.specs.Types.{Date as CivilDate};
 ghost use Rattle.jiff.specs.Words.{IsDate, IsEpochDay, IsYear, IsYmd, epoch_day};
@@ -19,6 +19,8 @@ use std::alloc::{AllocError, Global};
 pub fn date_of_epoch(alloc: Global, day: i64) -> Result<Option<String>, AllocError>
     ensures found { IfOk result (λ found. IfSome found (λ text. IsDayText day (string_bytes text))) }
     ensures range { IfOk result (λ found. IsSome found ↔ IsEpochDay day) }
+    ensures value { IfOk result
+        (λ found. option_map string_bytes found ≡ spec.date_of_epoch day) }
     // There is one such text.
     ensures only { (date : CivilDate) → epoch_day date ≡ day
         → IfOk result (λ found. IsSomeAnd found (λ text. string_bytes text ≡ spec.date_text date)) }
@@ -41,6 +43,8 @@ pub fn epoch_of_date(alloc: Global, text: &str) -> Result<Option<String>, AllocE
     ensures found { IfOk result (λ found. IfSome found
         (λ day. (date : CivilDate) × IsDateText text.now date
         × (string_bytes day ≡ spec.grouped_signed (epoch_day date)))) }
+    ensures value { IfOk result
+        (λ found. option_map string_bytes found ≡ spec.epoch_of_date text.now) }
     // No text is that of two dates.
     ensures only { (date : CivilDate) → IsDateText text.now date
         → IfOk result (λ found. IsSomeAnd found (λ day. string_bytes day ≡ spec.grouped_signed (epoch_day date))) }

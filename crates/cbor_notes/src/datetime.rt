@@ -1,6 +1,6 @@
 //! Dates with a time of day, as texts and as seconds from 1970-01-01T00:00:00Z.
 
-ghost use Rattle.std.specs.Prelude.{IsTrue, length, take_while, ◌≡◌, ◌↔◌, ◌++◌, ℕ, ◌+◌, ◌*◌, ◌/◌, ◌%◌, ◌<◌, ◌≤◌, pos, ◌+ℤ◌, ◌-ℤ◌, ◌*ℤ◌, ℤ, List, IsSome, IfSome, IfOk, OnOk, IsSomeAnd};
+ghost use Rattle.std.specs.Prelude.{IsTrue, length, take_while, ◌≡◌, ◌↔◌, ◌++◌, ℕ, ◌+◌, ◌*◌, ◌/◌, ◌%◌, ◌<◌, ◌≤◌, pos, ◌+ℤ◌, ◌-ℤ◌, ◌*ℤ◌, ℤ, List, IsSome, IfSome, IfOk, OnOk, IsSomeAnd, option_map};
 ghost use Rattle.std.specs.Int.{int_div_euclid};
 ghost use Rattle.std.specs.Char.{is_ascii_digit};
 ghost use Rattle.std.specs.List.{list_all};
@@ -27,6 +27,8 @@ pub fn datetime_of_epoch(alloc: Global, seconds: i64) -> Result<Option<String>, 
         (λ found. IfSome found (λ text. IsMomentText seconds (string_bytes text))) }
     ensures range { IfOk result
         (λ found. IsSome found ↔ IsEpochDay (int_div_euclid seconds (pos 86400))) }
+    ensures value { IfOk result
+        (λ found. option_map string_bytes found ≡ date.datetime_of_epoch seconds) }
     // There is one such text.
     ensures only { (text : List ℕ) → IsMomentText seconds text
         → IfOk result (λ found. IsSomeAnd found (λ answer. string_bytes answer ≡ text)) }
@@ -55,6 +57,8 @@ pub fn epoch_of_datetime(alloc: Global, text: &str) -> Result<Option<String>, Al
     ensures found { IfOk result (λ found. IfSome found
         (λ answer. (seconds : ℤ) × (digits : List ℕ) × IsDateTimeText text.now seconds digits
         × (string_bytes answer ≡ spec.epoch_text seconds digits))) }
+    ensures value { IfOk result
+        (λ found. option_map string_bytes found ≡ spec.epoch_of_datetime text.now) }
     // No text names two moments.
     ensures only { (seconds : ℤ) (digits : List ℕ) → IsDateTimeText text.now seconds digits
         → IfOk result (λ found. IsSomeAnd found

@@ -6,7 +6,7 @@ ghost use Rattle.cbor_notes.specs.Base32.{base32, base32hex};
 ghost use Rattle.cbor_notes.specs.Base58.{base58_of};
 ghost use Rattle.cbor_notes.specs.Base64.{standard, url_safe};
 ghost use Rattle.cbor_notes.specs.Columns.{digits_of, uncommented};
-ghost use Rattle.cbor_notes.specs.DecodedLines.{decoded_lines};
+ghost use Rattle.cbor_notes.specs.DecodedLines.{base64_lines, decoded_lines};
 ghost use Rattle.cbor_notes.specs.Identifier.{fields_line, base16_line, base64_line, uuid_lines};
 ghost use Rattle.cbor_notes.specs.Layout.{layout, line_text, reach, width_of};
 ghost use Rattle.cbor_notes.specs.LayoutExamples.{bare, deep, head, number};
@@ -49,6 +49,14 @@ pub(crate) fn base58_digits()
 pub(crate) fn lines_of_decoded()
     ensures { decoded_lines (replicate 17 0) ≡ codes "00000000000000000000000000000000 # \"\\x00\\x00\\x00\\x00\\x00\\x00\\x00\\x00\\x00\\x00\\x00\\x00\\x00\\x00\\x00\\x00\""
         ∷ codes "00                               # \"\\x00\"" ∷ [] }
+{}
+
+/// A text has the lines of what it encodes, and none in the other encoding.
+pub(crate) fn lines_of_texts()
+    ensures standard { base64_lines false (codes "+/8=") ≡ Some (codes "fbff # \"\\xfb\\xff\"" ∷ []) }
+    ensures url_safe { base64_lines true (codes "-_8") ≡ Some (codes "fbff # \"\\xfb\\xff\"" ∷ []) }
+    ensures other { map (base64_lines true) (codes "+/8=" ∷ codes "-_8=" ∷ codes "-_9" ∷ []) ≡ replicate 3 None }
+    ensures empty { base64_lines false [] ≡ Some [] }
 {}
 
 /// Digits stand in groups of three from the right.

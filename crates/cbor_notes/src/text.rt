@@ -1,6 +1,6 @@
 //! Bytes, text and numbers as a comment writes them.
 
-ghost use Rattle.std.specs.Prelude.{◌≡◌, [], ◌∷◌, ◌++◌, IfOk, OnOk};
+ghost use Rattle.std.specs.Prelude.{◌≡◌, ◌≤◌, [], ◌∷◌, ◌++◌, length, IfOk, OnOk};
 ghost use Rattle.std.specs.String.{string_bytes};
 ghost use Rattle.std.specs.Str.{IsAscii};
 ghost use Rattle.hex.specs.Hex.{encode_lower};
@@ -60,10 +60,27 @@ fn push_escaped_byte(text: &mut String, byte: u8) -> Result<(), AllocError>
 pub fn push_hex(text: &mut String, bytes: &[u8]) -> Result<(), AllocError>
     ensures { OnOk result (string_bytes text.new ≡ string_bytes text.old ++ encode_lower bytes.now) }
 {
-    for byte in bytes {
-        push_hex_byte(text, *byte)?;
+    let mut rest = bytes;
+    'pieces: while !rest.is_empty() {
+        let (piece, after) = rest.split_at(rest.len().min(PIECE));
+        push_hex_piece(text, piece)?;
+        rest = after;
     }
     Ok(())
+}
+
+/// How many bytes are made hex digits at once.
+const PIECE: usize = 32;
+
+/// Appends the hex digits of a few bytes to `text`, all at once: byte by byte takes longer.
+fn push_hex_piece(text: &mut String, piece: &[u8]) -> Result<(), AllocError>
+    requires { length piece.now ≤ PIECE }
+    ensures { OnOk result (string_bytes text.new ≡ string_bytes text.old ++ encode_lower piece.now) }
+{
+    let mut buffer = [0; 2 * PIECE];
+    let digits = &mut buffer[..2 * piece.len()];
+    hex::encode_to_slice(piece, digits).unwrap();
+    text.push_str(str::from_utf8(digits).unwrap())
 }
 
 /// Appends the two hex digits of `byte` to `text`, in lower case.

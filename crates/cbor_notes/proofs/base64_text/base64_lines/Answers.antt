@@ -1,5 +1,6 @@
-use Rattle.std.proofs.Common.{◌∙◌, sym, ap}
-use Rattle.cbor_notes.specs.DecodedLines.{decoded_lines}
+use Rattle.std.proofs.Common.{◌∙◌, Some, option_map, sym, ap}
+use Rattle.cbor_notes.specs.DecodedLines.{base64_lines, decoded_lines}
+use Rattle.cbor_notes.specs.Base64.{decoded}
 use Rattle.cbor_notes.proofs.base64_text.base64_lines.Goals as goal
 
 pub returns-in_ok-decoded_lines-in-Some-clause-found : goal.returns-in_ok-decoded_lines-in-Some-clause-found
@@ -21,3 +22,16 @@ returns-in-None-clause-none c = λ bytes all is. rw c.in-None.is at (c.in_ok-byt
 
 pub returns-in-None-clause-only : goal.returns-in-None-clause-only
 returns-in-None-clause-only c = returns-in-None-clause-none c
+
+pub returns-in_ok-decoded_lines-in-Some-clause-value : goal.returns-in_ok-decoded_lines-in-Some-clause-value
+unfolding base64_lines
+returns-in_ok-decoded_lines-in-Some-clause-value c =
+    let found = rw c.in-Some.is at c.in_ok-bytes.ensures.value in
+    ap Some (c.in_ok-decoded_lines-in-Some.ensures ∙ ap decoded_lines c.deref.ensures.value)
+    ∙ ap (option_map decoded_lines) (found ∙ ap (decoded c.args.url) c.as_bytes.ensures.value)
+
+pub returns-in-None-clause-value : goal.returns-in-None-clause-value
+unfolding base64_lines
+returns-in-None-clause-value c =
+    let found = rw c.in-None.is at c.in_ok-bytes.ensures.value in
+    ap (option_map decoded_lines) (found ∙ ap (decoded c.args.url) c.as_bytes.ensures.value)

@@ -1,4 +1,6 @@
-use Rattle.std.proofs.Common.{◌∙◌, sym}
+use Rattle.std.proofs.Common.{◌∙◌, sym, ap}
+use Rattle.std.specs.Result.{result_ok}
+use Rattle.base64.specs.GeneralPurpose.{decoded_of}
 use Rattle.cbor_notes.proofs.Base64Digits.{bytes_at, bytes_from}
 use Rattle.cbor_notes.proofs.base64_text.decode_with.Goals as goal
 
@@ -17,3 +19,12 @@ returns-in-Err-DecodeError-clause-only c = λ bytes all is.
     let failed = rw c.in-Err-DecodeError.field-0-is at c.in-Err-DecodeError.ensures.err in
     let never = sym other ∙ failed in
     cc never
+
+pub returns-in-Ok-clause-value : goal.returns-in-Ok-clause-value
+unfolding decoded_of
+returns-in-Ok-clause-value c = sym (ap result_ok c.in-Ok.ensures.ok)
+
+pub returns-in-Err-DecodeError-clause-value : goal.returns-in-Err-DecodeError-clause-value
+unfolding decoded_of
+returns-in-Err-DecodeError-clause-value c =
+    let failed = rw c.in-Err-DecodeError.field-0-is at c.in-Err-DecodeError.ensures.err in sym (ap result_ok failed)

@@ -1,12 +1,14 @@
-use Rattle.std.proofs.Common.{◌≡◌, ◌∙◌, ap, pos, unsigned_abs, to_z, of_z, w32, FitsSigned, arith}
+use Rattle.std.proofs.Common.{◌≡◌, ◌∙◌, ap, pos, unsigned_abs, to_z, of_z, w32, FitsSigned, sym, arith}
 use Rattle.std.proofs.lemmas.Int.{to_z-of_z}
+use Rattle.std.proofs.lemmas.Option.{IfSome_then}
 use Rattle.std.specs.Int.Signed.{lt_z}
 use Rattle.std.specs.String.{string_bytes}
 use Rattle.jiff.proofs.SpanFacts.{signed_arith}
 use Rattle.jiff.specs.Words.{epoch_day}
 use Rattle.cbor_notes.specs.Text.{grouped}
-use Rattle.cbor_notes.specs.Date.{grouped_signed}
+use Rattle.cbor_notes.specs.Date.{epoch_of_date, grouped_signed}
 use Rattle.cbor_notes.proofs.DateTexts.{grouped_signed-is}
+use Rattle.cbor_notes.proofs.DateNotes.{epoch_of_date_is, epoch_of_date_some, no_text, same_text}
 use Rattle.cbor_notes.proofs.date.epoch_of_date.Goals as goal
 
 abbrev Written : goal.In_ok-push_grouped → Type 0
@@ -25,3 +27,15 @@ returns-clause-found c = (c.in-Some.date, c.in-Some.ensures.found, written c)
 
 pub returns-clause-only : goal.returns-clause-only
 returns-clause-only c = λ date is. written c ∙ ap grouped_signed (c.in-Some.ensures.only date is)
+
+pub returns-in_default-clause-value : goal.returns-in_default-clause-value
+returns-in_default-clause-value c =
+    let text = c.args.text.now in
+    no_text (epoch_of_date text) (IfSome_then (epoch_of_date text) (epoch_of_date_is text) (λ day is. c.in_default.ensures.only is.0 is.1))
+
+pub returns-clause-value : goal.returns-clause-value
+returns-clause-value c =
+    let text = c.args.text.now in
+    same_text _ (epoch_of_date text)
+    (IfSome_then (epoch_of_date text) (epoch_of_date_is text) (λ day is. returns-clause-only c is.0 is.1 ∙ sym is.2))
+    (epoch_of_date_some text c.in-Some.date c.in-Some.ensures.found)

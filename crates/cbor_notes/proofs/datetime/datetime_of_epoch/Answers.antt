@@ -1,11 +1,14 @@
-use Rattle.std.proofs.Common.{[], refl, ◌≡◌, ◌<◌, ◌∙◌, pos, nat_abs, ◌+ℤ◌, ◌*ℤ◌, FitsSigned, w64, arith}
+use Rattle.std.proofs.Common.{[], refl, ◌≡◌, ◌<◌, ◌∙◌, sym, pos, nat_abs, ◌+ℤ◌, ◌*ℤ◌, FitsSigned, w64, arith}
 use Rattle.std.proofs.lemmas.Int.{to_z-of_z}
-use Rattle.std.specs.Int.{int_rem_euclid}
+use Rattle.std.proofs.lemmas.Option.{IfSome_then}
+use Rattle.std.specs.Int.{int_div_euclid, int_rem_euclid}
 use Rattle.std.specs.String.{string_bytes}
 use Rattle.jiff.proofs.Family.{epoch_day_range}
 use Rattle.jiff.proofs.SpanFacts.{signed_arith}
 use Rattle.jiff.specs.Words.{IsEpochDay, epoch_day}
-use Rattle.cbor_notes.proofs.Moments.{day_and_clock, four_pieces, moment_found, moment_only, moment_text, one_day}
+use Rattle.cbor_notes.proofs.Moments.{day_and_clock, day_fits, four_pieces, moment_found, moment_only, moment_text, one_day}
+use Rattle.cbor_notes.proofs.DateNotes.{datetime_of_epoch-out, datetime_of_epoch_is, datetime_of_epoch_some, same_text}
+use Rattle.cbor_notes.specs.Date.{datetime_of_epoch}
 use Rattle.cbor_notes.proofs.datetime.datetime_of_epoch.Goals as goal
 
 abbrev Parts : goal.In_ok-push-2 → Type 0
@@ -50,3 +53,22 @@ returns-clause-found c = let p = parts c in rw p.2 (moment_found c.args.seconds 
 
 pub returns-clause-only : goal.returns-clause-only
 returns-clause-only c = λ text is. let p = parts c in p.2 ∙ moment_only c.args.seconds c.in-Some.date (nat_abs c.rem_euclid.result) text p.0 p.1 is
+
+pub returns-in_default-clause-value : goal.returns-in_default-clause-value
+returns-in_default-clause-value c =
+    let fits : FitsSigned w64 c.args.seconds = c.ranges.seconds in
+    let q = simp to_z-of_z at c.div_euclid.ensures in
+    let fits_q = day_fits c.args.seconds c.div_euclid.result fits q in
+    let range = simp to_z-of_z at c.in_default.ensures.range in
+    sym (datetime_of_epoch-out c.args.seconds (λ in_range. let never = range.1 (rw q in_range) in cc))
+
+pub returns-clause-value : goal.returns-clause-value
+returns-clause-value c =
+    let fits : FitsSigned w64 c.args.seconds = c.ranges.seconds in
+    let q = simp to_z-of_z at c.div_euclid.ensures in
+    let fits_q = day_fits c.args.seconds c.div_euclid.result fits q in
+    let day : epoch_day c.in-Some.date ≡ c.div_euclid.result = simp to_z-of_z at c.in-Some.ensures.found in
+    let in_range : IsEpochDay (int_div_euclid c.args.seconds (pos 86400)) = rw (← q, ← day) (epoch_day_range c.in-Some.date) in
+    same_text _ (datetime_of_epoch c.args.seconds)
+    (IfSome_then (datetime_of_epoch c.args.seconds) (datetime_of_epoch_is c.args.seconds) (λ text is. returns-clause-only c text is))
+    (datetime_of_epoch_some c.args.seconds in_range)

@@ -1,7 +1,11 @@
-use Rattle.std.proofs.Common.{◌≡◌, ◌++◌, take}
+use Rattle.std.proofs.Common.{◌≡◌, ◌++◌, length}
 use Rattle.std.specs.String.{string_bytes}
 use Rattle.hex.specs.Hex.{encode_lower}
 use Rattle.cbor_notes.proofs.text.push_hex.Given as goal
 
-abbrev pub invariant-loop-byte : goal.invariant-loop-byte
-invariant-loop-byte l = string_bytes l.text ≡ string_bytes l.initial.text ++ encode_lower (take l.byte-index l.bytes)
+-- what is written and the digits of the rest are the whole
+abbrev pub invariant-pieces : goal.invariant-pieces
+invariant-pieces l = string_bytes l.text ++ encode_lower l.rest ≡ string_bytes l.fn.text ++ encode_lower l.fn.bytes
+
+abbrev pub decreases-pieces : goal.decreases-pieces
+decreases-pieces l = length l.rest
