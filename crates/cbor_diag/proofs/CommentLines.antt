@@ -1,7 +1,6 @@
 -- No comment of a dump has a line feed, and no digits have a line feed or a `#`.
 use Rattle.std.proofs.Common.{◌≢◌, ℕ, ◌+◌, ◌==◌, ◌&&◌, true, false, nat_le, List, ◌++◌, length, take, drop, codes, decimal, Option, Some, None, refl}
 use Rattle.hex.specs.Hex.{encode_lower, lower_digits}
-use Rattle.cbor_notes.specs.Base64.{standard, url_safe}
 use Rattle.cbor_notes.specs.TagNames.{tag_name}
 use Rattle.cbor_notes.specs.Text.{grouped, escaped_text}
 use Rattle.cbor_notes.proofs.OneLine.{Free, FreeName, named, unnamed, from_test, free_both, free_cond, free_hex, hex_line, standard_line, url_safe_line, decimal_line, grouped_line, quoted_line, escaped_line, tag_name_free}
@@ -10,8 +9,9 @@ use Rattle.cbor_diag.specs.declared.encode.encoding.Encoding.TheVariants.{Base16
 use Rattle.cbor_diag.specs.Comments.{in_brackets, unsigned_comment, negative_comment, float_comment, simple_kind, simple_comment, count_text, counted_comment}
 use Rattle.cbor_diag.specs.Comments.{name_before, tag_comment, bytes_comment, text_comment}
 use Rattle.cbor_diag.specs.Dump.{head_hex}
+use Rattle.cbor_diag.specs.NotationText.{encoded_bytes, prefix, quoted}
 
-brackets_line : (name inner : List ℕ) → Free 10 name → Free 10 inner → Free 10 (in_brackets name inner)
+pub brackets_line : (name inner : List ℕ) → Free 10 name → Free 10 inner → Free 10 (in_brackets name inner)
 brackets_line name inner h k =
     free_both 10 ((name ++ codes "(") ++ inner) (codes ")")
     (free_both 10 (name ++ codes "(") inner (free_both 10 name (codes "(") h (from_test 10 (codes "(") refl)) k) (from_test 10 (codes ")") refl)
@@ -57,11 +57,17 @@ tag_line t =
 between : (front inner close : List ℕ) → Free 10 front → Free 10 inner → Free 10 close → Free 10 (front ++ inner ++ close)
 between front inner close h k l = free_both 10 (front ++ inner) close (free_both 10 front inner h k) l
 
+quoted_bytes_line : (e : Encoding) (bytes : List ℕ) → Free 10 (prefix e) → Free 10 (encoded_bytes e bytes) → Free 10 (quoted e bytes)
+quoted_bytes_line e bytes h k =
+    let quote : Free 10 (codes "'") = from_test 10 (codes "'") refl in
+    free_both 10 (prefix e) (codes "'" ++ (encoded_bytes e bytes ++ codes "'")) h
+    (free_both 10 (codes "'") (encoded_bytes e bytes ++ codes "'") quote (free_both 10 (encoded_bytes e bytes) (codes "'") k quote))
+
 pub bytes_line : (encoding : Option Encoding) (whole piece : List ℕ) → Free 10 (bytes_comment encoding whole piece)
 bytes_line None whole piece = quoted_line piece
-bytes_line (Some Base16) whole piece = between (codes "h'") (encode_lower piece) (codes "'") (from_test 10 (codes "h'") refl) (hex_line piece) (from_test 10 (codes "'") refl)
-bytes_line (Some Base64) whole piece = between (codes "b64'") (standard whole) (codes "'") (from_test 10 (codes "b64'") refl) (standard_line whole) (from_test 10 (codes "'") refl)
-bytes_line (Some Base64Url) whole piece = between (codes "b64'") (url_safe whole) (codes "'") (from_test 10 (codes "b64'") refl) (url_safe_line whole) (from_test 10 (codes "'") refl)
+bytes_line (Some Base16) whole piece = quoted_bytes_line Base16 piece (from_test 10 (codes "h") refl) (hex_line piece)
+bytes_line (Some Base64) whole piece = quoted_bytes_line Base64 whole (from_test 10 (codes "b64") refl) (standard_line whole)
+bytes_line (Some Base64Url) whole piece = quoted_bytes_line Base64Url whole (from_test 10 (codes "b64") refl) (url_safe_line whole)
 
 pub text_line : (piece : List ℕ) → Free 10 (text_comment piece)
 text_line piece = between (codes "\"") (escaped_text piece) (codes "\"") (from_test 10 (codes "\"") refl) (escaped_line piece) (from_test 10 (codes "\"") refl)

@@ -1,27 +1,33 @@
 -- Without comments and blanks the lines of a dump are the encoding of the item, in hex.
-use Rattle.std.proofs.Common.{◌≡◌, ◌≢◌, ℕ, zero, suc, ◌+◌, ◌==◌, ◌≤◌, not, List, [], ◌∷◌, ◌++◌, map, length, take, drop, codes, Option, Some, None, inl, inr, refl, sym, ap, subst, ◌∙◌, append-nil, arith}
+use Rattle.std.proofs.Common.{◌≡◌, ◌≢◌, ℕ, zero, suc, ◌+◌, ◌%◌, ◌==◌, ◌≤◌, true, false, cond, unwrap_or, not, List, [], ◌∷◌, ◌++◌, map, length, take, drop, codes, Option, Some, None, inl, inr, refl, sym, ap, subst, ◌∙◌, append-nil, arith}
 use Rattle.std.specs.List.{filter, flat_map}
 use Rattle.std.proofs.lemmas.Bool.{cases_lt, ne_eqb}
 use Rattle.std.proofs.lemmas.List.{take-append-drop}
 use Rattle.std.proofs.lemmas.List.Elements.{filter-append}
 use Rattle.std.proofs.lemmas.Grind.{flat_map-append}
 use Rattle.hex.specs.Hex.{encode_lower, encode_with, lower_digits}
+use Rattle.cbor_notes.specs.Element.{element_size, element_text}
 use Rattle.cbor_notes.specs.Layout.{DumpLine}
 use Rattle.cbor_notes.specs.Columns.{digits_of}
 use Rattle.cbor_notes.proofs.DecodedLineLemmas.{encode_with-append}
 use Rattle.cbor_notes.proofs.OneLine.{Free, free_hex, from_test}
 use Rattle.cbor_diag.specs.declared.syntax.IntegerWidth.{IntegerWidth}
 use Rattle.cbor_diag.specs.declared.encode.encoding.Encoding.{Encoding}
+use Rattle.cbor_diag.specs.declared.encode.dump.place.Place.{Place}
 use Rattle.cbor_diag.specs.Item as spec
 use Rattle.cbor_diag.specs.Item.{Chunk, Atom, integer, negative, byte_string, text_string, byte_chunks, text_chunks}
 use Rattle.cbor_diag.specs.Item.{float, simple, Item, atom, array, tagged, Items, no_items, item, Pairs, no_pairs, pair, item_count, pair_count}
 use Rattle.cbor_diag.specs.Head.{opening, break_byte}
 use Rattle.cbor_diag.specs.Written.{encoded_head, encoded_chunk, encoded_float, encoded_simple, encoded_atom, encoded_open, encoded_close, encoded, encoded_items, encoded_pairs}
-use Rattle.cbor_diag.specs.Comments.{unsigned_comment, negative_comment, float_comment, simple_comment, tag_comment, bytes_comment, text_comment, encoding_below, counted_comment}
+use Rattle.cbor_diag.specs.Comments.{unsigned_comment, negative_comment, float_comment, simple_comment, tag_comment, bytes_comment, text_comment, counted_comment}
 use Rattle.cbor_diag.specs.Pieces.{pieces_of, byte_pieces, text_pieces, text_cut}
 use Rattle.cbor_diag.specs.Dump.{head_hex, head_line, piece_line, content_lines, byte_string_lines, text_string_lines}
-use Rattle.cbor_diag.specs.Dump.{count_if_definite, break_line, atom_lines, close_lines, item_lines, items_lines, pairs_lines}
+use Rattle.cbor_diag.specs.Dump.{bytes_lines, element_lines, sized_lines, tagged_lines, note_line, note_lines, notes, notes_lines}
+use Rattle.cbor_diag.specs.Dump.{count_if_definite, break_line, atom_lines, close_lines, inside, below, shared_in, shared_from, items_lines, pairs_lines, parts_lines, lines_at, top}
+use Rattle.cbor_diag.specs.WellFormed.{WellFormed, WellFormedItems, WellFormedPairs}
 use Rattle.cbor_diag.proofs.Digits.{head_short, head_long}
+use Rattle.cbor_diag.proofs.Elements.{Small, element_small, element_cut, element_cuts}
+use Rattle.cbor_diag.proofs.TextParts.{well_level}
 use Rattle.cbor_diag.proofs.Cuts.{Cuts, shorter, byte_cut, byte_cuts, text_cuts, text_short, text_long}
 
 -- what is left of digits without blanks
@@ -104,21 +110,41 @@ content_are : (depth : ℕ) (comment : List ℕ → List ℕ) (pieces : List (Li
 content_are depth comment [] = nothing_shown depth (codes "\"\"")
 content_are depth comment (p ∷ ps) = pieces_are depth comment (p ∷ ps)
 
-bytes_are : (depth : ℕ) (encoding : Option Encoding) (c : Chunk) → Are (byte_string_lines depth encoding c) (encoded_chunk 2 c)
-bytes_are depth encoding c =
-    headed depth (encoded_head 2 (length c.bytes) c.width) (counted_comment (codes "bytes") (Some (length c.bytes))) (content_lines (depth + 1) (bytes_comment encoding c.bytes) (byte_pieces c.bytes)) c.bytes
-    (subst (Are (content_lines (depth + 1) (bytes_comment encoding c.bytes) (byte_pieces c.bytes))) (pieces_joined byte_cut byte_cuts (length c.bytes) c.bytes (omega arith))
-    (content_are (depth + 1) (bytes_comment encoding c.bytes) (byte_pieces c.bytes)))
+-- the content of a byte string, in pieces or elements
+plain_are : (depth : ℕ) (encoding : Option Encoding) (bytes : List ℕ) → Are (bytes_lines depth encoding bytes) bytes
+plain_are depth encoding bytes =
+    subst (Are (bytes_lines depth encoding bytes)) (pieces_joined byte_cut byte_cuts (length bytes) bytes (omega arith)) (content_are depth (bytes_comment encoding bytes) (byte_pieces bytes))
+
+elements_are : (depth t size : ℕ) (bytes : List ℕ) → 1 ≤ size → Are (element_lines depth t size bytes) bytes
+elements_are depth t size bytes some =
+    subst (Are (element_lines depth t size bytes)) (pieces_joined (element_cut size) (element_cuts size some) (length bytes) bytes (omega arith))
+    (pieces_are depth (λ e. unwrap_or (element_text t e) []) (pieces_of (element_cut size) (length bytes) bytes))
+
+sized_are : (depth : ℕ) (encoding : Option Encoding) (t : ℕ) (size : Option ℕ) (bytes : List ℕ) → Small size → Are (sized_lines depth encoding t size bytes) bytes
+sized_are depth encoding t None bytes small = plain_are depth encoding bytes
+sized_are depth encoding t (Some size) bytes small =
+    elim (length bytes % size == 0) as (λ v. Are (cond v (element_lines depth t size bytes) (bytes_lines depth encoding bytes)) bytes) [
+      | true ↦ elements_are depth t size bytes small.0
+      | false ↦ plain_are depth encoding bytes
+    ]
+
+tagged_are : (depth : ℕ) (encoding : Option Encoding) (tag : Option ℕ) (bytes : List ℕ) → Are (tagged_lines depth encoding tag bytes) bytes
+tagged_are depth encoding None bytes = plain_are depth encoding bytes
+tagged_are depth encoding (Some t) bytes = sized_are depth encoding t (element_size t) bytes (element_small t)
+
+bytes_are : (depth : ℕ) (encoding : Option Encoding) (tag : Option ℕ) (c : Chunk) → Are (byte_string_lines depth encoding tag c) (encoded_chunk 2 c)
+bytes_are depth encoding tag c =
+    headed depth (encoded_head 2 (length c.bytes) c.width) (counted_comment (codes "bytes") (Some (length c.bytes))) (tagged_lines (depth + 1) encoding tag c.bytes) c.bytes (tagged_are (depth + 1) encoding tag c.bytes)
 
 text_are : (depth : ℕ) (c : Chunk) → Are (text_string_lines depth c) (encoded_chunk 3 c)
 text_are depth c =
     headed depth (encoded_head 3 (length c.bytes) c.width) (counted_comment (codes "text") (Some (length c.bytes))) (content_lines (depth + 1) text_comment (text_pieces c.bytes)) c.bytes
     (subst (Are (content_lines (depth + 1) text_comment (text_pieces c.bytes))) (text_joined c.bytes) (content_are (depth + 1) text_comment (text_pieces c.bytes)))
 
-byte_chunks_are : (depth : ℕ) (encoding : Option Encoding) (cs : List Chunk) → Are (flat_map (byte_string_lines depth encoding) cs) (flat_map (encoded_chunk 2) cs)
+byte_chunks_are : (depth : ℕ) (encoding : Option Encoding) (cs : List Chunk) → Are (flat_map (byte_string_lines depth encoding None) cs) (flat_map (encoded_chunk 2) cs)
 byte_chunks_are depth encoding [] = none
 byte_chunks_are depth encoding (c ∷ cs) =
-    both (byte_string_lines depth encoding c) (flat_map (byte_string_lines depth encoding) cs) (encoded_chunk 2 c) (flat_map (encoded_chunk 2) cs) (bytes_are depth encoding c) (byte_chunks_are depth encoding cs)
+    both (byte_string_lines depth encoding None c) (flat_map (byte_string_lines depth encoding None) cs) (encoded_chunk 2 c) (flat_map (encoded_chunk 2) cs) (bytes_are depth encoding None c) (byte_chunks_are depth encoding cs)
 
 text_chunks_are : (depth : ℕ) (cs : List Chunk) → Are (flat_map (text_string_lines depth) cs) (flat_map (encoded_chunk 3) cs)
 text_chunks_are depth [] = none
@@ -129,39 +155,68 @@ close_are : (depth : ℕ) (w : Option IntegerWidth) → Are (close_lines depth w
 close_are depth (Some w) = none
 close_are depth None = alone depth (break_byte ∷ []) (codes "break")
 
-atom_are : (depth : ℕ) (encoding : Option Encoding) (a : Atom) → Are (atom_lines depth encoding a) (encoded_atom a)
-atom_are depth encoding (integer n w) = alone depth (encoded_head 0 n w) (unsigned_comment n)
-atom_are depth encoding (negative n w) = alone depth (encoded_head 1 n w) (negative_comment n)
-atom_are depth encoding (byte_string c) = bytes_are depth encoding c
-atom_are depth encoding (text_string c) = text_are depth c
-atom_are depth encoding (byte_chunks cs) =
-    headed depth (opening 2 ∷ []) (counted_comment (codes "bytes") None) (flat_map (byte_string_lines (depth + 1) encoding) cs ++ break_line (depth + 1) ∷ []) (flat_map (encoded_chunk 2) cs ++ break_byte ∷ [])
-    (both (flat_map (byte_string_lines (depth + 1) encoding) cs) (break_line (depth + 1) ∷ []) (flat_map (encoded_chunk 2) cs) (break_byte ∷ []) (byte_chunks_are (depth + 1) encoding cs) (alone (depth + 1) (break_byte ∷ []) (codes "break")))
-atom_are depth encoding (text_chunks cs) =
-    headed depth (opening 3 ∷ []) (counted_comment (codes "text") None) (flat_map (text_string_lines (depth + 1)) cs ++ break_line (depth + 1) ∷ []) (flat_map (encoded_chunk 3) cs ++ break_byte ∷ [])
-    (both (flat_map (text_string_lines (depth + 1)) cs) (break_line (depth + 1) ∷ []) (flat_map (encoded_chunk 3) cs) (break_byte ∷ []) (text_chunks_are (depth + 1) cs) (alone (depth + 1) (break_byte ∷ []) (codes "break")))
-atom_are depth encoding (float bits w) = alone depth (encoded_float bits w) (float_comment (encoded_float bits w))
-atom_are depth encoding (simple n) = alone depth (encoded_simple n) (simple_comment n)
+atom_are : (p : Place) (a : Atom) → Are (atom_lines p a) (encoded_atom a)
+atom_are p (integer n w) = alone p.depth (encoded_head 0 n w) (unsigned_comment n)
+atom_are p (negative n w) = alone p.depth (encoded_head 1 n w) (negative_comment n)
+atom_are p (byte_string c) = bytes_are p.depth p.encoding p.tag c
+atom_are p (text_string c) = text_are p.depth c
+atom_are p (byte_chunks cs) =
+    headed p.depth (opening 2 ∷ []) (counted_comment (codes "bytes") None) (flat_map (byte_string_lines (p.depth + 1) p.encoding None) cs ++ break_line (p.depth + 1) ∷ []) (flat_map (encoded_chunk 2) cs ++ break_byte ∷ [])
+    (both (flat_map (byte_string_lines (p.depth + 1) p.encoding None) cs) (break_line (p.depth + 1) ∷ []) (flat_map (encoded_chunk 2) cs) (break_byte ∷ []) (byte_chunks_are (p.depth + 1) p.encoding cs) (alone (p.depth + 1) (break_byte ∷ []) (codes "break")))
+atom_are p (text_chunks cs) =
+    headed p.depth (opening 3 ∷ []) (counted_comment (codes "text") None) (flat_map (text_string_lines (p.depth + 1)) cs ++ break_line (p.depth + 1) ∷ []) (flat_map (encoded_chunk 3) cs ++ break_byte ∷ [])
+    (both (flat_map (text_string_lines (p.depth + 1)) cs) (break_line (p.depth + 1) ∷ []) (flat_map (encoded_chunk 3) cs) (break_byte ∷ []) (text_chunks_are (p.depth + 1) cs) (alone (p.depth + 1) (break_byte ∷ []) (codes "break")))
+atom_are p (float bits w) = alone p.depth (encoded_float bits w) (float_comment (encoded_float bits w))
+atom_are p (simple n) = alone p.depth (encoded_simple n) (simple_comment n)
 
-mutual
-  pub item_are : (depth : ℕ) (encoding : Option Encoding) (i : Item) → Are (item_lines depth encoding i) (encoded i)
-  item_are depth encoding (atom a) = atom_are depth encoding a
-  item_are depth encoding (array is w) =
-      headed depth (encoded_open 4 (item_count is) w) (counted_comment (codes "array") (count_if_definite (item_count is) w)) (items_lines (depth + 1) encoding is ++ close_lines (depth + 1) w) (encoded_items is ++ encoded_close w)
-      (both (items_lines (depth + 1) encoding is) (close_lines (depth + 1) w) (encoded_items is) (encoded_close w) (items_are (depth + 1) encoding is) (close_are (depth + 1) w))
-  item_are depth encoding (spec.map ps w) =
-      headed depth (encoded_open 5 (pair_count ps) w) (counted_comment (codes "map") (count_if_definite (pair_count ps) w)) (pairs_lines (depth + 1) encoding ps ++ close_lines (depth + 1) w) (encoded_pairs ps ++ encoded_close w)
-      (both (pairs_lines (depth + 1) encoding ps) (close_lines (depth + 1) w) (encoded_pairs ps) (encoded_close w) (pairs_are (depth + 1) encoding ps) (close_are (depth + 1) w))
-  item_are depth encoding (tagged t w i) =
-      headed depth (encoded_head 6 t w) (tag_comment t) (item_lines (depth + 1) (encoding_below t encoding) i) (encoded i) (item_are (depth + 1) (encoding_below t encoding) i)
+-- notes have no digits
+texts_are : (depth : ℕ) (texts : List (List ℕ)) → Are (map (note_line depth) texts) []
+texts_are depth [] = none
+texts_are depth (text ∷ texts) = texts_are depth texts
 
-  items_are : (depth : ℕ) (encoding : Option Encoding) (is : Items) → Are (items_lines depth encoding is) (encoded_items is)
-  items_are depth encoding no_items = none
-  items_are depth encoding (item i is) =
-      both (item_lines depth encoding i) (items_lines depth encoding is) (encoded i) (encoded_items is) (item_are depth encoding i) (items_are depth encoding is)
+note_are : (depth : ℕ) (texts : List (List ℕ)) → Are (note_lines depth texts) []
+note_are depth [] = none
+note_are depth (text ∷ texts) = texts_are (depth + 1) texts
 
-  pairs_are : (depth : ℕ) (encoding : Option Encoding) (ps : Pairs) → Are (pairs_lines depth encoding ps) (encoded_pairs ps)
-  pairs_are depth encoding no_pairs = none
-  pairs_are depth encoding (pair k v ps) =
-      both (item_lines depth encoding k) (item_lines depth encoding v ++ pairs_lines depth encoding ps) (encoded k) (encoded v ++ encoded_pairs ps) (item_are depth encoding k)
-      (both (item_lines depth encoding v) (pairs_lines depth encoding ps) (encoded v) (encoded_pairs ps) (item_are depth encoding v) (pairs_are depth encoding ps))
+all_notes_are : (depth : ℕ) (all : List (List (List ℕ))) → Are (flat_map (note_lines depth) all) []
+all_notes_are depth [] = none
+all_notes_are depth (n ∷ ns) = both (note_lines depth n) (flat_map (note_lines depth) ns) [] [] (note_are depth n) (all_notes_are depth ns)
+
+notes_are : (depth left : ℕ) (dump : Item → List DumpLine) (known : ℕ) (tag : Option ℕ) (i : Item) → Are (notes_lines depth left dump known tag i) []
+notes_are depth left dump known None i = none
+notes_are depth left dump known (Some t) i = all_notes_are depth (notes left dump known t i)
+
+-- items at a level, each of which is written as its bytes
+module _ (write : ℕ → Item → List DumpLine) (level : ℕ) (each : (known : ℕ) (i : Item) → WellFormed level i → Are (write known i) (encoded i)) where
+  items_are : (known : ℕ) (is : Items) → WellFormedItems level is → Are (items_lines write known is) (encoded_items is)
+  items_are known no_items well = none
+  items_are known (item i is) well =
+      both (write known i) (items_lines write (known + shared_in i) is) (encoded i) (encoded_items is) (each known i well.0) (items_are (known + shared_in i) is well.1)
+
+  pairs_are : (known : ℕ) (ps : Pairs) → WellFormedPairs level ps → Are (pairs_lines write known ps) (encoded_pairs ps)
+  pairs_are known no_pairs well = none
+  pairs_are known (pair k v ps) well =
+      let after = known + shared_in k in
+      both (write known k) (write after v ++ pairs_lines write (after + shared_in v) ps) (encoded k) (encoded v ++ encoded_pairs ps) (each known k well.0)
+      (both (write after v) (pairs_lines write (after + shared_in v) ps) (encoded v) (encoded_pairs ps) (each after v well.1) (pairs_are (after + shared_in v) ps well.2))
+
+module _ (write : Place → ℕ → Item → List DumpLine) (level : ℕ) (each : (p : Place) (known : ℕ) (i : Item) → WellFormed (level + 1) i → Are (write p known i) (encoded i)) where
+  parts_are : (p : Place) (known : ℕ) (i : Item) → WellFormed level i → Are (parts_lines write p known i) (encoded i)
+  parts_are p known (atom a) well = atom_are p a
+  parts_are p known (array is w) well =
+      headed p.depth (encoded_open 4 (item_count is) w) (counted_comment (codes "array") (count_if_definite (item_count is) w)) (items_lines (write (inside p)) known is ++ close_lines (p.depth + 1) w) (encoded_items is ++ encoded_close w)
+      (both (items_lines (write (inside p)) known is) (close_lines (p.depth + 1) w) (encoded_items is) (encoded_close w) (items_are (write (inside p)) (level + 1) (each (inside p)) known is well.2) (close_are (p.depth + 1) w))
+  parts_are p known (spec.map ps w) well =
+      headed p.depth (encoded_open 5 (pair_count ps) w) (counted_comment (codes "map") (count_if_definite (pair_count ps) w)) (pairs_lines (write (inside p)) known ps ++ close_lines (p.depth + 1) w) (encoded_pairs ps ++ encoded_close w)
+      (both (pairs_lines (write (inside p)) known ps) (close_lines (p.depth + 1) w) (encoded_pairs ps) (encoded_close w) (pairs_are (write (inside p)) (level + 1) (each (inside p)) known ps well.2) (close_are (p.depth + 1) w))
+  parts_are p known (tagged t w i) well =
+      headed p.depth (encoded_head 6 t w) (tag_comment t) (write (below t p) (shared_from t known) i) (encoded i) (each (below t p) (shared_from t known) i well.2)
+
+pub item_are : (left level : ℕ) (p : Place) (known : ℕ) (i : Item) → level + left ≡ 129 → WellFormed level i → Are (lines_at left p known i) (encoded i)
+unfolding lines_at
+item_are zero level p known i levels well = absurd (omega (arith, well_level level i well))
+item_are (suc left) level p known i levels well =
+    let parts = parts_lines (lines_at left) p known i in
+    let said = notes_lines p.depth left (lines_at left top 0) known p.tag i in
+    subst (Are (parts ++ said)) (append-nil (encoded i))
+    (both parts said (encoded i) [] (parts_are (lines_at left) level (λ q n j w. item_are left (level + 1) q n j (omega arith) w) p known i well) (notes_are p.depth left (lines_at left top 0) known p.tag i))

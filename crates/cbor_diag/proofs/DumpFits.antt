@@ -1,5 +1,5 @@
 -- The lines of a dump can be laid out: they are not too deep, and their digits not too long.
-use Rattle.std.proofs.Common.{◌≡◌, ◌≢◌, ℕ, zero, suc, ◌+◌, ◌<◌, ◌≤◌, true, false, cond, max, List, [], ◌∷◌, ◌++◌, map, length, take, drop, slice_index, nat_le, inl, inr, codes, Option, Some, None, refl, sym, ap, subst, ◌∙◌, arith, append_assoc, append-nil}
+use Rattle.std.proofs.Common.{◌≡◌, ◌≢◌, ℕ, zero, suc, ◌+◌, ◌-◌, ◌*◌, ◌%◌, ◌==◌, ◌<◌, ◌≤◌, true, false, cond, max, unwrap_or, IfSome, Ok, Err, List, [], ◌∷◌, ◌++◌, map, length, take, drop, slice_index, nat_le, inl, inr, codes, Option, Some, None, refl, sym, ap, subst, ◌∙◌, arith, append_assoc, append-nil}
 use Rattle.std.specs.List.{AllByRecursion, flat_map}
 use Rattle.std.specs.Str.{IsAscii}
 use Rattle.std.proofs.lemmas.Bool.Decides.{nat_tests}
@@ -7,10 +7,12 @@ use Rattle.std.proofs.lemmas.Bool.{cases_lt}
 use Rattle.std.proofs.lemmas.Str.{IsAscii-append}
 use Rattle.std.proofs.lemmas.List.{length-take}
 use Rattle.hex.specs.Hex.{encode_lower, lower_digits}
-use Rattle.cbor_notes.specs.Layout.{DumpLine, line_text, reach, width_of}
+use Rattle.cbor_notes.specs.Element.{element_size, element_text}
+use Rattle.cbor_notes.specs.Layout.{DumpLine, blanks, left_column, line_text, reach, width_of}
 use Rattle.cbor_notes.specs.Columns.{IsPlain, Lacks}
 use Rattle.cbor_notes.specs.LineTree.{IsFit}
-use Rattle.cbor_notes.proofs.OneLine.{Free, from_test, free_hex, lacks_of}
+use Rattle.cbor_notes.proofs.CommentTexts.{element_line}
+use Rattle.cbor_notes.proofs.OneLine.{Free, from_test, free_both, free_cond, free_hex, free_same, lacks_of}
 use Rattle.cbor_diag.proofs.CommentLines.{unsigned_line, negative_line, float_line, simple_line, counted_line, tag_line, bytes_line, text_line, free_head}
 use Rattle.cbor_notes.proofs.HexLemmas.{IsAscii-encode_lower, IsAscii-from_test}
 use Rattle.cbor_notes.proofs.Trees.{all_both}
@@ -19,17 +21,34 @@ use Rattle.cbor_diag.specs.declared.syntax.IntegerWidth.TheVariants as width
 use Rattle.cbor_diag.specs.declared.syntax.FloatWidth.{FloatWidth}
 use Rattle.cbor_diag.specs.declared.syntax.FloatWidth.TheVariants as float_width
 use Rattle.cbor_diag.specs.declared.encode.encoding.Encoding.{Encoding}
+use Rattle.cbor_diag.specs.declared.encode.dump.place.Place.{Place}
+use Rattle.cbor_diag.specs.declared.error.Error.{Error}
+use Rattle.cbor_diag.specs.declared.error.Error.TheVariants as refusal
 use Rattle.cbor_diag.specs.Item as spec
 use Rattle.cbor_diag.specs.Item.{Chunk, Atom, integer, negative, byte_string, text_string, byte_chunks, text_chunks}
 use Rattle.cbor_diag.specs.Item.{float, simple, Item, atom, array, tagged, Items, no_items, item, Pairs, no_pairs, pair, item_count, pair_count}
 use Rattle.cbor_diag.specs.Head.{head, stated, opening, break_byte}
 use Rattle.cbor_diag.specs.WellFormed.{WellFormed, WellFormedItems, WellFormedPairs, deepest}
 use Rattle.cbor_diag.specs.Written.{encoded_head, encoded_float, encoded_simple, encoded_open}
-use Rattle.cbor_diag.specs.Comments.{bytes_comment, text_comment, encoding_below}
+use Rattle.cbor_diag.specs.Comments.{bytes_comment, text_comment}
 use Rattle.cbor_diag.specs.Pieces.{pieces_of, byte_pieces, text_pieces, last_start, text_cut, begins_character, piece_size}
 use Rattle.cbor_diag.specs.Dump.{head_hex, head_line, piece_line, content_lines, byte_string_lines, text_string_lines}
-use Rattle.cbor_diag.specs.Dump.{count_if_definite, break_line, atom_lines, container_line, close_lines, item_lines, items_lines, pairs_lines}
+use Rattle.cbor_diag.specs.Dump.{bytes_lines, element_lines, sized_lines, tagged_lines, note_line, note_lines, notes, notes_lines}
+use Rattle.cbor_diag.specs.Dump.{row, embedded_note, failed_note, whole_note, items_notes, rest_note, sequence_notes, bytes_in, encoded_item_note, encoded_sequence_notes}
+use Rattle.cbor_diag.specs.Dump.{count_if_definite, break_line, atom_lines, container_line, close_lines, inside, below, shared_in, shared_from, items_lines, pairs_lines, parts_lines, lines_at, top}
+use Rattle.cbor_diag.specs.Embedded.{if_whole, sequence_at}
+use Rattle.cbor_diag.specs.Notes.{value_note}
+use Rattle.cbor_diag.specs.Reading.{Read, item_at}
+use Rattle.cbor_diag.specs.Refusals.{text_of}
+use Rattle.cbor_diag.proofs.Elements.{Small, element_small, element_cut}
+use Rattle.cbor_diag.proofs.EmbeddedItems.{embedded_spells, sequence_spells}
+use Rattle.cbor_diag.proofs.NormalForm.{AllBytes, bytes_at}
+use Rattle.cbor_diag.proofs.NormalWell.{items_well}
+use Rattle.cbor_diag.proofs.Resolved.{spells_well}
+use Rattle.cbor_diag.proofs.NoteTexts.{value_note_line}
+use Rattle.cbor_diag.proofs.TextParts.{well_level}
 use Rattle.cbor_diag.specs.Parts.{Takes, taken}
+use Rattle.cbor_diag.specs.Sinks.{step, widest, written}
 use Rattle.cbor_diag.proofs.Digits.{length-hex, length-head_short, length-head_long}
 use Rattle.cbor_diag.proofs.Cuts.{byte_cut, text_short, text_long}
 
@@ -151,11 +170,33 @@ content_fits : (depth : ℕ) (comment : List ℕ → List ℕ) → ((piece : Lis
 content_fits depth comment said [] low few = (fit_piece depth [] (codes "\"\"") low (omega arith) (from_test 10 (codes "\"\"") refl), tt)
 content_fits depth comment said (p ∷ ps) low few = lines_fit depth comment said (p ∷ ps) low few
 
-bytes_fit : (depth : ℕ) (encoding : Option Encoding) (c : Chunk) → depth + 1 < 140 → AllByRecursion IsGood (byte_string_lines depth encoding c)
-bytes_fit depth encoding c low = (
+-- the content of a byte string, in pieces or elements
+plain_fits : (depth : ℕ) (encoding : Option Encoding) (bytes : List ℕ) → depth < 140 → AllByRecursion IsGood (bytes_lines depth encoding bytes)
+plain_fits depth encoding bytes low =
+    content_fits depth (bytes_comment encoding bytes) (λ piece. bytes_line encoding bytes piece) (byte_pieces bytes) low (pieces_few byte_cut (λ rest. omega arith) (length bytes) bytes)
+
+elements_fit : (depth t size : ℕ) (bytes : List ℕ) → depth < 140 → size ≤ 16 → AllByRecursion IsGood (element_lines depth t size bytes)
+elements_fit depth t size bytes low few =
+    lines_fit depth (λ e. unwrap_or (element_text t e) []) (λ e. element_line t e) (pieces_of (element_cut size) (length bytes) bytes) low
+    (pieces_few (element_cut size) (λ rest. omega arith) (length bytes) bytes)
+
+sized_fit : (depth : ℕ) (encoding : Option Encoding) (t : ℕ) (size : Option ℕ) (bytes : List ℕ) → depth < 140 → Small size → AllByRecursion IsGood (sized_lines depth encoding t size bytes)
+sized_fit depth encoding t None bytes low small = plain_fits depth encoding bytes low
+sized_fit depth encoding t (Some size) bytes low small =
+    elim (length bytes % size == 0) as (λ v. AllByRecursion IsGood (cond v (element_lines depth t size bytes) (bytes_lines depth encoding bytes))) [
+      | true ↦ elements_fit depth t size bytes low small.1
+      | false ↦ plain_fits depth encoding bytes low
+    ]
+
+tagged_fit : (depth : ℕ) (encoding : Option Encoding) (tag : Option ℕ) (bytes : List ℕ) → depth < 140 → AllByRecursion IsGood (tagged_lines depth encoding tag bytes)
+tagged_fit depth encoding None bytes low = plain_fits depth encoding bytes low
+tagged_fit depth encoding (Some t) bytes low = sized_fit depth encoding t (element_size t) bytes low (element_small t)
+
+bytes_fit : (depth : ℕ) (encoding : Option Encoding) (tag : Option ℕ) (c : Chunk) → depth + 1 < 140 → AllByRecursion IsGood (byte_string_lines depth encoding tag c)
+bytes_fit depth encoding tag c low = (
   fit_head depth (encoded_head 2 (length c.bytes) c.width) _ (omega arith) (head_length 2 (length c.bytes) (stated c.width (length c.bytes)))
       (counted_line (codes "bytes") (Some (length c.bytes)) (from_test 10 (codes "bytes") refl)),
-  content_fits (depth + 1) (bytes_comment encoding c.bytes) (λ piece. bytes_line encoding c.bytes piece) (byte_pieces c.bytes) low (pieces_few byte_cut (λ bytes. omega arith) (length c.bytes) c.bytes),
+  tagged_fit (depth + 1) encoding tag c.bytes low,
 )
 
 text_fits : (depth : ℕ) (c : Chunk) → depth + 1 < 140 → AllByRecursion IsGood (text_string_lines depth c)
@@ -165,10 +206,10 @@ text_fits depth c low = (
   content_fits (depth + 1) text_comment text_line (text_pieces c.bytes) low (text_few c.bytes),
 )
 
-byte_chunks_fit : (depth : ℕ) (encoding : Option Encoding) (cs : List Chunk) → depth + 1 < 140 → AllByRecursion IsGood (flat_map (byte_string_lines depth encoding) cs)
+byte_chunks_fit : (depth : ℕ) (encoding : Option Encoding) (cs : List Chunk) → depth + 1 < 140 → AllByRecursion IsGood (flat_map (byte_string_lines depth encoding None) cs)
 byte_chunks_fit depth encoding [] low = tt
 byte_chunks_fit depth encoding (c ∷ cs) low =
-    all_both IsGood (byte_string_lines depth encoding c) (flat_map (byte_string_lines depth encoding) cs) (bytes_fit depth encoding c low) (byte_chunks_fit depth encoding cs low)
+    all_both IsGood (byte_string_lines depth encoding None c) (flat_map (byte_string_lines depth encoding None) cs) (bytes_fit depth encoding None c low) (byte_chunks_fit depth encoding cs low)
 
 text_chunks_fit : (depth : ℕ) (cs : List Chunk) → depth + 1 < 140 → AllByRecursion IsGood (flat_map (text_string_lines depth) cs)
 text_chunks_fit depth [] low = tt
@@ -182,21 +223,21 @@ close_fits : (depth : ℕ) (w : Option IntegerWidth) → depth < 140 → AllByRe
 close_fits depth (Some w) low = tt
 close_fits depth None low = break_fits depth low
 
-atom_fits : (depth : ℕ) (encoding : Option Encoding) (a : Atom) → depth < 128 → AllByRecursion IsGood (atom_lines depth encoding a)
-atom_fits depth encoding (integer n w) low = (fit_head depth (encoded_head 0 n w) _ (omega arith) (head_length 0 n (stated w n)) (unsigned_line n), tt)
-atom_fits depth encoding (negative n w) low = (fit_head depth (encoded_head 1 n w) _ (omega arith) (head_length 1 n (stated w n)) (negative_line n), tt)
-atom_fits depth encoding (byte_string c) low = bytes_fit depth encoding c (omega arith)
-atom_fits depth encoding (text_string c) low = text_fits depth c (omega arith)
-atom_fits depth encoding (byte_chunks cs) low = (
-  fit_head depth (opening 2 ∷ []) _ (omega arith) (omega arith) (counted_line (codes "bytes") None (from_test 10 (codes "bytes") refl)),
-  all_both IsGood (flat_map (byte_string_lines (depth + 1) encoding) cs) (break_line (depth + 1) ∷ []) (byte_chunks_fit (depth + 1) encoding cs (omega arith)) (break_fits (depth + 1) (omega arith)),
+atom_fits : (p : Place) (a : Atom) → p.depth < 128 → AllByRecursion IsGood (atom_lines p a)
+atom_fits p (integer n w) low = (fit_head p.depth (encoded_head 0 n w) _ (omega arith) (head_length 0 n (stated w n)) (unsigned_line n), tt)
+atom_fits p (negative n w) low = (fit_head p.depth (encoded_head 1 n w) _ (omega arith) (head_length 1 n (stated w n)) (negative_line n), tt)
+atom_fits p (byte_string c) low = bytes_fit p.depth p.encoding p.tag c (omega arith)
+atom_fits p (text_string c) low = text_fits p.depth c (omega arith)
+atom_fits p (byte_chunks cs) low = (
+  fit_head p.depth (opening 2 ∷ []) _ (omega arith) (omega arith) (counted_line (codes "bytes") None (from_test 10 (codes "bytes") refl)),
+  all_both IsGood (flat_map (byte_string_lines (p.depth + 1) p.encoding None) cs) (break_line (p.depth + 1) ∷ []) (byte_chunks_fit (p.depth + 1) p.encoding cs (omega arith)) (break_fits (p.depth + 1) (omega arith)),
 )
-atom_fits depth encoding (text_chunks cs) low = (
-  fit_head depth (opening 3 ∷ []) _ (omega arith) (omega arith) (counted_line (codes "text") None (from_test 10 (codes "text") refl)),
-  all_both IsGood (flat_map (text_string_lines (depth + 1)) cs) (break_line (depth + 1) ∷ []) (text_chunks_fit (depth + 1) cs (omega arith)) (break_fits (depth + 1) (omega arith)),
+atom_fits p (text_chunks cs) low = (
+  fit_head p.depth (opening 3 ∷ []) _ (omega arith) (omega arith) (counted_line (codes "text") None (from_test 10 (codes "text") refl)),
+  all_both IsGood (flat_map (text_string_lines (p.depth + 1)) cs) (break_line (p.depth + 1) ∷ []) (text_chunks_fit (p.depth + 1) cs (omega arith)) (break_fits (p.depth + 1) (omega arith)),
 )
-atom_fits depth encoding (float bits w) low = (fit_head depth (encoded_float bits w) _ (omega arith) (float_length bits w) (float_line (encoded_float bits w)), tt)
-atom_fits depth encoding (simple n) low = (fit_head depth (encoded_simple n) _ (omega arith) (simple_length n) (simple_line n), tt)
+atom_fits p (float bits w) low = (fit_head p.depth (encoded_float bits w) _ (omega arith) (float_length bits w) (float_line (encoded_float bits w)), tt)
+atom_fits p (simple n) low = (fit_head p.depth (encoded_simple n) _ (omega arith) (simple_length n) (simple_line n), tt)
 
 open_fits : (depth major : ℕ) (name : List ℕ) (n : ℕ) (w : Option IntegerWidth) → depth < 140 → Free 10 name → IsGood (container_line depth major name n w)
 open_fits depth major name n w low said = fit_head depth (encoded_open major n w) _ low (open_length major n w) (counted_line name (count_if_definite n w) said)
@@ -214,32 +255,173 @@ low_end depth level below few = omega arith
 low_first : (depth level : ℕ) → depth < level → level ≤ deepest → depth < 140
 low_first depth level below few = omega arith
 
-mutual
-  pub item_fits : (depth level : ℕ) (encoding : Option Encoding) (i : Item) → depth < level → WellFormed level i → AllByRecursion IsGood (item_lines depth encoding i)
-  item_fits depth level encoding (atom a) below well = atom_fits depth encoding a (low_here depth level below well.0)
-  item_fits depth level encoding (array is w) below well = (
-    open_fits depth 4 (codes "array") (item_count is) w (low_first depth level below well.0) (from_test 10 (codes "array") refl),
-    all_both IsGood (items_lines (depth + 1) encoding is) (close_lines (depth + 1) w) (items_fit (depth + 1) (level + 1) encoding is (low_below depth level below) well.2) (close_fits (depth + 1) w (low_end depth level below well.0)),
+-- ---- notes
+
+note_fits : (depth : ℕ) (text : List ℕ) → depth < 140 → Free 10 text → IsGood (note_line depth text)
+note_fits depth text low said = record {
+  fit = record { level = low; short = omega arith; ascii = IsAscii-from_test [] refl };
+  plain = record { no_hash = lacks_of 35 [] tt; no_feed = lacks_of 10 [] tt; one_line = lacks_of 10 text said };
+}
+
+texts_fit : (depth : ℕ) (texts : List (List ℕ)) → depth < 140 → AllByRecursion (Free 10) texts → AllByRecursion IsGood (map (note_line depth) texts)
+texts_fit depth [] low said = tt
+texts_fit depth (text ∷ texts) low said = (note_fits depth text low said.0, texts_fit depth texts low said.1)
+
+one_note_fits : (depth : ℕ) (texts : List (List ℕ)) → depth + 1 < 140 → AllByRecursion (Free 10) texts → AllByRecursion IsGood (note_lines depth texts)
+one_note_fits depth [] low said = tt
+one_note_fits depth (text ∷ texts) low said = (note_fits depth text (omega arith) said.0, texts_fit (depth + 1) texts low said.1)
+
+all_notes_fit : (depth : ℕ) (all : List (List (List ℕ))) → depth + 1 < 140 → AllByRecursion (AllByRecursion (Free 10)) all → AllByRecursion IsGood (flat_map (note_lines depth) all)
+all_notes_fit depth [] low said = tt
+all_notes_fit depth (n ∷ ns) low said =
+    all_both IsGood (note_lines depth n) (flat_map (note_lines depth) ns) (one_note_fits depth n low said.0) (all_notes_fit depth ns low said.1)
+
+-- ---- what is embedded
+
+free_of : (c : ℕ) (text : List ℕ) → Lacks c text → Free c text
+free_of c [] h = tt
+free_of c (b ∷ text) h = (h 0 0 (omega arith), free_of c text (λ k d below. h (suc k) d (omega arith)))
+
+-- a line of a dump, as a text
+pub row_line : (width : ℕ) (line : DumpLine) → IsPlain line → Free 10 (row width line)
+row_line width line plain =
+    let hex = free_of 10 line.hex plain.no_feed in
+    let left = free_cond 10 (length line.hex == 0) (blanks width) ((blanks (3 * line.depth) ++ line.hex) ++ blanks (width - reach line)) (free_same 10 32 width blank_feed)
+    (free_both 10 (blanks (3 * line.depth) ++ line.hex) (blanks (width - reach line)) (free_both 10 (blanks (3 * line.depth)) line.hex (free_same 10 32 (3 * line.depth) blank_feed) hex) (free_same 10 32 (width - reach line) blank_feed)) in
+    free_both 10 ((left_column width line ++ codes " # ") ++ blanks (2 * line.depth)) line.comment
+    (free_both 10 (left_column width line ++ codes " # ") (blanks (2 * line.depth)) (free_both 10 (left_column width line) (codes " # ") left (from_test 10 (codes " # ") refl)) (free_same 10 32 (2 * line.depth) blank_feed))
+    (free_of 10 line.comment plain.one_line)
+
+rows_line : (width : ℕ) (lines : List DumpLine) → AllByRecursion IsGood lines → AllByRecursion (Free 10) (map (row width) lines)
+rows_line width [] good = tt
+rows_line width (line ∷ lines) good = (row_line width line good.0.plain, rows_line width lines good.1)
+
+embedded_line : (lines : List DumpLine) → AllByRecursion IsGood lines → AllByRecursion (Free 10) (embedded_note lines)
+embedded_line lines good = (from_test 10 (codes "encoded cbor data item") refl, rows_line (width_of lines) lines good)
+
+error_line : (e : Error) → Free 10 (text_of e)
+error_line refusal.Memory = from_test 10 (text_of refusal.Memory) refl
+error_line refusal.CutShort = from_test 10 (text_of refusal.CutShort) refl
+error_line refusal.Head = from_test 10 (text_of refusal.Head) refl
+error_line refusal.Utf8 = from_test 10 (text_of refusal.Utf8) refl
+error_line refusal.TooDeep = from_test 10 (text_of refusal.TooDeep) refl
+error_line refusal.Remaining = from_test 10 (text_of refusal.Remaining) refl
+error_line refusal.OddHex = from_test 10 (text_of refusal.OddHex) refl
+error_line refusal.BadHex = from_test 10 (text_of refusal.BadHex) refl
+error_line refusal.Notation = from_test 10 (text_of refusal.Notation) refl
+error_line refusal.PastWidth = from_test 10 (text_of refusal.PastWidth) refl
+
+failed_line : (what : List ℕ) (e : Error) → Free 10 what → AllByRecursion (Free 10) (failed_note what e)
+failed_line what e said = (said, (error_line e, tt))
+
+item_failed : (e : Error) → AllByRecursion (Free 10) (failed_note (codes "failed to parse encoded cbor data item") e)
+item_failed e = failed_line (codes "failed to parse encoded cbor data item") e (from_test 10 (codes "failed to parse encoded cbor data item") refl)
+
+whole_line : (dump : Item → List DumpLine) (read : Read Item) → ((e : Item) → read ≡ Ok (e, []) → AllByRecursion IsGood (dump e)) → AllByRecursion (Free 10) (whole_note dump read)
+whole_line dump (Ok (i, [])) good = embedded_line (dump i) (good i refl)
+whole_line dump (Ok (i, b ∷ rest)) good = item_failed refusal.Remaining
+whole_line dump (Err e) good = item_failed e
+
+rest_line : (rest : List ℕ) (read : Read Item) → AllByRecursion (Free 10) (rest_note rest read)
+rest_line [] read = tt
+rest_line (b ∷ rest) (Ok x) = tt
+rest_line (b ∷ rest) (Err e) =
+    failed_line (codes "failed to parse remaining encoded cbor sequence") e (from_test 10 (codes "failed to parse remaining encoded cbor sequence") refl)
+
+-- a byte string that is well formed has bytes
+bytes_well : (level : ℕ) (i : Item) → WellFormed level i → IfSome (bytes_in i) AllBytes
+bytes_well level (atom (byte_string c)) well = well.1.bytes
+bytes_well level (atom (integer n w)) well = tt
+bytes_well level (atom (negative n w)) well = tt
+bytes_well level (atom (text_string c)) well = tt
+bytes_well level (atom (byte_chunks cs)) well = tt
+bytes_well level (atom (text_chunks cs)) well = tt
+bytes_well level (atom (float bits w)) well = tt
+bytes_well level (atom (simple n)) well = tt
+bytes_well level (array is w) well = tt
+bytes_well level (spec.map ps w) well = tt
+bytes_well level (tagged t w i) well = tt
+
+-- what is embedded stands at a level, and its dump is good
+module _ (level left : ℕ) (levels : level + left ≡ 129) (dump : Item → List DumpLine) (each : (e : Item) → WellFormed level e → AllByRecursion IsGood (dump e)) where
+  item_embedded : (b : List ℕ) → AllBytes b → AllByRecursion (Free 10) (whole_note dump (item_at left b))
+  item_embedded b all =
+      whole_line dump (item_at left b) (λ e is. each e (spells_well level b e (bytes_at b all) (embedded_spells level left b e levels (bytes_at b all) (ap if_whole is))))
+
+  items_embedded : (is : Items) → WellFormedItems level is → (rest : List (List ℕ)) → AllByRecursion (Free 10) rest → AllByRecursion (AllByRecursion (Free 10)) (items_notes dump is ++ rest ∷ [])
+  items_embedded no_items well rest said = (said, tt)
+  items_embedded (item i is) well rest said = (embedded_line (dump i) (each i well.0), items_embedded is well.1 rest said)
+
+  sequence_embedded : (b : List ℕ) → AllBytes b → AllByRecursion (AllByRecursion (Free 10)) (sequence_notes left dump (sequence_at left b))
+  sequence_embedded b all =
+      let s = sequence_at left b in
+      let so = sequence_spells level left levels (length b) b (omega arith) (bytes_at b all) in
+      items_embedded s.0 (items_well level s.0 b s.1 all so.spelled_so).0 (rest_note s.1 (item_at left s.1)) (rest_line s.1 (item_at left s.1))
+
+  encoded_item_line : (bytes : Option (List ℕ)) → IfSome bytes AllBytes → AllByRecursion (Free 10) (encoded_item_note left dump bytes)
+  encoded_item_line (Some b) all = item_embedded b all
+  encoded_item_line None all = (from_test 10 (codes "invalid type for encoded cbor data item") refl, tt)
+
+  encoded_sequence_line : (bytes : Option (List ℕ)) → IfSome bytes AllBytes → AllByRecursion (AllByRecursion (Free 10)) (encoded_sequence_notes left dump bytes)
+  encoded_sequence_line (Some b) all = sequence_embedded b all
+  encoded_sequence_line None all = ((from_test 10 (codes "invalid type for encoded cbor sequence") refl, tt), tt)
+
+  notes_line : (above known t : ℕ) (i : Item) → WellFormed above i → AllByRecursion (AllByRecursion (Free 10)) (notes left dump known t i)
+  notes_line above known t i well =
+      let of_item : AllByRecursion (AllByRecursion (Free 10)) (encoded_item_note left dump (bytes_in i) ∷ []) = (encoded_item_line (bytes_in i) (bytes_well above i well), tt) in
+      let of_value : AllByRecursion (AllByRecursion (Free 10)) (value_note known t i ∷ []) = (value_note_line known t i, tt) in
+      elim (t == 24) as (λ v. AllByRecursion (AllByRecursion (Free 10)) (cond v (encoded_item_note left dump (bytes_in i) ∷ []) (cond (t == 63) (encoded_sequence_notes left dump (bytes_in i)) (value_note known t i ∷ [])))) [
+        | true ↦ of_item
+        | false ↦
+            elim (t == 63) as (λ v. AllByRecursion (AllByRecursion (Free 10)) (cond v (encoded_sequence_notes left dump (bytes_in i)) (value_note known t i ∷ []))) [
+              | true ↦ encoded_sequence_line (bytes_in i) (bytes_well above i well)
+              | false ↦ of_value
+            ]
+      ]
+
+  notes_fit : (depth above known : ℕ) (tag : Option ℕ) (i : Item) → depth + 1 < 140 → WellFormed above i → AllByRecursion IsGood (notes_lines depth left dump known tag i)
+  notes_fit depth above known None i low well = tt
+  notes_fit depth above known (Some t) i low well = all_notes_fit depth (notes left dump known t i) low (notes_line above known t i well)
+
+-- ---- items
+
+module _ (write : ℕ → Item → List DumpLine) (level : ℕ) (each : (known : ℕ) (i : Item) → WellFormed level i → AllByRecursion IsGood (write known i)) where
+  items_fit : (known : ℕ) (is : Items) → WellFormedItems level is → AllByRecursion IsGood (items_lines write known is)
+  items_fit known no_items well = tt
+  items_fit known (item i is) well =
+      all_both IsGood (write known i) (items_lines write (known + shared_in i) is) (each known i well.0) (items_fit (known + shared_in i) is well.1)
+
+  pairs_fit : (known : ℕ) (ps : Pairs) → WellFormedPairs level ps → AllByRecursion IsGood (pairs_lines write known ps)
+  pairs_fit known no_pairs well = tt
+  pairs_fit known (pair k v ps) well =
+      let after = known + shared_in k in
+      all_both IsGood (write known k) (write after v ++ pairs_lines write (after + shared_in v) ps) (each known k well.0)
+      (all_both IsGood (write after v) (pairs_lines write (after + shared_in v) ps) (each after v well.1) (pairs_fit (after + shared_in v) ps well.2))
+
+module _ (write : Place → ℕ → Item → List DumpLine) (level : ℕ) (each : (p : Place) (known : ℕ) (i : Item) → p.depth < level + 1 → WellFormed (level + 1) i → AllByRecursion IsGood (write p known i)) where
+  parts_fit : (p : Place) (known : ℕ) (i : Item) → p.depth < level → WellFormed level i → AllByRecursion IsGood (parts_lines write p known i)
+  parts_fit p known (atom a) deep well = atom_fits p a (low_here p.depth level deep well.0)
+  parts_fit p known (array is w) deep well = (
+    open_fits p.depth 4 (codes "array") (item_count is) w (low_first p.depth level deep well.0) (from_test 10 (codes "array") refl),
+    all_both IsGood (items_lines (write (inside p)) known is) (close_lines (p.depth + 1) w) (items_fit (write (inside p)) (level + 1) (λ n i h. each (inside p) n i (low_below p.depth level deep) h) known is well.2) (close_fits (p.depth + 1) w (low_end p.depth level deep well.0)),
   )
-  item_fits depth level encoding (spec.map ps w) below well = (
-    open_fits depth 5 (codes "map") (pair_count ps) w (low_first depth level below well.0) (from_test 10 (codes "map") refl),
-    all_both IsGood (pairs_lines (depth + 1) encoding ps) (close_lines (depth + 1) w) (pairs_fit (depth + 1) (level + 1) encoding ps (low_below depth level below) well.2) (close_fits (depth + 1) w (low_end depth level below well.0)),
+  parts_fit p known (spec.map ps w) deep well = (
+    open_fits p.depth 5 (codes "map") (pair_count ps) w (low_first p.depth level deep well.0) (from_test 10 (codes "map") refl),
+    all_both IsGood (pairs_lines (write (inside p)) known ps) (close_lines (p.depth + 1) w) (pairs_fit (write (inside p)) (level + 1) (λ n i h. each (inside p) n i (low_below p.depth level deep) h) known ps well.2) (close_fits (p.depth + 1) w (low_end p.depth level deep well.0)),
   )
-  item_fits depth level encoding (tagged t w i) below well = (
-    fit_head depth (encoded_head 6 t w) _ (low_first depth level below well.0) (head_length 6 t (stated w t)) (tag_line t),
-    item_fits (depth + 1) (level + 1) (encoding_below t encoding) i (low_below depth level below) well.2,
+  parts_fit p known (tagged t w i) deep well = (
+    fit_head p.depth (encoded_head 6 t w) _ (low_first p.depth level deep well.0) (head_length 6 t (stated w t)) (tag_line t),
+    each (below t p) (shared_from t known) i (low_below p.depth level deep) well.2,
   )
 
-  items_fit : (depth level : ℕ) (encoding : Option Encoding) (is : Items) → depth < level → WellFormedItems level is → AllByRecursion IsGood (items_lines depth encoding is)
-  items_fit depth level encoding no_items below well = tt
-  items_fit depth level encoding (item i is) below well =
-      all_both IsGood (item_lines depth encoding i) (items_lines depth encoding is) (item_fits depth level encoding i below well.0) (items_fit depth level encoding is below well.1)
-
-  pairs_fit : (depth level : ℕ) (encoding : Option Encoding) (ps : Pairs) → depth < level → WellFormedPairs level ps → AllByRecursion IsGood (pairs_lines depth encoding ps)
-  pairs_fit depth level encoding no_pairs below well = tt
-  pairs_fit depth level encoding (pair k v ps) below well =
-      all_both IsGood (item_lines depth encoding k) (item_lines depth encoding v ++ pairs_lines depth encoding ps) (item_fits depth level encoding k below well.0)
-      (all_both IsGood (item_lines depth encoding v) (pairs_lines depth encoding ps) (item_fits depth level encoding v below well.1) (pairs_fit depth level encoding ps below well.2))
+pub item_fits : (left level : ℕ) (p : Place) (known : ℕ) (i : Item) → level + left ≡ 129 → p.depth < level → WellFormed level i → AllByRecursion IsGood (lines_at left p known i)
+unfolding lines_at
+item_fits zero level p known i levels deep well = absurd (omega (arith, well_level level i well))
+item_fits (suc left) level p known i levels deep well =
+    let embedded = λ (e : Item) (h : WellFormed (level + 1) e). item_fits left (level + 1) top 0 e (omega arith) (omega arith) h in
+    all_both IsGood (parts_lines (lines_at left) p known i) (notes_lines p.depth left (lines_at left top 0) known p.tag i)
+    (parts_fit (lines_at left) level (λ q n j d h. item_fits left (level + 1) q n j (omega arith) d h) p known i deep well)
+    (notes_fit (level + 1) left (omega arith) (lines_at left top 0) embedded p.depth level known p.tag i (low_end p.depth level deep (well_level level i well)) well)
 
 -- the two parts of what is known of each line
 pub fits_of : (lines : List DumpLine) → AllByRecursion IsGood lines → AllByRecursion IsFit lines
@@ -260,13 +442,12 @@ takes_all room [] fit wide = tt
 takes_all room (line ∷ lines) fit wide = (record { fit = fit.0; reach = (omega arith) }, takes_all room lines fit.1 (omega arith))
 
 -- what the first walk finds
-pub widest_is : (width : ℕ) (lines : List DumpLine) → taken (λ w line. max w (reach line)) width lines ≡ max width (width_of lines)
-widest_is width [] = omega arith
-widest_is width (line ∷ lines) = let rest = widest_is (max width (reach line)) lines in omega arith
+pub widest_is : (width : ℕ) (lines : List DumpLine) → taken step (widest width) lines ≡ widest (max width (width_of lines))
+widest_is width [] = ap widest (omega arith)
+widest_is width (line ∷ lines) = widest_is (max width (reach line)) lines ∙ ap widest (omega arith)
 
 -- what the second walk writes
-pub written_is : (width : ℕ) (text : List ℕ) (lines : List DumpLine)
-    → taken {View = ℕ × List ℕ} (λ written line. (written.0, written.1 ++ line_text written.0 line)) (width, text) lines ≡ (width, text ++ flat_map (line_text width) lines)
-written_is width text [] = ap (λ (t : List ℕ). (width, t)) (sym (append-nil text))
+pub written_is : (width : ℕ) (text : List ℕ) (lines : List DumpLine) → taken step (written width text) lines ≡ written width (text ++ flat_map (line_text width) lines)
+written_is width text [] = ap (written width) (sym (append-nil text))
 written_is width text (line ∷ lines) =
-    written_is width (text ++ line_text width line) lines ∙ ap (λ (t : List ℕ). (width, t)) (append_assoc text (line_text width line) (flat_map (line_text width) lines))
+    written_is width (text ++ line_text width line) lines ∙ ap (written width) (append_assoc text (line_text width line) (flat_map (line_text width) lines))

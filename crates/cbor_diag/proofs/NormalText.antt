@@ -6,7 +6,7 @@ use Rattle.cbor_diag.specs.declared.syntax.IntegerWidth.{IntegerWidth}
 use Rattle.cbor_diag.specs.declared.syntax.IntegerWidth.TheVariants.{Unknown, Zero, Eight, Sixteen, ThirtyTwo, SixtyFour}
 use Rattle.cbor_diag.specs.declared.syntax.FloatWidth.{FloatWidth}
 use Rattle.cbor_diag.specs.declared.syntax.FloatWidth.TheVariants as float_width
-use Rattle.cbor_diag.specs.declared.encode.notation.context.Encoding.{Encoding}
+use Rattle.cbor_diag.specs.declared.encode.encoding.Encoding.{Encoding}
 use Rattle.cbor_diag.specs.declared.encode.notation.context.Content.{Content}
 use Rattle.cbor_diag.specs.declared.encode.notation.context.Content.TheVariants as content
 use Rattle.cbor_diag.specs.declared.encode.notation.context.Layout.TheVariants.{Compact}
@@ -257,7 +257,7 @@ sequences level left levels b all =
     let s = sequence_at left b in
     let js = normal_items (into_normal left) s.0 in
     let so = sequence_spells level left levels (length b) b (omega arith) (bytes_at b all) in
-    let w = (items_well level left levels (into_normal left) (normal_serves level left levels content.Bytes) s.0 b s.1 all so.spelled_so).0 in
+    let w = (items_well level s.0 b s.1 all so.spelled_so).0 in
     let n = (items_serve level left levels (into_normal left) (normal_serves level left levels content.Bytes) s.0 w).0 in
     let t = items_any level (encoded_items js ++ s.1) (resolve_items js) s.1 (items_enc level js s.1 n) in
     record {

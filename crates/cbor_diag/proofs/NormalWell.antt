@@ -98,6 +98,14 @@ pub record ServesBytes (b x : List ℕ) : Type 0 where
   pub bytes : AllBytes x
   pub no_longer : length x ≤ length b
 
+-- items that are spelled one after the other are well formed, and what follows them is bytes
+pub items_well : (level : ℕ) (is : Items) (b end : List ℕ) → AllBytes b → SpellsItems any level b is end → WellFormedItems level is × AllBytes end
+items_well level no_items b end all h = (tt, subst AllBytes h all)
+items_well level (item i is) b end all h =
+    let parts : AllBytes (h.0 ++ h.1) = subst AllBytes h.2 all in
+    let others = items_well level is h.1 end (all_bytes-rest h.0 h.1 parts) h.4 in
+    ((spells_well level h.0 i (bytes_at h.0 (all_bytes-front h.0 h.1 parts)) h.3, others.0), others.1)
+
 -- the bytes of items that are spelled are replaced by those of items that serve in their place
 module _ (level left : ℕ) (levels : level + left ≡ 129) (into : Item → Item) (serves : (i : Item) → WellFormed level i → Serves level i (into i)) where
   pub items_serve : (is : Items) → WellFormedItems level is → WellFormedItems level (normal_items into is) × (length (encoded_items (normal_items into is)) ≤ length (encoded_items is))
@@ -115,14 +123,6 @@ module _ (level left : ℕ) (levels : level + left ≡ 129) (into : Item → Ite
       let others = pairs_serve ps h.2 in
       ((s.well, t.well, others.0), omega (arith, s.no_longer, t.no_longer, others.1, length-append (encoded k) (encoded v ++ encoded_pairs ps), length-append (encoded v) (encoded_pairs ps), length-append (encoded (into k)) (encoded (into v) ++ encoded_pairs (normal_pairs into ps)), length-append (encoded (into v)) (encoded_pairs (normal_pairs into ps))))
 
-  -- items that are spelled one after the other are well formed, and what follows them is bytes
-  pub items_well : (is : Items) (b end : List ℕ) → AllBytes b → SpellsItems any level b is end → WellFormedItems level is × AllBytes end
-  items_well no_items b end all h = (tt, subst AllBytes h all)
-  items_well (item i is) b end all h =
-      let parts : AllBytes (h.0 ++ h.1) = subst AllBytes h.2 all in
-      let others = items_well is h.1 end (all_bytes-rest h.0 h.1 parts) h.4 in
-      ((spells_well level h.0 i (bytes_at h.0 (all_bytes-front h.0 h.1 parts)) h.3, others.0), others.1)
-
   embedded_serves : (b : List ℕ) (o : Option Item) → AllBytes b → embedded_at left b ≡ o → ServesBytes b (normal_embedded into b o)
   embedded_serves b (Some e) all h =
       let s = embedded_spells level left b e levels (bytes_at b all) h in
@@ -134,7 +134,7 @@ module _ (level left : ℕ) (levels : level + left ≡ 129) (into : Item → Ite
   sequence_serves b all =
       let s = sequence_at left b in
       let so = sequence_spells level left levels (length b) b (omega arith) (bytes_at b all) in
-      let w = items_well s.0 b s.1 all so.spelled_so in
+      let w = items_well level s.0 b s.1 all so.spelled_so in
       let t = items_serve s.0 w.0 in
       record { bytes = all_bytes-append (encoded_items (normal_items into s.0)) s.1 (items_bytes level (normal_items into s.0) t.0) w.1; no_longer = omega (arith, t.1, items_len level s.0 b s.1 so.spelled_so, length-append (encoded_items (normal_items into s.0)) s.1) }
 

@@ -1,34 +1,11 @@
--- Texts that are written piece by piece: hex digits, and escaped text.
-use Rattle.std.proofs.Common.{◌≡◌, ℕ, ◌+◌, ◌/◌, ◌%◌, ◌<◌, ◌≤◌, Bool, true, false, Result, Ok, Err, eqb, eqb-true, List, [], ◌∷◌, ◌++◌, length, map, codes, None, slice_index, get_or, take, drop, refl, sym, ap, ◌∙◌, append_assoc, arith}
+-- Texts that are written piece by piece: escaped text, and members.
+use Rattle.std.proofs.Common.{◌≡◌, ℕ, ◌+◌, ◌<◌, ◌≤◌, Bool, true, false, eqb, List, [], ◌∷◌, ◌++◌, length, map, codes, None, get_or, take, drop, refl, sym, ap, ◌∙◌, append_assoc, arith}
 use Rattle.std.specs.List.{flat_map}
-use Rattle.std.specs.Result.{MatchResult, IsOk}
 use Rattle.std.proofs.lemmas.List.{length-take, take_more, drop_more, drop-append-le, drop_at, append-nil}
 use Rattle.std.proofs.lemmas.Grind.{flat_map-append}
 use Rattle.std.proofs.lemmas.Bool.Decides.{nat_tests}
-use Rattle.hex.specs.Hex.{encode_lower, encode_with, lower_digits}
 use Rattle.cbor_diag.specs.NotationText.{is_escaped, escaped, start, end, members, last_line, opened, chunks_text}
 use Rattle.cbor_diag.specs.declared.encode.notation.context.Listing.{Listing}
-
-hex_append : (t xs ys : List ℕ) → encode_with t (xs ++ ys) ≡ encode_with t xs ++ encode_with t ys
-unfolding encode_with
-hex_append t [] ys = refl
-hex_append t (x ∷ xs) ys = ap (λ r. slice_index t (x / 16) ∷ slice_index t (x % 16) ∷ r) (hex_append t xs ys)
-
--- a piece more is written
-pub hex_more : (out piece after rest whole : List ℕ) → piece ++ after ≡ rest → out ++ encode_lower rest ≡ whole → (out ++ encode_lower piece) ++ encode_lower after ≡ whole
-hex_more out piece after rest whole parts h =
-    append_assoc out (encode_lower piece) (encode_lower after) ∙ ap (λ x. out ++ x) (sym (hex_append lower_digits piece after)) ∙ ap (λ x. out ++ encode_lower x) parts ∙ h
-
--- all is written
-pub hex_end : (out rest whole : List ℕ) → eqb (length rest) 0 ≡ true → out ++ encode_lower rest ≡ whole → out ≡ whole
-unfolding encode_with
-hex_end out [] whole none h = sym (append-nil out) ∙ h
-hex_end out (x ∷ rest) whole none h = absurd (omega (arith, eqb-true (length (x ∷ rest)) 0 none))
-
--- a test of UTF-8 passes
-pub utf8_passes : {T E U : Type 0} (P : T → Type 0) (Q : E → Type 0) (r : Result T E) → MatchResult r P (λ e. (¬ U) × Q e) → U → IsOk r
-utf8_passes P Q (Ok x) h u = refl
-utf8_passes P Q (Err e) h u = absurd (h.0 u)
 
 -- a byte that stands behind a backslash is a character
 pub escaped_ascii : (b : ℕ) → is_escaped b ≡ true → b < 128

@@ -1,7 +1,7 @@
 -- A container is on one line exactly where its estimate is below 60.
 use Rattle.std.proofs.Common.{◌≡◌, ℕ, ◌<◌, ◌≤◌, refl, ap, ◌∙◌}
 use Rattle.std.proofs.lemmas.Bool.{lt-ltb, le-ltb}
-use Rattle.cbor_diag.specs.declared.encode.notation.context.Encoding.{Encoding}
+use Rattle.cbor_diag.specs.declared.encode.encoding.Encoding.{Encoding}
 use Rattle.cbor_diag.specs.declared.encode.notation.context.Layout.TheVariants.{Pretty}
 use Rattle.cbor_diag.specs.declared.encode.notation.context.Listing.TheVariants.{Row, Lines}
 use Rattle.cbor_diag.specs.Item as spec

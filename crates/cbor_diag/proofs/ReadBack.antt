@@ -28,7 +28,7 @@ use Rattle.cbor_diag.proofs.Resolved.{spells_well}
 use Rattle.cbor_diag.proofs.TextParts.{well_level}
 use Rattle.cbor_diag.proofs.EmbeddedItems.{embedded_spells, sequence_spells}
 use Rattle.cbor_diag.proofs.NormalForm.{AllBytes, bytes_at}
-use Rattle.cbor_diag.proofs.NormalWell.{items_well, normal_serves}
+use Rattle.cbor_diag.proofs.NormalWell.{items_well}
 use Rattle.cbor_diag.proofs.ReadTokens.{one_space, number_read, negative_read, quoted_read, bytes_read, text_read, float_read, simple_read}
 use Rattle.cbor_diag.proofs.ReadLists.{Each, opening_of, opens, listed}
 
@@ -126,7 +126,7 @@ module _ (level left : ℕ) (levels : level + left ≡ 129) (reads : (c : Contex
       let s = sequence_at left b in
       let l = listing c.layout (full (array s.0 None)) in
       let so = sequence_spells level left levels (length b) b (omega arith) (bytes_at b all) in
-      let w = items_well level left levels (normal_at left content.Bytes) (normal_serves level left levels content.Bytes) s.0 b s.1 all so.spelled_so in
+      let w = items_well level s.0 b s.1 all so.spelled_so in
       let js = normal_items (normal_at left content.Bytes) s.0 in
       let shown = items_text (text_at left) c l (codes "<<") s.0 (codes ">>") in
       let first = as_items {text = shown} js (listed (Reads left) l (codes "<<") (codes ">>") (Some Unknown) _ _ (items_each (inside (members_layout l) c) s.0 w.0)) refl in

@@ -20,8 +20,8 @@ use Rattle.cbor_diag.specs.declared.syntax.IntegerWidth.{IntegerWidth}
 use Rattle.cbor_diag.specs.declared.syntax.IntegerWidth.TheVariants.{Unknown, Zero, Eight, Sixteen, ThirtyTwo, SixtyFour}
 use Rattle.cbor_diag.specs.declared.syntax.FloatWidth.{FloatWidth}
 use Rattle.cbor_diag.specs.declared.syntax.FloatWidth.TheVariants as float_width
-use Rattle.cbor_diag.specs.declared.encode.notation.context.Encoding.{Encoding}
-use Rattle.cbor_diag.specs.declared.encode.notation.context.Encoding.TheVariants.{Base16, Base64, Base64Url}
+use Rattle.cbor_diag.specs.declared.encode.encoding.Encoding.{Encoding}
+use Rattle.cbor_diag.specs.declared.encode.encoding.Encoding.TheVariants.{Base16, Base64, Base64Url}
 use Rattle.cbor_diag.specs.Item.{Chunk, Item}
 use Rattle.cbor_diag.specs.Head.{FitsWidth}
 use Rattle.cbor_diag.specs.WellFormed.{FitsFloat}

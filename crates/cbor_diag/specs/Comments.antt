@@ -1,11 +1,11 @@
 -- The comments of a dump.
 use Rattle.std.specs.Prelude.{ℕ, ◌+◌, ◌==◌, ◌||◌, ◌&&◌, nat_le, List, [], ◌++◌, drop, codes, decimal, true, false, Option, Some, None, if◌then◌else◌}
 use Rattle.hex.specs.Hex.{encode_lower}
-use Rattle.cbor_notes.specs.Base64.{standard, url_safe}
 use Rattle.cbor_notes.specs.TagNames.{tag_name}
 use Rattle.cbor_notes.specs.Text.{grouped, quoted_bytes, escaped_text}
 use Rattle.cbor_diag.specs.declared.encode.encoding.Encoding.{Encoding}
 use Rattle.cbor_diag.specs.declared.encode.encoding.Encoding.TheVariants.{Base16, Base64, Base64Url}
+use Rattle.cbor_diag.specs.NotationText.{quoted}
 
 abbrev pub in_brackets : List ℕ → List ℕ → List ℕ
 in_brackets name inner = name ++ codes "(" ++ inner ++ codes ")"
@@ -59,12 +59,12 @@ encoding_below t outside =
     else if (t == 23) || (t == 37) || (t == 52) || (t == 54) || (t == 260) then Some Base16
     else outside
 
--- a piece of a byte string; in base 64 the whole string stands beside each piece
+-- a piece of a byte string, encoded as in notation; in base 64 the whole string stands beside each piece
 abbrev pub bytes_comment : Option Encoding → List ℕ → List ℕ → List ℕ
 bytes_comment None whole piece = quoted_bytes piece
-bytes_comment (Some Base16) whole piece = codes "h'" ++ encode_lower piece ++ codes "'"
-bytes_comment (Some Base64) whole piece = codes "b64'" ++ standard whole ++ codes "'"
-bytes_comment (Some Base64Url) whole piece = codes "b64'" ++ url_safe whole ++ codes "'"
+bytes_comment (Some Base16) whole piece = quoted Base16 piece
+bytes_comment (Some Base64) whole piece = quoted Base64 whole
+bytes_comment (Some Base64Url) whole piece = quoted Base64Url whole
 
 abbrev pub text_comment : List ℕ → List ℕ
 text_comment piece = codes "\"" ++ escaped_text piece ++ codes "\""

@@ -1,11 +1,15 @@
--- The lines of the dump of an item: what its bytes are, in their order, each with a comment. How the lines
--- are laid out is no matter of the item.
-use Rattle.std.specs.Prelude.{ℕ, ◌+◌, List, [], ◌∷◌, ◌++◌, length, map, Option, Some, None, codes, nat_le, take, drop, if◌then◌else◌}
+-- The lines of the dump of an item: what its bytes are, in their order, each with a comment, and notes on what
+-- tags say of their values. How the lines are laid out is no matter of the item.
+use Rattle.std.specs.Prelude.{ℕ, zero, suc, ◌+◌, ◌%◌, ◌*◌, ◌==◌, List, [], ◌∷◌, ◌++◌, length, min, map, Option, Some, None, Ok, Err, unwrap_or, codes, nat_le, take, drop, if◌then◌else◌}
 use Rattle.std.specs.List.{flat_map}
 use Rattle.hex.specs.Hex.{encode_lower}
-use Rattle.cbor_notes.specs.Layout.{DumpLine, layout}
+use Rattle.cbor_notes.specs.Element.{element_size, element_text}
+use Rattle.cbor_notes.specs.Layout.{DumpLine, layout, blanks, left_column, width_of}
+use Rattle.cbor_diag.specs.declared.error.Error.{Error}
+use Rattle.cbor_diag.specs.declared.error.Error.TheVariants.{Remaining}
 use Rattle.cbor_diag.specs.declared.syntax.IntegerWidth.{IntegerWidth}
 use Rattle.cbor_diag.specs.declared.encode.encoding.Encoding.{Encoding}
+use Rattle.cbor_diag.specs.declared.encode.dump.place.Place.{Place}
 use Rattle.cbor_diag.specs.Item as spec
 use Rattle.cbor_diag.specs.Item.{Chunk, Atom, integer, negative, byte_string, text_string, byte_chunks, text_chunks}
 use Rattle.cbor_diag.specs.Item.{float, simple, Item, atom, array, tagged, Items, no_items, item, Pairs, no_pairs}
@@ -14,7 +18,11 @@ use Rattle.cbor_diag.specs.Head.{opening, break_byte}
 use Rattle.cbor_diag.specs.Written.{encoded_head, encoded_open, encoded_float, encoded_simple}
 use Rattle.cbor_diag.specs.Comments.{unsigned_comment, negative_comment, float_comment, simple_comment, counted_comment}
 use Rattle.cbor_diag.specs.Comments.{tag_comment, bytes_comment, text_comment, empty_comment, break_comment, encoding_below}
-use Rattle.cbor_diag.specs.Pieces.{byte_pieces, text_pieces}
+use Rattle.cbor_diag.specs.Embedded.{sequence_at}
+use Rattle.cbor_diag.specs.Notes.{one, value_note}
+use Rattle.cbor_diag.specs.Pieces.{pieces_of, byte_pieces, text_pieces}
+use Rattle.cbor_diag.specs.Reading.{Read, item_at}
+use Rattle.cbor_diag.specs.Refusals.{text_of}
 
 -- the digits of a head: its first byte, and behind a blank the bytes that follow it, if any do
 abbrev pub head_hex : List ℕ → List ℕ
@@ -29,16 +37,51 @@ head_line depth bytes comment = record { depth = depth; hex = head_hex bytes; co
 abbrev pub piece_line : ℕ → List ℕ → List ℕ → DumpLine
 piece_line depth bytes comment = record { depth = depth; hex = encode_lower bytes; comment = comment }
 
+-- ---- where an item stands
+
+-- a whole item: byte strings are quoted, and there is no tag above
+abbrev pub top : Place
+top = record { depth = 0; encoding = None; tag = None }
+
+-- what a container holds, one deeper
+abbrev pub inside : Place → Place
+inside p = record { depth = p.depth + 1; encoding = p.encoding; tag = None }
+
+-- the value right below a tag, one deeper
+abbrev pub below : ℕ → Place → Place
+below t p = record { depth = p.depth + 1; encoding = encoding_below t p.encoding; tag = Some t }
+
+-- ---- strings
+
 -- the lines of a string's content, by its pieces, one at least
 abbrev pub content_lines : ℕ → (List ℕ → List ℕ) → List (List ℕ) → List DumpLine
 content_lines depth comment [] = piece_line depth [] empty_comment ∷ []
 content_lines depth comment (piece ∷ pieces) = map (λ p. piece_line depth p (comment p)) (piece ∷ pieces)
 
+abbrev pub bytes_lines : ℕ → Option Encoding → List ℕ → List DumpLine
+bytes_lines depth encoding bytes = content_lines depth (bytes_comment encoding bytes) (byte_pieces bytes)
+
+-- the elements of a typed array (RFC 8746), each with its value
+abbrev pub element_lines : ℕ → ℕ → ℕ → List ℕ → List DumpLine
+element_lines depth t size bytes =
+    map (λ e. piece_line depth e (unwrap_or (element_text t e) []))
+    (pieces_of (λ rest. min (length rest) size) (length bytes) bytes)
+
+-- where the tag above has elements of this size, and the bytes are whole elements, these are shown
+abbrev pub sized_lines : ℕ → Option Encoding → ℕ → Option ℕ → List ℕ → List DumpLine
+sized_lines depth encoding t None bytes = bytes_lines depth encoding bytes
+sized_lines depth encoding t (Some size) bytes =
+    if length bytes % size == 0 then element_lines depth t size bytes else bytes_lines depth encoding bytes
+
+abbrev pub tagged_lines : ℕ → Option Encoding → Option ℕ → List ℕ → List DumpLine
+tagged_lines depth encoding None bytes = bytes_lines depth encoding bytes
+tagged_lines depth encoding (Some t) bytes = sized_lines depth encoding t (element_size t) bytes
+
 -- a string of definite length: its head, and its content one deeper
-abbrev pub byte_string_lines : ℕ → Option Encoding → Chunk → List DumpLine
-byte_string_lines depth encoding c =
+abbrev pub byte_string_lines : ℕ → Option Encoding → Option ℕ → Chunk → List DumpLine
+byte_string_lines depth encoding tag c =
     head_line depth (encoded_head 2 (length c.bytes) c.width) (counted_comment (codes "bytes") (Some (length c.bytes)))
-    ∷ content_lines (depth + 1) (bytes_comment encoding c.bytes) (byte_pieces c.bytes)
+    ∷ tagged_lines (depth + 1) encoding tag c.bytes
 
 abbrev pub text_string_lines : ℕ → Chunk → List DumpLine
 text_string_lines depth c =
@@ -55,21 +98,23 @@ break_line depth = head_line depth (break_byte ∷ []) break_comment
 -- an indefinite string: its chunks between the two
 abbrev pub byte_chunks_lines : ℕ → Option Encoding → List Chunk → List DumpLine
 byte_chunks_lines depth encoding cs =
-    open_line depth 2 (codes "bytes") ∷ (flat_map (byte_string_lines (depth + 1) encoding) cs ++ break_line (depth + 1) ∷ [])
+    open_line depth 2 (codes "bytes") ∷ (flat_map (byte_string_lines (depth + 1) encoding None) cs ++ break_line (depth + 1) ∷ [])
 
 abbrev pub text_chunks_lines : ℕ → List Chunk → List DumpLine
 text_chunks_lines depth cs =
     open_line depth 3 (codes "text") ∷ (flat_map (text_string_lines (depth + 1)) cs ++ break_line (depth + 1) ∷ [])
 
-abbrev pub atom_lines : ℕ → Option Encoding → Atom → List DumpLine
-atom_lines depth encoding (integer n w) = head_line depth (encoded_head 0 n w) (unsigned_comment n) ∷ []
-atom_lines depth encoding (negative n w) = head_line depth (encoded_head 1 n w) (negative_comment n) ∷ []
-atom_lines depth encoding (byte_string c) = byte_string_lines depth encoding c
-atom_lines depth encoding (text_string c) = text_string_lines depth c
-atom_lines depth encoding (byte_chunks cs) = byte_chunks_lines depth encoding cs
-atom_lines depth encoding (text_chunks cs) = text_chunks_lines depth cs
-atom_lines depth encoding (float bits w) = head_line depth (encoded_float bits w) (float_comment (encoded_float bits w)) ∷ []
-atom_lines depth encoding (simple n) = head_line depth (encoded_simple n) (simple_comment n) ∷ []
+abbrev pub atom_lines : Place → Atom → List DumpLine
+atom_lines p (integer n w) = head_line p.depth (encoded_head 0 n w) (unsigned_comment n) ∷ []
+atom_lines p (negative n w) = head_line p.depth (encoded_head 1 n w) (negative_comment n) ∷ []
+atom_lines p (byte_string c) = byte_string_lines p.depth p.encoding p.tag c
+atom_lines p (text_string c) = text_string_lines p.depth c
+atom_lines p (byte_chunks cs) = byte_chunks_lines p.depth p.encoding cs
+atom_lines p (text_chunks cs) = text_chunks_lines p.depth cs
+atom_lines p (float bits w) = head_line p.depth (encoded_float bits w) (float_comment (encoded_float bits w)) ∷ []
+atom_lines p (simple n) = head_line p.depth (encoded_simple n) (simple_comment n) ∷ []
+
+-- ---- containers
 
 -- what stands before a container's members, and after them
 abbrev pub count_if_definite : ℕ → Option IntegerWidth → Option ℕ
@@ -83,30 +128,131 @@ abbrev pub close_lines : ℕ → Option IntegerWidth → List DumpLine
 close_lines depth (Some w) = []
 close_lines depth None = break_line depth ∷ []
 
--- An item from a depth on, where byte strings are shown in an encoding, or quoted if there is none. What a
--- container or a tag holds stands one deeper, keys and values in turn.
+-- ---- shared values
+
+-- how many values are shared in an item: its tags 28, the outer before the inner, a key before its value
+abbrev pub shared_from : ℕ → ℕ → ℕ
+shared_from t n = if t == 28 then suc n else n
+
 abbrev mutual
-  pub item_lines : ℕ → Option Encoding → Item → List DumpLine
-  item_lines depth encoding (atom a) = atom_lines depth encoding a
-  item_lines depth encoding (array is w) =
-      container_line depth 4 (codes "array") (item_count is) w ∷ (items_lines (depth + 1) encoding is ++ close_lines (depth + 1) w)
-  item_lines depth encoding (spec.map ps w) =
-      container_line depth 5 (codes "map") (pair_count ps) w ∷ (pairs_lines (depth + 1) encoding ps ++ close_lines (depth + 1) w)
-  item_lines depth encoding (tagged t w i) =
-      head_line depth (encoded_head 6 t w) (tag_comment t) ∷ item_lines (depth + 1) (encoding_below t encoding) i
+  pub shared_in : Item → ℕ
+  shared_in (atom a) = 0
+  shared_in (array is w) = shared_in_items is
+  shared_in (spec.map ps w) = shared_in_pairs ps
+  shared_in (tagged t w i) = shared_from t (shared_in i)
 
-  pub items_lines : ℕ → Option Encoding → Items → List DumpLine
-  items_lines depth encoding no_items = []
-  items_lines depth encoding (item i is) = item_lines depth encoding i ++ items_lines depth encoding is
+  pub shared_in_items : Items → ℕ
+  shared_in_items no_items = 0
+  shared_in_items (item i is) = shared_in i + shared_in_items is
 
-  pub pairs_lines : ℕ → Option Encoding → Pairs → List DumpLine
-  pairs_lines depth encoding no_pairs = []
-  pairs_lines depth encoding (pair k v ps) =
-      item_lines depth encoding k ++ (item_lines depth encoding v ++ pairs_lines depth encoding ps)
+  pub shared_in_pairs : Pairs → ℕ
+  shared_in_pairs no_pairs = 0
+  shared_in_pairs (pair k v ps) = shared_in k + (shared_in v + shared_in_pairs ps)
+
+-- ---- notes
+
+-- a line without digits
+abbrev pub note_line : ℕ → List ℕ → DumpLine
+note_line depth text = record { depth = depth; hex = []; comment = text }
+
+-- a note, and what belongs to it one deeper
+abbrev pub note_lines : ℕ → List (List ℕ) → List DumpLine
+note_lines depth [] = []
+note_lines depth (text ∷ texts) = note_line depth text ∷ map (note_line (depth + 1)) texts
+
+-- a line as it stands in a dump of that width, without its line feed
+abbrev pub row : ℕ → DumpLine → List ℕ
+row width line = left_column width line ++ codes " # " ++ blanks (2 * line.depth) ++ line.comment
+
+-- an embedded item: its own dump, as wide as that is
+abbrev pub embedded_note : List DumpLine → List (List ℕ)
+embedded_note lines = codes "encoded cbor data item" ∷ map (row (width_of lines)) lines
+
+-- what can't be read, and why
+abbrev pub failed_note : List ℕ → Error → List (List ℕ)
+failed_note what e = what ∷ text_of e ∷ []
+
+-- the bytes of a byte string of definite length
+abbrev pub bytes_in : Item → Option (List ℕ)
+bytes_in (atom (byte_string c)) = Some c.bytes
+bytes_in _ = None
+
+-- tag 24: the item that the bytes are, whose dump is given by `dump` (RFC 7049 section 2.4.4.1)
+abbrev pub whole_note : (Item → List DumpLine) → Read Item → List (List ℕ)
+whole_note dump (Ok (i, [])) = embedded_note (dump i)
+whole_note dump (Ok (i, rest)) = failed_note (codes "failed to parse encoded cbor data item") Remaining
+whole_note dump (Err e) = failed_note (codes "failed to parse encoded cbor data item") e
+
+abbrev pub encoded_item_note : ℕ → (Item → List DumpLine) → Option (List ℕ) → List (List ℕ)
+encoded_item_note left dump (Some bytes) = whole_note dump (item_at left bytes)
+encoded_item_note left dump None = one (codes "invalid type for encoded cbor data item")
+
+-- tag 63: each item of a sequence, and what follows that is none (RFC 8742)
+abbrev pub items_notes : (Item → List DumpLine) → Items → List (List (List ℕ))
+items_notes dump no_items = []
+items_notes dump (item i is) = embedded_note (dump i) ∷ items_notes dump is
+
+abbrev pub rest_note : List ℕ → Read Item → List (List ℕ)
+rest_note [] read = []
+rest_note rest (Ok x) = []
+rest_note rest (Err e) = failed_note (codes "failed to parse remaining encoded cbor sequence") e
+
+abbrev pub sequence_notes : ℕ → (Item → List DumpLine) → Items × List ℕ → List (List (List ℕ))
+sequence_notes left dump s = items_notes dump s.0 ++ rest_note s.1 (item_at left s.1) ∷ []
+
+abbrev pub encoded_sequence_notes : ℕ → (Item → List DumpLine) → Option (List ℕ) → List (List (List ℕ))
+encoded_sequence_notes left dump (Some bytes) = sequence_notes left dump (sequence_at left bytes)
+encoded_sequence_notes left dump None = one (codes "invalid type for encoded cbor sequence") ∷ []
+
+-- What is said of the value right below a tag, where so many values were shared before it and so many levels
+-- are left for what is embedded in it.
+abbrev pub notes : ℕ → (Item → List DumpLine) → ℕ → ℕ → Item → List (List (List ℕ))
+notes left dump known t i =
+    if t == 24 then encoded_item_note left dump (bytes_in i) ∷ []
+    else if t == 63 then encoded_sequence_notes left dump (bytes_in i)
+    else value_note known t i ∷ []
+
+abbrev pub notes_lines : ℕ → ℕ → (Item → List DumpLine) → ℕ → Option ℕ → Item → List DumpLine
+notes_lines depth left dump known None i = []
+notes_lines depth left dump known (Some t) i = flat_map (note_lines depth) (notes left dump known t i)
+
+-- ---- items
+
+-- the items of a container one after the other, each written by `write`, so many values being shared before
+abbrev pub items_lines : (ℕ → Item → List DumpLine) → ℕ → Items → List DumpLine
+items_lines write known no_items = []
+items_lines write known (item i is) = write known i ++ items_lines write (known + shared_in i) is
+
+-- keys and values in turn
+abbrev pub pairs_lines : (ℕ → Item → List DumpLine) → ℕ → Pairs → List DumpLine
+pairs_lines write known no_pairs = []
+pairs_lines write known (pair k v ps) =
+    write known k ++ (write (known + shared_in k) v ++ pairs_lines write (known + shared_in k + shared_in v) ps)
+
+-- what an item's bytes are; what a container or a tag holds stands one deeper
+abbrev pub parts_lines : (Place → ℕ → Item → List DumpLine) → Place → ℕ → Item → List DumpLine
+parts_lines write p known (atom a) = atom_lines p a
+parts_lines write p known (array is w) =
+    container_line p.depth 4 (codes "array") (item_count is) w
+    ∷ (items_lines (write (inside p)) known is ++ close_lines (p.depth + 1) w)
+parts_lines write p known (spec.map ps w) =
+    container_line p.depth 5 (codes "map") (pair_count ps) w
+    ∷ (pairs_lines (write (inside p)) known ps ++ close_lines (p.depth + 1) w)
+parts_lines write p known (tagged t w i) =
+    head_line p.depth (encoded_head 6 t w) (tag_comment t)
+    ∷ write (below t p) (shared_from t known) i
+
+-- An item with so many levels left for it and what is nested in it, embedded items included: 129 less the
+-- level that it stands at. Its notes follow it, as deep as it stands. An embedded item has a dump of its own,
+-- which counts shared values from 0. Where no level is left there is no item.
+unfoldable pub lines_at : ℕ → Place → ℕ → Item → List DumpLine
+lines_at zero p known i = []
+lines_at (suc left) p known i =
+    parts_lines (lines_at left) p known i ++ notes_lines p.depth left (lines_at left top 0) known p.tag i
 
 -- the lines of a whole item, and its dump
 abbrev pub lines : Item → List DumpLine
-lines i = item_lines 0 None i
+lines i = lines_at 128 top 0 i
 
 abbrev pub dump : Item → List ℕ
 dump i = layout (lines i)

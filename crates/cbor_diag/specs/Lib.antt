@@ -19,9 +19,11 @@ pub mod Comments
 pub mod Pieces
 pub mod Dump
 pub mod Parts
+pub mod Sinks
 pub mod Embedded
 pub mod Estimate
 pub mod NotationText
+pub mod Notes
 pub mod Compact
 pub mod Pretty
 pub mod Normal

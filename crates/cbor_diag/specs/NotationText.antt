@@ -10,8 +10,8 @@ use Rattle.cbor_diag.specs.declared.syntax.IntegerWidth.{IntegerWidth}
 use Rattle.cbor_diag.specs.declared.syntax.IntegerWidth.TheVariants as width
 use Rattle.cbor_diag.specs.declared.syntax.FloatWidth.{FloatWidth}
 use Rattle.cbor_diag.specs.declared.syntax.FloatWidth.TheVariants as float_width
-use Rattle.cbor_diag.specs.declared.encode.notation.context.Encoding.{Encoding}
-use Rattle.cbor_diag.specs.declared.encode.notation.context.Encoding.TheVariants.{Base16, Base64, Base64Url}
+use Rattle.cbor_diag.specs.declared.encode.encoding.Encoding.{Encoding}
+use Rattle.cbor_diag.specs.declared.encode.encoding.Encoding.TheVariants.{Base16, Base64, Base64Url}
 use Rattle.cbor_diag.specs.declared.encode.notation.context.Content.{Content}
 use Rattle.cbor_diag.specs.declared.encode.notation.context.Content.TheVariants as content
 use Rattle.cbor_diag.specs.declared.encode.notation.context.Layout.{Layout}

@@ -1,6 +1,7 @@
 -- What stands between the definition of a dump and the walk that makes it.
-use Rattle.std.specs.Prelude.{ℕ, ◌+◌, ◌*◌, ◌≤◌, List, [], ◌∷◌}
+use Rattle.std.specs.Prelude.{ℕ, ◌+◌, ◌*◌, ◌≤◌, List, [], ◌∷◌, unwrap_or}
 use Rattle.hex.specs.Hex.{encode_lower}
+use Rattle.cbor_notes.specs.Element.{element_text}
 use Rattle.cbor_notes.specs.Layout.{DumpLine, reach}
 use Rattle.cbor_notes.specs.LineTree.{IsFit, most_hex, most_levels}
 use Rattle.cbor_diag.specs.declared.encode.dump.comment.Comment.{Comment}
@@ -23,6 +24,8 @@ comment_text (comment.Tag t) = tag_comment t
 comment_text comment.Empty = empty_comment
 comment_text (comment.Bytes encoding whole piece) = bytes_comment encoding whole.now piece.now
 comment_text (comment.Text piece) = text_comment piece.now
+comment_text (comment.Element tag piece) = unwrap_or (element_text tag piece.now) []
+comment_text (comment.Note text) = text.now
 
 -- the digits of bytes in a form
 abbrev pub form_hex : Form → List ℕ → List ℕ

@@ -1,7 +1,7 @@
 -- Diagnostic notation over several lines (RFC 7049 section 6): a container that is short stands in one
 -- line, of another each member has a line.
 use Rattle.std.specs.Prelude.{ℕ, ◌+◌, ◌-◌, List}
-use Rattle.cbor_diag.specs.declared.encode.notation.context.Encoding.{Encoding}
+use Rattle.cbor_diag.specs.declared.encode.encoding.Encoding.{Encoding}
 use Rattle.cbor_diag.specs.declared.encode.notation.context.Layout.TheVariants.{Pretty}
 use Rattle.cbor_diag.specs.declared.encode.notation.context.Listing.{Listing}
 use Rattle.cbor_diag.specs.declared.encode.notation.context.Listing.TheVariants.{Row, Lines}

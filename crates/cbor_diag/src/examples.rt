@@ -9,7 +9,7 @@ ghost use Rattle.cbor_diag.specs.WellFormed.{WellFormed};
 ghost use Rattle.cbor_diag.specs.Written.{encoded, encoded_open, resolve};
 ghost use Rattle.cbor_diag.specs.Bytes.{any, strict, Spells};
 ghost use Rattle.cbor_diag.specs.Refused.{Cut, Fault};
-ghost use Rattle.cbor_diag.specs.declared.encode.notation.context.Encoding.TheVariants.{Base16};
+ghost use Rattle.cbor_diag.specs.declared.encode.encoding.Encoding.TheVariants.{Base16};
 ghost use Rattle.cbor_diag.specs.Compact.{compact};
 ghost use Rattle.cbor_diag.specs.Estimate.{full};
 ghost use Rattle.cbor_diag.specs.Normal.{normal};

@@ -16,14 +16,18 @@ ghost use Rattle.cbor_diag.specs.Dump as spec;
 
 mod comment;
 mod form;
+mod lines;
+mod note_lines;
+mod notes;
+mod place;
 mod sink;
 mod walk;
+mod writer;
 
 use crate::error::Error;
 use crate::syntax::DataItem;
-use sink::{Widest, Writer};
 use std::alloc::Global;
-use walk::walk_item;
+use walk::dump;
 
 impl DataItem {
     /// The item as a dump: its bytes in hex, as `to_bytes` writes them, each line with a comment (docs/DUMP.md).
@@ -44,11 +48,6 @@ impl DataItem {
             IsColumn (width_of (spec.lines (view self.now)) + 1) (string_bytes t)) }
         ensures refused { IfErr result (λ e. e ≡ Error.Memory) }
     {
-        let mut head = Vec::with_capacity(alloc, 9)?;
-        let mut widest = Widest { width: 0 };
-        walk_item(&mut widest, &mut head, 0, None, self)?;
-        let mut writer = Writer::new(alloc, widest.width);
-        walk_item(&mut writer, &mut head, 0, None, self)?;
-        Ok(writer.into_text())
+        Ok(dump(alloc, self, 1)?)
     }
 }

@@ -2,14 +2,16 @@
 ghost use Rattle.std.specs.Prelude.{◌≡◌};
 ghost use Rattle.cbor_diag.specs.Comments as spec;
 
-/// An encoding of bytes as text (RFC 4648).
+use crate::syntax::Tag;
+
+/// How bytes are written between quotes (RFC 4648).
 #[derive(Clone, Copy)]
 pub(crate) enum Encoding {
-    /// Base 16, in lower case.
+    /// Base 16 in lower case, in `h'..'`.
     Base16,
-    /// Base 64 in the standard alphabet, with padding.
+    /// Base 64 in the standard alphabet, with padding, in `b64'..'`.
     Base64,
-    /// Base 64 in the alphabet that is safe in URLs, without padding.
+    /// Base 64 in the alphabet that is safe in URLs, without padding, in `b64'..'`.
     Base64Url,
 }
 
@@ -18,10 +20,12 @@ pub(crate) enum Encoding {
 pub(crate) fn encoding_below(number: u64, outside: Option<Encoding>) -> Option<Encoding>
     ensures { result ≡ spec.encoding_below number outside }
 {
-    match number {
-        21 => Some(Encoding::Base64Url),
-        22 => Some(Encoding::Base64),
-        23 | 37 | 52 | 54 | 260 => Some(Encoding::Base16),
+    match Tag(number) {
+        Tag::ENCODED_BASE64URL => Some(Encoding::Base64Url),
+        Tag::ENCODED_BASE64 => Some(Encoding::Base64),
+        Tag::ENCODED_BASE16 | Tag::UUID | Tag::IPV4 | Tag::IPV6 | Tag::NETWORK_ADDRESS => {
+            Some(Encoding::Base16)
+        }
         _ => outside,
     }
 }

@@ -11,7 +11,7 @@ ghost use Rattle.std.specs.Prelude.{◌≡◌, ◌↔◌, true, ◌+◌, ◌-◌
 ghost use Rattle.std.specs.String.{string_bytes};
 ghost use Rattle.cbor_diag.specs.View.{view, items_view, pairs_view, byte_chunk, text_chunk};
 ghost use Rattle.cbor_diag.specs.Notation.{IsNotation};
-ghost use Rattle.cbor_diag.specs.declared.encode.notation.context.Encoding.{Encoding};
+ghost use Rattle.cbor_diag.specs.declared.encode.encoding.Encoding.{Encoding};
 ghost use Rattle.cbor_diag.specs.Item.{Item};
 ghost use Rattle.cbor_diag.specs.Estimate.{full, long};
 ghost use Rattle.cbor_diag.specs.Pretty.{pretty, in_one_line, in_lines};
@@ -28,7 +28,8 @@ use members::{
     push_byte_chunks, push_closing, push_colon, push_end, push_opening, push_rest, push_start,
     push_text_chunks,
 };
-use scalars::{push_float, push_negative, push_number, push_quoted, push_simple, push_text};
+pub(crate) use scalars::push_quoted;
+use scalars::{push_float, push_negative, push_number, push_simple, push_text};
 use std::alloc::Global;
 
 /// Writes an item that stands at `level`, from 1 to 128.

@@ -1,14 +1,15 @@
 //! The comments of a dump, written at the end of a text.
 ghost use Rattle.std.specs.Prelude.{◌≡◌, ◌++◌, OnOk, codes, decimal};
 ghost use Rattle.std.specs.String.{string_bytes};
-ghost use Rattle.cbor_notes.specs.Base64.{encoding};
 ghost use Rattle.cbor_notes.specs.TagNames.{tag_name};
 ghost use Rattle.cbor_diag.specs.Comments as spec;
 ghost use Rattle.cbor_diag.specs.Parts.{comment_text};
 
 use crate::encode::encoding::Encoding;
-use base64::engine::general_purpose::{STANDARD, URL_SAFE_NO_PAD};
-use cbor_notes::{push_escaped_text, push_grouped, push_hex, push_quoted_bytes, tag_name};
+use crate::encode::notation::push_quoted;
+use cbor_notes::{
+    push_element_text, push_escaped_text, push_grouped, push_hex, push_quoted_bytes, tag_name,
+};
 use std::alloc::AllocError;
 
 /// What a line of a dump says of its digits.
@@ -34,6 +35,10 @@ pub(super) enum Comment<'a> {
     Bytes(Option<Encoding>, &'a [u8], &'a [u8]),
     /// A piece of a text.
     Text(&'a str),
+    /// An element of the typed array of a tag.
+    Element(u64, &'a [u8]),
+    /// A line of a note.
+    Note(&'a str),
 }
 
 impl Comment<'_> {
@@ -64,6 +69,11 @@ impl Comment<'_> {
                 push_escaped_text(out, piece)?;
                 out.push('"')
             }
+            Comment::Element(tag, piece) => {
+                push_element_text(out, *tag, piece)?;
+                Ok(())
+            }
+            Comment::Note(text) => out.push_str(text),
         }
     }
 }
@@ -146,32 +156,8 @@ fn push_bytes(
 {
     match encoding {
         None => push_quoted_bytes(out, piece),
-        Some(Encoding::Base16) => {
-            out.push_str("h'")?;
-            push_hex(out, piece)?;
-            out.push('\'')
-        }
-        Some(Encoding::Base64) => push_base64(out, false, whole),
-        Some(Encoding::Base64Url) => push_base64(out, true, whole),
-    }
-}
-
-/// Appends bytes in base 64 between quotes, in the alphabet that is safe in URLs if `url` is set.
-fn push_base64(out: &mut String, url: bool, bytes: &[u8]) -> Result<(), AllocError>
-    ensures { OnOk result (string_bytes out.new
-        ≡ string_bytes out.old ++ (codes "b64'" ++ encoding url bytes.now ++ codes "'")) }
-{
-    out.push_str("b64'")?;
-    push_base64_digits(out, url, bytes)?;
-    out.push('\'')
-}
-
-fn push_base64_digits(out: &mut String, url: bool, bytes: &[u8]) -> Result<(), AllocError>
-    ensures { OnOk result (string_bytes out.new ≡ string_bytes out.old ++ encoding url bytes.now) }
-{
-    if url {
-        URL_SAFE_NO_PAD.encode_string(bytes, out)
-    } else {
-        STANDARD.encode_string(bytes, out)
+        Some(Encoding::Base16) => push_quoted(out, piece, Encoding::Base16),
+        Some(Encoding::Base64) => push_quoted(out, whole, Encoding::Base64),
+        Some(Encoding::Base64Url) => push_quoted(out, whole, Encoding::Base64Url),
     }
 }

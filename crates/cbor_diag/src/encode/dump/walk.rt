@@ -1,342 +1,130 @@
-//! The walk over an item, which hands its lines to a sink.
-ghost use Rattle.std.specs.Prelude.{◌≡◌, ◌<◌, ◌≤◌, ◌+◌, ◌++◌, ◌^◌, ℕ, List, [], ◌∷◌, length, map, Option, Some, None, OnOk, codes};
+//! The walk over an item, which hands its lines to a sink, and the notes that follow the values of tags.
+ghost use Rattle.std.specs.Prelude.{◌≡◌, ◌<◌, ◌≤◌, ◌+◌, ◌-◌, IfOk, OnOk, option_copied};
 ghost use Rattle.std.specs.List.{AllByRecursion, flat_map};
-ghost use Rattle.cbor_diag.specs.Head.{FitsWidth};
-ghost use Rattle.cbor_diag.specs.View.{view, items_view, pairs_view, byte_chunk, text_chunk};
-ghost use Rattle.cbor_diag.specs.WellFormed.{WellFormed, WellFormedItems, WellFormedPairs, FitsCount, FitsFloat, IsByteChunk, IsTextChunk};
-ghost use Rattle.cbor_diag.specs.Written.{encoded_head, encoded_float, encoded_simple};
-ghost use Rattle.cbor_diag.specs.Comments.{bytes_comment, encoding_below, float_comment, text_comment, simple_comment};
-ghost use Rattle.cbor_diag.specs.Pieces.{byte_pieces, text_pieces};
-ghost use Rattle.cbor_diag.specs.Pieces.{text_cut as cut_of};
-ghost use Rattle.std.specs.Str.{IsCharBoundary};
+ghost use Rattle.std.specs.String.{string_bytes};
+ghost use Rattle.cbor_notes.specs.Layout.{layout};
+ghost use Rattle.cbor_diag.specs.View.{view, items_view, pairs_view};
+ghost use Rattle.cbor_diag.specs.WellFormed.{WellFormed, WellFormedItems, WellFormedPairs};
 ghost use Rattle.cbor_diag.specs.Dump as spec;
-ghost use Rattle.cbor_diag.specs.Parts.{comment_text, Takes, taken};
+ghost use Rattle.cbor_diag.specs.Embedded.{sequence_at};
+ghost use Rattle.cbor_diag.specs.Reading.{item_at};
+ghost use Rattle.cbor_diag.specs.Parts.{Takes, taken};
+ghost use Rattle.cbor_diag.specs.Sinks.{held, room, step};
 
 use super::comment::Comment;
-use super::form::Form;
+use super::lines::{
+    byte_chunks, byte_string, close_lines, container_line, float_line, number_line, simple_line,
+    text_chunks, text_string,
+};
+use super::note_lines::{failed_note, note, note_line, rows};
+use super::notes::value_note;
+use super::place::Place;
 use super::sink::Sink;
-use crate::encode::encoding::{Encoding, encoding_below};
-use crate::encode::head::{push_float, push_head, push_open, push_simple};
-use crate::syntax::{ByteString, DataItem, FloatWidth, IntegerWidth, TextString};
-use std::alloc::AllocError;
+use super::writer::Writer;
+use crate::error::Error;
+use crate::parse::{front_at, whole_at};
+use crate::syntax::{DataItem, Tag};
+use std::alloc::{AllocError, Global};
 
-/// The line of a head with a number.
-fn number_line<S: Sink>(
-    sink: &mut S,
-    head: &mut Vec<u8>,
-    depth: usize,
-    major: u8,
-    number: u64,
-    width: IntegerWidth,
-    comment: &Comment<'_>,
-) -> Result<(), AllocError>
-    requires major { major < 8 }
-    requires fits { FitsWidth width number }
-    requires takes { Takes (S.room sink.old)
-        (spec.head_line depth (encoded_head major number width) (comment_text comment.now)) }
-    ensures step { OnOk result (S.view sink.new ≡ S.step (S.view sink.old)
-        (spec.head_line depth (encoded_head major number width) (comment_text comment.now))) }
-    ensures room { OnOk result (S.room sink.new ≡ S.room sink.old) }
-{
-    head.clear();
-    push_head(head, major, number, width)?;
-    sink.line(depth, Form::Head, head, comment)
+const NO_ITEM: &str = "invalid type for encoded cbor data item";
+
+const NO_SEQUENCE: &str = "invalid type for encoded cbor sequence";
+
+const FAILED_ITEM: &str = "failed to parse encoded cbor data item";
+
+const FAILED_REST: &str = "failed to parse remaining encoded cbor sequence";
+
+/// A walk over an item, and what it has found so far.
+#[derive(Drop)]
+pub(crate) struct Walk {
+    /// What takes the lines.
+    pub(crate) sink: Sink,
+    /// Room for the bytes of a head.
+    pub(crate) head: Vec<u8>,
+    /// How many values were shared so far.
+    pub(crate) shared: u64,
 }
 
-fn float_line<S: Sink>(
-    sink: &mut S,
-    head: &mut Vec<u8>,
-    depth: usize,
-    bits: u64,
-    width: FloatWidth,
-) -> Result<(), AllocError>
-    requires fits { FitsFloat width bits }
-    requires takes { Takes (S.room sink.old)
-        (spec.head_line depth (encoded_float bits width) (float_comment (encoded_float bits width))) }
-    ensures step { OnOk result (S.view sink.new ≡ S.step (S.view sink.old)
-        (spec.head_line depth (encoded_float bits width) (float_comment (encoded_float bits width)))) }
-    ensures room { OnOk result (S.room sink.new ≡ S.room sink.old) }
-{
-    head.clear();
-    push_float(head, bits, width)?;
-    sink.line(depth, Form::Head, head, &Comment::Float(head))
-}
-
-fn simple_line<S: Sink>(
-    sink: &mut S,
-    head: &mut Vec<u8>,
-    depth: usize,
-    value: u8,
-) -> Result<(), AllocError>
-    requires { Takes (S.room sink.old) (spec.head_line depth (encoded_simple value) (simple_comment value)) }
-    ensures step { OnOk result (S.view sink.new ≡ S.step (S.view sink.old)
-        (spec.head_line depth (encoded_simple value) (simple_comment value))) }
-    ensures room { OnOk result (S.room sink.new ≡ S.room sink.old) }
-{
-    head.clear();
-    push_simple(head, value)?;
-    sink.line(depth, Form::Head, head, &Comment::Simple(value))
-}
-
-/// The line of an indefinite string's opening byte.
-fn open_line<S: Sink>(
-    sink: &mut S,
-    depth: usize,
-    major: u8,
-    name: &'static str,
-) -> Result<(), AllocError>
-    requires major { major < 7 }
-    requires takes { Takes (S.room sink.old) (spec.open_line depth major name.now) }
-    ensures step { OnOk result (S.view sink.new ≡ S.step (S.view sink.old) (spec.open_line depth major name.now)) }
-    ensures room { OnOk result (S.room sink.new ≡ S.room sink.old) }
-{
-    sink.line(
-        depth,
-        Form::Head,
-        &[32 * major + 31],
-        &Comment::Counted(name, None),
-    )
-}
-
-/// The line of a break.
-fn break_line<S: Sink>(sink: &mut S, depth: usize) -> Result<(), AllocError>
-    requires { Takes (S.room sink.old) (spec.break_line depth) }
-    ensures step { OnOk result (S.view sink.new ≡ S.step (S.view sink.old) (spec.break_line depth)) }
-    ensures room { OnOk result (S.room sink.new ≡ S.room sink.old) }
-{
-    sink.line(depth, Form::Head, &[0xff], &Comment::Break)
-}
-
-/// The line before the members of a container.
-fn container_line<S: Sink>(
-    sink: &mut S,
-    head: &mut Vec<u8>,
-    depth: usize,
-    major: u8,
-    name: &'static str,
-    count: usize,
-    width: Option<IntegerWidth>,
-) -> Result<(), AllocError>
-    requires major { major < 7 }
-    requires fits { FitsCount width count }
-    requires takes { Takes (S.room sink.old) (spec.container_line depth major name.now count width) }
-    ensures step { OnOk result (S.view sink.new ≡ S.step (S.view sink.old)
-        (spec.container_line depth major name.now count width)) }
-    ensures room { OnOk result (S.room sink.new ≡ S.room sink.old) }
-{
-    head.clear();
-    push_open(head, major, count, width)?;
-    let definite = if width.is_some() { Some(count) } else { None };
-    sink.line(depth, Form::Head, head, &Comment::Counted(name, definite))
-}
-
-/// The line after them, if there is one.
-fn close_lines<S: Sink>(
-    sink: &mut S,
-    depth: usize,
-    width: Option<IntegerWidth>,
-) -> Result<(), AllocError>
-    requires { AllByRecursion (Takes (S.room sink.old)) (spec.close_lines depth width) }
-    ensures step { OnOk result (S.view sink.new ≡ taken S.step (S.view sink.old) (spec.close_lines depth width)) }
-    ensures room { OnOk result (S.room sink.new ≡ S.room sink.old) }
-{
-    match width {
-        Some(_) => Ok(()),
-        None => break_line(sink, depth),
+impl Walk {
+    /// Nothing walked over yet.
+    fn new(alloc: Global, sink: Sink) -> Result<Walk, AllocError>
+        ensures { IfOk result (λ walk. (walk.sink ≡ sink) × (walk.shared ≡ 0)) }
+    {
+        Ok(Walk {
+            sink,
+            head: Vec::with_capacity(alloc, 9)?,
+            shared: 0,
+        })
     }
 }
 
-/// The line of a piece of a string.
-fn piece_line<S: Sink>(
-    sink: &mut S,
-    depth: usize,
-    piece: &[u8],
-    comment: &Comment<'_>,
-) -> Result<(), AllocError>
-    requires { Takes (S.room sink.old) (spec.piece_line depth piece.now (comment_text comment.now)) }
-    ensures step { OnOk result (S.view sink.new ≡ S.step (S.view sink.old)
-        (spec.piece_line depth piece.now (comment_text comment.now))) }
-    ensures room { OnOk result (S.room sink.new ≡ S.room sink.old) }
-{
-    sink.line(depth, Form::Content, piece, comment)
-}
-
-/// The content of a byte string, a line for each piece.
-fn bytes_content<S: Sink>(
-    sink: &mut S,
-    depth: usize,
-    encoding: Option<Encoding>,
-    bytes: &[u8],
-) -> Result<(), AllocError>
-    requires { AllByRecursion (Takes (S.room sink.old))
-        (spec.content_lines depth (bytes_comment encoding bytes.now) (byte_pieces bytes.now)) }
-    ensures step { OnOk result (S.view sink.new ≡ taken S.step (S.view sink.old)
-        (spec.content_lines depth (bytes_comment encoding bytes.now) (byte_pieces bytes.now))) }
-    ensures room { OnOk result (S.room sink.new ≡ S.room sink.old) }
-{
-    if bytes.is_empty() {
-        return piece_line(sink, depth, bytes, &Comment::Empty);
-    }
-    let mut rest = bytes;
-    'pieces: while !rest.is_empty() {
-        let (piece, after) = rest.split_at(rest.len().min(16));
-        piece_line(sink, depth, piece, &Comment::Bytes(encoding, bytes, piece))?;
-        rest = after;
-    }
-    Ok(())
-}
-
-/// After how many bytes a text is cut: at most 16, before a character.
-fn text_cut(rest: &str) -> usize
-    requires { 0 < length rest.now }
-    ensures cut { result ≡ cut_of rest.now }
-    ensures boundary { IsCharBoundary rest.now result }
-{
-    rest.floor_char_boundary(16)
-}
-
-/// The content of a text, in one line or a line for each piece.
-fn text_content<S: Sink>(sink: &mut S, depth: usize, text: &str) -> Result<(), AllocError>
-    requires { AllByRecursion (Takes (S.room sink.old))
-        (spec.content_lines depth text_comment (text_pieces text.now)) }
-    ensures step { OnOk result (S.view sink.new ≡ taken S.step (S.view sink.old)
-        (spec.content_lines depth text_comment (text_pieces text.now))) }
-    ensures room { OnOk result (S.room sink.new ≡ S.room sink.old) }
-{
-    if text.is_empty() {
-        return piece_line(sink, depth, text.as_bytes(), &Comment::Empty);
-    }
-    if text.len() <= 24 {
-        return piece_line(sink, depth, text.as_bytes(), &Comment::Text(text));
-    }
-    let mut rest = text;
-    'pieces: while !rest.is_empty() {
-        let (piece, after) = rest.split_at(text_cut(rest));
-        piece_line(sink, depth, piece.as_bytes(), &Comment::Text(piece))?;
-        rest = after;
-    }
-    Ok(())
-}
-
-/// A byte string of definite length.
-fn byte_string<S: Sink>(
-    sink: &mut S,
-    head: &mut Vec<u8>,
-    depth: usize,
-    encoding: Option<Encoding>,
-    string: &ByteString,
-) -> Result<(), AllocError>
-    requires room_for_depth { depth < 2 ^ 32 }
-    requires well_formed { IsByteChunk (byte_chunk string.now) }
-    requires takes { AllByRecursion (Takes (S.room sink.old))
-        (spec.byte_string_lines depth encoding (byte_chunk string.now)) }
-    ensures step { OnOk result (S.view sink.new ≡ taken S.step (S.view sink.old)
-        (spec.byte_string_lines depth encoding (byte_chunk string.now))) }
-    ensures room { OnOk result (S.room sink.new ≡ S.room sink.old) }
-{
-    let length = string.content.len();
-    let comment = Comment::Counted("bytes", Some(length));
-    number_line(
-        sink,
-        head,
-        depth,
-        2,
-        length as u64,
-        string.bitwidth,
-        &comment,
-    )?;
-    bytes_content(sink, depth + 1, encoding, &string.content)
-}
-
-/// A text string of definite length.
-fn text_string<S: Sink>(
-    sink: &mut S,
-    head: &mut Vec<u8>,
-    depth: usize,
-    string: &TextString,
-) -> Result<(), AllocError>
-    requires room_for_depth { depth < 2 ^ 32 }
-    requires well_formed { IsTextChunk (text_chunk string.now) }
-    requires takes { AllByRecursion (Takes (S.room sink.old))
-        (spec.text_string_lines depth (text_chunk string.now)) }
-    ensures step { OnOk result (S.view sink.new ≡ taken S.step (S.view sink.old)
-        (spec.text_string_lines depth (text_chunk string.now))) }
-    ensures room { OnOk result (S.room sink.new ≡ S.room sink.old) }
-{
-    let length = string.content.len();
-    let comment = Comment::Counted("text", Some(length));
-    number_line(
-        sink,
-        head,
-        depth,
-        3,
-        length as u64,
-        string.bitwidth,
-        &comment,
-    )?;
-    text_content(sink, depth + 1, &string.content)
-}
-
-/// A byte string in chunks.
-fn byte_chunks<S: Sink>(
-    sink: &mut S,
-    head: &mut Vec<u8>,
-    depth: usize,
-    encoding: Option<Encoding>,
-    chunks: &[ByteString],
-) -> Result<(), AllocError>
-    requires room_for_depth { depth < 2 ^ 31 }
-    requires well_formed { AllByRecursion IsByteChunk (map byte_chunk chunks.now) }
-    requires takes { AllByRecursion (Takes (S.room sink.old))
-        (spec.byte_chunks_lines depth encoding (map byte_chunk chunks.now)) }
-    ensures step { OnOk result (S.view sink.new ≡ taken S.step (S.view sink.old)
-        (spec.byte_chunks_lines depth encoding (map byte_chunk chunks.now))) }
-    ensures room { OnOk result (S.room sink.new ≡ S.room sink.old) }
-{
-    open_line(sink, depth, 2, "bytes")?;
-    'chunks: for chunk in chunks {
-        byte_string(sink, head, depth + 1, encoding, chunk)?;
-    }
-    break_line(sink, depth + 1)
-}
-
-/// A text string in chunks.
-fn text_chunks<S: Sink>(
-    sink: &mut S,
-    head: &mut Vec<u8>,
-    depth: usize,
-    chunks: &[TextString],
-) -> Result<(), AllocError>
-    requires room_for_depth { depth < 2 ^ 31 }
-    requires well_formed { AllByRecursion IsTextChunk (map text_chunk chunks.now) }
-    requires takes { AllByRecursion (Takes (S.room sink.old))
-        (spec.text_chunks_lines depth (map text_chunk chunks.now)) }
-    ensures step { OnOk result (S.view sink.new ≡ taken S.step (S.view sink.old)
-        (spec.text_chunks_lines depth (map text_chunk chunks.now))) }
-    ensures room { OnOk result (S.room sink.new ≡ S.room sink.old) }
-{
-    open_line(sink, depth, 3, "text")?;
-    'chunks: for chunk in chunks {
-        text_string(sink, head, depth + 1, chunk)?;
-    }
-    break_line(sink, depth + 1)
-}
-
-/// An item at a depth, its byte strings shown in an encoding, or quoted if there is none.
+/// The dump of an item that stands at `level`, from 1 to 128: one walk finds the width of the left column,
+/// and one writes the lines.
 #[cycle(walk)]
-pub(super) fn walk_item<S: Sink>(
-    sink: &mut S,
-    head: &mut Vec<u8>,
-    depth: usize,
-    encoding: Option<Encoding>,
+pub(super) fn dump(alloc: Global, item: &DataItem, level: u8) -> Result<String, AllocError>
+    requires level { 1 ≤ level }
+    requires well_formed { WellFormed level (view item.now) }
+    ensures { IfOk result (λ text. string_bytes text
+        ≡ layout (spec.lines_at (129 - level) spec.top 0 (view item.now))) }
+{
+    let mut walk = Walk::new(alloc, Sink::Widest(0))?;
+    walk_item(&mut walk, alloc, Place::top(), level, item)?;
+    let writer = Writer::new(alloc, walk.sink.width());
+    let mut walk = Walk::new(alloc, Sink::Writer(writer))?;
+    walk_item(&mut walk, alloc, Place::top(), level, item)?;
+    Ok(walk.sink.into_text(alloc))
+}
+
+/// An item that stands at `level`, from 1 to 128, with the notes of the tag right above it.
+#[cycle(walk)]
+fn walk_item(
+    walk: &mut Walk,
+    alloc: Global,
+    place: Place,
+    level: u8,
     item: &DataItem,
 ) -> Result<(), AllocError>
-    requires well_formed { (level : ℕ) × (depth < level) × WellFormed level (view item.now) }
-    requires takes { AllByRecursion (Takes (S.room sink.old)) (spec.item_lines depth encoding (view item.now)) }
-    ensures step { OnOk result (S.view sink.new
-        ≡ taken S.step (S.view sink.old) (spec.item_lines depth encoding (view item.now))) }
-    ensures room { OnOk result (S.room sink.new ≡ S.room sink.old) }
+    requires depth { place.depth < level }
+    requires well_formed { WellFormed level (view item.now) }
+    requires takes { AllByRecursion (Takes (room walk.old.sink))
+        (spec.lines_at (129 - level) place walk.old.shared (view item.now)) }
+    ensures step { OnOk result (held walk.new.sink ≡ taken step (held walk.old.sink)
+        (spec.lines_at (129 - level) place walk.old.shared (view item.now))) }
+    ensures room { OnOk result (room walk.new.sink ≡ room walk.old.sink) }
+    ensures shared { OnOk result (walk.new.shared
+        ≡ walk.old.shared + spec.shared_in (view item.now)) }
 {
+    let known = walk.shared;
+    walk_parts(walk, alloc, place, level, item)?;
+    match place.tag {
+        Some(tag) if walk.sink.writes() => {
+            walk_notes(walk, alloc, place.depth, level + 1, known, Tag(tag), item)
+        }
+        _ => Ok(()),
+    }
+}
+
+/// What the bytes of an item are, what a container or a tag holds one deeper.
+#[cycle(walk)]
+fn walk_parts(
+    walk: &mut Walk,
+    alloc: Global,
+    place: Place,
+    level: u8,
+    item: &DataItem,
+) -> Result<(), AllocError>
+    requires depth { place.depth < level }
+    requires well_formed { WellFormed level (view item.now) }
+    requires takes { AllByRecursion (Takes (room walk.old.sink))
+        (spec.parts_lines (spec.lines_at (129 - (level + 1))) place walk.old.shared (view item.now)) }
+    ensures step { OnOk result (held walk.new.sink ≡ taken step (held walk.old.sink)
+        (spec.parts_lines (spec.lines_at (129 - (level + 1))) place walk.old.shared (view item.now))) }
+    ensures room { OnOk result (room walk.new.sink ≡ room walk.old.sink) }
+    ensures shared { OnOk result (walk.new.shared
+        ≡ walk.old.shared + spec.shared_in (view item.now)) }
+{
+    let Walk { sink, head, shared } = walk;
+    let depth = place.depth;
     match item {
         DataItem::Integer { value, bitwidth } => {
             number_line(
@@ -360,19 +148,23 @@ pub(super) fn walk_item<S: Sink>(
                 &Comment::Negative(*value),
             )
         }
-        DataItem::ByteString(string) => byte_string(sink, head, depth, encoding, string),
+        DataItem::ByteString(string) => {
+            byte_string(sink, head, depth, place.encoding, place.tag, string)
+        }
         DataItem::TextString(string) => text_string(sink, head, depth, string),
-        DataItem::IndefiniteByteString(chunks) => byte_chunks(sink, head, depth, encoding, chunks),
+        DataItem::IndefiniteByteString(chunks) => {
+            byte_chunks(sink, head, depth, place.encoding, chunks)
+        }
         DataItem::IndefiniteTextString(chunks) => text_chunks(sink, head, depth, chunks),
         DataItem::Array { content, bitwidth } => {
             container_line(sink, head, depth, 4, "array", content.len(), *bitwidth)?;
-            walk_items(sink, head, depth + 1, encoding, content)?;
-            close_lines(sink, depth + 1, *bitwidth)
+            walk_items(walk, alloc, place.inside(), level + 1, content)?;
+            close_lines(&mut walk.sink, depth + 1, *bitwidth)
         }
         DataItem::Map { content, bitwidth } => {
             container_line(sink, head, depth, 5, "map", content.len(), *bitwidth)?;
-            walk_pairs(sink, head, depth + 1, encoding, content)?;
-            close_lines(sink, depth + 1, *bitwidth)
+            walk_pairs(walk, alloc, place.inside(), level + 1, content)?;
+            close_lines(&mut walk.sink, depth + 1, *bitwidth)
         }
         DataItem::Tag {
             tag,
@@ -380,60 +172,201 @@ pub(super) fn walk_item<S: Sink>(
             value,
         } => {
             number_line(sink, head, depth, 6, tag.0, *bitwidth, &Comment::Tag(tag.0))?;
-            walk_item(
-                sink,
-                head,
-                depth + 1,
-                encoding_below(tag.0, encoding),
-                value,
-            )
+            *shared = shared_below(*shared, *tag)?;
+            walk_item(walk, alloc, place.below(*tag), level + 1, value)
         }
         DataItem::Float { bits, bitwidth } => float_line(sink, head, depth, *bits, *bitwidth),
         DataItem::Simple(simple) => simple_line(sink, head, depth, simple.0),
     }
 }
 
-/// Items one after the other.
+/// How many values were shared when the value below a tag begins. No memory holds so many that they don't fit.
+fn shared_below(shared: u64, tag: Tag) -> Result<u64, AllocError>
+    ensures { IfOk result (λ n. n ≡ spec.shared_from tag.0 shared) }
+{
+    match tag {
+        Tag::SHAREABLE => shared.checked_add(1).ok_or(AllocError),
+        _ => Ok(shared),
+    }
+}
+
+/// Items one after the other, at `level`, from 2 to 129.
 #[cycle(walk)]
-fn walk_items<S: Sink>(
-    sink: &mut S,
-    head: &mut Vec<u8>,
-    depth: usize,
-    encoding: Option<Encoding>,
+fn walk_items(
+    walk: &mut Walk,
+    alloc: Global,
+    place: Place,
+    level: u8,
     items: &Vec<DataItem>,
 ) -> Result<(), AllocError>
-    requires well_formed { (level : ℕ) × (depth < level) × WellFormedItems level (items_view items.now.items) }
-    requires takes { AllByRecursion (Takes (S.room sink.old))
-        (spec.items_lines depth encoding (items_view items.now.items)) }
-    ensures step { OnOk result (S.view sink.new ≡ taken S.step (S.view sink.old)
-        (spec.items_lines depth encoding (items_view items.now.items))) }
-    ensures room { OnOk result (S.room sink.new ≡ S.room sink.old) }
+    requires depth { place.depth < level }
+    requires level { level ≤ 129 }
+    requires well_formed { WellFormedItems level (items_view items.now.items) }
+    requires takes { AllByRecursion (Takes (room walk.old.sink)) (spec.items_lines
+        (spec.lines_at (129 - level) place) walk.old.shared (items_view items.now.items)) }
+    ensures step { OnOk result (held walk.new.sink ≡ taken step (held walk.old.sink) (spec.items_lines
+        (spec.lines_at (129 - level) place) walk.old.shared (items_view items.now.items))) }
+    ensures room { OnOk result (room walk.new.sink ≡ room walk.old.sink) }
+    ensures shared { OnOk result (walk.new.shared
+        ≡ walk.old.shared + spec.shared_in_items (items_view items.now.items)) }
 {
     'items: for item in items {
-        walk_item(sink, head, depth, encoding, item)?;
+        walk_item(walk, alloc, place, level, item)?;
     }
     Ok(())
 }
 
-/// Keys and values in turn.
+/// Keys and values in turn, at `level`, from 2 to 129.
 #[cycle(walk)]
-fn walk_pairs<S: Sink>(
-    sink: &mut S,
-    head: &mut Vec<u8>,
-    depth: usize,
-    encoding: Option<Encoding>,
+fn walk_pairs(
+    walk: &mut Walk,
+    alloc: Global,
+    place: Place,
+    level: u8,
     pairs: &Vec<(DataItem, DataItem)>,
 ) -> Result<(), AllocError>
-    requires well_formed { (level : ℕ) × (depth < level) × WellFormedPairs level (pairs_view pairs.now.items) }
-    requires takes { AllByRecursion (Takes (S.room sink.old))
-        (spec.pairs_lines depth encoding (pairs_view pairs.now.items)) }
-    ensures step { OnOk result (S.view sink.new ≡ taken S.step (S.view sink.old)
-        (spec.pairs_lines depth encoding (pairs_view pairs.now.items))) }
-    ensures room { OnOk result (S.room sink.new ≡ S.room sink.old) }
+    requires depth { place.depth < level }
+    requires level { level ≤ 129 }
+    requires well_formed { WellFormedPairs level (pairs_view pairs.now.items) }
+    requires takes { AllByRecursion (Takes (room walk.old.sink)) (spec.pairs_lines
+        (spec.lines_at (129 - level) place) walk.old.shared (pairs_view pairs.now.items)) }
+    ensures step { OnOk result (held walk.new.sink ≡ taken step (held walk.old.sink) (spec.pairs_lines
+        (spec.lines_at (129 - level) place) walk.old.shared (pairs_view pairs.now.items))) }
+    ensures room { OnOk result (room walk.new.sink ≡ room walk.old.sink) }
+    ensures shared { OnOk result (walk.new.shared
+        ≡ walk.old.shared + spec.shared_in_pairs (pairs_view pairs.now.items)) }
 {
     'pairs: for (key, value) in pairs {
-        walk_item(sink, head, depth, encoding, key)?;
-        walk_item(sink, head, depth, encoding, value)?;
+        walk_item(walk, alloc, place, level, key)?;
+        walk_item(walk, alloc, place, level, value)?;
     }
     Ok(())
+}
+
+/// The notes of a tag on the value right below it; what is embedded in the value stands at `level`, up to 129.
+#[cycle(walk)]
+fn walk_notes(
+    walk: &mut Walk,
+    alloc: Global,
+    depth: usize,
+    level: u8,
+    known: u64,
+    tag: Tag,
+    value: &DataItem,
+) -> Result<(), AllocError>
+    requires depth { depth < 138 }
+    requires from { 1 ≤ level }
+    requires to { level ≤ 129 }
+    ensures step { OnOk result (held walk.new.sink ≡ taken step (held walk.old.sink)
+        (flat_map (spec.note_lines depth)
+        (spec.notes (129 - level) (spec.lines_at (129 - level) spec.top 0) known tag.0 (view value.now)))) }
+    ensures room { OnOk result (room walk.new.sink ≡ room walk.old.sink) }
+    ensures shared { OnOk result (walk.new.shared ≡ walk.old.shared) }
+{
+    match tag {
+        Tag::ENCODED_CBOR => match bytes_in(value) {
+            Some(bytes) => encoded_item(&mut walk.sink, alloc, depth, level, bytes),
+            None => note_line(&mut walk.sink, depth, NO_ITEM),
+        },
+        Tag::ENCODED_CBOR_SEQ => match bytes_in(value) {
+            Some(bytes) => encoded_sequence(&mut walk.sink, alloc, depth, level, bytes),
+            None => note_line(&mut walk.sink, depth, NO_SEQUENCE),
+        },
+        _ => {
+            let texts = value_note(alloc, known, tag.0, value)?;
+            note(&mut walk.sink, depth, &texts)
+        }
+    }
+}
+
+/// The bytes of a byte string of definite length.
+fn bytes_in(value: &DataItem) -> Option<&[u8]>
+    ensures { option_copied result ≡ spec.bytes_in (view value.now) }
+{
+    match value {
+        DataItem::ByteString(string) => Some(&string.content),
+        _ => None,
+    }
+}
+
+/// The note of tag 24: the dump of the item that the bytes are, read from `level`, or why they are none.
+#[cycle(walk)]
+fn encoded_item(
+    sink: &mut Sink,
+    alloc: Global,
+    depth: usize,
+    level: u8,
+    bytes: &[u8],
+) -> Result<(), AllocError>
+    requires depth { depth < 138 }
+    requires from { 1 ≤ level }
+    requires to { level ≤ 129 }
+    ensures step { OnOk result (held sink.new ≡ taken step (held sink.old) (spec.note_lines depth
+        (spec.whole_note (spec.lines_at (129 - level) spec.top 0) (item_at (129 - level) bytes.now)))) }
+    ensures room { OnOk result (room sink.new ≡ room sink.old) }
+{
+    match whole_at(alloc, bytes, level) {
+        Ok(item) => embedded_dump(sink, alloc, depth, level, item),
+        Err(error) => match error {
+            Error::Memory => Err(AllocError),
+            _ => failed_note(sink, depth, FAILED_ITEM, error),
+        },
+    }
+}
+
+/// The notes of tag 63: the dumps of the items that stand one after the other in the bytes, read from `level`,
+/// and why what follows them is none.
+#[cycle(walk)]
+fn encoded_sequence(
+    sink: &mut Sink,
+    alloc: Global,
+    depth: usize,
+    level: u8,
+    bytes: &[u8],
+) -> Result<(), AllocError>
+    requires depth { depth < 138 }
+    requires from { 1 ≤ level }
+    requires to { level ≤ 129 }
+    ensures step { OnOk result (held sink.new ≡ taken step (held sink.old) (flat_map (spec.note_lines depth)
+        (spec.sequence_notes (129 - level) (spec.lines_at (129 - level) spec.top 0)
+        (sequence_at (129 - level) bytes.now)))) }
+    ensures room { OnOk result (room sink.new ≡ room sink.old) }
+{
+    let mut rest = bytes;
+    'items: while !rest.is_empty() {
+        match front_at(alloc, rest, level) {
+            Ok(Some((item, used))) => {
+                embedded_dump(sink, alloc, depth, level, item)?;
+                let (_, after) = rest.split_at(used);
+                rest = after;
+            }
+            Ok(None) => return failed_note(sink, depth, FAILED_REST, Error::CutShort),
+            Err(error) => match error {
+                Error::Memory => return Err(AllocError),
+                _ => return failed_note(sink, depth, FAILED_REST, error),
+            },
+        }
+    }
+    Ok(())
+}
+
+/// The note of an embedded item that stands at `level`: its dump, a line for each line.
+#[cycle(walk)]
+fn embedded_dump(
+    sink: &mut Sink,
+    alloc: Global,
+    depth: usize,
+    level: u8,
+    item: DataItem,
+) -> Result<(), AllocError>
+    requires depth { depth < 138 }
+    requires level { 1 ≤ level }
+    requires well_formed { WellFormed level (view item) }
+    ensures step { OnOk result (held sink.new ≡ taken step (held sink.old) (spec.note_lines depth
+        (spec.embedded_note (spec.lines_at (129 - level) spec.top 0 (view item))))) }
+    ensures room { OnOk result (room sink.new ≡ room sink.old) }
+{
+    let text = dump(alloc, &item, level)?;
+    note_line(sink, depth, "encoded cbor data item")?;
+    rows(sink, depth + 1, &text)
 }

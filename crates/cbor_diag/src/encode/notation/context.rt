@@ -1,20 +1,10 @@
 //! Where in a text an item stands: what decides how it is written, beside the item itself.
 ghost use Rattle.std.specs.Prelude.{◌≡◌, ◌<◌, ◌^◌};
-ghost use Rattle.cbor_diag.specs.declared.encode.notation.context.Encoding.TheVariants.{Base16};
+ghost use Rattle.cbor_diag.specs.declared.encode.encoding.Encoding.TheVariants.{Base16};
 ghost use Rattle.cbor_diag.specs.NotationText.{in_encoding, below, inside, members_layout, listing_indent};
 
+use crate::encode::encoding::Encoding;
 use crate::syntax::Tag;
-
-/// How bytes are written between quotes.
-#[derive(Clone, Copy)]
-pub(crate) enum Encoding {
-    /// Hex digits in lower case, in `h'..'`.
-    Base16,
-    /// Base 64 with padding, in `b64'..'` (RFC 4648 section 4).
-    Base64,
-    /// Base 64 in the alphabet that is safe in URLs, without padding, in `b64'..'` (RFC 4648 section 5).
-    Base64Url,
-}
 
 /// What the bytes of a byte string are shown as, where they can be.
 #[derive(Clone, Copy)]

@@ -4,8 +4,9 @@ ghost use Rattle.std.specs.String.{string_bytes};
 ghost use Rattle.cbor_diag.specs.View.{byte_chunk, text_chunk};
 ghost use Rattle.cbor_diag.specs.NotationText.{line, start, end, last_line, mark, opened, colon, listing_indent, members, quoted, text, chunks_text, rest_text};
 
-use super::context::{Context, Encoding, Layout, Listing};
+use super::context::{Context, Layout, Listing};
 use super::scalars::{push_quoted, push_text};
+use crate::encode::encoding::Encoding;
 use crate::syntax::{ByteString, IntegerWidth, TextString};
 use std::alloc::AllocError;
 

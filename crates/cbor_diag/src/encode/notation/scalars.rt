@@ -1,14 +1,14 @@
 //! What holds no item: numbers, strings, floats and simple values (RFC 7049 section 6).
-ghost use Rattle.std.specs.Prelude.{◌≡◌, ◌<◌, ◌≤◌, ◌+◌, ◌++◌, codes, length, OnOk};
+ghost use Rattle.std.specs.Prelude.{◌≡◌, ◌+◌, ◌++◌, codes, OnOk};
 ghost use Rattle.std.specs.List.{flat_map};
 ghost use Rattle.std.specs.String.{string_bytes};
-ghost use Rattle.hex.specs.Hex.{encode_lower};
 ghost use Rattle.cbor_diag.specs.WellFormed.{FitsFloat};
 ghost use Rattle.cbor_diag.specs.NotationText.{indicator, number, prefix, encoded_bytes, quoted, is_escaped, escaped, text, float_text, simple_text};
 
-use super::context::Encoding;
+use crate::encode::encoding::Encoding;
 use crate::syntax::{FloatWidth, IntegerWidth, Simple};
 use base64::engine::general_purpose::{STANDARD, URL_SAFE_NO_PAD};
+use cbor_notes::push_hex;
 use std::alloc::AllocError;
 
 impl IntegerWidth {
@@ -90,33 +90,6 @@ fn push_encoded(out: &mut String, bytes: &[u8], encoding: Encoding) -> Result<()
         Encoding::Base64 => STANDARD.encode_string(bytes, out),
         Encoding::Base64Url => URL_SAFE_NO_PAD.encode_string(bytes, out),
     }
-}
-
-/// Writes hex digits in lower case.
-fn push_hex(out: &mut String, bytes: &[u8]) -> Result<(), AllocError>
-    ensures { OnOk result (string_bytes out.new ≡ string_bytes out.old ++ encode_lower bytes.now) }
-{
-    let mut rest = bytes;
-    'pieces: while !rest.is_empty() {
-        let (piece, after) = rest.split_at(rest.len().min(PIECE));
-        push_hex_piece(out, piece)?;
-        rest = after;
-    }
-    Ok(())
-}
-
-/// How many bytes are made hex digits at once.
-const PIECE: usize = 32;
-
-/// Writes the hex digits of a few bytes.
-fn push_hex_piece(out: &mut String, piece: &[u8]) -> Result<(), AllocError>
-    requires { length piece.now ≤ PIECE }
-    ensures { OnOk result (string_bytes out.new ≡ string_bytes out.old ++ encode_lower piece.now) }
-{
-    let mut buffer = [0; 2 * PIECE];
-    let digits = &mut buffer[..2 * piece.len()];
-    hex::encode_to_slice(piece, digits).unwrap();
-    out.push_str(str::from_utf8(digits).unwrap())
 }
 
 /// Writes a text between quotes, with a backslash before each quote and each backslash.

@@ -1,6 +1,6 @@
 use Rattle.std.proofs.Common.{◌++◌, ap, sym, subst, ◌∙◌, arith}
 use Rattle.cbor_diag.specs.declared.encode.notation.context.Content.TheVariants.{Bytes}
-use Rattle.cbor_diag.specs.declared.encode.notation.context.Encoding.TheVariants.{Base16}
+use Rattle.cbor_diag.specs.declared.encode.encoding.Encoding.TheVariants.{Base16}
 use Rattle.cbor_diag.specs.View.{view}
 use Rattle.cbor_diag.specs.declared.encode.notation.context.Layout.TheVariants.{Compact}
 use Rattle.cbor_diag.specs.Notation.{Reads}

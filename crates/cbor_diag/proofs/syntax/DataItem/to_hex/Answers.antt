@@ -1,70 +1,32 @@
-use Rattle.std.proofs.Common.{◌≡◌, ◌≤◌, ◌∙◌, ◌++◌, ◌+◌, ℕ, List, None, max, ap, sym, subst, arith}
-use Rattle.std.specs.List.{AllByRecursion, flat_map}
-use Rattle.std.specs.String.{string_bytes}
-use Rattle.cbor_notes.specs.Columns.{IsColumn, Lacks}
+use Rattle.std.proofs.Common.{◌∙◌, ◌+◌, ap, sym, subst, arith}
+use Rattle.std.specs.List.{AllByRecursion}
+use Rattle.cbor_notes.specs.Columns.{IsColumn, IsPlain, Lacks}
+use Rattle.cbor_notes.specs.Layout.{width_of}
 use Rattle.cbor_notes.proofs.OneColumn.{digits_left, one_column}
-use Rattle.cbor_diag.specs.Facts.{IsWellFormed}
-use Rattle.cbor_diag.specs.Item.{Item}
-use Rattle.cbor_notes.specs.Layout.{line_text, width_of}
-use Rattle.cbor_notes.proofs.Trees.{fit_width}
-use Rattle.cbor_diag.specs.View.{view}
-use Rattle.cbor_diag.specs.Dump.{lines}
-use Rattle.cbor_diag.specs.Parts.{most_width}
-use Rattle.cbor_diag.specs.HexText.{strip}
-use Rattle.cbor_diag.proofs.DumpDigits.{item_are}
 use Rattle.hex.specs.Hex.{decode_of}
 use Rattle.hex.proofs.HexLemmas.{decode_of-encode_lower}
+use Rattle.cbor_diag.specs.Dump.{lines, top}
+use Rattle.cbor_diag.specs.Facts.{IsWellFormed}
+use Rattle.cbor_diag.specs.HexText.{strip}
+use Rattle.cbor_diag.specs.Item.{Item}
+use Rattle.cbor_diag.specs.View.{view}
 use Rattle.cbor_diag.specs.Written.{encoded, resolve}
-use Rattle.cbor_diag.proofs.Strict.{strict_any, strict_encoded}
 use Rattle.cbor_diag.proofs.ByteLaws.{is_bytes, item_bytes}
-use Rattle.cbor_diag.proofs.DumpFits.{fits_of, item_fits, one_line_of, plain_of, takes_all, widest_is, written_is}
+use Rattle.cbor_diag.proofs.DumpDigits.{item_are}
+use Rattle.cbor_diag.proofs.DumpFits.{one_line_of}
+use Rattle.cbor_diag.proofs.Strict.{strict_any, strict_encoded}
+use Rattle.cbor_diag.proofs.WholeDumps.{plain}
 use Rattle.cbor_diag.proofs.syntax.DataItem.to_hex.Goals as goal
 
-pub walk_item-requires-clause-takes : goal.walk_item-requires-clause-takes
-walk_item-requires-clause-takes c =
-    let fit = fits_of (lines (view c.args.self.now)) (item_fits 0 1 None (view c.args.self.now) (omega arith) c.requires) in
-    takes_all most_width (lines (view c.args.self.now)) fit (fit_width (lines (view c.args.self.now)) fit)
-
-from_none : (n : ℕ) → max 0 n ≡ n
-from_none n = omega arith
-
-pub new-writer-requires : goal.new-writer-requires
-new-writer-requires c =
-    let all = lines (view c.args.self.now) in
-    let fit = fits_of (lines (view c.args.self.now)) (item_fits 0 1 None (view c.args.self.now) (omega arith) c.requires) in
-    let narrow = fit_width all fit in
-    let found : c.walk_item.new.sink.width ≡ width_of all = c.in_ok-walk_item.ensures.step ∙ widest_is 0 all ∙ from_none (width_of all) in
-    subst (λ n. n ≤ most_width) (sym found) narrow
-
-pub walk_item-requires-2-clause-takes : goal.walk_item-requires-2-clause-takes
-walk_item-requires-2-clause-takes c =
-    let all = lines (view c.args.self.now) in
-    let fit = fits_of (lines (view c.args.self.now)) (item_fits 0 1 None (view c.args.self.now) (omega arith) c.requires) in
-    let found : c.walk_item.new.sink.width ≡ width_of all = c.in_ok-walk_item.ensures.step ∙ widest_is 0 all ∙ from_none (width_of all) in
-    let same = c.new-writer.ensures.width ∙ found in
-    takes_all c.new-writer.result.width all fit (omega (arith, same))
-
-pub returns-clause-text : goal.returns-clause-text
-returns-clause-text c =
-    let all = lines (view c.args.self.now) in
-    let found : c.walk_item.new.sink.width ≡ width_of all = c.in_ok-walk_item.ensures.step ∙ widest_is 0 all ∙ from_none (width_of all) in
-    let same = c.new-writer.ensures.width ∙ found in
-    let written = c.in_ok-walk_item-2.ensures.step ∙ written_is c.new-writer.result.width (string_bytes c.new-writer.result.out) all in
-    let text = ap (λ (pair : ℕ × List ℕ). pair.1) written in
-    c.into_text.ensures ∙ text ∙ ap (λ (t : List ℕ). t ++ flat_map (line_text c.new-writer.result.width) all) c.new-writer.ensures.out ∙ ap (λ n. flat_map (line_text n) all) same
+all_plain : (i : Item) → IsWellFormed i → AllByRecursion IsPlain (lines i)
+all_plain i well = plain 1 i (omega arith) well
 
 -- no comment has a line feed, whatever is answered
 one_line : (i : Item) → IsWellFormed i → AllByRecursion (λ line. Lacks 10 line.comment) (lines i)
-one_line i well = one_line_of (lines i) (plain_of (lines i) (item_fits 0 1 None i (omega arith) well))
+one_line i well = one_line_of (lines i) (all_plain i well)
 
-pub returns-in_err-head-clause-one_line : goal.returns-in_err-head-clause-one_line
-returns-in_err-head-clause-one_line c = one_line (view c.args.self.now) c.requires
-
-pub returns-in_err-walk_item-clause-one_line : goal.returns-in_err-walk_item-clause-one_line
-returns-in_err-walk_item-clause-one_line c = one_line (view c.args.self.now) c.requires
-
-pub returns-in_err-walk_item-2-clause-one_line : goal.returns-in_err-walk_item-2-clause-one_line
-returns-in_err-walk_item-2-clause-one_line c = one_line (view c.args.self.now) c.requires
+pub returns-in_err-dump-clause-one_line : goal.returns-in_err-dump-clause-one_line
+returns-in_err-dump-clause-one_line c = one_line (view c.args.self.now) c.requires
 
 pub returns-clause-one_line : goal.returns-clause-one_line
 returns-clause-one_line c = one_line (view c.args.self.now) c.requires
@@ -72,14 +34,12 @@ returns-clause-one_line c = one_line (view c.args.self.now) c.requires
 pub returns-clause-one_column : goal.returns-clause-one_column
 returns-clause-one_column c =
     let all = lines (view c.args.self.now) in
-    let plain = plain_of all (item_fits 0 1 None (view c.args.self.now) (omega arith) c.requires) in
-    subst (IsColumn (width_of all + 1)) (sym (returns-clause-text c)) (one_column (width_of all) all plain (omega arith))
+    subst (IsColumn (width_of all + 1)) (sym c.in_ok-dump.ensures) (one_column (width_of all) all (all_plain (view c.args.self.now) c.requires) (omega arith))
 
 pub returns-clause-digits : goal.returns-clause-digits
 returns-clause-digits c =
-    let all = lines (view c.args.self.now) in
-    let plain = plain_of all (item_fits 0 1 None (view c.args.self.now) (omega arith) c.requires) in
-    ap strip (returns-clause-text c) ∙ digits_left (width_of all) all plain ∙ item_are 0 None (view c.args.self.now)
+    let i = view c.args.self.now in
+    ap strip c.in_ok-dump.ensures ∙ digits_left (width_of (lines i)) (lines i) (all_plain i c.requires) ∙ item_are 128 1 top 0 i (omega arith) c.requires
 
 pub returns-clause-read_back : goal.returns-clause-read_back
 returns-clause-read_back c =

@@ -1,0 +1,283 @@
+//! Network addresses (RFC 9164).
+ghost use Rattle.std.specs.Prelude.{ℕ, ◌≡◌, ◌≢◌, ◌++◌, List, codes, decimal, length, ◌==◌, Some, None, if◌then◌else◌, IfOk, OnOk, IfSome, IfNone};
+ghost use Rattle.std.specs.String.{string_bytes};
+ghost use Rattle.cbor_diag.specs.Notes as spec;
+ghost use Rattle.cbor_diag.specs.View.{view, items_view};
+
+use super::in_brackets;
+use crate::syntax::{DataItem, Simple};
+use cbor_notes::{escaped_text, ipv4_text, ipv6_text, mac_text};
+use std::alloc::{AllocError, Global};
+
+/// A family of network addresses.
+#[derive(Clone, Copy)]
+pub(crate) enum Family {
+    /// Of four bytes.
+    IPv4,
+    /// Of sixteen bytes.
+    IPv6,
+}
+
+impl Family {
+    /// What is said of the value of the family's tag.
+    pub(super) fn note(self, alloc: Global, value: &DataItem) -> Result<String, AllocError>
+        ensures { IfOk result (λ note. string_bytes note ≡ spec.address_note self (view value.now)) }
+    {
+        match value {
+            DataItem::ByteString(bytes) => self.plain_address(alloc, &bytes.content),
+            DataItem::Array { content, .. } => self.members_note(alloc, content),
+            _ => invalid_address(alloc),
+        }
+    }
+
+    /// What it is called.
+    fn name(self) -> &'static str
+        ensures { result.now ≡ spec.family_name self }
+    {
+        match self {
+            Family::IPv4 => "IPv4",
+            Family::IPv6 => "IPv6",
+        }
+    }
+
+    /// How many bytes an address has.
+    fn size(self) -> usize
+        ensures { result ≡ spec.family_size self }
+    {
+        match self {
+            Family::IPv4 => 4,
+            Family::IPv6 => 16,
+        }
+    }
+
+    /// The text of an address, if the bytes are one.
+    fn address_text(self, alloc: Global, bytes: &[u8]) -> Result<Option<String>, AllocError>
+        ensures some { IfOk result (λ found. IfSome found (λ text.
+            (length bytes.now ≡ spec.family_size self) × (string_bytes text ≡ spec.address_text self bytes.now))) }
+        ensures none { IfOk result (λ found. IfNone found (length bytes.now ≢ spec.family_size self)) }
+    {
+        match self {
+            Family::IPv4 => match bytes.as_array() {
+                Some(octets) => Ok(Some(ipv4_text(alloc, octets)?)),
+                None => Ok(None),
+            },
+            Family::IPv6 => match bytes.as_array() {
+                Some(octets) => Ok(Some(ipv6_text(alloc, octets)?)),
+                None => Ok(None),
+            },
+        }
+    }
+
+    /// The family's name, what is shown of it, and that between brackets.
+    fn shown(self, alloc: Global, what: &str, text: &str) -> Result<String, AllocError>
+        ensures { IfOk result (λ note. string_bytes note ≡ spec.shown self what.now text.now) }
+    {
+        let mut name = String::from_str(alloc, self.name())?;
+        name.push(' ')?;
+        name.push_str(what)?;
+        in_brackets(alloc, &name, text)
+    }
+
+    /// What is said of bytes that are too few or too many.
+    fn invalid_length(self, alloc: Global) -> Result<String, AllocError>
+        ensures { IfOk result (λ note. string_bytes note ≡ spec.invalid_length self) }
+    {
+        let mut note = String::from_str(alloc, "invalid data length for ")?;
+        note.push_str(self.name())?;
+        note.push_str(" address")?;
+        Ok(note)
+    }
+
+    /// What is said of bytes alone.
+    fn plain_address(self, alloc: Global, bytes: &[u8]) -> Result<String, AllocError>
+        ensures { IfOk result (λ note. string_bytes note ≡ spec.plain_address self bytes.now) }
+    {
+        match self.address_text(alloc, bytes)? {
+            Some(address) => self.shown(alloc, "address", &address),
+            None => self.invalid_length(alloc),
+        }
+    }
+
+    /// What is said of members: a prefix by its length and its bytes, or an address by its bytes and what
+    /// follows them.
+    fn members_note(self, alloc: Global, members: &[DataItem]) -> Result<String, AllocError>
+        ensures { IfOk result (λ note. string_bytes note ≡ spec.members_note self (items_view members.now)) }
+    {
+        match members {
+            [
+                DataItem::Integer { value, .. },
+                DataItem::ByteString(prefix),
+                ..
+            ] => { self.prefix_note(alloc, *value, &prefix.content) }
+            [DataItem::ByteString(bytes), rest @ ..] => {
+                match self.address_text(alloc, &bytes.content)? {
+                    Some(address) => self.interface_note(alloc, address, rest),
+                    None => self.invalid_length(alloc),
+                }
+            }
+            _ => invalid_address(alloc),
+        }
+    }
+
+    /// What is said of the first bytes of an address, those behind them being zeros that are left away.
+    fn prefix_note(self, alloc: Global, len: u64, bytes: &[u8]) -> Result<String, AllocError>
+        ensures { IfOk result (λ note. string_bytes note ≡ spec.prefix_note self len bytes.now) }
+    {
+        if bytes.ends_with(&[0]) {
+            return String::from_str(alloc, "invalid prefix, ends with zero byte");
+        }
+        let size = self.size();
+        if bytes.len() > size {
+            return self.invalid_length(alloc);
+        }
+        let mut octets = [0; 16];
+        octets[..bytes.len()].copy_from_slice(bytes);
+        match self.address_text(alloc, &octets[..size])? {
+            Some(mut text) => {
+                push_length(&mut text, len)?;
+                self.shown(alloc, "prefix", &text)
+            }
+            None => self.invalid_length(alloc),
+        }
+    }
+
+    /// What is said of an address, given as text, and of what follows it: the length of its prefix or null, and
+    /// perhaps a zone.
+    fn interface_note(
+        self,
+        alloc: Global,
+        address: String,
+        rest: &[DataItem],
+    ) -> Result<String, AllocError>
+        ensures { (bytes : List ℕ) → string_bytes address ≡ spec.address_text self bytes
+            → IfOk result (λ note. string_bytes note ≡ spec.interface_note self bytes (items_view rest.now)) }
+    {
+        match rest {
+            [DataItem::Integer { value, .. }, zones @ ..] => {
+                self.with_length(alloc, address, *value, zones)
+            }
+            [DataItem::Simple(Simple::NULL), zones @ ..] => self.with_zone(alloc, address, zones),
+            _ => invalid_address(alloc),
+        }
+    }
+
+    /// What is said of an address and a zone.
+    fn with_zone(
+        self,
+        alloc: Global,
+        address: String,
+        zones: &[DataItem],
+    ) -> Result<String, AllocError>
+        ensures { (bytes : List ℕ) → string_bytes address ≡ spec.address_text self bytes
+            → IfOk result (λ note. string_bytes note
+            ≡ spec.with_zone self bytes (spec.zone_at (items_view zones.now))) }
+    {
+        let Some(zone) = first_zone(alloc, zones)? else {
+            return invalid_address(alloc);
+        };
+        let mut text = address;
+        push_zone(&mut text, &zone)?;
+        self.shown(alloc, "address-and-zone", &text)
+    }
+
+    /// What is said of an address, the length of its prefix, and perhaps a zone.
+    fn with_length(
+        self,
+        alloc: Global,
+        address: String,
+        len: u64,
+        zones: &[DataItem],
+    ) -> Result<String, AllocError>
+        ensures { (bytes : List ℕ) → string_bytes address ≡ spec.address_text self bytes
+            → IfOk result (λ note. string_bytes note
+            ≡ spec.with_length self bytes len (spec.zone_at (items_view zones.now))) }
+    {
+        if zones.is_empty() {
+            return self.with_length_alone(alloc, address, len);
+        }
+        let Some(zone) = first_zone(alloc, zones)? else {
+            return invalid_address(alloc);
+        };
+        let mut text = address;
+        push_zone(&mut text, &zone)?;
+        push_length(&mut text, len)?;
+        self.shown(alloc, "address-and-zone-and-prefix", &text)
+    }
+
+    /// What is said of an address and the length of its prefix.
+    fn with_length_alone(
+        self,
+        alloc: Global,
+        address: String,
+        len: u64,
+    ) -> Result<String, AllocError>
+        ensures { (bytes : List ℕ) → string_bytes address ≡ spec.address_text self bytes
+            → IfOk result (λ note. string_bytes note ≡ spec.with_length self bytes len (Some None)) }
+    {
+        let mut text = address;
+        push_length(&mut text, len)?;
+        self.shown(alloc, "address-and-prefix", &text)
+    }
+}
+
+/// What is said of a value that is no address.
+fn invalid_address(alloc: Global) -> Result<String, AllocError>
+    ensures { IfOk result (λ note. string_bytes note ≡ spec.invalid_address) }
+{
+    String::from_str(alloc, "invalid type for network address")
+}
+
+/// Appends the length of a prefix to the text of an address.
+fn push_length(text: &mut String, len: u64) -> Result<(), AllocError>
+    ensures { OnOk result (string_bytes text.new ≡ string_bytes text.old ++ codes "/" ++ decimal len) }
+{
+    text.push('/')?;
+    write!(text, "{len}")
+}
+
+/// Appends a zone to the text of an address.
+fn push_zone(text: &mut String, zone: &str) -> Result<(), AllocError>
+    ensures { OnOk result (string_bytes text.new ≡ string_bytes text.old ++ codes "%" ++ zone.now) }
+{
+    text.push('%')?;
+    text.push_str(zone)
+}
+
+/// The zone that is named first, by its number or name, if that is one.
+fn first_zone(alloc: Global, zones: &[DataItem]) -> Result<Option<String>, AllocError>
+    ensures some { IfOk result (λ found. IfSome found
+        (λ zone. spec.zone_at (items_view zones.now) ≡ Some (Some (string_bytes zone)))) }
+    ensures none { IfOk result (λ found. IfNone found
+        (spec.zone_at (items_view zones.now) ≡ (if length zones.now == 0 then Some None else None))) }
+{
+    match zones {
+        [DataItem::Integer { value, .. }, ..] => Ok(Some(value.to_string(alloc)?)),
+        [DataItem::TextString(name), ..] => Ok(Some(escaped_text(alloc, &name.content)?)),
+        _ => Ok(None),
+    }
+}
+
+/// What is said of the value of tag 260: bytes whose length says what address they are.
+pub(super) fn network_note(alloc: Global, value: &DataItem) -> Result<String, AllocError>
+    ensures { IfOk result (λ note. string_bytes note ≡ spec.network_note (view value.now)) }
+{
+    match value {
+        DataItem::ByteString(bytes) => network_address(alloc, &bytes.content),
+        _ => invalid_address(alloc),
+    }
+}
+
+/// What is said of bytes, which are an address of one kind or another by their length.
+fn network_address(alloc: Global, bytes: &[u8]) -> Result<String, AllocError>
+    ensures { IfOk result (λ note. string_bytes note ≡ spec.network_address bytes.now) }
+{
+    if let Some(octets) = bytes.as_array() {
+        in_brackets(alloc, "IPv4 address", &ipv4_text(alloc, octets)?)
+    } else if let Some(octets) = bytes.as_array() {
+        in_brackets(alloc, "MAC address", &mac_text(alloc, octets)?)
+    } else if let Some(octets) = bytes.as_array() {
+        in_brackets(alloc, "IPv6 address", &ipv6_text(alloc, octets)?)
+    } else {
+        String::from_str(alloc, "invalid data length for network address")
+    }
+}
