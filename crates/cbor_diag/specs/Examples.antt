@@ -59,6 +59,14 @@ ones n = array (repeated n (small 1)) (Some Zero)
 abbrev pub two_chunks : Item
 two_chunks = atom (byte_chunks (record { bytes = 1 ∷ []; width = Zero } ∷ record { bytes = 2 ∷ []; width = Zero } ∷ []))
 
+-- a chunk of these bytes, its length in the first byte
+abbrev pub zero_chunk : List ℕ → Chunk
+zero_chunk content = record { bytes = content; width = Zero }
+
+-- a map whose key is shared, and its value too, which refers to the key
+abbrev pub shared_values : Item
+shared_values = spec.map (pair (tagged 28 Eight (small 1)) (tagged 28 Eight (tagged 29 Eight (small 0))) no_pairs) (Some Zero)
+
 -- so many arrays of one member, one in the other, and then 1; and as bytes
 abbrev pub nested : ℕ → Item
 nested zero = small 1

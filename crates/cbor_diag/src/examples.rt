@@ -1,6 +1,6 @@
 //! What the definitions of `specs/` say of a few inputs: each is computed, or shown by a witness,
 //! when the crate is checked, so that a wrong definition does not pass. Nothing calls these functions.
-ghost use Rattle.std.specs.Prelude.{◌≡◌, [], ◌∷◌, ◌++◌, codes};
+ghost use Rattle.std.specs.Prelude.{◌≡◌, [], ◌∷◌, ◌++◌, codes, length, map, replicate};
 ghost use Rattle.std.specs.List.{AllByRecursion};
 ghost use Rattle.cbor_diag.specs.declared.error.Error.TheVariants.{Head, Utf8, TooDeep};
 ghost use Rattle.cbor_diag.specs.declared.syntax.IntegerWidth.TheVariants.{Unknown, Zero, Eight, Sixteen};
@@ -11,11 +11,13 @@ ghost use Rattle.cbor_diag.specs.Bytes.{any, strict, Spells};
 ghost use Rattle.cbor_diag.specs.Refused.{Cut, Fault};
 ghost use Rattle.cbor_diag.specs.declared.encode.encoding.Encoding.TheVariants.{Base16};
 ghost use Rattle.cbor_diag.specs.Compact.{compact};
+ghost use Rattle.cbor_diag.specs.Dump.{dump, lines};
+ghost use Rattle.cbor_diag.specs.Pieces.{text_pieces};
 ghost use Rattle.cbor_diag.specs.Estimate.{full};
 ghost use Rattle.cbor_diag.specs.Normal.{normal};
 ghost use Rattle.cbor_diag.specs.Pretty.{pretty};
 ghost use Rattle.cbor_diag.specs.HexText.{strip};
-ghost use Rattle.cbor_diag.specs.Examples.{small, uri, uri_bytes, three, open_map, open_count, resolved_count, over_bytes, nested_tag, encodings, ones, two_chunks, nested, nested_bytes, bytes, no_items_in_notation, open_bytes};
+ghost use Rattle.cbor_diag.specs.Examples.{small, uri, uri_bytes, three, open_map, open_count, resolved_count, over_bytes, nested_tag, encodings, ones, two_chunks, nested, nested_bytes, bytes, no_items_in_notation, open_bytes, shared_values, zero_chunk};
 ghost use Rattle.cbor_diag.specs.Turns.{item_turns, cut_spent, fault_spent};
 ghost use Rattle.cbor_diag.specs.Notation.{ReadsUnder};
 ghost use Rattle.cbor_diag.specs.declared.syntax.FloatWidth.TheVariants as float_width;
@@ -113,6 +115,23 @@ pub(crate) fn pretty_text()
         ≡ codes "[\n    [\n        1,\n        1,\n        1,\n        1,\n        1,\n        1,\n        1,\n        1,\n        1,\n        1,\n        1,\n        1,\n    ],\n]" }
     ensures open { pretty Base16 1 0 open_map ≡ codes "{_ 1: 2}" }
     ensures empty { pretty Base16 1 0 (atom (byte_chunks [])) ≡ codes "''_" }
+{}
+
+/// Dumps: the one column of digits, a break, strings without content, the pieces of a text, elements, a
+/// sequence with a rest, and shared values, a key before its value.
+pub(crate) fn dumps()
+    ensures chunks { dump (atom (byte_chunks (zero_chunk (1 ∷ []) ∷ [])))
+        ≡ codes "5f       # bytes(*)\n   41    #   bytes(1)\n      01 #     \"\\x01\"\n   ff    #   break\n" }
+    ensures nothing { dump (bytes []) ≡ codes "40 # bytes(0)\n   #   \"\"\n" }
+    ensures pieces { map length (text_pieces (replicate 15 97 ++ 0xc3 ∷ 0xa9 ∷ replicate 8 98)) ≡ 15 ∷ 10 ∷ [] }
+    ensures elements { dump (over_bytes 72 (0xff ∷ 1 ∷ [])) ≡ codes
+        "d8 48    # typed array of i8, tag(72)\n   42    #   bytes(2)\n      ff #     signed(-1)\n      01 #     signed(1)\n" }
+    ensures sequence { dump (over_bytes 63 (1 ∷ 255 ∷ [])) ≡ codes
+        "d8 3f      # encoded cbor sequence, tag(63)\n   42      #   bytes(2)\n      01ff #     \"\\x01\\xff\"\n           #   encoded cbor data item\n           #     01 # unsigned(1)\n           #   failed to parse remaining encoded cbor sequence\n           #     no item can have this head\n" }
+    ensures shared { map (λ line. line.comment) (lines shared_values) ≡ codes "map(1)"
+        ∷ codes "shareable value, tag(28)" ∷ codes "unsigned(1)" ∷ codes "reference(0)"
+        ∷ codes "shareable value, tag(28)" ∷ codes "reference to shared value, tag(29)" ∷ codes "unsigned(0)"
+        ∷ codes "reference-to(0)" ∷ codes "reference(1)" ∷ [] }
 {}
 
 /// Turns of items, and of what is whole before the bytes end or a fault comes.
