@@ -7,7 +7,8 @@ PROGRAM is `crates/cbor_view/out/cbor_view`, as `rt run` leaves it. For each kin
 conversion that PROGRAM serves, the two programs run in turn, so many rounds each, and a line shows the
 least time of each in milliseconds, what that is in megabytes of input a second, its peak memory in
 megabytes, and the ratio of the two times. The inputs are the same on every machine. They are kept in
-FOLDER, or in one that is removed at the end. It needs Python and its standard library alone.
+FOLDER, or in one that is removed at the end. At last records as a sequence are timed beside the same
+ones in an array. It needs Python and its standard library alone.
 """
 import argparse
 import os
@@ -118,6 +119,26 @@ def embedded(source, count):
     return array([item(number) for number in range(count)])
 
 
+def noted(source, count):
+    """Tags that the dump has notes for."""
+
+    def values(number):
+        return array(
+            [
+                tagged(1, integer(1_700_000_000 + number)),
+                tagged(32, text("https://example.com/a/b?c=d")),
+                tagged(34, text("AAECAwQFBgcICQoLDA0ODw==")),
+                tagged(37, byte_string(source.randbytes(16))),
+                tagged(52, byte_string(source.randbytes(4))),
+                tagged(54, byte_string(source.randbytes(16))),
+                tagged(69, byte_string(source.randbytes(32))),
+                tagged(100, integer(18_000)),
+            ]
+        )
+
+    return array([values(number) for number in range(count)])
+
+
 KINDS = [
     ("maps", maps, 150_000),
     ("integers", integers, 2_000_000),
@@ -127,7 +148,24 @@ KINDS = [
     ("string", large_string, 50_000_000),
     ("keys", integer_keys, 1_000_000),
     ("embedded", embedded, 300_000),
+    ("noted", noted, 30_000),
 ]
+
+# ---- items one after the other
+
+
+def records(count):
+    """Small records, each by itself."""
+    return [
+        pairs(
+            [
+                (text("id"), integer(number)),
+                (text("name"), text(f"sensor {number % 97}")),
+                (text("at"), integer(1_700_000_000 + number)),
+            ]
+        )
+        for number in range(count)
+    ]
 
 
 def input_of(folder, kind, make, count):
@@ -195,6 +233,24 @@ def cells(result, size):
     return f"{seconds * 1000:10.1f} {size / seconds / 1e6:8.0f} {memory / 1024:7.0f}"
 
 
+def sequences(program, folder, count, rounds):
+    """Records as a sequence, and the same ones in an array: how long each takes."""
+    paths = [os.path.join(folder, f"records-{count}.{form}") for form in ("array", "sequence")]
+    made = records(count)
+    for path, content in zip(paths, (array(made), b"".join(made))):
+        with open(path, "wb") as file:
+            file.write(content)
+    print(f"{'records':10} {'words':13} {'MB in':>7} {'array ms':>10} {'seq ms':>10} {'ratio':>6}")
+    for to in TO:
+        times = [[], []]
+        for _ in range(rounds):
+            for word, path, result in zip(("bytes", "seq"), paths, times):
+                result.append(run(program, [word, to], path))
+        (one, _), (many, _) = least(times[0]), least(times[1])
+        size = os.path.getsize(paths[1])
+        print(f"{count:<10} {'seq ' + to:13} {size / 1e6:7.1f} {one * 1000:10.1f} {many * 1000:10.1f} {many / one:6.2f}")
+
+
 def serves(program, words, path):
     return run(program, words, path) is not None
 
@@ -205,7 +261,7 @@ def main():
     parser.add_argument("other", nargs="?")
     parser.add_argument("--rounds", type=int, default=5)
     parser.add_argument("--size", type=int, default=100, help="percent of the counts of each input")
-    parser.add_argument("--only", help="one kind of input: " + ", ".join(kind for kind, _, _ in KINDS))
+    parser.add_argument("--only", help="one kind of input: " + ", ".join([kind for kind, _, _ in KINDS] + ["records"]))
     parser.add_argument("--folder", help="where inputs are kept")
     options = parser.parse_args()
     programs = [options.program] + ([options.other] if options.other else [])
@@ -239,6 +295,8 @@ def main():
                         ratio = f"{results[0][0] / results[1][0]:6.2f}" if results[0] and results[1] else f"{'-':>6}"
                         line += f" {cells(results[1], size)} {ratio}"
                     print(line, flush=True)
+        if options.only in (None, "records"):
+            sequences(options.program, folder, max(1, 1000 * options.size), options.rounds)
 
 
 if __name__ == "__main__":
