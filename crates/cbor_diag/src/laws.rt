@@ -1,12 +1,14 @@
 //! Laws of the definitions of `specs/` alone: what holds of all bytes, whoever reads them. Nothing
 //! calls these functions.
-ghost use Rattle.std.specs.Prelude.{◌≡◌, ◌↔◌, ℕ, ◌+◌, ◌++◌, ◌<◌, ◌≤◌, List, slice_index};
+ghost use Rattle.std.specs.Prelude.{◌≡◌, ◌↔◌, ℕ, ◌+◌, ◌-◌, ◌++◌, ◌<◌, ◌≤◌, List, Err, slice_index};
 ghost use Rattle.cbor_diag.specs.WellFormed.{deepest};
 ghost use Rattle.cbor_diag.specs.Item.{Item};
 ghost use Rattle.cbor_diag.specs.Bytes.{any, Spells, SpellsItems};
 ghost use Rattle.cbor_diag.specs.Embedded.{embedded, sequence};
 ghost use Rattle.cbor_diag.specs.Answer.{OneOutcome};
 ghost use Rattle.cbor_diag.specs.declared.error.Error.{Error};
+ghost use Rattle.cbor_diag.specs.declared.error.Error.TheVariants.{CutShort};
+ghost use Rattle.cbor_diag.specs.Reading.{item_at};
 ghost use Rattle.cbor_diag.specs.Refused.{Cut, Fault};
 ghost use Rattle.cbor_diag.specs.Turns.{cut_spent, fault_spent};
 ghost use Rattle.cbor_diag.specs.NotationReading.{notation_of};
@@ -31,6 +33,15 @@ pub(crate) fn embedded_items()
     ensures longest { (level : ℕ) (b x rest : List ℕ) (e : Item) → 1 ≤ level → level ≤ deepest + 1
         → ((i : ℕ) → slice_index b i < 256) → (sequence level b).1 ≡ x ++ rest
         → ¬ (Spells any level x e) }
+{}
+
+/// What a dump says of bytes that embed no item: that they are cut, or which fault they have. One of these
+/// holds where the bytes begin with no item, as `one_of_three` says.
+pub(crate) fn embedded_refusals()
+    ensures cut { (level : ℕ) (b : List ℕ) → level ≤ deepest + 1 → Cut level b
+        → item_at (deepest + 1 - level) b ≡ Err CutShort }
+    ensures fault { (level : ℕ) (b : List ℕ) (e : Error) → level ≤ deepest + 1 → Fault level b e
+        → item_at (deepest + 1 - level) b ≡ Err e }
 {}
 
 /// What is whole of bytes that are cut or have a fault is one number of turns, however it is shown that
