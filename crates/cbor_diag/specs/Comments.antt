@@ -21,7 +21,7 @@ negative_comment n = in_brackets (codes "negative") (grouped (n + 1) true)
 abbrev pub float_comment : List ℕ → List ℕ
 float_comment bytes = in_brackets (codes "float") (encode_lower (drop 1 bytes))
 
--- what RFC 7049 section 2.3 says of a simple value
+-- what RFC 7049 section 2.3 says of a simple value; it reserves 24 to 31, and 32 is shown as if it did
 abbrev pub simple_kind : ℕ → List ℕ
 simple_kind n =
     if n == 20 then codes "false, "

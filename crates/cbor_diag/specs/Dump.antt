@@ -61,7 +61,7 @@ content_lines depth comment (piece ∷ pieces) = map (λ p. piece_line depth p (
 abbrev pub bytes_lines : ℕ → Option Encoding → List ℕ → List DumpLine
 bytes_lines depth encoding bytes = content_lines depth (bytes_comment encoding bytes) (byte_pieces bytes)
 
--- the elements of a typed array (RFC 8746), each with its value
+-- the elements of a typed array (RFC 8746), each with its value, which there is for pieces of the element's size
 abbrev pub element_lines : ℕ → ℕ → ℕ → List ℕ → List DumpLine
 element_lines depth t size bytes =
     map (λ e. piece_line depth e (unwrap_or (element_text t e) []))
@@ -73,6 +73,7 @@ sized_lines depth encoding t None bytes = bytes_lines depth encoding bytes
 sized_lines depth encoding t (Some size) bytes =
     if length bytes % size == 0 then element_lines depth t size bytes else bytes_lines depth encoding bytes
 
+-- the content of a byte string that stands right below a tag, or below none
 abbrev pub tagged_lines : ℕ → Option Encoding → Option ℕ → List ℕ → List DumpLine
 tagged_lines depth encoding None bytes = bytes_lines depth encoding bytes
 tagged_lines depth encoding (Some t) bytes = sized_lines depth encoding t (element_size t) bytes
@@ -130,10 +131,11 @@ close_lines depth None = break_line depth ∷ []
 
 -- ---- shared values
 
--- how many values are shared in an item: its tags 28, the outer before the inner, a key before its value
+-- one value more is shared where a tag is 28
 abbrev pub shared_from : ℕ → ℕ → ℕ
 shared_from t n = if t == 28 then suc n else n
 
+-- how many values are shared in an item, itself counted
 abbrev mutual
   pub shared_in : Item → ℕ
   shared_in (atom a) = 0
@@ -192,6 +194,7 @@ abbrev pub items_notes : (Item → List DumpLine) → Items → List (List (List
 items_notes dump no_items = []
 items_notes dump (item i is) = embedded_note (dump i) ∷ items_notes dump is
 
+-- a rest that an item could be read from would belong to the sequence
 abbrev pub rest_note : List ℕ → Read Item → List (List ℕ)
 rest_note [] read = []
 rest_note rest (Ok x) = []
@@ -204,8 +207,8 @@ abbrev pub encoded_sequence_notes : ℕ → (Item → List DumpLine) → Option 
 encoded_sequence_notes left dump (Some bytes) = sequence_notes left dump (sequence_at left bytes)
 encoded_sequence_notes left dump None = one (codes "invalid type for encoded cbor sequence") ∷ []
 
--- What is said of the value right below a tag, where so many values were shared before it and so many levels
--- are left for what is embedded in it.
+-- What is said of the value right below a tag, where so many levels are left for what is embedded in it and so
+-- many values were shared before it, a value right below tag 28 counting itself.
 abbrev pub notes : ℕ → (Item → List DumpLine) → ℕ → ℕ → Item → List (List (List ℕ))
 notes left dump known t i =
     if t == 24 then encoded_item_note left dump (bytes_in i) ∷ []

@@ -1,6 +1,6 @@
 //! Laws of the definitions of `specs/` alone: what holds of all bytes, whoever reads them. Nothing
 //! calls these functions.
-ghost use Rattle.std.specs.Prelude.{◌≡◌, ◌↔◌, ℕ, ◌+◌, ◌-◌, ◌++◌, ◌<◌, ◌≤◌, List, Err, slice_index};
+ghost use Rattle.std.specs.Prelude.{◌≡◌, ◌↔◌, ℕ, ◌+◌, ◌-◌, ◌++◌, ◌<◌, ◌≤◌, List, Ok, Err, drop, length, slice_index, take};
 ghost use Rattle.cbor_diag.specs.WellFormed.{deepest};
 ghost use Rattle.cbor_diag.specs.Item.{Item};
 ghost use Rattle.cbor_diag.specs.Bytes.{any, Spells, SpellsItems};
@@ -35,13 +35,15 @@ pub(crate) fn embedded_items()
         → ¬ (Spells any level x e) }
 {}
 
-/// What a dump says of bytes that embed no item: that they are cut, or which fault they have. One of these
-/// holds where the bytes begin with no item, as `one_of_three` says.
+/// What a dump says of bytes that embed no item: that they are cut, which fault they have, or that bytes
+/// remain after an item. One of these holds of all other bytes, as `one_of_three` says.
 pub(crate) fn embedded_refusals()
     ensures cut { (level : ℕ) (b : List ℕ) → level ≤ deepest + 1 → Cut level b
         → item_at (deepest + 1 - level) b ≡ Err CutShort }
     ensures fault { (level : ℕ) (b : List ℕ) (e : Error) → level ≤ deepest + 1 → Fault level b e
         → item_at (deepest + 1 - level) b ≡ Err e }
+    ensures front { (level n : ℕ) (b : List ℕ) (i : Item) → level ≤ deepest + 1 → n ≤ length b
+        → Spells any level (take n b) i → item_at (deepest + 1 - level) b ≡ Ok (i, drop n b) }
 {}
 
 /// What is whole of bytes that are cut or have a fault is one number of turns, however it is shown that

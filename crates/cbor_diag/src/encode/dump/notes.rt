@@ -70,7 +70,9 @@ fn words(alloc: Global, text: &str) -> Result<Vec<String>, AllocError>
 fn in_brackets(alloc: Global, word: &str, text: &str) -> Result<String, AllocError>
     ensures { IfOk result (λ note. string_bytes note ≡ comments.in_brackets word.now text.now) }
 {
-    let mut note = String::from_str(alloc, word)?;
+    // Enough for all but notes with a long zone.
+    let mut note = String::with_capacity(alloc, 64)?;
+    note.push_str(word)?;
     note.push('(')?;
     note.push_str(text)?;
     note.push(')')?;

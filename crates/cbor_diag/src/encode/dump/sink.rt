@@ -19,8 +19,8 @@ pub(crate) enum Sink {
 }
 
 impl Sink {
-    /// A line at a depth: bytes, shown as the form says, and what is said of them. Refused is it for want
-    /// of memory alone.
+    /// A line at a depth: bytes, shown as the form says, and what is said of them. It is refused
+    /// for want of memory alone.
     pub(super) fn line(
         &mut self,
         depth: usize,

@@ -26,9 +26,9 @@ use crate::parse::{front_at, whole_at};
 use crate::syntax::{DataItem, Tag};
 use std::alloc::{AllocError, Global};
 
-const NO_ITEM: &str = "invalid type for encoded cbor data item";
+const INVALID_ITEM: &str = "invalid type for encoded cbor data item";
 
-const NO_SEQUENCE: &str = "invalid type for encoded cbor sequence";
+const INVALID_SEQUENCE: &str = "invalid type for encoded cbor sequence";
 
 const FAILED_ITEM: &str = "failed to parse encoded cbor data item";
 
@@ -96,6 +96,8 @@ fn walk_item(
 {
     let known = walk.shared;
     walk_parts(walk, alloc, place, level, item)?;
+    // Notes have no digits, so the walk that finds the width leaves them out: else an item that is embedded n
+    // times would be dumped 2 to the power of n times.
     match place.tag {
         Some(tag) if walk.sink.writes() => {
             walk_notes(walk, alloc, place.depth, level + 1, known, Tag(tag), item)
@@ -266,11 +268,11 @@ fn walk_notes(
     match tag {
         Tag::ENCODED_CBOR => match bytes_in(value) {
             Some(bytes) => encoded_item(&mut walk.sink, alloc, depth, level, bytes),
-            None => note_line(&mut walk.sink, depth, NO_ITEM),
+            None => note_line(&mut walk.sink, depth, INVALID_ITEM),
         },
         Tag::ENCODED_CBOR_SEQ => match bytes_in(value) {
             Some(bytes) => encoded_sequence(&mut walk.sink, alloc, depth, level, bytes),
-            None => note_line(&mut walk.sink, depth, NO_SEQUENCE),
+            None => note_line(&mut walk.sink, depth, INVALID_SEQUENCE),
         },
         _ => {
             let texts = value_note(alloc, known, tag.0, value)?;
@@ -350,7 +352,8 @@ fn encoded_sequence(
     Ok(())
 }
 
-/// The note of an embedded item that stands at `level`: its dump, a line for each line.
+/// The note of an embedded item that stands at `level`: its dump, a line for each line. The item is let go
+/// with it.
 #[cycle(walk)]
 fn embedded_dump(
     sink: &mut Sink,
