@@ -19,6 +19,20 @@ of_bytes k (suc (suc (suc (suc (suc (suc bytes)))))) some few is = absurd (omega
 pub digit_counts : (k : ℕ) → IsDigitCount k → IsOneOf k
 digit_counts k is = of_bytes k is.0 is.1 is.2 is.3
 
+-- what holds for each of them holds
+pub by_count : {P : Type 0} (k : ℕ) → IsDigitCount k → (k ≡ 2 → P) → (k ≡ 4 → P) → (k ≡ 5 → P) → (k ≡ 7 → P) → (k ≡ 8 → P) → P
+by_count k is two four five seven eight =
+    elim (digit_counts k is) [
+      | inl e ↦ two e
+      | inr e ↦ elim e [
+        | inl e ↦ four e
+        | inr e ↦ elim e [
+          | inl e ↦ five e
+          | inr e ↦ elim e [ inl e ↦ seven e | inr e ↦ eight e ]
+        ]
+      ]
+    ]
+
 -- digits that do not end with so much padding
 pub not_padded : (digits padding : List ℕ) (k : ℕ) → length digits ≡ 8 → false ≡ ends_with nat_eq digits padding
     → length padding ≡ 8 - k → k ≤ 8 → pointwise nat_eq padding padding ≡ true → drop k digits ≡ padding → ⊥

@@ -150,29 +150,25 @@ pub record OffsetParts (text : List ℕ) (offset : ℤ) : Type 0 where
   pub minute_is : get_or text 4 0 ∷ get_or text 5 0 ∷ [] ≡ two_digits minute
   pub sign_is : ((get_or text 0 0 ≡ 43) × (offset ≡ pos (3600 * hour + 60 * minute))) ⊎ ((get_or text 0 0 ≡ 45) × (offset ≡ neg_ℤ (pos (3600 * hour + 60 * minute))))
 
+offset_parts : (text : List ℕ) (offset : ℤ) (sign hour minute : ℕ) → hour ≤ 23 → minute ≤ 59 → text ≡ (sign ∷ two_digits hour) ++ (58 ∷ two_digits minute)
+    → ((sign ≡ 43) × (offset ≡ pos (3600 * hour + 60 * minute))) ⊎ ((sign ≡ 45) × (offset ≡ neg_ℤ (pos (3600 * hour + 60 * minute)))) → OffsetParts text offset
+offset_parts text offset sign hour minute h m is signed =
+    let first : get_or text 0 0 ≡ sign = ap (λ t. get_or t 0 0) is in
+    record {
+      hour = hour;
+      minute = minute;
+      hour_in = h;
+      minute_in = m;
+      length_is = ap length is;
+      colon = ap (λ t. get_or t 3 0) is;
+      hour_is = ap (λ t. get_or t 1 0 ∷ get_or t 2 0 ∷ []) is;
+      minute_is = ap (λ t. get_or t 4 0 ∷ get_or t 5 0 ∷ []) is;
+      sign_is = elim signed [ inl plus ↦ inl (first ∙ plus.0, plus.1) | inr minus ↦ inr (first ∙ minus.0, minus.1) ];
+    }
+
 pub IsOffset-parts : (text : List ℕ) (offset : ℤ) → IsOffset text offset → OffsetParts text offset
-IsOffset-parts text offset (ahead hour minute h m is o) = record {
-  hour = hour;
-  minute = minute;
-  hour_in = h;
-  minute_in = m;
-  length_is = ap length is;
-  colon = ap (λ t. get_or t 3 0) is;
-  hour_is = ap (λ t. get_or t 1 0 ∷ get_or t 2 0 ∷ []) is;
-  minute_is = ap (λ t. get_or t 4 0 ∷ get_or t 5 0 ∷ []) is;
-  sign_is = inl (ap (λ t. get_or t 0 0) is, o);
-}
-IsOffset-parts text offset (behind hour minute h m is o) = record {
-  hour = hour;
-  minute = minute;
-  hour_in = h;
-  minute_in = m;
-  length_is = ap length is;
-  colon = ap (λ t. get_or t 3 0) is;
-  hour_is = ap (λ t. get_or t 1 0 ∷ get_or t 2 0 ∷ []) is;
-  minute_is = ap (λ t. get_or t 4 0 ∷ get_or t 5 0 ∷ []) is;
-  sign_is = inr (ap (λ t. get_or t 0 0) is, o);
-}
+IsOffset-parts text offset (ahead hour minute h m is o) = offset_parts text offset 43 hour minute h m is (inl (refl, o))
+IsOffset-parts text offset (behind hour minute h m is o) = offset_parts text offset 45 hour minute h m is (inr (refl, o))
 
 -- six characters that are a sign, digits and a colon
 pub offset_text : (text : List ℕ) (sign hour minute : ℕ) → length text ≡ 6 → get_or text 0 0 ≡ sign → get_or text 3 0 ≡ 58
