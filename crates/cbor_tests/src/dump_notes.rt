@@ -9,14 +9,6 @@ use std::test::Fail;
 fn whole_dumps(rt: HostRuntime) -> Result<(), Fail> {
     let rows = [
         (
-            "d8 20 73 68 74 74 70 73 3a 2f 2f 65 78 61 6d 70 6c 65 2e 63 6f 6d",
-            r#"d8 20                                        # uri, tag(32)
-   73                                        #   text(19)
-      68747470733a2f2f6578616d706c652e636f6d #     "https://example.com"
-                                             #   valid URL (checked against URL Standard, not RFC 3986)
-"#,
-        ),
-        (
             "c1 1a 51 4b 67 b0",
             r#"c1             # epoch datetime value, tag(1)
    1a 514b67b0 #   unsigned(1,363,896,240)
