@@ -11,13 +11,18 @@ use cbor_diag::{DataItem, Error, parse_bytes, parse_diag, parse_hex};
 use std::alloc::Global;
 
 /// The output for an input, which is let go as soon as its item is read.
+///
+/// The item's memory is left to the end of the process. Only the writing of the output comes after, and
+/// to let go of an item's many small blocks one by one took up to half of the whole time.
 pub(crate) fn convert(alloc: Global, from: Source, to: To, input: Vec<u8>) -> Result<Vec<u8>, Error>
     ensures ok { IfOk result (λ output. IsOutput from to input.items (Ok output.items)) }
     ensures refused { RefusedSo result (λ e. IsOutput from to input.items (Err e)) }
 {
     let item = read_item(alloc, from, &input)?;
     drop(input);
-    write_item(alloc, to, &item)
+    let output = write_item(alloc, to, &item);
+    std::mem::forget(item);
+    output
 }
 
 fn read_item(alloc: Global, from: Source, input: &[u8]) -> Result<DataItem, Error>
