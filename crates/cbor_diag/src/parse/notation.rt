@@ -121,7 +121,8 @@ fn integer_or_tag(
     ))
 }
 
-/// The items of a list behind its opening, up to its close.
+/// The items of a list behind its opening, up to its close. Room is made for two at first, since many lists
+/// are no longer.
 #[cycle(diag)]
 fn items_at(alloc: Global, close: u8, text: &[u8], level: u8) -> Result<(Vec<DataItem>, &[u8])>
     requires { level ≤ 129 }
@@ -130,11 +131,11 @@ fn items_at(alloc: Global, close: u8, text: &[u8], level: u8) -> Result<(Vec<Dat
     ensures well { IfOk result (λ x. WellFormedItems level (items_view x.0.items)) }
     ensures shorter { IfOk result (λ x. length x.1.now ≤ length text.now) }
 {
-    let mut items = Vec::new(alloc);
     let mut rest = after_blank(text);
     if let Some(after) = end_at(rest, close) {
-        return Ok((items, after));
+        return Ok((Vec::new(alloc), after));
     }
+    let mut items = Vec::with_capacity(alloc, 2)?;
     'items: loop {
         let (item, after) = item_at(alloc, rest, level)?;
         items.push(item)?;
@@ -145,7 +146,7 @@ fn items_at(alloc: Global, close: u8, text: &[u8], level: u8) -> Result<(Vec<Dat
     }
 }
 
-/// The pairs of a map behind its opening, up to its close.
+/// The pairs of a map behind its opening, up to its close. Room is made for one at first.
 #[cycle(diag)]
 fn pairs_at(alloc: Global, text: &[u8], level: u8) -> Result<(Vec<(DataItem, DataItem)>, &[u8])>
     requires { level ≤ 129 }
@@ -154,11 +155,11 @@ fn pairs_at(alloc: Global, text: &[u8], level: u8) -> Result<(Vec<(DataItem, Dat
     ensures well { IfOk result (λ x. WellFormedPairs level (pairs_view x.0.items)) }
     ensures shorter { IfOk result (λ x. length x.1.now ≤ length text.now) }
 {
-    let mut pairs = Vec::new(alloc);
     let mut rest = after_blank(text);
     if let Some(after) = end_at(rest, b'}') {
-        return Ok((pairs, after));
+        return Ok((Vec::new(alloc), after));
     }
+    let mut pairs = Vec::with_capacity(alloc, 1)?;
     'pairs: loop {
         let (pair, after) = pair_at(alloc, rest, level)?;
         pairs.push(pair)?;

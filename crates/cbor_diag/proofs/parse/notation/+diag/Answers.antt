@@ -20,18 +20,18 @@ items_at-returns-in-Some-clause-gives t c =
     let read = item_at (129 - c.args.level) in
     let close : ℕ = c.args.close in
     let ended : end_at close (blank_at c.args.text.now) ≡ Some c.in-Some.after.now = ap (end_at close) (sym c.after_blank-rest.ensures.gives) ∙ sym c.in-Some.ensures.gives in
-    rw c.new-items.ensures.items (members_closed read close c.args.text.now c.in-Some.after.now ended)
+    rw c.new.ensures.items (members_closed read close c.args.text.now c.in-Some.after.now ended)
 
 pub items_at-items-init : goal.items_at-items-init
 items_at-items-init t c =
     let read = item_at (129 - c.args.level) in
     let close : ℕ = c.args.close in
-    let begun = members_begin read close c.args.text.now c.after_blank-rest.result.now (map view c.new-items.result.items) (ap (map view) c.new-items.ensures.items) c.after_blank-rest.ensures.gives (sym c.in_default.ensures.gives) in
-    (begun.0, begun.1, begun.2, c.after_blank-rest.ensures.shorter, rw c.new-items.ensures.items tt)
+    let begun = members_begin read close c.args.text.now c.after_blank-rest.result.now (map view c.in_ok-items.items.items) (ap (map view) c.in_ok-items.ensures.items) c.after_blank-rest.ensures.gives (sym c.in_default.ensures.gives) in
+    (begun.0, begun.1, begun.2, c.after_blank-rest.ensures.shorter, rw c.in_ok-items.ensures.items tt)
 
 pub items_at-returns-in_err-item-clause-gives : goal.items_at-returns-in_err-item-clause-gives
 items_at-returns-in_err-item-clause-gives t c =
-    let p = err_from_is_err_and c.from_residual.result c.from_residual.ensures.1 in
+    let p = err_from_is_err_and c.from_residual-in_err-item.result c.from_residual-in_err-item.ensures.1 in
     let read = item_at (129 - c.args.level) in
     let close : ℕ = c.args.close in
     let total = members_at read close c.args.text.now in
@@ -76,18 +76,18 @@ pairs_at-returns-in-Some-clause-gives t c =
     let read = pair_at (item_at (129 - c.args.level)) in
     let close : ℕ = 125 in
     let ended : end_at close (blank_at c.args.text.now) ≡ Some c.in-Some.after.now = ap (end_at close) (sym c.after_blank-rest.ensures.gives) ∙ sym c.in-Some.ensures.gives in
-    rw c.new-pairs.ensures.items (members_closed read close c.args.text.now c.in-Some.after.now ended)
+    rw c.new.ensures.items (members_closed read close c.args.text.now c.in-Some.after.now ended)
 
 pub pairs_at-pairs-init : goal.pairs_at-pairs-init
 pairs_at-pairs-init t c =
     let read = pair_at (item_at (129 - c.args.level)) in
     let close : ℕ = 125 in
-    let begun = members_begin read close c.args.text.now c.after_blank-rest.result.now (map pair_view c.new-pairs.result.items) (ap (map pair_view) c.new-pairs.ensures.items) c.after_blank-rest.ensures.gives (sym c.in_default.ensures.gives) in
-    (begun.0, begun.1, begun.2, c.after_blank-rest.ensures.shorter, rw c.new-pairs.ensures.items tt)
+    let begun = members_begin read close c.args.text.now c.after_blank-rest.result.now (map pair_view c.in_ok-pairs.pairs.items) (ap (map pair_view) c.in_ok-pairs.ensures.items) c.after_blank-rest.ensures.gives (sym c.in_default.ensures.gives) in
+    (begun.0, begun.1, begun.2, c.after_blank-rest.ensures.shorter, rw c.in_ok-pairs.ensures.items tt)
 
 pub pairs_at-returns-in_err-pair-clause-gives : goal.pairs_at-returns-in_err-pair-clause-gives
 pairs_at-returns-in_err-pair-clause-gives t c =
-    let p = err_from_is_err_and c.from_residual.result c.from_residual.ensures.1 in
+    let p = err_from_is_err_and c.from_residual-in_err-pair.result c.from_residual-in_err-pair.ensures.1 in
     let read = pair_at (item_at (129 - c.args.level)) in
     let close : ℕ = 125 in
     let total = members_at read close c.args.text.now in
