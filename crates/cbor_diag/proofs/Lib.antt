@@ -40,6 +40,7 @@ pub mod DumpFits
 pub mod EmbeddedDumps
 pub mod WholeDumps
 pub mod HexLines
+pub mod HexSearch
 pub mod HexDigits
 pub mod NotationTexts
 pub mod EmbeddedItems

@@ -8,6 +8,10 @@ use Rattle.cbor_diag.specs.declared.error.Error.TheVariants as refusal
 use Rattle.cbor_diag.specs.Item.{Item}
 use Rattle.cbor_diag.specs.Facts.{IsItem, IsNoItem}
 
+-- bytes without spaces
+abbrev pub unspaced : List ℕ → List ℕ
+unspaced line = filter (λ b. not (b == 32)) line
+
 -- of one line, what stands before its first `#`, without spaces
 abbrev pub uncommented : List ℕ → List ℕ
 uncommented line = filter (λ b. not (b == 32)) (before_first (λ b. b == 35) line)

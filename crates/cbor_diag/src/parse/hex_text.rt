@@ -1,34 +1,92 @@
 //! Reads an item from hex with comments.
 //!
-//! What is kept of the lines goes in one pass into one buffer, which is then decoded.
-ghost use Rattle.std.specs.Prelude.{◌≡◌, ◌++◌, ◌%◌, ◌⊎◌, length, IfOk, IfErr, OnOk, Ok};
-ghost use Rattle.std.specs.List.{AllPass};
+//! The lines are gone through once: comments are skipped, and what is kept is decoded where it stands.
+ghost use Rattle.std.specs.Prelude.{◌≡◌, ◌<◌, ◌≤◌, ◌++◌, ◌%◌, ◌⊎◌, ◌==◌, length, IfOk, IfErr, OnOk, Ok};
+ghost use Rattle.std.specs.List.{AllPass, after_first};
+ghost use Rattle.std.specs.Str.Lines.{strip_carriage_return};
 ghost use Rattle.hex.specs.Hex.{decode_of, is_hex_digit};
 ghost use Rattle.cbor_diag.specs.Item.{Item};
 ghost use Rattle.cbor_diag.specs.View.{view};
 ghost use Rattle.cbor_diag.specs.Facts.{IsWellFormed};
 ghost use Rattle.cbor_diag.specs.Answer.{GaveItem, GaveRefusal, RefusedSo};
-ghost use Rattle.cbor_diag.specs.HexText.{uncommented, strip, IsHexOf, IsHexRefused};
+ghost use Rattle.cbor_diag.specs.HexText.{unspaced, strip, IsHexOf, IsHexRefused};
 
 use super::binary::parse_bytes;
 use crate::error::Error;
 use crate::syntax::DataItem;
 use hex::FromHexError;
+use memchr::{memchr, memchr2};
 use std::alloc::{AllocError, Global};
 
-/// Writes what is kept of a line: the bytes before its first `#`, without spaces.
-#[tactic(auto, using(crate::proofs::HexLines::uncommented_steps))]
-fn push_uncommented(out: &mut Vec<u8>, line: &[u8]) -> Result<(), AllocError>
-    ensures { OnOk result (out.new.items ≡ out.old.items ++ uncommented line.now) }
+/// What the first line has before its first `#` or its end, and what follows that line.
+fn cut_line(text: &[u8]) -> (&[u8], &[u8])
+    ensures kept { strip text.now ≡ unspaced result.0.now ++ strip result.1.now }
+    ensures shorter { 0 < length text.now → length result.1.now < length text.now }
 {
-    'line: for byte in line {
-        if *byte == b'#' {
-            return Ok(());
-        }
-        if *byte != b' ' {
-            out.push(*byte)?;
-        }
+    match memchr2(b'#', b'\n', text) {
+        None => (text, &text[text.len()..]),
+        Some(end) if text[end] == b'#' => (&text[..end], after_line(&text[end..])),
+        Some(end) => (without_return(&text[..end]), &text[end + 1..]),
     }
+}
+
+/// What follows the first line feed.
+fn after_line(text: &[u8]) -> &[u8]
+    ensures { result.now ≡ after_first (λ b. b == 10) text.now }
+{
+    match memchr(b'\n', text) {
+        Some(end) => &text[end + 1..],
+        None => &text[text.len()..],
+    }
+}
+
+/// A line that ends at a line feed, without the one carriage return before it.
+fn without_return(line: &[u8]) -> &[u8]
+    ensures { result.now ≡ strip_carriage_return line.now }
+{
+    match line.last() {
+        Some(b'\r') => &line[..line.len() - 1],
+        _ => line,
+    }
+}
+
+/// What follows the spaces at the front.
+#[tactic(auto, using(crate::proofs::HexLines::space_here))]
+fn after_spaces(line: &[u8]) -> &[u8]
+    ensures same { unspaced result.now ≡ unspaced line.now }
+    ensures longer { length result.now ≤ length line.now }
+{
+    let near = after_eights(line);
+    let mut at = 0;
+    'spaces: while at < near.len() && near[at] == b' ' {
+        at += 1;
+    }
+    &near[at..]
+}
+
+/// What follows the spaces at the front, as many as go in eights: most lines of a dump have more.
+#[tactic(auto, using(crate::proofs::HexLines::eight_spaces))]
+fn after_eights(line: &[u8]) -> &[u8]
+    ensures same { unspaced result.now ≡ unspaced line.now }
+    ensures longer { length result.now ≤ length line.now }
+{
+    let mut rest = line;
+    'eights: while let Some(after) = rest.strip_prefix(b"        ") {
+        rest = after;
+    }
+    rest
+}
+
+/// Writes the bytes of a line that are no spaces.
+fn push_unspaced(out: &mut Vec<u8>, line: &[u8]) -> Result<(), AllocError>
+    ensures { OnOk result (out.new.items ≡ out.old.items ++ unspaced line.now) }
+{
+    let mut rest = line;
+    'runs: while let Some(end) = memchr(b' ', rest) {
+        out.extend_from_slice(&rest[..end])?;
+        rest = after_spaces(&rest[end + 1..]);
+    }
+    out.extend_from_slice(rest)?;
     Ok(())
 }
 
@@ -37,8 +95,11 @@ fn strip(alloc: Global, text: &str) -> Result<Vec<u8>, AllocError>
     ensures { IfOk result (λ digits. digits.items ≡ strip text.now) }
 {
     let mut digits = Vec::with_capacity(alloc, text.len())?;
-    'lines: for line in text.lines() {
-        push_uncommented(&mut digits, line.as_bytes())?;
+    let mut rest = text.as_bytes();
+    'lines: while !rest.is_empty() {
+        let (line, after) = cut_line(rest);
+        push_unspaced(&mut digits, line)?;
+        rest = after;
     }
     Ok(digits)
 }

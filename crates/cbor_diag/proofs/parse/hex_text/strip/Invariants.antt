@@ -1,7 +1,9 @@
-use Rattle.std.proofs.Common.{◌≡◌, map}
-use Rattle.std.specs.List.{flat_map}
-use Rattle.cbor_diag.specs.HexText.{uncommented}
+use Rattle.std.proofs.Common.{◌≡◌, ◌++◌, length}
+use Rattle.cbor_diag.specs.HexText.{strip}
 use Rattle.cbor_diag.proofs.parse.hex_text.strip.Given as goal
 
 abbrev pub invariant-lines : goal.invariant-lines
-invariant-lines l = l.digits.items ≡ flat_map uncommented (map (λ x. x.now) l.yielded)
+invariant-lines l = l.digits.items ++ strip l.rest ≡ strip l.text
+
+abbrev pub decreases-lines : goal.decreases-lines
+decreases-lines l = length l.rest

@@ -1,0 +1,9 @@
+use Rattle.std.proofs.Common.{◌≡◌, ◌++◌, length}
+use Rattle.cbor_diag.specs.HexText.{unspaced}
+use Rattle.cbor_diag.proofs.parse.hex_text.push_unspaced.Given as goal
+
+abbrev pub invariant-runs : goal.invariant-runs
+invariant-runs l = l.out.items ++ unspaced l.rest ≡ l.fn.out.items ++ unspaced l.line
+
+abbrev pub decreases-runs : goal.decreases-runs
+decreases-runs l = length l.rest
