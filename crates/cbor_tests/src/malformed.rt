@@ -35,7 +35,7 @@ fn nothing_is_cut(rt: HostRuntime) -> Result<(), Fail> {
 }
 
 #[test]
-fn a_claim_is_not_believed(rt: HostRuntime) -> Result<(), Fail> {
+fn a_claimed_length_takes_no_memory(rt: HostRuntime) -> Result<(), Fail> {
     let alloc = rt.alloc();
     is_cut(&rt, alloc, b"\x5b\x20\x00\x00\x00\x00\x00\x00\x00")?;
     is_cut(&rt, alloc, b"\x7b\x20\x00\x00\x00\x00\x00\x00\x00")?;
