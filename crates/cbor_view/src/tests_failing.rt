@@ -124,7 +124,7 @@ fn check_write(
     assert_eq!(rt; output.failures(), kind.is_some() as u64);
     let written = output.into_inner();
     assert_eq!(rt; written.calls, failing);
-    assert_eq!(rt; written.bytes.len(), failing - 1);
+    assert_eq!(rt; written.bytes.len(), failing.saturating_sub(1));
     assert!(rt; pair.output.starts_with(written.bytes.as_slice()));
 }
 
