@@ -1,8 +1,8 @@
 // Dumps of embedded items and of sequences, which stand as comments in a dump (RFC 7049, section 2.4.4.1, and
 // RFC 8742).
 
-use crate::dumped::{CARRIED, check_dumps, check_lines, check_notes, dump_of};
-use crate::make::{array_of, bytes, tagged, text};
+use crate::dumped::{check_dumps, check_notes, dump_of};
+use crate::make::{array_of, bytes, tagged};
 use cbor_diag::{DataItem, IntegerWidth, parse_hex};
 use std::alloc::Global;
 use std::process::Abort;
@@ -281,25 +281,6 @@ fn embed(rt: &impl Abort, alloc: Global, item: &DataItem) -> cbor_diag::Result<D
         IntegerWidth::Unknown,
         DataItem::ByteString(string),
     )
-}
-
-// However an embedded text looks, the dump has the lines that it should have.
-#[test]
-fn texts_with_line_ends(rt: HostRuntime) -> Result<(), Fail> {
-    let alloc = rt.alloc();
-    for carried in CARRIED {
-        let string = text(alloc, carried, IntegerWidth::Unknown)?;
-        let uri = tagged(
-            alloc,
-            32,
-            IntegerWidth::Unknown,
-            DataItem::TextString(string),
-        )?;
-        let dump = dump_of(&rt, alloc, &embed(&rt, alloc, &uri)?)?;
-        // three lines of the tag and the bytes, a note, and the embedded four with a note of their own
-        check_lines(&rt, dump.as_str(), 8);
-    }
-    Ok(())
 }
 
 /// The number 1 as an embedded item, in so many tags round one another.

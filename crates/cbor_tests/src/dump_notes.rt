@@ -1,8 +1,6 @@
 // Notes of a dump: dates and times, URLs, base 64, UUIDs, network addresses.
 
-use crate::dumped::{CARRIED, check_dumps, check_lines, check_notes, dump_of};
-use crate::make::{tagged, text};
-use cbor_diag::{DataItem, IntegerWidth};
+use crate::dumped::{check_dumps, check_notes};
 use std::test::Fail;
 
 #[test]
@@ -417,28 +415,5 @@ fn tags_without_notes(rt: HostRuntime) -> Result<(), Fail> {
         ("18446744073709551615(0)", ""),
     ];
     check_notes(&rt, rt.alloc(), &rows)?;
-    Ok(())
-}
-
-// However a carried text looks, its dump has as many lines as it should have, with their comments in one
-// column.
-#[test]
-fn texts_with_line_ends(rt: HostRuntime) -> Result<(), Fail> {
-    let alloc = rt.alloc();
-    for carried in CARRIED {
-        for tag in [0, 32, 33, 34, 35, 1004] {
-            let string = text(alloc, carried, IntegerWidth::Unknown)?;
-            let item = tagged(
-                alloc,
-                tag,
-                IntegerWidth::Unknown,
-                DataItem::TextString(string),
-            )?;
-            let dump = dump_of(&rt, alloc, &item)?;
-            // the tag, the text, its content and a note, which tag 35 has none of
-            let count = if tag == 35 { 3 } else { 4 };
-            check_lines(&rt, dump.as_str(), count);
-        }
-    }
     Ok(())
 }

@@ -4,19 +4,6 @@ use cbor_diag::{DataItem, Error, parse_diag, parse_hex};
 use std::alloc::{AllocError, Global};
 use std::process::Abort;
 
-/// Texts that try to end a line, or to begin a comment.
-pub(crate) const CARRIED: [&str; 9] = [
-    "#",
-    "\n",
-    "\r",
-    "\r\n",
-    "\u{85}",
-    "\u{2028}",
-    "#\n#",
-    " # \n01",
-    "a:#\n\r\u{85}\u{2028}#",
-];
-
 /// The dump of an item, whose digits have to be the item's bytes.
 pub(crate) fn dump_of(rt: &impl Abort, alloc: Global, item: &DataItem) -> Result<String, Error> {
     assert!(rt; item.is_well_formed());

@@ -8,6 +8,8 @@ mod dump;
 #[cfg(test)]
 mod dump_addresses;
 #[cfg(test)]
+mod dump_carried;
+#[cfg(test)]
 mod dump_elements;
 #[cfg(test)]
 mod dump_embedded;
@@ -19,6 +21,8 @@ mod dump_shared;
 mod dumped;
 #[cfg(test)]
 mod hex_text;
+#[cfg(test)]
+mod hostile;
 #[cfg(test)]
 mod items;
 #[cfg(test)]
@@ -43,6 +47,12 @@ mod notes_text;
 mod readme;
 #[cfg(test)]
 mod refusals;
+#[cfg(test)]
+mod refused_memory;
+#[cfg(test)]
+mod refused_notes;
+#[cfg(test)]
+mod samples;
 #[cfg(test)]
 mod standard;
 #[cfg(test)]

@@ -34,11 +34,20 @@ fn nothing_is_cut(rt: HostRuntime) -> Result<(), Fail> {
     Ok(())
 }
 
+// `compare/failing_calls` sees that no request for memory is made here.
 #[test]
-fn a_claim_is_not_believed(rt: HostRuntime) -> Result<(), Fail> {
+fn a_claimed_length_takes_no_memory(rt: HostRuntime) -> Result<(), Fail> {
     let alloc = rt.alloc();
     is_cut(&rt, alloc, b"\x5b\x20\x00\x00\x00\x00\x00\x00\x00")?;
     is_cut(&rt, alloc, b"\x7b\x20\x00\x00\x00\x00\x00\x00\x00")?;
+    is_cut(&rt, alloc, b"\x5a\x40\x00\x00\x00\x01")?;
+    Ok(())
+}
+
+// An open container takes a place on the stack, and room for members that may be there.
+#[test]
+fn a_claimed_count_is_not_believed(rt: HostRuntime) -> Result<(), Fail> {
+    let alloc = rt.alloc();
     is_cut(&rt, alloc, b"\x9b\xff\xff\xff\xff\xff\xff\xff\xff")?;
     is_cut(&rt, alloc, b"\xbb\xff\xff\xff\xff\xff\xff\xff\xff")?;
     is_cut(&rt, alloc, b"\x9a\xff\xff\xff\xff\x01")?;

@@ -15,10 +15,14 @@
 mod convert;
 mod counted;
 mod error;
+#[cfg(test)]
+mod fakes;
 mod run;
 mod run_seq;
 #[cfg(test)]
 mod tests;
+#[cfg(test)]
+mod tests_failing;
 #[cfg(test)]
 mod tests_seq;
 mod words;

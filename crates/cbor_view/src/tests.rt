@@ -1,6 +1,7 @@
-//! Runs over memory, and over readers and writers that fail, give or take one byte a call.
+//! Runs over memory, and what a `Counted` hands on.
 use crate::counted::Counted;
 use crate::error::ViewError;
+use crate::fakes::{COMMENTED, ITEM};
 use crate::run;
 use crate::words::{Source, To, from_word, to_word};
 use std::alloc::Global;
@@ -8,67 +9,9 @@ use std::io;
 use std::io::{ErrorKind, Read, Write};
 use std::test::Fail;
 
-/// The bytes of the text `https://example.com` under tag 32.
-const ITEM: [u8; 22] = [
-    0xd8, 0x20, 0x73, 0x68, 0x74, 0x74, 0x70, 0x73, 0x3a, 0x2f, 0x2f, 0x65, 0x78, 0x61, 0x6d, 0x70,
-    0x6c, 0x65, 0x2e, 0x63, 0x6f, 0x6d,
-];
-
-/// The same item in hex with comments.
-const COMMENTED: &str = "\
-d8 20                                        # uri, tag(32)
-   73                                        #   text(19)
-      68747470733a2f2f6578616d706c652e636f6d #     \"https://example.com\"
-                                             #   valid URL (checked against URL Standard, not RFC 3986)
-";
-
-/// Reads by one byte a call, and fails at one of its calls, counted from 1.
+/// Can't be flushed.
 #[derive(Drop)]
-pub(crate) struct Dripping<'a> {
-    pub(crate) bytes: &'a [u8],
-    pub(crate) calls: usize,
-    pub(crate) failing: usize,
-    pub(crate) kind: ErrorKind,
-}
-
-impl Read for Dripping<'_> {
-    fn read(&mut self, buf: &mut [u8]) -> io::Result<usize> {
-        self.calls = self.calls.saturating_add(1);
-        if self.calls == self.failing {
-            return Err(io::Error::from(self.kind));
-        }
-        let most = buf.len().min(1);
-        self.bytes.read(&mut buf[..most])
-    }
-}
-
-/// Takes one byte a call, and fails at one of its calls, counted from 1.
-#[derive(Drop)]
-pub(crate) struct Sipping {
-    pub(crate) bytes: Vec<u8>,
-    pub(crate) calls: usize,
-    pub(crate) failing: usize,
-    pub(crate) kind: ErrorKind,
-}
-
-impl Write for Sipping {
-    fn write(&mut self, buf: &[u8]) -> io::Result<usize> {
-        self.calls = self.calls.saturating_add(1);
-        if self.calls == self.failing {
-            return Err(io::Error::from(self.kind));
-        }
-        let most = buf.len().min(1);
-        self.bytes.write(&buf[..most])
-    }
-
-    fn flush(&mut self) -> io::Result<()> {
-        Ok(())
-    }
-}
-
-/// Takes nothing, and can't be flushed.
-#[derive(Drop)]
-pub(crate) struct Full;
+struct Full;
 
 impl Write for Full {
     fn write(&mut self, _buf: &[u8]) -> io::Result<usize> {
@@ -229,10 +172,23 @@ fn refuses(rt: HostRuntime) -> Result<(), Fail> {
     ];
     for (from, input, text) in rows {
         let from = from_word(from).ok_or("no such word")?;
-        let (output, end) = run_on(rt.alloc(), from, To::Bytes, input);
-        assert_eq!(rt; end.map_err(|e| e.text()), Err(text), "on {input:?}");
-        assert!(rt; output.is_empty(), "on {input:?}");
+        for to in [To::Bytes, To::Hex, To::Diag, To::Pretty] {
+            let (output, end) = run_on(rt.alloc(), from, to, input);
+            assert_eq!(rt; end.map_err(|e| e.text()), Err(text), "on {input:?}");
+            assert!(rt; output.is_empty(), "on {input:?}");
+        }
     }
+    Ok(())
+}
+
+#[test]
+fn refuses_notation_that_is_too_deep(rt: HostRuntime) -> Result<(), Fail> {
+    let mut input = vec![in rt.alloc(); b'['; 200_000]?;
+    input.resize(400_000, b']')?;
+    let (output, end) = run_on(rt.alloc(), Source::Diag, To::Bytes, &input);
+    let text = "nested deeper than 128 levels";
+    assert_eq!(rt; end.map_err(|e| e.text()), Err(text));
+    assert!(rt; output.is_empty());
     Ok(())
 }
 
@@ -244,115 +200,6 @@ fn converts_what_takes_many_reads(rt: HostRuntime) -> Result<(), Fail> {
     assert_eq!(rt; end, Ok(()));
     assert!(rt; output.as_slice() == input.as_slice());
     Ok(())
-}
-
-#[test]
-fn converts_what_comes_byte_by_byte(rt: HostRuntime) {
-    let mut input = Counted::new(Dripping {
-        bytes: COMMENTED.as_bytes(),
-        calls: 0,
-        failing: 0,
-        kind: ErrorKind::Other,
-    });
-    let mut output = Counted::new(Vec::new(rt.alloc()));
-    let end = run::run(rt.alloc(), Source::Hex, To::Bytes, &mut input, &mut output);
-    assert_eq!(rt; end, Ok(()));
-    assert_eq!(rt; input.failures(), 0);
-    assert_eq!(rt; output.into_inner().as_slice(), ITEM.as_slice());
-}
-
-#[test]
-fn ends_at_each_read_that_fails(rt: HostRuntime) {
-    for failing in 1..=ITEM.len() + 1 {
-        for kind in [ErrorKind::Interrupted, ErrorKind::Other] {
-            let mut input = Counted::new(Dripping {
-                bytes: ITEM.as_slice(),
-                calls: 0,
-                failing,
-                kind,
-            });
-            let mut output = Counted::new(Vec::new(rt.alloc()));
-            let end = run::run(
-                rt.alloc(),
-                Source::Bytes,
-                To::Bytes,
-                &mut input,
-                &mut output,
-            );
-            assert_eq!(rt; end, Err(ViewError::Read), "at call {failing}");
-            assert_eq!(rt; input.failures(), 1, "at call {failing}");
-            assert_eq!(rt; input.into_inner().calls, failing);
-            assert!(rt; output.into_inner().is_empty(), "at call {failing}");
-        }
-    }
-    assert_eq!(rt; ViewError::Read.text(), "cannot read the input");
-}
-
-#[test]
-fn ends_at_each_write_that_fails(rt: HostRuntime) {
-    for failing in 1..=ITEM.len() {
-        for kind in [ErrorKind::Interrupted, ErrorKind::Other] {
-            let mut input = Counted::new(ITEM.as_slice());
-            let mut output = Counted::new(Sipping {
-                bytes: Vec::new(rt.alloc()),
-                calls: 0,
-                failing,
-                kind,
-            });
-            let end = run::run(
-                rt.alloc(),
-                Source::Bytes,
-                To::Bytes,
-                &mut input,
-                &mut output,
-            );
-            assert_eq!(rt; end, Err(ViewError::Write), "at call {failing}");
-            assert_eq!(rt; output.failures(), 1, "at call {failing}");
-            let written = output.into_inner().bytes;
-            assert_eq!(rt; written.len(), failing - 1);
-            assert!(rt;
-                ITEM.as_slice().starts_with(written.as_slice()),
-                "at call {failing}"
-            );
-        }
-    }
-    assert_eq!(rt; ViewError::Write.text(), "cannot write the output");
-}
-
-#[test]
-fn writes_byte_by_byte(rt: HostRuntime) {
-    let mut input = Counted::new(ITEM.as_slice());
-    let mut output = Counted::new(Sipping {
-        bytes: Vec::new(rt.alloc()),
-        calls: 0,
-        failing: 0,
-        kind: ErrorKind::Other,
-    });
-    let end = run::run(
-        rt.alloc(),
-        Source::Bytes,
-        To::Bytes,
-        &mut input,
-        &mut output,
-    );
-    assert_eq!(rt; end, Ok(()));
-    assert_eq!(rt; output.failures(), 0);
-    assert_eq!(rt; output.into_inner().bytes.as_slice(), ITEM.as_slice());
-}
-
-#[test]
-fn ends_at_a_writer_that_takes_nothing(rt: HostRuntime) {
-    let mut input = Counted::new(ITEM.as_slice());
-    let mut output = Counted::new(Full);
-    let end = run::run(
-        rt.alloc(),
-        Source::Bytes,
-        To::Bytes,
-        &mut input,
-        &mut output,
-    );
-    assert_eq!(rt; end, Err(ViewError::Write));
-    assert_eq!(rt; output.failures(), 0);
 }
 
 #[test]

@@ -1,19 +1,16 @@
-//! Runs over sequences of items, over memory, and over readers and writers that fail, give or take one
-//! byte a call.
+//! Runs over sequences of items, over memory.
 use crate::counted::Counted;
 use crate::error::ViewError;
 use crate::run_seq::run_seq;
-use crate::tests::{Dripping, Full, Sipping};
 use crate::words::{To, to_word};
 use std::alloc::Global;
-use std::io::ErrorKind;
 use std::test::Fail;
 
 /// Three items: a false in two bytes, an empty array, and an integer.
-const ITEMS: [u8; 5] = [0xf8, 0x14, 0x80, 0x18, 0x64];
+pub(crate) const ITEMS: [u8; 5] = [0xf8, 0x14, 0x80, 0x18, 0x64];
 
 /// What is written of them as bytes.
-const WRITTEN: [u8; 4] = [0xf4, 0x80, 0x18, 0x64];
+pub(crate) const WRITTEN: [u8; 4] = [0xf4, 0x80, 0x18, 0x64];
 
 /// What a run over memory writes, and how it ends.
 fn run_on(alloc: Global, to: To, input: &[u8]) -> (Vec<u8>, Result<(), ViewError>) {
@@ -72,71 +69,4 @@ fn stops_at_the_first_that_is_no_item(rt: HostRuntime) -> Result<(), Fail> {
         assert_eq!(rt; output.as_slice(), wanted, "on {input:?}");
     }
     Ok(())
-}
-
-#[test]
-fn ends_at_each_read_that_fails(rt: HostRuntime) {
-    for failing in 1..=ITEMS.len() + 1 {
-        let mut input = Counted::new(Dripping {
-            bytes: ITEMS.as_slice(),
-            calls: 0,
-            failing,
-            kind: ErrorKind::Interrupted,
-        });
-        let mut output = Counted::new(Vec::new(rt.alloc()));
-        let end = run_seq(rt.alloc(), To::Bytes, &mut input, &mut output);
-        assert_eq!(rt; end, Err(ViewError::Read), "at call {failing}");
-        assert_eq!(rt; input.failures(), 1, "at call {failing}");
-        assert!(rt; output.into_inner().is_empty(), "at call {failing}");
-    }
-}
-
-#[test]
-fn ends_at_each_write_that_fails(rt: HostRuntime) {
-    for failing in 1..=WRITTEN.len() {
-        let mut input = Counted::new(ITEMS.as_slice());
-        let mut output = Counted::new(Sipping {
-            bytes: Vec::new(rt.alloc()),
-            calls: 0,
-            failing,
-            kind: ErrorKind::Other,
-        });
-        let end = run_seq(rt.alloc(), To::Bytes, &mut input, &mut output);
-        assert_eq!(rt; end, Err(ViewError::Write), "at call {failing}");
-        assert_eq!(rt; output.failures(), 1, "at call {failing}");
-        let written = output.into_inner().bytes;
-        assert_eq!(rt; written.len(), failing - 1);
-        assert!(rt;
-            WRITTEN.as_slice().starts_with(written.as_slice()),
-            "at call {failing}"
-        );
-    }
-}
-
-#[test]
-fn converts_what_comes_and_goes_byte_by_byte(rt: HostRuntime) {
-    let mut input = Counted::new(Dripping {
-        bytes: ITEMS.as_slice(),
-        calls: 0,
-        failing: 0,
-        kind: ErrorKind::Other,
-    });
-    let mut output = Counted::new(Sipping {
-        bytes: Vec::new(rt.alloc()),
-        calls: 0,
-        failing: 0,
-        kind: ErrorKind::Other,
-    });
-    let end = run_seq(rt.alloc(), To::Bytes, &mut input, &mut output);
-    assert_eq!(rt; end, Ok(()));
-    assert_eq!(rt; output.into_inner().bytes.as_slice(), WRITTEN.as_slice());
-}
-
-#[test]
-fn ends_where_a_writer_takes_nothing(rt: HostRuntime) {
-    let mut input = Counted::new(ITEMS.as_slice());
-    let mut output = Counted::new(Full);
-    let end = run_seq(rt.alloc(), To::Bytes, &mut input, &mut output);
-    assert_eq!(rt; end, Err(ViewError::Write));
-    assert_eq!(rt; output.failures(), 0);
 }

@@ -1,0 +1,36 @@
+"""Runs a program that a request for memory is refused to, by the library of failing_malloc.c."""
+
+import os
+import subprocess
+import tempfile
+
+FOLDER = os.path.dirname(os.path.abspath(__file__))
+
+
+def library_in(folder):
+    """The library, compiled into a folder."""
+    library = os.path.join(folder, "failing_malloc.so")
+    source = os.path.join(FOLDER, "failing_malloc.c")
+    subprocess.run(["cc", "-O1", "-shared", "-fPIC", "-o", library, source], check=True)
+    return library
+
+
+def run(program, words, content=b"", number=0, on=False, library=None):
+    """Status, output, errors, and whether a request was refused: the one of this number, and those after it."""
+    environment = {"FAIL_AT": str(number)} if number else {}
+    if on:
+        environment["FAIL_ON"] = "1"
+    if library:
+        environment["LD_PRELOAD"] = library
+    files = [tempfile.TemporaryFile(buffering=0) for _ in range(4)]
+    files[0].write(content)
+    files[0].seek(0)
+    actions = [(os.POSIX_SPAWN_DUP2, file.fileno(), place) for place, file in enumerate(files)]
+    process = os.posix_spawn(program, [program, *words], environment, file_actions=actions)
+    _, ended = os.waitpid(process, 0)
+    for file in files[1:]:
+        file.seek(0)
+    answer = os.waitstatus_to_exitcode(ended), files[1].read(), files[2].read(), files[3].read() != b""
+    for file in files:
+        file.close()
+    return answer
