@@ -64,13 +64,13 @@ fn push_item(
             let listing = context.layout.listing(item);
             push_opening(out, '[', *bitwidth, listing)?;
             push_items(out, alloc, content, listing, context, level + 1)?;
-            push_closing(out, listing, "]")?;
+            push_closing(out, listing, ']')?;
         }
         DataItem::Map { content, bitwidth } => {
             let listing = context.layout.listing(item);
             push_opening(out, '{', *bitwidth, listing)?;
             push_pairs(out, alloc, content, listing, context, level + 1)?;
-            push_closing(out, listing, "}")?;
+            push_closing(out, listing, '}')?;
         }
         DataItem::Tag {
             tag,
@@ -174,6 +174,7 @@ fn push_content(
 
 /// Writes the item that the bytes are, read from `level`, or the bytes.
 #[cycle(text)]
+#[inline(never)]
 fn push_embedded(
     out: &mut String,
     alloc: Global,
@@ -201,6 +202,7 @@ fn push_embedded(
 
 /// Writes as many items as can be read one after the other from `level`, and the rest as bytes.
 #[cycle(text)]
+#[inline(never)]
 fn push_sequence(
     out: &mut String,
     alloc: Global,
@@ -218,7 +220,8 @@ fn push_sequence(
     let listing = context.layout.sequence_listing(&items);
     out.push_str("<<")?;
     push_items(out, alloc, &items, listing, context, level)?;
-    push_closing(out, listing, ">>")?;
+    push_closing(out, listing, '>')?;
+    out.push('>')?;
     push_rest(out, rest, context)?;
     Ok(())
 }

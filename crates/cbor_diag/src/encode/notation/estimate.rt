@@ -42,9 +42,13 @@ impl Layout {
 }
 
 /// Room behind the decimal digits of a number.
+#[tactic(auto, using(std::proofs::lemmas::Fmt::decimal_digit))]
 fn digits_room(number: u64, room: usize) -> Option<usize>
     ensures { SomeIff result (digit_count number ≤ room) (room - digit_count number) }
 {
+    if number < 10 {
+        return room.checked_sub(1);
+    }
     let mut digits = itoa::Buffer::new();
     room.checked_sub(digits.format(number).len())
 }

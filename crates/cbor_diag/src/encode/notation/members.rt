@@ -77,15 +77,16 @@ pub(crate) fn push_colon(out: &mut String, listing: Listing) -> Result<(), Alloc
 pub(crate) fn push_closing(
     out: &mut String,
     listing: Listing,
-    bracket: &str,
+    bracket: char,
 ) -> Result<(), AllocError>
+    requires { bracket < 128 }
     ensures { OnOk result
-        (string_bytes out.new ≡ string_bytes out.old ++ (last_line listing ++ bracket.now)) }
+        (string_bytes out.new ≡ string_bytes out.old ++ (last_line listing ++ (bracket ∷ []))) }
 {
     if let Listing::Lines { indent } = listing {
         push_line(out, indent)?;
     }
-    out.push_str(bracket)
+    out.push(bracket)
 }
 
 /// Writes the chunks of an indefinite byte string; one of no chunks keeps its kind.
@@ -110,7 +111,7 @@ pub(crate) fn push_byte_chunks(
         push_end(out, listing)?;
         first = false;
     }
-    push_closing(out, listing, ")")
+    push_closing(out, listing, ')')
 }
 
 /// Writes the chunks of an indefinite text string; one of no chunks keeps its kind.
@@ -134,7 +135,7 @@ pub(crate) fn push_text_chunks(
         push_end(out, listing)?;
         first = false;
     }
-    push_closing(out, listing, ")")
+    push_closing(out, listing, ')')
 }
 
 /// Writes what of a sequence can't be read as an item.

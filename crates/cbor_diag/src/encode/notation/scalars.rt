@@ -1,7 +1,9 @@
 //! What holds no item: numbers, strings, floats and simple values (RFC 7049 section 6).
 ghost use Rattle.std.specs.Prelude.{◌≡◌, ◌+◌, ◌++◌, codes, OnOk};
+ghost use Rattle.std.specs.Fmt.{decimal};
 ghost use Rattle.std.specs.List.{flat_map};
 ghost use Rattle.std.specs.String.{string_bytes};
+ghost use Rattle.cbor_notes.specs.Base64.{standard, url_safe};
 ghost use Rattle.cbor_diag.specs.WellFormed.{FitsFloat};
 ghost use Rattle.cbor_diag.specs.NotationText.{indicator, number, prefix, encoded_bytes, quoted, is_escaped, escaped, text, float_text, simple_text};
 
@@ -11,19 +13,31 @@ use base64::engine::general_purpose::{STANDARD, URL_SAFE_NO_PAD};
 use cbor_notes::push_hex;
 use std::alloc::AllocError;
 
-impl IntegerWidth {
-    /// The encoding indicator of a number of this width.
-    fn indicator(self) -> &'static str
-        ensures { result.now ≡ indicator self }
-    {
-        match self {
-            IntegerWidth::Unknown | IntegerWidth::Zero => "",
-            IntegerWidth::Eight => "_0",
-            IntegerWidth::Sixteen => "_1",
-            IntegerWidth::ThirtyTwo => "_2",
-            IntegerWidth::SixtyFour => "_3",
-        }
+/// Writes the encoding indicator of a number of this width.
+fn push_indicator(out: &mut String, width: IntegerWidth) -> Result<(), AllocError>
+    ensures { OnOk result (string_bytes out.new ≡ string_bytes out.old ++ indicator width) }
+{
+    let digit = match width {
+        IntegerWidth::Unknown | IntegerWidth::Zero => return Ok(()),
+        IntegerWidth::Eight => '0',
+        IntegerWidth::Sixteen => '1',
+        IntegerWidth::ThirtyTwo => '2',
+        IntegerWidth::SixtyFour => '3',
+    };
+    out.push('_')?;
+    out.push(digit)
+}
+
+/// Writes a number in decimal digits.
+#[tactic(auto, using(std::proofs::lemmas::Fmt::decimal_digit))]
+fn push_decimal(out: &mut String, value: u64) -> Result<(), AllocError>
+    ensures { OnOk result (string_bytes out.new ≡ string_bytes out.old ++ decimal value) }
+{
+    if value < 10 {
+        return out.push(char::from(b'0' + value as u8));
     }
+    let mut digits = itoa::Buffer::new();
+    out.push_str(digits.format(value))
 }
 
 /// Writes a number or a tag.
@@ -34,9 +48,8 @@ pub(crate) fn push_number(
 ) -> Result<(), AllocError>
     ensures { OnOk result (string_bytes out.new ≡ string_bytes out.old ++ number value width) }
 {
-    let mut digits = itoa::Buffer::new();
-    out.push_str(digits.format(value))?;
-    out.push_str(width.indicator())
+    push_decimal(out, value)?;
+    push_indicator(out, width)
 }
 
 /// Writes a negative integer by its encoded number, which is one less than what is written.
@@ -48,21 +61,24 @@ pub(crate) fn push_negative(
     ensures { OnOk result
         (string_bytes out.new ≡ string_bytes out.old ++ (codes "-" ++ number (value + 1) width)) }
 {
-    let mut digits = itoa::Buffer::new();
     out.push('-')?;
-    out.push_str(digits.format(u128::from(value) + 1))?;
-    out.push_str(width.indicator())
+    match value.checked_add(1) {
+        Some(number) => push_number(out, number, width),
+        None => {
+            let mut digits = itoa::Buffer::new();
+            out.push_str(digits.format(u128::from(value) + 1))?;
+            push_indicator(out, width)
+        }
+    }
 }
 
-impl Encoding {
-    /// What stands before the quotes.
-    fn prefix(self) -> &'static str
-        ensures { result.now ≡ prefix self }
-    {
-        match self {
-            Encoding::Base16 => "h",
-            Encoding::Base64 | Encoding::Base64Url => "b64",
-        }
+/// Writes what stands before the quotes of bytes.
+fn push_prefix(out: &mut String, encoding: Encoding) -> Result<(), AllocError>
+    ensures { OnOk result (string_bytes out.new ≡ string_bytes out.old ++ prefix encoding) }
+{
+    match encoding {
+        Encoding::Base16 => out.push('h'),
+        Encoding::Base64 | Encoding::Base64Url => out.push_str("b64"),
     }
 }
 
@@ -74,7 +90,7 @@ pub(crate) fn push_quoted(
 ) -> Result<(), AllocError>
     ensures { OnOk result (string_bytes out.new ≡ string_bytes out.old ++ quoted encoding bytes.now) }
 {
-    out.push_str(encoding.prefix())?;
+    push_prefix(out, encoding)?;
     out.push('\'')?;
     push_encoded(out, bytes, encoding)?;
     out.push('\'')
@@ -87,9 +103,26 @@ fn push_encoded(out: &mut String, bytes: &[u8], encoding: Encoding) -> Result<()
 {
     match encoding {
         Encoding::Base16 => push_hex(out, bytes),
-        Encoding::Base64 => STANDARD.encode_string(bytes, out),
-        Encoding::Base64Url => URL_SAFE_NO_PAD.encode_string(bytes, out),
+        Encoding::Base64 => push_base64(out, bytes),
+        Encoding::Base64Url => push_base64_url(out, bytes),
     }
+}
+
+/// Writes bytes in base 64. It stands apart since it has a large buffer, which whatever it is inlined
+/// into would clear at each call.
+#[inline(never)]
+fn push_base64(out: &mut String, bytes: &[u8]) -> Result<(), AllocError>
+    ensures { OnOk result (string_bytes out.new ≡ string_bytes out.old ++ standard bytes.now) }
+{
+    STANDARD.encode_string(bytes, out)
+}
+
+/// Writes bytes in the base 64 of URLs, apart for the same reason.
+#[inline(never)]
+fn push_base64_url(out: &mut String, bytes: &[u8]) -> Result<(), AllocError>
+    ensures { OnOk result (string_bytes out.new ≡ string_bytes out.old ++ url_safe bytes.now) }
+{
+    URL_SAFE_NO_PAD.encode_string(bytes, out)
 }
 
 /// Writes a text between quotes, with a backslash before each quote and each backslash.
