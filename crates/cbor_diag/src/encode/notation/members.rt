@@ -1,4 +1,5 @@
-//! What stands round the members of containers and the chunks of strings, as their `Listing` has it.
+//! What stands round the members of containers and the chunks of strings, as their `Listing` has it. These
+//! functions are short and called at each member, so they are inlined.
 ghost use Rattle.std.specs.Prelude.{◌≡◌, ◌∷◌, [], ◌++◌, ◌<◌, ◌^◌, OnOk, map, codes, replicate};
 ghost use Rattle.std.specs.String.{string_bytes};
 ghost use Rattle.cbor_diag.specs.View.{byte_chunk, text_chunk};
@@ -22,6 +23,7 @@ fn push_line(out: &mut String, indent: usize) -> Result<(), AllocError>
 }
 
 /// Writes an opening bracket, and what tells that a length is indefinite.
+#[inline(always)]
 pub(crate) fn push_opening(
     out: &mut String,
     bracket: char,
@@ -41,6 +43,7 @@ pub(crate) fn push_opening(
 }
 
 /// Writes what stands before a member.
+#[inline(always)]
 pub(crate) fn push_start(out: &mut String, listing: Listing, first: bool) -> Result<(), AllocError>
     requires { listing_indent listing < 2 ^ 32 }
     ensures { OnOk result (string_bytes out.new ≡ string_bytes out.old ++ start listing first) }
@@ -54,6 +57,7 @@ pub(crate) fn push_start(out: &mut String, listing: Listing, first: bool) -> Res
 }
 
 /// Writes what stands behind a member.
+#[inline(always)]
 pub(crate) fn push_end(out: &mut String, listing: Listing) -> Result<(), AllocError>
     ensures { OnOk result (string_bytes out.new ≡ string_bytes out.old ++ end listing) }
 {
@@ -64,6 +68,7 @@ pub(crate) fn push_end(out: &mut String, listing: Listing) -> Result<(), AllocEr
 }
 
 /// Writes what stands between a key and its value.
+#[inline(always)]
 pub(crate) fn push_colon(out: &mut String, listing: Listing) -> Result<(), AllocError>
     ensures { OnOk result (string_bytes out.new ≡ string_bytes out.old ++ colon listing) }
 {
@@ -74,6 +79,7 @@ pub(crate) fn push_colon(out: &mut String, listing: Listing) -> Result<(), Alloc
 }
 
 /// Writes a closing bracket, on a line of its own where the members are on lines.
+#[inline(always)]
 pub(crate) fn push_closing(
     out: &mut String,
     listing: Listing,

@@ -41,6 +41,7 @@ fn push_decimal(out: &mut String, value: u64) -> Result<(), AllocError>
 }
 
 /// Writes a number or a tag.
+#[inline(always)]
 pub(crate) fn push_number(
     out: &mut String,
     value: u64,
@@ -53,6 +54,7 @@ pub(crate) fn push_number(
 }
 
 /// Writes a negative integer by its encoded number, which is one less than what is written.
+#[inline(always)]
 pub(crate) fn push_negative(
     out: &mut String,
     value: u64,
