@@ -60,6 +60,8 @@ fn push_escaped_byte(text: &mut String, byte: u8) -> Result<(), AllocError>
 pub fn push_hex(text: &mut String, bytes: &[u8]) -> Result<(), AllocError>
     ensures { OnOk result (string_bytes text.new ≡ string_bytes text.old ++ encode_lower bytes.now) }
 {
+    // Room for all of them at once.
+    text.reserve(bytes.len().saturating_mul(2))?;
     let mut rest = bytes;
     'pieces: while !rest.is_empty() {
         let (piece, after) = rest.split_at(rest.len().min(PIECE));
@@ -70,7 +72,7 @@ pub fn push_hex(text: &mut String, bytes: &[u8]) -> Result<(), AllocError>
 }
 
 /// How many bytes are made hex digits at once.
-const PIECE: usize = 32;
+const PIECE: usize = 64;
 
 /// Appends the hex digits of a few bytes to `text`, all at once: byte by byte takes longer.
 fn push_hex_piece(text: &mut String, piece: &[u8]) -> Result<(), AllocError>
