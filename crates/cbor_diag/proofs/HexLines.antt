@@ -24,22 +24,19 @@ eight_spaces line spaces =
     sym (ap unspaced (sym (take-append-drop 8 line)) ∙ parts ∙ ap (λ (front : List ℕ). unspaced front ++ unspaced (drop 8 line)) same)
 
 -- a line without spaces is kept
-pub no_spaces : (line : List ℕ) → ((k : ℕ) → k < length line → get_or line k 0 ≢ 32) → unspaced line ≡ line
+no_spaces : (line : List ℕ) → ((k : ℕ) → k < length line → get_or line k 0 ≢ 32) → unspaced line ≡ line
 no_spaces [] none = refl
 no_spaces (x ∷ rest) none = rw (ne_eqb x 32 (none 0 (omega arith))) (ap (λ (kept : List ℕ). x ∷ kept) (no_spaces rest (λ k lt. none (suc k) (omega arith))))
 
--- and so is what stands before the first space
-pub space_first : (line : List ℕ) (n : ℕ) → n < length line → ((k : ℕ) → k < n → get_or line k 0 ≢ 32) → get_or line n 0 ≡ 32
-    → unspaced line ≡ take n line ++ unspaced (drop (n + 1) line)
-space_first line n lt before here =
-    let len = length-take-le n line (omega arith) in
+-- and so is the front of one
+pub front_kept : (line : List ℕ) (n : ℕ) → n ≤ length line → ((k : ℕ) → k < n → get_or line k 0 ≢ 32) → unspaced line ≡ take n line ++ unspaced (drop n line)
+front_kept line n le none =
+    let len = length-take-le n line le in
     let front = no_spaces (take n line) (λ k below.
     let inside : k < n = omega (arith, len, below) in
-    rw (get_or-take n line k 0 inside) (before k inside)) in
-    let parts = filter-append (λ (b : ℕ). not (b == 32)) (take n line) (drop n line) in
-    ap unspaced (sym (take-append-drop n line)) ∙ parts
+    rw (get_or-take n line k 0 inside) (none k inside)) in
+    ap unspaced (sym (take-append-drop n line)) ∙ filter-append (λ (b : ℕ). not (b == 32)) (take n line) (drop n line)
     ∙ ap (λ (kept : List ℕ). kept ++ unspaced (drop n line)) front
-    ∙ ap (λ (kept : List ℕ). take n line ++ kept) (space_here line n lt here)
 
 -- ---- comments
 

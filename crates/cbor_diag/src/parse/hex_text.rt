@@ -1,7 +1,7 @@
 //! Reads an item from hex with comments.
 //!
 //! The lines are gone through once: comments are skipped, and what is kept is decoded where it stands.
-ghost use Rattle.std.specs.Prelude.{◌≡◌, ◌<◌, ◌≤◌, ◌++◌, ◌%◌, ◌⊎◌, ◌==◌, length, IfOk, IfErr, OnOk, Ok};
+ghost use Rattle.std.specs.Prelude.{◌≡◌, ◌≢◌, ◌<◌, ◌≤◌, ◌++◌, ◌%◌, ◌⊎◌, ◌==◌, length, take, drop, slice_index, IfOk, IfErr, OnOk, Ok};
 ghost use Rattle.std.specs.List.{AllPass, after_first};
 ghost use Rattle.std.specs.Str.Lines.{strip_carriage_return};
 ghost use Rattle.hex.specs.Hex.{decode_of, is_hex_digit};
@@ -54,6 +54,7 @@ fn without_return(line: &[u8]) -> &[u8]
 #[tactic(auto, using(crate::proofs::HexLines::space_here))]
 fn after_spaces(line: &[u8]) -> &[u8]
     ensures same { unspaced result.now ≡ unspaced line.now }
+    ensures no_space { 0 < length result.now → slice_index result.now 0 ≢ 32 }
     ensures longer { length result.now ≤ length line.now }
 {
     let near = after_eights(line);
@@ -77,16 +78,31 @@ fn after_eights(line: &[u8]) -> &[u8]
     rest
 }
 
+/// Where the first space stands, or the end of the line. It looks at byte after byte, since most digits
+/// stand in short runs.
+#[tactic(auto, using(crate::proofs::HexLines::front_kept))]
+fn first_space(line: &[u8]) -> usize
+    ensures within { result ≤ length line.now }
+    ensures moves { 0 < length line.now → slice_index line.now 0 ≢ 32 → 0 < result }
+    ensures kept { unspaced line.now ≡ take result line.now ++ unspaced (drop result line.now) }
+{
+    let mut end = 0;
+    'digits: while end < line.len() && line[end] != b' ' {
+        end += 1;
+    }
+    end
+}
+
 /// Writes the bytes of a line that are no spaces.
 fn push_unspaced(out: &mut Vec<u8>, line: &[u8]) -> Result<(), AllocError>
     ensures { OnOk result (out.new.items ≡ out.old.items ++ unspaced line.now) }
 {
-    let mut rest = line;
-    'runs: while let Some(end) = memchr(b' ', rest) {
+    let mut rest = after_spaces(line);
+    'runs: while !rest.is_empty() {
+        let end = first_space(rest);
         out.extend_from_slice(&rest[..end])?;
-        rest = after_spaces(&rest[end + 1..]);
+        rest = after_spaces(&rest[end..]);
     }
-    out.extend_from_slice(rest)?;
     Ok(())
 }
 
