@@ -14,7 +14,7 @@ unspaced line = filter (λ b. not (b == 32)) line
 
 -- of one line, what stands before its first `#`, without spaces
 abbrev pub uncommented : List ℕ → List ℕ
-uncommented line = filter (λ b. not (b == 32)) (before_first (λ b. b == 35) line)
+uncommented line = unspaced (before_first (λ b. b == 35) line)
 
 -- What is kept of all lines. A line ends at a line feed, and one carriage return right before it belongs
 -- to the end.

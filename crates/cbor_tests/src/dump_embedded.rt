@@ -11,15 +11,6 @@ use std::test::Fail;
 #[test]
 fn whole_dumps_of_an_item(rt: HostRuntime) -> Result<(), Fail> {
     let rows = [
-        (
-            "d8 18 41 01",
-            r#"d8 18    # encoded cbor data item, tag(24)
-   41    #   bytes(1)
-      01 #     "\x01"
-         #   encoded cbor data item
-         #     01 # unsigned(1)
-"#,
-        ),
         // an item in an item
         (
             "d8 18 44 d8 18 41 01",

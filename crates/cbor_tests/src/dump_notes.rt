@@ -7,13 +7,6 @@ use std::test::Fail;
 fn whole_dumps(rt: HostRuntime) -> Result<(), Fail> {
     let rows = [
         (
-            "c1 1a 51 4b 67 b0",
-            r#"c1             # epoch datetime value, tag(1)
-   1a 514b67b0 #   unsigned(1,363,896,240)
-               #   datetime(2013-03-21T20:04:00Z)
-"#,
-        ),
-        (
             "c1 3b 00 00 07 94 8e d4 97 00",
             r#"c1                     # epoch datetime value, tag(1)
    3b 000007948ed49700 #   negative(-8,334,632,851,201)
@@ -32,22 +25,6 @@ fn whole_dumps(rt: HostRuntime) -> Result<(), Fail> {
             r#"c1         # epoch datetime value, tag(1)
    f9 819d #   float(819d)
            #   epoch datetime of a float is not computed
-"#,
-        ),
-        (
-            "d8 64 19 0f 9a",
-            r#"d8 64      # epoch date value, tag(100)
-   19 0f9a #   unsigned(3,994)
-           #   date(1980-12-08)
-"#,
-        ),
-        (
-            "d8 22 64 61 47 6b 3d",
-            r#"d8 22          # base64 encoded text, tag(34)
-   64          #   text(4)
-      61476b3d #     "aGk="
-               #   base64 decoded
-               #     6869 # "hi"
 "#,
         ),
         (

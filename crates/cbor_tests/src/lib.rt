@@ -1,4 +1,4 @@
-//! Tests alone: examples of the standard and of docs/, and what crosses crates.
+//! Tests alone, of the calls of `cbor_diag`: examples of the standard and of docs/.
 #![tactic(auto)]
 
 #[cfg(test)]
@@ -34,31 +34,17 @@ mod notation;
 #[cfg(test)]
 mod notation_written;
 #[cfg(test)]
-mod notes_base;
-#[cfg(test)]
-mod notes_dates;
-#[cfg(test)]
-mod notes_elements;
-#[cfg(test)]
-mod notes_lines;
-#[cfg(test)]
-mod notes_text;
-#[cfg(test)]
 mod readme;
 #[cfg(test)]
 mod refusals;
 #[cfg(test)]
 mod refused_memory;
 #[cfg(test)]
-mod refused_notes;
-#[cfg(test)]
 mod samples;
 #[cfg(test)]
 mod standard;
 #[cfg(test)]
 mod tags;
-#[cfg(test)]
-mod tokens;
 #[cfg(test)]
 mod turns;
 #[cfg(test)]

@@ -1,5 +1,5 @@
-// Calls of cbor_notes where memory is found, and where it is not, as in refused_memory.rt. What each has to
-// answer is an example of the tests on its subject.
+// Calls where memory is found, and where it is not. What each has to answer is an example of the tests on
+// its subject.
 
 use cbor_notes::{
     Line, base32_decode, base32hex_decode, base58, base64_any_decode, base64_lines, date_of_epoch,
@@ -78,7 +78,7 @@ const UUID: [u8; 16] = [
     0xf8, 0x1d, 0x4f, 0xae, 0x7d, 0xec, 0x11, 0xd0, 0xa7, 0x65, 0x00, 0xa0, 0xc9, 0x1e, 0x6b, 0xf6,
 ];
 
-/// The unspecified address, mapped to IPv4.
+/// The IPv6 address that 192.0.2.1 is mapped to (RFC 4291, section 2.5.5.2).
 const MAPPED: [u8; 16] = [0, 0, 0, 0, 0, 0, 0, 0, 0, 0, 0xff, 0xff, 192, 0, 2, 1];
 
 fn is_found(found: &Option<Vec<u8>>, bytes: &[u8]) -> bool {

@@ -1,0 +1,17 @@
+//! Tests alone, of the calls of `cbor_notes`: examples of the standards and of docs/NOTES.md.
+#![tactic(auto)]
+
+#[cfg(test)]
+mod base;
+#[cfg(test)]
+mod dates;
+#[cfg(test)]
+mod elements;
+#[cfg(test)]
+mod lines;
+#[cfg(test)]
+mod refused_memory;
+#[cfg(test)]
+mod text;
+#[cfg(test)]
+mod tokens;
