@@ -10,14 +10,6 @@ use std::test::Fail;
 #[test]
 fn strings(rt: HostRuntime) -> Result<(), Fail> {
     let rows = [
-        (
-            "d8 20 73 68 74 74 70 73 3a 2f 2f 65 78 61 6d 70 6c 65 2e 63 6f 6d",
-            r#"d8 20                                        # uri, tag(32)
-   73                                        #   text(19)
-      68747470733a2f2f6578616d706c652e636f6d #     "https://example.com"
-                                             #   valid URL (checked against URL Standard, not RFC 3986)
-"#,
-        ),
         // chunks and a break
         (
             "5f 41 01 ff",

@@ -2,6 +2,7 @@
 
 use cbor_diag::{DataItem, FloatWidth, IntegerWidth, parse_bytes};
 use std::alloc::{AllocError, Global};
+use std::process::Abort;
 use std::test::Fail;
 
 fn diag(alloc: Global, bytes: &[u8]) -> cbor_diag::Result<String> {
@@ -10,6 +11,19 @@ fn diag(alloc: Global, bytes: &[u8]) -> cbor_diag::Result<String> {
 
 fn pretty(alloc: Global, bytes: &[u8]) -> cbor_diag::Result<String> {
     parse_bytes(alloc, bytes)?.to_diag_pretty(alloc)
+}
+
+// Each item has these texts, compact and pretty.
+fn check_texts(
+    rt: &impl Abort,
+    alloc: Global,
+    rows: &[(&[u8], &str, &str)],
+) -> cbor_diag::Result<()> {
+    for (bytes, compact, row) in rows {
+        assert_eq!(rt; diag(alloc, bytes)?.as_str(), *compact);
+        assert_eq!(rt; pretty(alloc, bytes)?.as_str(), *row);
+    }
+    Ok(())
 }
 
 #[test]
@@ -86,10 +100,7 @@ fn containers_on_one_line(rt: HostRuntime) -> Result<(), Fail> {
         (b"\x7f\xff", "\"\"_", "\"\"_"),
         (b"\x82\x5f\xff\x7f\xff", "[''_,\"\"_]", "[''_, \"\"_]"),
     ];
-    for (bytes, compact, row) in rows {
-        assert_eq!(rt; diag(rt.alloc(), bytes)?.as_str(), compact);
-        assert_eq!(rt; pretty(rt.alloc(), bytes)?.as_str(), row);
-    }
+    check_texts(&rt, rt.alloc(), &rows)?;
     Ok(())
 }
 
@@ -153,10 +164,7 @@ fn embedded_items(rt: HostRuntime) -> Result<(), Fail> {
             "63_0(<<1, -1, null>>)",
         ),
     ];
-    for (bytes, compact, row) in rows {
-        assert_eq!(rt; diag(rt.alloc(), bytes)?.as_str(), compact);
-        assert_eq!(rt; pretty(rt.alloc(), bytes)?.as_str(), row);
-    }
+    check_texts(&rt, rt.alloc(), &rows)?;
     Ok(())
 }
 
