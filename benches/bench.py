@@ -6,9 +6,9 @@
 PROGRAM is `crates/cbor_view/out/cbor_view`, as `rt run` leaves it. For each kind of input and each
 conversion that PROGRAM serves, the two programs run in turn, so many rounds each, and a line shows the
 least time of each in milliseconds, what that is in megabytes of input a second, its peak memory in
-megabytes, and the ratio of the two times. The inputs are the same on every machine. They are kept in
-FOLDER, or in one that is removed at the end. At last records as a sequence are timed beside the same
-ones in an array. It needs Python and its standard library alone.
+megabytes, and the ratio of the two times. A dash stands where a run failed. The inputs are the same on
+every machine. They are kept in FOLDER, or in one that is removed at the end. At last records as a
+sequence are timed beside the same ones in an array. It needs Python and its standard library alone.
 """
 import argparse
 import os
@@ -210,8 +210,8 @@ def input_for(program, folder, source, path):
 
 
 def least(results):
-    """The least time and the greatest memory of some runs, or None where one of them failed."""
-    if any(result is None for result in results):
+    """The least time and the greatest memory of some runs, or None where one of them failed or none was."""
+    if not results or None in results:
         return None
     return min(result[0] for result in results), max(result[1] for result in results)
 
@@ -221,16 +221,23 @@ def rounds_of(programs, words, path, rounds):
     for _ in range(rounds):
         for program, result in zip(programs, results):
             result.append(run(program, words, path))
-            if result[-1] is None:
-                break
     return [least(result) for result in results]
+
+
+def milliseconds(result):
+    return f"{result[0] * 1000:10.1f}" if result else f"{'-':>10}"
 
 
 def cells(result, size):
     if result is None:
-        return f"{'-':>10} {'-':>8} {'-':>7}"
+        return f"{milliseconds(result)} {'-':>8} {'-':>7}"
     seconds, memory = result
-    return f"{seconds * 1000:10.1f} {size / seconds / 1e6:8.0f} {memory / 1024:7.0f}"
+    return f"{milliseconds(result)} {size / seconds / 1e6:8.0f} {memory / 1024:7.0f}"
+
+
+def ratio(one, other):
+    """The time of the one as a share of the time of the other."""
+    return f"{one[0] / other[0]:6.2f}" if one and other else f"{'-':>6}"
 
 
 def sequences(program, folder, count, rounds):
@@ -246,9 +253,9 @@ def sequences(program, folder, count, rounds):
         for _ in range(rounds):
             for word, path, result in zip(("bytes", "seq"), paths, times):
                 result.append(run(program, [word, to], path))
-        (one, _), (many, _) = least(times[0]), least(times[1])
+        one, many = map(least, times)
         size = os.path.getsize(paths[1])
-        print(f"{count:<10} {'seq ' + to:13} {size / 1e6:7.1f} {one * 1000:10.1f} {many * 1000:10.1f} {many / one:6.2f}")
+        print(f"{count:<10} {'seq ' + to:13} {size / 1e6:7.1f} {milliseconds(one)} {milliseconds(many)} {ratio(many, one)}")
 
 
 def serves(program, words, path):
@@ -292,8 +299,7 @@ def main():
                     results = rounds_of(programs, [source, to], made, options.rounds)
                     line = f"{kind:10} {source + ' ' + to:13} {size / 1e6:7.1f} {cells(results[0], size)}"
                     if options.other:
-                        ratio = f"{results[0][0] / results[1][0]:6.2f}" if results[0] and results[1] else f"{'-':>6}"
-                        line += f" {cells(results[1], size)} {ratio}"
+                        line += f" {cells(results[1], size)} {ratio(*results)}"
                     print(line, flush=True)
         if options.only in (None, "records"):
             sequences(options.program, folder, max(1, 1000 * options.size), options.rounds)

@@ -105,13 +105,6 @@ one_takes kind (first ∷ b) rest o fits e =
 pub chunk_takes : (kind : StringKind) (b rest : List ℕ) (c : Chunk) → IsBytes b → chunk_at kind b ≡ Ok (Some c, rest) → ChunkThen kind c b (λ r. r ≡ rest) × IsBytes rest
 chunk_takes kind b rest c fits e = one_takes kind b rest (Some c) fits e
 
-no_chunk_of : (kind : StringKind) (i : Info) (b rest : List ℕ) → chunk_of kind i b ≡ Ok (None, rest) → ⊥
-no_chunk_of kind (info.Number n w) b rest e =
-    let a = bind_ok (content_at kind n w b) (λ c. Ok (Some c.0, c.1)) (None, rest) e in
-    let wrong : Some a.0.0 ≡ None = ap (λ (p : Option Chunk × List ℕ). p.0) (ok_is (Some a.0.0, a.0.1) (None, rest) a.2) in
-    cc
-no_chunk_of kind info.Indefinite b rest e = cc
-
 pub chunk_again : (kind : StringKind) (b rest : List ℕ) (c : Chunk) → ChunkThen kind c b (λ r. r ≡ rest) → chunk_at kind b ≡ Ok (Some c, rest)
 chunk_again kind b rest c h =
     let o = opened (major_of kind) (length c.bytes) c.width b h.1.1 (h.1.0, h.1.1, h.1.2, refl) in

@@ -3,7 +3,7 @@ use Rattle.std.proofs.Common.{◌≡◌, ℕ, zero, suc, ◌+◌, ◌-◌, ◌<�
 use Rattle.cbor_diag.specs.declared.error.Error.{Error}
 use Rattle.cbor_diag.specs.Item.{Item}
 use Rattle.cbor_diag.specs.Reading.{Read}
-use Rattle.cbor_diag.specs.Counting.{Counted, later, go_on, ◌>>-◌, Frame, put, end_at, closed, close_or, goes_on, parts_at, counted_item, closing, resume, deliver}
+use Rattle.cbor_diag.specs.Counting.{Counted, later, go_on, ◌>>-◌, Frame, put, end_at, closed, close_or, goes_on, parts_at, counted_item, closing, deliver}
 
 -- ---- turns before
 
@@ -94,7 +94,3 @@ deliver_later left outer (Some f) k c =
 pub deliver_err : (left : ℕ) (outer : List Frame) (top : Option Frame) (n : ℕ) (e : Error) → deliver left outer top (n, Err e) ≡ (n, Err e)
 deliver_err left outer None n e = refl
 deliver_err left outer (Some f) n e = closing_err (left - 1) outer n e
-
--- a whole item is put in the innermost container
-pub deliver_put : (left : ℕ) (outer : List Frame) (f : Frame) (i : Item) (b : List ℕ) → deliver left outer (Some f) (0, Ok (i, b)) ≡ resume left outer (Some (put f i)) b
-deliver_put left outer f i b = ap (closing (left - 1) outer) (later_none _)

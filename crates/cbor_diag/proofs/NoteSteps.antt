@@ -1,7 +1,6 @@
 -- Notes are lines without digits: what a sink does with them.
-use Rattle.std.proofs.Common.{◌≡◌, ℕ, ◌+◌, ◌<◌, List, [], ◌∷◌, map, max, length, drop, get_or, refl, sym, ap, ◌∙◌, arith}
+use Rattle.std.proofs.Common.{◌≡◌, ℕ, ◌+◌, ◌<◌, List, [], ◌∷◌, map, max, refl, ap, ◌∙◌, arith}
 use Rattle.std.specs.List.{flat_map}
-use Rattle.std.proofs.lemmas.List.{drop_more}
 use Rattle.cbor_notes.proofs.HexLemmas.{IsAscii-from_test}
 use Rattle.cbor_diag.specs.Dump.{note_line, note_lines}
 use Rattle.cbor_diag.specs.Parts.{Takes, taken}
@@ -30,10 +29,3 @@ notes_passed width depth [] = refl
 notes_passed width depth (n ∷ ns) =
     taken-append step (widest width) (note_lines depth n) (flat_map (note_lines depth) ns)
     ∙ ap (λ v. taken step v (flat_map (note_lines depth) ns)) (note_passed width depth n) ∙ notes_passed width depth ns
-
--- A loop over texts stands at its i-th one.
-pub texts_left : {X : Type 0} (text_of : X → List ℕ) (depth : ℕ) (texts : List X) (i : ℕ) (text : X) → text ≡ get_or texts i text → i < length texts
-    → map (note_line depth) (map text_of (drop i texts)) ≡ note_line depth (text_of text) ∷ map (note_line depth) (map text_of (drop (i + 1) texts))
-texts_left text_of depth texts i text is inside =
-    ap (λ ts. map (note_line depth) (map text_of ts)) (drop_more texts i text inside)
-    ∙ ap (λ t. note_line depth (text_of t) ∷ map (note_line depth) (map text_of (drop (i + 1) texts))) (sym is)

@@ -1,14 +1,16 @@
 -- A container is on one line exactly where its estimate is below 60.
-use Rattle.std.proofs.Common.{◌≡◌, ℕ, ◌<◌, ◌≤◌, refl, ap, ◌∙◌}
+use Rattle.std.proofs.Common.{◌≡◌, ℕ, ◌+◌, ◌-◌, ◌<◌, ◌≤◌, ◌++◌, codes, refl, ap, ◌∙◌, arith}
 use Rattle.std.proofs.lemmas.Bool.{lt-ltb, le-ltb}
+use Rattle.cbor_diag.specs.declared.syntax.IntegerWidth.{IntegerWidth}
 use Rattle.cbor_diag.specs.declared.encode.encoding.Encoding.{Encoding}
 use Rattle.cbor_diag.specs.declared.encode.notation.context.Layout.TheVariants.{Pretty}
 use Rattle.cbor_diag.specs.declared.encode.notation.context.Listing.TheVariants.{Row, Lines}
 use Rattle.cbor_diag.specs.Item as spec
-use Rattle.cbor_diag.specs.Item.{integer, negative, byte_string, text_string, byte_chunks, text_chunks, float, simple, Item, atom, array, tagged}
+use Rattle.cbor_diag.specs.Item.{Chunk, integer, negative, byte_string, text_string, byte_chunks, text_chunks, float, simple, Item, atom, array, tagged}
 use Rattle.cbor_diag.specs.Estimate.{full, long}
-use Rattle.cbor_diag.specs.NotationText.{in_encoding, listing, array_text, map_text, byte_chunks_text, text_chunks_text}
-use Rattle.cbor_diag.specs.Pretty.{pretty, in_one_line, in_lines}
+use Rattle.cbor_diag.specs.Embedded.{sequence, sequence_at}
+use Rattle.cbor_diag.specs.NotationText.{number, in_encoding, below, listing, array_text, map_text, sequence_size, sequence_text, byte_chunks_text, text_chunks_text, text_at}
+use Rattle.cbor_diag.specs.Pretty.{pretty, in_one_line, in_lines, sequence_laid_out, sequence_in_one_line, sequence_in_lines}
 use Rattle.cbor_diag.proofs.TextParts.{write_below, text_opens}
 
 short : (indent size : ℕ) → size < long → listing (Pretty indent) size ≡ Row indent
@@ -42,3 +44,22 @@ long_is level indent e (atom (text_string c)) le tall_enough = refl
 long_is level indent e (atom (float n w)) le tall_enough = refl
 long_is level indent e (atom (simple n)) le tall_enough = refl
 long_is level indent e (tagged t w i) le tall_enough = refl
+
+sequence_is : (level indent : ℕ) (e : Encoding) (w : IntegerWidth) (b : Chunk) → level < 128 → pretty e level indent (tagged 63 w (atom (byte_string b)))
+    ≡ sequence_laid_out (listing (Pretty indent) (sequence_size (sequence (level + 2) b.bytes))) e level indent w b.bytes
+sequence_is level indent e w b lt =
+    let c = in_encoding (Pretty indent) e in
+    let two : level + 1 + 1 ≡ level + 2 = omega arith in
+    let opened = text_opens (level + 1) (below 63 c) (atom (byte_string b)) (omega (arith, lt)) in
+    text_opens level c (tagged 63 w (atom (byte_string b))) (omega (arith, lt))
+    ∙ ap (λ x. number 63 w ++ (codes "(" ++ (x ++ codes ")"))) (opened ∙ ap (λ n. sequence_text (text_at (129 - n)) (below 63 c) (sequence_at (129 - n) b.bytes)) two)
+
+pub short_sequence : (level indent : ℕ) (e : Encoding) (w : IntegerWidth) (b : Chunk) → level < 128 → sequence_size (sequence (level + 2) b.bytes) < long
+    → pretty e level indent (tagged 63 w (atom (byte_string b))) ≡ sequence_in_one_line e level indent w b.bytes
+short_sequence level indent e w b lt few =
+    sequence_is level indent e w b lt ∙ ap (λ l. sequence_laid_out l e level indent w b.bytes) (short indent (sequence_size (sequence (level + 2) b.bytes)) few)
+
+pub long_sequence : (level indent : ℕ) (e : Encoding) (w : IntegerWidth) (b : Chunk) → level < 128 → long ≤ sequence_size (sequence (level + 2) b.bytes)
+    → pretty e level indent (tagged 63 w (atom (byte_string b))) ≡ sequence_in_lines e level indent w b.bytes
+long_sequence level indent e w b lt many =
+    sequence_is level indent e w b lt ∙ ap (λ l. sequence_laid_out l e level indent w b.bytes) (tall indent (sequence_size (sequence (level + 2) b.bytes)) many)

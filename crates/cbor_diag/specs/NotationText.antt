@@ -208,10 +208,16 @@ items_text write c l opening is closing = bracketed l opening (item_texts (write
 abbrev pub pairs_text : (Context → Item → List ℕ) → Context → Listing → List ℕ → Pairs → List ℕ → List ℕ
 pairs_text write c l opening ps closing = bracketed l opening (pair_texts (write (inside (members_layout l) c)) (colon l) ps) closing
 
+-- the items of a sequence, laid out so, and its rest
+abbrev pub sequence_listed : (Context → Item → List ℕ) → Context → Listing → Items × List ℕ → List ℕ
+sequence_listed write c l s = items_text write c l (codes "<<") s.0 (codes ">>") ++ rest_text c s.1
+
 -- A sequence is laid out as an array of its items.
+abbrev pub sequence_size : Items × List ℕ → ℕ
+sequence_size s = full (array s.0 None)
+
 abbrev pub sequence_text : (Context → Item → List ℕ) → Context → Items × List ℕ → List ℕ
-sequence_text write c s =
-    items_text write c (listing c.layout (full (array s.0 None))) (codes "<<") s.0 (codes ">>") ++ rest_text c s.1
+sequence_text write c s = sequence_listed write c (listing c.layout (sequence_size s)) s
 
 -- The bytes of a byte string of definite length, so many levels being left below it.
 abbrev pub content_text : ℕ → (Context → Item → List ℕ) → Content → Context → List ℕ → List ℕ

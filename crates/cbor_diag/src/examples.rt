@@ -1,6 +1,6 @@
 //! What the definitions of `specs/` say of a few inputs: each is computed, or shown by a witness,
 //! when the crate is checked, so that a wrong definition does not pass. Nothing calls these functions.
-ghost use Rattle.std.specs.Prelude.{◌≡◌, [], ◌∷◌, ◌++◌, codes, length, map, replicate};
+ghost use Rattle.std.specs.Prelude.{◌≡◌, [], ◌∷◌, ◌++◌, codes, length, map, replicate, Some, None};
 ghost use Rattle.std.specs.List.{AllByRecursion};
 ghost use Rattle.cbor_diag.specs.declared.error.Error.TheVariants.{Head, Utf8, TooDeep};
 ghost use Rattle.cbor_diag.specs.declared.syntax.IntegerWidth.TheVariants.{Unknown, Zero, Eight, Sixteen};
@@ -10,6 +10,7 @@ ghost use Rattle.cbor_diag.specs.Written.{encoded, encoded_open, resolve};
 ghost use Rattle.cbor_diag.specs.Bytes.{any, strict, Spells};
 ghost use Rattle.cbor_diag.specs.Refused.{Cut, Fault};
 ghost use Rattle.cbor_diag.specs.declared.encode.encoding.Encoding.TheVariants.{Base16};
+ghost use Rattle.cbor_diag.specs.Embedded.{embedded, sequence};
 ghost use Rattle.cbor_diag.specs.Compact.{compact};
 ghost use Rattle.cbor_diag.specs.Dump.{dump, lines};
 ghost use Rattle.cbor_diag.specs.Pieces.{text_pieces};
@@ -82,6 +83,14 @@ pub(crate) fn hex_text()
     ensures nothing { strip [] ≡ [] }
 {}
 
+/// Items embedded in bytes: a whole one, one with a byte behind it, and a sequence with a rest.
+pub(crate) fn embedded_items()
+    ensures whole { embedded 128 (1 ∷ []) ≡ Some (small 1) }
+    ensures too_long { embedded 128 (1 ∷ 2 ∷ []) ≡ None }
+    ensures too_deep { embedded 129 (1 ∷ []) ≡ None }
+    ensures in_sequence { sequence 3 (1 ∷ 2 ∷ 255 ∷ []) ≡ (item (small 1) (item (small 2) no_items), 255 ∷ []) }
+{}
+
 /// Embedded items in texts: one in the bytes of another, a sequence with a rest, bytes that are an item
 /// at level 128 and none at level 129, and encodings that hold through an embedded item, each up to the
 /// next tag that states one.
@@ -93,6 +102,7 @@ pub(crate) fn embedded_text()
     ensures no_items { compact Base16 1 (over_bytes 63 []) ≡ codes "63_0(<<>>)" }
     ensures deepest { compact Base16 126 (over_bytes 24 (1 ∷ [])) ≡ codes "24_0(<<1>>)" }
     ensures deeper { compact Base16 127 (over_bytes 24 (1 ∷ [])) ≡ codes "24_0(h'01')" }
+    ensures base64 { compact Base16 1 (tagged 22 Zero (bytes (255 ∷ 255 ∷ 255 ∷ []))) ≡ codes "22(b64'////')" }
     ensures encoding { compact Base16 1 encodings ≡ codes "21([b64'_w',24_0(<<b64'_w'>>),23(h'ff')])" }
 {}
 

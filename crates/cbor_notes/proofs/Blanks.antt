@@ -118,18 +118,6 @@ after_blank-ends comments [] ends = refl
 after_blank-ends true (byte ∷ rest) ends = rw (ends.0, ne_eqb byte 47 ends.1) refl
 after_blank-ends false (byte ∷ rest) ends = rw ends.0 refl
 
--- a blank is read whole where no blank goes on after it
-pub blank_whole : (comments : Bool) (front rest : List ℕ) → Blank comments front → EndsBlank rest → IsLongest (Blank comments) front rest
-blank_whole comments front rest is ends = longest_left comments front rest is (sym (after_blank-append is rest ∙ after_blank-ends comments rest ends))
-
--- where a blank begins with a blank, the rest of it is one
-pub Blank-rest : (comments : Bool) (front rest : List ℕ) → Blank comments front → Blank comments (front ++ rest) → Blank comments rest
-Blank-rest comments front rest is whole =
-    let none : after_blank comments rest ≡ [] = sym (after_blank-append is rest) ∙ ap (after_blank comments) (sym (append-nil (front ++ rest))) ∙ after_blank-append whole [] in
-    let left = blank_left comments rest in
-    let same : left.0 ≡ rest = sym (append-nil left.0) ∙ ap (λ (t : List ℕ). left.0 ++ t) (sym none) ∙ sym left.1 in
-    subst (Blank comments) same left.2
-
 -- where a comment ends, if it does
 pub after_comment : (comments : Bool) (opened rest : List ℕ) (place : ℕ) → place ≡ position_or_len (λ b. b == 47) rest → place < length rest → after_blank_in comments (Some opened) rest ≡ after_blank comments (drop (place + 1) rest)
 after_comment comments opened [] place is within = absurd (omega arith)

@@ -7,7 +7,6 @@ pub mod Base32Padding
 pub mod Base58Digits
 pub mod Base58Lemmas
 pub mod Base64Digits
-pub mod Base64Texts
 pub mod CalendarDays
 pub mod Spaces
 pub mod Blanks

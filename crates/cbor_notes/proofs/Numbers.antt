@@ -292,10 +292,6 @@ longest_number front rest value indicator is read = record {
       omega (arith, ap length same, length-append front rest, length-append other after, ap (λ (r : ℕ × Option ℕ × List ℕ). length r.2) one, reached.2);
 }
 
--- a number is read whole where no number goes on after it: it is the longest
-pub number_whole : (front rest : List ℕ) (value : ℕ) (indicator : Option ℕ) → IsNumber front value indicator → EndsNumber rest → IsLongest IsSomeNumber front rest
-number_whole front rest value indicator is ends = longest_number front rest value indicator is (number_of-append front rest value indicator is ends)
-
 -- a text is a number of one value and one indicator
 pub one_number : (text : List ℕ) (value other : ℕ) (indicator another : Option ℕ) → IsNumber text value indicator → IsNumber text other another → (value ≡ other) × (indicator ≡ another)
 one_number text value other indicator another is is_too =

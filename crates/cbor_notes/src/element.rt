@@ -1,6 +1,6 @@
 //! The elements of typed arrays: RFC 8746, section 2.
 
-ghost use Rattle.std.specs.Prelude.{◌≡◌, [], ◌++◌, is_some, unwrap_or, ◌-◌, ◌<◌, ◌≤◌, ◌*◌, ◌^◌, drop, length, replicate, take, reverse, option_map, if◌then◌else◌, IfSome, IfNone, IfOk, OnOk, false, true};
+ghost use Rattle.std.specs.Prelude.{◌≡◌, [], ◌++◌, is_some, unwrap_or, ◌-◌, ◌<◌, ◌≤◌, ◌*◌, ◌^◌, length, take, reverse, option_map, if◌then◌else◌, IfSome, IfNone, IfOk, OnOk, false, true};
 ghost use Rattle.std.specs.Int.{IsInRange};
 ghost use Rattle.std.specs.Int.Digits.{number_from_digits};
 ghost use Rattle.std.specs.String.{string_bytes};

@@ -177,9 +177,6 @@ pub(crate) fn spaced()
     ensures quote { (digits : List ℕ) → ¬ (DigitsBetween false (codes "0'1") digits) }
 {}
 
-/// Bytes between quotes, and characters that can stand there: of U+0000, U+0085, U+00E9 and U+2028 the
-/// An IPv4 address of RFC 5737, a MAC address of RFC 7042, and IPv6 addresses as RFC 5952 has them: the
-/// A tag with a note, the lines of an empty string, and no lines: the width is that of the farthest
 /// Dates as texts and as days, the first of them the example of RFC 8943, section 1.1, and a time of day.
 pub(crate) fn dates()
     ensures text { (date : Date) → IsYmd (pos 1940) (pos 10) (pos 9) date → date_text date ≡ codes "1940-10-09" }

@@ -6,7 +6,7 @@
 mod content;
 mod number;
 
-ghost use Rattle.std.specs.Prelude.{◌≡◌, ◌++◌, ◌<◌, ◌≤◌, [], List, ℕ, drop, length, slice_index, slice_range, true, IsTrue, IfNone, IfSome};
+ghost use Rattle.std.specs.Prelude.{◌≡◌, ◌<◌, ◌≤◌, drop, length, slice_range, true, IfNone, IfSome};
 ghost use Rattle.cbor_notes.specs.Token.{Blank, IsLongest, is_whitespace};
 ghost use Rattle.cbor_notes.specs.TokenReading.{after_blank};
 

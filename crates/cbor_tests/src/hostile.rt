@@ -1,8 +1,9 @@
 // What holds of every input: where an item ends, that bytes behind it change nothing, and that what is
 // written of it leads back to it. Shown of all inputs of up to two bytes, and of items of every kind.
 
+use crate::printed::read_back;
 use crate::samples::{SAMPLES, deep_bytes};
-use cbor_diag::{DataItem, Error, parse_bytes, parse_bytes_partial, parse_diag, parse_hex};
+use cbor_diag::{DataItem, Error, parse_bytes, parse_bytes_partial, parse_hex};
 use std::alloc::Global;
 use std::process::Abort;
 use std::test::Fail;
@@ -91,18 +92,12 @@ fn check_ends(rt: &impl Abort, alloc: Global, bytes: &[u8]) -> Result<(), Error>
 }
 
 /// What is written of an item that was read is read back: bytes and a dump as the item, both texts as one
-/// item that has the same text.
+/// item that has the same texts.
 fn check_written(rt: &impl Abort, alloc: Global, item: &DataItem) -> Result<(), Error> {
     assert!(rt; item.is_well_formed());
     assert_eq!(rt; parse_bytes(alloc, &item.to_bytes(alloc)?)?, *item);
     assert_eq!(rt; parse_hex(alloc, item.to_hex(alloc)?.as_str())?, *item);
-    let text = item.to_diag(alloc)?;
-    let told = parse_diag(alloc, text.as_str())?;
-    let pretty = item.to_diag_pretty(alloc)?;
-    assert_eq!(rt; parse_diag(alloc, pretty.as_str())?, told);
-    assert!(rt; told.is_well_formed());
-    let again = told.to_diag(alloc)?;
-    assert_eq!(rt; again.as_str(), text.as_str());
+    read_back(rt, alloc, item)?;
     Ok(())
 }
 

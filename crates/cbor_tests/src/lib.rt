@@ -32,7 +32,11 @@ mod malformed;
 #[cfg(test)]
 mod notation;
 #[cfg(test)]
+mod notation_lines;
+#[cfg(test)]
 mod notation_written;
+#[cfg(test)]
+mod printed;
 #[cfg(test)]
 mod readme;
 #[cfg(test)]

@@ -1,10 +1,18 @@
 // Items and strings for tests, of fields written in one line.
 
-use cbor_diag::{ByteString, DataItem, IntegerWidth, Result, Tag, TextString};
+use cbor_diag::{ByteString, DataItem, FloatWidth, IntegerWidth, Result, Tag, TextString};
 use std::alloc::Global;
 
 pub(crate) fn integer(value: u64, bitwidth: IntegerWidth) -> DataItem {
     DataItem::Integer { value, bitwidth }
+}
+
+pub(crate) fn negative(value: u64, bitwidth: IntegerWidth) -> DataItem {
+    DataItem::Negative { value, bitwidth }
+}
+
+pub(crate) fn float(bits: u64, bitwidth: FloatWidth) -> DataItem {
+    DataItem::Float { bits, bitwidth }
 }
 
 pub(crate) fn bytes(alloc: Global, content: &[u8], bitwidth: IntegerWidth) -> Result<ByteString> {
@@ -15,6 +23,16 @@ pub(crate) fn bytes(alloc: Global, content: &[u8], bitwidth: IntegerWidth) -> Re
 pub(crate) fn text(alloc: Global, content: &str, bitwidth: IntegerWidth) -> Result<TextString> {
     let content = String::from_str(alloc, content)?;
     Ok(TextString { content, bitwidth })
+}
+
+pub(crate) fn empty_array(alloc: Global, bitwidth: Option<IntegerWidth>) -> DataItem {
+    let content = Vec::new(alloc);
+    DataItem::Array { content, bitwidth }
+}
+
+pub(crate) fn empty_map(alloc: Global, bitwidth: Option<IntegerWidth>) -> DataItem {
+    let content = Vec::new(alloc);
+    DataItem::Map { content, bitwidth }
 }
 
 pub(crate) fn array_of(alloc: Global, item: DataItem) -> Result<DataItem> {
@@ -46,10 +64,7 @@ pub(crate) fn tagged(
 
 // An empty array in that many arrays.
 pub(crate) fn arrays_around_empty(alloc: Global, count: u8) -> Result<DataItem> {
-    let mut item = DataItem::Array {
-        content: Vec::new(alloc),
-        bitwidth: Some(IntegerWidth::Zero),
-    };
+    let mut item = empty_array(alloc, Some(IntegerWidth::Zero));
     for _ in 0..count {
         item = array_of(alloc, item)?;
     }

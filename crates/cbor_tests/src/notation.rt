@@ -1,6 +1,7 @@
 // Items read from diagnostic notation.
 
-use cbor_diag::{DataItem, Error, FloatWidth, IntegerWidth, Simple, parse_bytes, parse_diag};
+use crate::make::{bytes, empty_array, empty_map, float, integer, negative, tagged, text};
+use cbor_diag::{DataItem, Error, FloatWidth, IntegerWidth, Simple, parse_diag};
 use std::alloc::Global;
 use std::test::Fail;
 
@@ -10,17 +11,28 @@ const READ: &[(&str, &str)] = &[
     ("0x18", "1818"),
     ("0o30", "1818"),
     ("0b11_1", "190003"),
+    ("1_1", "190001"),
     ("1_01", "190001"),
     ("1_00", "1801"),
     ("-0x18", "37"),
     ("-256_0", "38ff"),
     ("-18446744073709551616_3", "3bffffffffffffffff"),
+    ("-18446744073709551616", "3bffffffffffffffff"),
+    ("18446744073709551615", "1bffffffffffffffff"),
     ("32_0(\"x\")", "d8206178"),
+    (
+        "32(\"https://example.com\")",
+        "d8207368747470733a2f2f6578616d706c652e636f6d",
+    ),
+    ("h''", "40"),
+    ("h'0A'", "410a"),
     ("h'0 1'", "4101"),
     ("h'/x/01'", "4101"),
     ("h'01 '", "4101"),
+    ("b32''", "40"),
     ("b32'MZXW6==='", "43666f6f"),
     ("h32'CPNMU==='", "43666f6f"),
+    ("b64''", "40"),
     ("b64'AA//AA//'", "46000fff000fff"),
     ("b64'AA__AA__'", "46000fff000fff"),
     ("b64'AA= ='", "4100"),
@@ -35,6 +47,8 @@ const READ: &[(&str, &str)] = &[
     ("\"\\\\\\\"\"", "625c22"),
     ("[1, [2]]", "82018102"),
     ("[_ 1, {\"a\": 2}]", "9f01a1616102ff"),
+    ("{1: 2, }", "a10102"),
+    ("{_ 1: 2}", "bf0102ff"),
     ("{_ 1: 2, }", "bf0102ff"),
     ("[1, ]", "8101"),
     ("[, ]", "80"),
@@ -62,23 +76,30 @@ const REFUSED: &[&str] = &[
     "1_4",
     "1.5",
     "-0",
+    "- 1",
+    "-/x/1",
     "0x",
     "18446744073709551616",
+    "-18446744073709551617",
     "32 (\"x\")",
     "32(\"x\"",
     "h' '",
     "h'0'",
+    "b32' '",
     "b32'MZXW7==='",
+    "b64' '",
     "b64'AA='",
     "'\\n'",
     "\"\\n\"",
     "h'61' \"b\"",
+    "[,]",
     "[1,]",
     "[1,/x/ ]",
     "[1, /x/]",
     "[,1]",
     "[1 2]",
     "{1}",
+    "{1:2,}",
     "(_ \"a\", h'62')",
     "\"\" _",
     "\"a\" \"\"_",
@@ -135,38 +156,85 @@ fn refusals_have_their_reasons(rt: HostRuntime) -> Result<(), Fail> {
     Ok(())
 }
 
+// The width that a number or a tag states, else none up to 23 and above that an open one.
 #[test]
-fn widths_are_kept(rt: HostRuntime) -> Result<(), Fail> {
+fn widths_of_numbers(rt: HostRuntime) -> Result<(), Fail> {
     let alloc = rt.alloc();
-    let (value, bitwidth) = (24, IntegerWidth::Unknown);
-    assert_eq!(rt;
-        parse_diag(alloc, "24")?,
-        DataItem::Integer { value, bitwidth }
-    );
-    let (value, bitwidth) = (23, IntegerWidth::Zero);
-    assert_eq!(rt;
-        parse_diag(alloc, "-24")?,
-        DataItem::Negative { value, bitwidth }
-    );
-    let (value, bitwidth) = (1, IntegerWidth::Eight);
-    assert_eq!(rt;
-        parse_diag(alloc, "1_0")?,
-        DataItem::Integer { value, bitwidth }
-    );
-    let (content, bitwidth) = (Vec::new(alloc), Some(IntegerWidth::Unknown));
-    assert_eq!(rt;
-        parse_diag(alloc, "[]")?,
-        DataItem::Array { content, bitwidth }
-    );
-    let (bits, bitwidth) = (0x3c00, FloatWidth::Sixteen);
-    assert_eq!(rt;
-        parse_diag(alloc, "float'3c00'")?,
-        DataItem::Float { bits, bitwidth }
-    );
-    assert_eq!(rt;
-        parse_diag(alloc, "simple(20)")?,
-        DataItem::Simple(Simple::FALSE)
-    );
+    let (open, zero) = (IntegerWidth::Unknown, IntegerWidth::Zero);
+    let eight = IntegerWidth::Eight;
+    let rows = [
+        ("23", integer(23, zero)),
+        ("24", integer(24, open)),
+        ("1_0", integer(1, eight)),
+        ("24_0", integer(24, eight)),
+        ("0x18", integer(24, open)),
+        ("0o30", integer(24, open)),
+        ("0b11_1", integer(3, IntegerWidth::Sixteen)),
+        ("-24", negative(23, zero)),
+        ("-0x18", negative(23, zero)),
+        ("-25", negative(24, open)),
+        ("-256_0", negative(255, eight)),
+        ("23(0)", tagged(alloc, 23, zero, integer(0, zero))?),
+        ("24(0)", tagged(alloc, 24, open, integer(0, zero))?),
+        ("0_0(24)", tagged(alloc, 0, eight, integer(24, open))?),
+    ];
+    for (notation, item) in rows {
+        assert_eq!(rt; parse_diag(alloc, notation)?, item, "{notation}");
+    }
+    Ok(())
+}
+
+// An open one, of chunks too.
+#[test]
+fn widths_of_strings(rt: HostRuntime) -> Result<(), Fail> {
+    let alloc = rt.alloc();
+    let open = IntegerWidth::Unknown;
+    let none = DataItem::ByteString(bytes(alloc, b"", open)?);
+    let one = DataItem::ByteString(bytes(alloc, b"\x01", open)?);
+    let two = DataItem::ByteString(bytes(alloc, b"\x01a", open)?);
+    let joined = DataItem::TextString(text(alloc, "ab", open)?);
+    let uri = DataItem::TextString(text(alloc, "https://example.com", open)?);
+    let byte_chunks = vec![in alloc; bytes(alloc, b"\x01a", open)?]?;
+    let text_chunks = vec![in alloc; text(alloc, "ab", open)?]?;
+    let rows = [
+        ("h''", none),
+        ("<<1>>", one),
+        ("h'01' 'a'", two),
+        ("\"a\" h'62'", joined),
+        ("32(\"https://example.com\")", tagged(alloc, 32, open, uri)?),
+        ("(_ h'01' 'a')", DataItem::IndefiniteByteString(byte_chunks)),
+        ("(_ \"ab\")", DataItem::IndefiniteTextString(text_chunks)),
+        ("''_", DataItem::IndefiniteByteString(Vec::new(alloc))),
+        ("(_)", DataItem::IndefiniteByteString(Vec::new(alloc))),
+        ("\"\"_", DataItem::IndefiniteTextString(Vec::new(alloc))),
+    ];
+    for (notation, item) in rows {
+        assert_eq!(rt; parse_diag(alloc, notation)?, item, "{notation}");
+    }
+    Ok(())
+}
+
+// An open one of arrays and maps, unless their length is indefinite; of a float that of its digits.
+#[test]
+fn widths_of_other_items(rt: HostRuntime) -> Result<(), Fail> {
+    let alloc = rt.alloc();
+    let open = Some(IntegerWidth::Unknown);
+    let rows = [
+        ("[]", empty_array(alloc, open)),
+        ("[_]", empty_array(alloc, None)),
+        ("{}", empty_map(alloc, open)),
+        ("{_}", empty_map(alloc, None)),
+        ("float'3c00'", float(0x3c00, FloatWidth::Sixteen)),
+        ("float'00003c00'", float(0x3c00, FloatWidth::ThirtyTwo)),
+        (
+            "float'0000000000003c00'",
+            float(0x3c00, FloatWidth::SixtyFour),
+        ),
+        ("simple(20)", DataItem::Simple(Simple::FALSE)),
+    ];
+    for (notation, item) in rows {
+        assert_eq!(rt; parse_diag(alloc, notation)?, item, "{notation}");
+    }
     Ok(())
 }
 
@@ -193,11 +261,13 @@ fn nested(
 fn levels_are_128(rt: HostRuntime) -> Result<(), Fail> {
     let rows = [
         (128, "[", "", "]", None),
+        (129, "[", "", "]", Some(Error::TooDeep)),
         (128, "[", "1", "]", Some(Error::TooDeep)),
         (127, "[", "1", "]", None),
         (63, "24(<<", "1", ">>)", None),
         (64, "24(<<", "1", ">>)", Some(Error::TooDeep)),
         (64, "24(<<", "", ">>)", None),
+        (127, "[", "(_ h'01')", "]", None),
         (127, "[", "(_<<1>>)", "]", Some(Error::TooDeep)),
         (200_000, "[", "", "", Some(Error::TooDeep)),
     ];

@@ -1,37 +1,23 @@
-// Items in diagnostic notation (docs/NOTATION.md).
+// Items in diagnostic notation (docs/NOTATION.md), and what their texts are read back as.
 
-use cbor_diag::{DataItem, FloatWidth, IntegerWidth, parse_bytes};
-use std::alloc::{AllocError, Global};
-use std::process::Abort;
+use crate::make::{float, integer, negative, tagged};
+use crate::printed::{check_item, check_texts, read_back};
+use crate::samples::{deep_bytes, deep_text};
+use cbor_diag::{FloatWidth, IntegerWidth, parse_bytes, parse_hex};
+use std::alloc::Global;
 use std::test::Fail;
 
 fn diag(alloc: Global, bytes: &[u8]) -> cbor_diag::Result<String> {
     parse_bytes(alloc, bytes)?.to_diag(alloc)
 }
 
-fn pretty(alloc: Global, bytes: &[u8]) -> cbor_diag::Result<String> {
-    parse_bytes(alloc, bytes)?.to_diag_pretty(alloc)
-}
-
-// Each item has these texts, compact and pretty.
-fn check_texts(
-    rt: &impl Abort,
-    alloc: Global,
-    rows: &[(&[u8], &str, &str)],
-) -> cbor_diag::Result<()> {
-    for (bytes, compact, row) in rows {
-        assert_eq!(rt; diag(alloc, bytes)?.as_str(), *compact);
-        assert_eq!(rt; pretty(alloc, bytes)?.as_str(), *row);
-    }
-    Ok(())
-}
-
 #[test]
 fn numbers_strings_and_simple_values(rt: HostRuntime) -> Result<(), Fail> {
-    let rows: [(&[u8], &str); 21] = [
+    let rows: [(&[u8], &str); 22] = [
         (b"\x17", "23"),
         (b"\x18\x17", "23_0"),
         (b"\x19\x00\x64", "100_1"),
+        (b"\x19\x00\x01", "1_1"),
         (b"\x1a\x00\x00\x00\x00", "0_2"),
         (
             b"\x1b\xff\xff\xff\xff\xff\xff\xff\xff",
@@ -58,30 +44,48 @@ fn numbers_strings_and_simple_values(rt: HostRuntime) -> Result<(), Fail> {
         (b"\xf8\xff", "simple(255)"),
     ];
     for (bytes, text) in rows {
-        assert_eq!(rt; diag(rt.alloc(), bytes)?.as_str(), text);
-        assert_eq!(rt; pretty(rt.alloc(), bytes)?.as_str(), text);
+        check_texts(&rt, rt.alloc(), &[(bytes, text, text)])?;
     }
     Ok(())
 }
 
-// An open width has no indicator, and an open float width is 64 bits.
+// An open width has no indicator, and an open float width is 64 bits; numbers up to 23 are read as those of
+// no width.
 #[test]
 fn open_widths(rt: HostRuntime) -> Result<(), Fail> {
-    let (value, bitwidth) = (100, IntegerWidth::Unknown);
-    let item = DataItem::Integer { value, bitwidth };
-    assert_eq!(rt; item.to_diag(rt.alloc())?.as_str(), "100");
-    let (bits, bitwidth) = (0x3c00, FloatWidth::Unknown);
-    let item = DataItem::Float { bits, bitwidth };
-    assert_eq!(rt;
-        item.to_diag(rt.alloc())?.as_str(),
-        "float'0000000000003c00'"
-    );
+    let alloc = rt.alloc();
+    let (open, zero) = (IntegerWidth::Unknown, IntegerWidth::Zero);
+    let rows = [
+        (integer(100, open), "100", integer(100, open)),
+        (integer(24, open), "24", integer(24, open)),
+        (integer(23, open), "23", integer(23, zero)),
+        (negative(24, open), "-25", negative(24, open)),
+        (negative(23, open), "-24", negative(23, zero)),
+        (
+            tagged(alloc, 23, open, integer(1, zero))?,
+            "23(1)",
+            tagged(alloc, 23, zero, integer(1, zero))?,
+        ),
+        (
+            tagged(alloc, 24, open, integer(1, open))?,
+            "24(1)",
+            tagged(alloc, 24, open, integer(1, zero))?,
+        ),
+        (
+            float(0x3c00, FloatWidth::Unknown),
+            "float'0000000000003c00'",
+            float(0x3c00, FloatWidth::SixtyFour),
+        ),
+    ];
+    for (item, text, told) in rows {
+        assert_eq!(rt; check_item(&rt, alloc, &item, text, text)?, told);
+    }
     Ok(())
 }
 
 #[test]
 fn containers_on_one_line(rt: HostRuntime) -> Result<(), Fail> {
-    let rows: [(&[u8], &str, &str); 13] = [
+    let rows: [(&[u8], &str, &str); 14] = [
         (b"\x80", "[]", "[]"),
         (b"\xa0", "{}", "{}"),
         (b"\x9f\xff", "[_]", "[_ ]"),
@@ -89,6 +93,7 @@ fn containers_on_one_line(rt: HostRuntime) -> Result<(), Fail> {
         (b"\x83\x01\x02\x03", "[1,2,3]", "[1, 2, 3]"),
         (b"\x9f\x01\x02\xff", "[_1,2]", "[_ 1, 2]"),
         (b"\xa1\x01\x82\x02\x03", "{1:[2,3]}", "{1: [2, 3]}"),
+        (b"\xbf\x01\x02\xff", "{_1:2}", "{_ 1: 2}"),
         (b"\xbf\x01\x02\x03\x04\xff", "{_1:2,3:4}", "{_ 1: 2, 3: 4}"),
         (
             b"\x5f\x41\x01\x41\x02\xff",
@@ -107,78 +112,80 @@ fn containers_on_one_line(rt: HostRuntime) -> Result<(), Fail> {
 // Below tags 21, 22 and 23, through embedded items, until another of them.
 #[test]
 fn encodings_of_bytes(rt: HostRuntime) -> Result<(), Fail> {
-    let rows: [(&[u8], &str); 7] = [
-        (b"\xd5\x46\x00\x0f\xff\x00\x0f\xff", "21(b64'AA__AA__')"),
-        (b"\xd6\x43\xff\xff\xff", "22(b64'////')"),
-        (b"\xd7\x41\xff", "23(h'ff')"),
-        (b"\xd6\x5f\xff", "22(''_)"),
-        (b"\xd6\x5f\x41\xff\xff", "22((_b64'/w=='))"),
+    let rows: [(&[u8], &str, &str); 8] = [
+        (
+            b"\xd5\x46\x00\x0f\xff\x00\x0f\xff",
+            "21(b64'AA__AA__')",
+            "21(b64'AA__AA__')",
+        ),
+        (b"\xd5\x40", "21(b64'')", "21(b64'')"),
+        (b"\xd6\x43\xff\xff\xff", "22(b64'////')", "22(b64'////')"),
+        (b"\xd7\x41\xff", "23(h'ff')", "23(h'ff')"),
+        (b"\xd6\x5f\xff", "22(''_)", "22(''_)"),
+        (
+            b"\xd6\x5f\x41\xff\xff",
+            "22((_b64'/w=='))",
+            "22((_ b64'/w=='))",
+        ),
         (
             b"\xd5\x83\x41\xff\xd8\x18\x42\x41\xff\xd7\x41\xff",
             "21([b64'_w',24_0(<<b64'_w'>>),23(h'ff')])",
+            "21([b64'_w', 24_0(<<b64'_w'>>), 23(h'ff')])",
         ),
         (
             b"\xd8\x16\xd8\x3f\x42\x01\xff",
             "22_0(63_0(<<1>>b64'/w=='))",
-        ),
-    ];
-    for (bytes, text) in rows {
-        assert_eq!(rt; diag(rt.alloc(), bytes)?.as_str(), text);
-    }
-    Ok(())
-}
-
-#[test]
-fn embedded_items(rt: HostRuntime) -> Result<(), Fail> {
-    let rows: [(&[u8], &str, &str); 12] = [
-        (b"\xd8\x18\x40", "24_0(<<>>)", "24_0(<<>>)"),
-        (b"\xd8\x18\x41\x01", "24_0(<<1>>)", "24_0(<<1>>)"),
-        (b"\xd8\x18\x42\x01\x02", "24_0(h'0102')", "24_0(h'0102')"),
-        (b"\xd8\x18\x41\x18", "24_0(h'18')", "24_0(h'18')"),
-        (b"\xd8\x18\x01", "24_0(1)", "24_0(1)"),
-        (
-            b"\xd8\x18\x44\x98\x02\x01\x02",
-            "24_0(<<[1,2]>>)",
-            "24_0(<<[1, 2]>>)",
-        ),
-        (
-            b"\xd8\x18\x46\xd8\x18\x58\x02\xf8\x14",
-            "24_0(<<24_0(<<false>>)>>)",
-            "24_0(<<24_0(<<false>>)>>)",
-        ),
-        (
-            b"\xd8\x18\x42\x7f\xff",
-            "24_0(<<\"\"_>>)",
-            "24_0(<<\"\"_>>)",
-        ),
-        (b"\xd8\x3f\x40", "63_0(<<>>)", "63_0(<<>>)"),
-        (b"\xd8\x3f\x41\xff", "63_0(<<>>h'ff')", "63_0(<<>> h'ff')"),
-        (
-            b"\xd8\x3f\x42\x01\xff",
-            "63_0(<<1>>h'ff')",
-            "63_0(<<1>> h'ff')",
-        ),
-        (
-            b"\xd8\x3f\x43\x01\x20\xf6",
-            "63_0(<<1,-1,null>>)",
-            "63_0(<<1, -1, null>>)",
+            "22_0(63_0(<<1>> b64'/w=='))",
         ),
     ];
     check_texts(&rt, rt.alloc(), &rows)?;
     Ok(())
 }
 
-// The head of a byte string of that length, below 65536.
-fn push_byte_head(bytes: &mut Vec<u8>, len: usize) -> Result<(), AllocError> {
-    if len < 24 {
-        bytes.push(0x40 + len.min(23) as u8)?;
-    } else if len < 256 {
-        bytes.push(0x58)?;
-        bytes.push(len.min(255) as u8)?;
-    } else {
-        bytes.push(0x59)?;
-        bytes.extend_from_slice(&(len.min(65535) as u16).to_be_bytes())?;
-    }
+// Embedded items, with their texts, compact and pretty.
+const EMBEDDED: [(&[u8], &str, &str); 13] = [
+    (b"\xd8\x18\x40", "24_0(<<>>)", "24_0(<<>>)"),
+    (b"\xd8\x18\x41\x01", "24_0(<<1>>)", "24_0(<<1>>)"),
+    (b"\xd8\x18\x42\x01\x02", "24_0(h'0102')", "24_0(h'0102')"),
+    (b"\xd8\x18\x41\x18", "24_0(h'18')", "24_0(h'18')"),
+    (b"\xd8\x18\x01", "24_0(1)", "24_0(1)"),
+    (
+        b"\xd8\x18\x44\x98\x02\x01\x02",
+        "24_0(<<[1,2]>>)",
+        "24_0(<<[1, 2]>>)",
+    ),
+    (
+        b"\x82\x18\x18\xd8\x18\x43\x82\x01\x02",
+        "[24_0,24_0(<<[1,2]>>)]",
+        "[24_0, 24_0(<<[1, 2]>>)]",
+    ),
+    (
+        b"\xd8\x18\x46\xd8\x18\x58\x02\xf8\x14",
+        "24_0(<<24_0(<<false>>)>>)",
+        "24_0(<<24_0(<<false>>)>>)",
+    ),
+    (
+        b"\xd8\x18\x42\x7f\xff",
+        "24_0(<<\"\"_>>)",
+        "24_0(<<\"\"_>>)",
+    ),
+    (b"\xd8\x3f\x40", "63_0(<<>>)", "63_0(<<>>)"),
+    (b"\xd8\x3f\x41\xff", "63_0(<<>>h'ff')", "63_0(<<>> h'ff')"),
+    (
+        b"\xd8\x3f\x42\x01\xff",
+        "63_0(<<1>>h'ff')",
+        "63_0(<<1>> h'ff')",
+    ),
+    (
+        b"\xd8\x3f\x43\x01\x20\xf6",
+        "63_0(<<1,-1,null>>)",
+        "63_0(<<1, -1, null>>)",
+    ),
+];
+
+#[test]
+fn embedded_items(rt: HostRuntime) -> Result<(), Fail> {
+    check_texts(&rt, rt.alloc(), &EMBEDDED)?;
     Ok(())
 }
 
@@ -186,149 +193,83 @@ fn push_byte_head(bytes: &mut Vec<u8>, len: usize) -> Result<(), AllocError> {
 #[test]
 fn embedded_items_up_to_the_deepest_level(rt: HostRuntime) -> Result<(), Fail> {
     let alloc = rt.alloc();
-    let mut bytes = Vec::from_slice(alloc, b"\x01")?;
-    for _ in 0..64 {
-        let mut outer = Vec::from_slice(alloc, b"\xd8\x18")?;
-        push_byte_head(&mut outer, bytes.len())?;
-        outer.extend_from_slice(&bytes)?;
-        bytes = outer;
-    }
-    let mut text = String::new(alloc);
-    for _ in 0..63 {
-        text.push_str("24_0(<<")?;
-    }
-    text.push_str("24_0(h'01')")?;
-    for _ in 0..63 {
-        text.push_str(">>)")?;
-    }
-    assert_eq!(rt; diag(alloc, &bytes)?.as_str(), text.as_str());
-    assert_eq!(rt; pretty(alloc, &bytes)?.as_str(), text.as_str());
+    let (bytes, text) = (deep_bytes(alloc)?, deep_text(alloc)?);
+    let item = parse_bytes(alloc, &bytes)?;
+    let told = check_item(&rt, alloc, &item, text.as_str(), text.as_str())?;
+    assert_eq!(rt; told.to_bytes(alloc)?, bytes);
     Ok(())
 }
 
-// Some bytes, so many times a member, and some bytes.
-fn repeated(
-    alloc: Global,
-    before: &[u8],
-    member: &[u8],
-    count: usize,
-    after: &[u8],
-) -> Result<Vec<u8>, AllocError> {
-    let mut bytes = Vec::from_slice(alloc, before)?;
-    for _ in 0..count {
-        bytes.extend_from_slice(member)?;
-    }
-    bytes.extend_from_slice(after)?;
-    Ok(bytes)
-}
-
-// A line before, so many times a line for a member, and a line after.
-fn lines(
-    alloc: Global,
-    before: &str,
-    member: &str,
-    count: usize,
-    after: &str,
-) -> Result<String, AllocError> {
-    let mut text = String::from_str(alloc, before)?;
-    text.push('\n')?;
-    for _ in 0..count {
-        text.push_str("    ")?;
-        text.push_str(member)?;
-        text.push_str(",\n")?;
-    }
-    text.push_str(after)?;
-    Ok(text)
-}
+// Items, their texts, and the bytes of what these are read back as, in hex: lengths are as short as they
+// can be, also in bytes that are shown as items.
+const READ_BACK: &[(&str, &str, &str)] = &[
+    ("1864", "100_0", "1864"),
+    ("f814", "false", "f4"),
+    ("5801ff", "h'ff'", "41ff"),
+    ("780161", "\"a\"", "6161"),
+    ("980101", "[1]", "8101"),
+    ("b900010102", "{1:2}", "a10102"),
+    ("9f980101ff", "[_[1]]", "9f8101ff"),
+    (
+        "bf0178016102780162ff",
+        "{_1:\"a\",2:\"b\"}",
+        "bf016161026162ff",
+    ),
+    ("5f5801014102ff", "(_h'01',h'02')", "5f41014102ff"),
+    ("7f7801616162ff", "(_\"a\",\"b\")", "7f61616162ff"),
+    ("5fff", "''_", "5fff"),
+    ("7fff", "\"\"_", "7fff"),
+    ("825fff7fff", "[''_,\"\"_]", "825fff7fff"),
+    ("d65fff", "22(''_)", "d65fff"),
+    ("d546000fff000fff", "21(b64'AA__AA__')", "d546000fff000fff"),
+    ("d643ffffff", "22(b64'////')", "d643ffffff"),
+    ("d65803ffffff", "22(b64'////')", "d643ffffff"),
+    (
+        "821818d81843820102",
+        "[24_0,24_0(<<[1,2]>>)]",
+        "821818d81843820102",
+    ),
+    ("d81843820102", "24_0(<<[1,2]>>)", "d81843820102"),
+    ("d8184498020102", "24_0(<<[1,2]>>)", "d81843820102"),
+    (
+        "d81846d8185802f814",
+        "24_0(<<24_0(<<false>>)>>)",
+        "d81844d81841f4",
+    ),
+    ("d9001843980101", "24_1(<<[1]>>)", "d90018428101"),
+    ("d818427fff", "24_0(<<\"\"_>>)", "d818427fff"),
+    ("d8185800", "24_0(<<>>)", "d81840"),
+    // bytes that are shown as bytes stay
+    ("43980101", "h'980101'", "43980101"),
+    (
+        "d81846980101980101",
+        "24_0(h'980101980101')",
+        "d81846980101980101",
+    ),
+    ("d83f40", "63_0(<<>>)", "d83f40"),
+    ("d83f4201ff", "63_0(<<1>>h'ff')", "d83f4201ff"),
+    (
+        "d83f4798010178016198",
+        "63_0(<<[1],\"a\">>h'98')",
+        "d83f458101616198",
+    ),
+    (
+        "d83f581e010101010101010101010101010101010101010101010101010101010101",
+        "63_0(<<1,1,1,1,1,1,1,1,1,1,1,1,1,1,1,1,1,1,1,1,1,1,1,1,1,1,1,1,1,1>>)",
+        "d83f581e010101010101010101010101010101010101010101010101010101010101",
+    ),
+];
 
 #[test]
-fn long_containers_have_a_line_for_each_member(rt: HostRuntime) -> Result<(), Fail> {
+fn texts_are_read_back(rt: HostRuntime) -> Result<(), Fail> {
     let alloc = rt.alloc();
-    let eleven = repeated(alloc, b"\x8b", b"\x01", 11, b"")?;
-    let row = "[1, 1, 1, 1, 1, 1, 1, 1, 1, 1, 1]";
-    assert_eq!(rt; pretty(alloc, &eleven)?.as_str(), row);
-    let rows = [
-        (
-            repeated(alloc, b"\x8c", b"\x01", 12, b"")?,
-            lines(alloc, "[", "1", 12, "]")?,
-        ),
-        (
-            repeated(alloc, b"\x9f", b"\x01", 12, b"\xff")?,
-            lines(alloc, "[_", "1", 12, "]")?,
-        ),
-        (
-            repeated(alloc, b"\xaa", b"\x01\x02", 10, b"")?,
-            lines(alloc, "{", "1: 2", 10, "}")?,
-        ),
-        (
-            repeated(alloc, b"\x5f", b"\x41\x01", 10, b"\xff")?,
-            lines(alloc, "(_", "h'01'", 10, ")")?,
-        ),
-        (
-            repeated(alloc, b"\xd8\x3f\x58\x1e", b"\x01", 30, b"")?,
-            lines(alloc, "63_0(<<", "1", 30, ">>)")?,
-        ),
-        (
-            repeated(alloc, b"\x81\xd8\x18\x55\x94", b"\x01", 20, b"")?,
-            lines(alloc, "[24_0(<<[", "1", 20, "]>>)]")?,
-        ),
-    ];
-    for (bytes, text) in &rows {
-        assert_eq!(rt; pretty(alloc, bytes)?.as_str(), text.as_str());
-    }
-    Ok(())
-}
-
-// An inner container is indented with its line, and is judged by itself.
-#[test]
-fn lines_in_lines(rt: HostRuntime) -> Result<(), Fail> {
-    let alloc = rt.alloc();
-    let bytes = repeated(alloc, b"\xa1\x01\x82\x80\x8c", b"\x01", 12, b"")?;
-    let text =
-        "{\n    1: [\n        [],\n        [\n            1,\n            1,\n            1,\n            1,\n            1,\n            1,\n            1,\n            1,\n            1,\n            1,\n            1,\n            1,\n        ],\n    ],\n}";
-    assert_eq!(rt; pretty(alloc, &bytes)?.as_str(), text);
-    Ok(())
-}
-
-// An array of a member and a text is one line where its estimate is 59, and more where it is 60: the
-// length of the text at 59 tells what the member counts.
-#[test]
-fn what_each_member_counts(rt: HostRuntime) -> Result<(), Fail> {
-    let alloc = rt.alloc();
-    let rows: [(&[u8], usize); 16] = [
-        (b"\x01", 46),
-        (b"\x18\x64", 44),
-        (b"\x20", 45),
-        (b"\x39\x01\x00", 43),
-        (b"\xf4", 39),
-        (b"\xf8\xff", 38),
-        (b"\x43\x01\x02\x03", 39),
-        (b"\x62\xc3\xa9", 45),
-        (b"\xf9\x3c\x00", 38),
-        (b"\xfa\x3c\x00\x00\x00", 34),
-        (b"\xfb\x3c\x00\x00\x00\x00\x00\x00\x00", 26),
-        (b"\xd8\x64\x01", 41),
-        (b"\x82\x01\x02", 35),
-        (b"\xa1\x01\x02", 37),
-        (b"\x5f\x41\x01\xff", 37),
-        (b"\x7f\xff", 45),
-    ];
-    for (member, len) in rows {
-        for (len, is_row) in [(len, true), (len + 1, false)] {
-            let mut bytes = Vec::from_slice(alloc, b"\x82")?;
-            bytes.extend_from_slice(member)?;
-            bytes.push(0x78)?;
-            bytes.push(len.min(255) as u8)?;
-            for _ in 0..len {
-                bytes.push(b'a')?;
-            }
-            let text = pretty(alloc, &bytes)?;
-            assert_eq!(rt;
-                !text.as_bytes().contains(&b'\n'),
-                is_row,
-                "at {member:?}, {len}"
-            );
-        }
+    for (digits, text, normal) in READ_BACK {
+        let item = parse_hex(alloc, *digits)?;
+        assert_eq!(rt; item.to_diag(alloc)?.as_str(), *text);
+        let told = read_back(&rt, alloc, &item)?;
+        let bytes = hex::decode(alloc, *normal)?;
+        assert_eq!(rt; told.to_bytes(alloc)?, bytes, "{text}");
+        assert_eq!(rt; read_back(&rt, alloc, &told)?, told, "{text}");
     }
     Ok(())
 }

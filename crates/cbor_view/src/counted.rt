@@ -1,5 +1,5 @@
 //! A reader or a writer that remembers how its calls went.
-ghost use Rattle.std.specs.Prelude.{◌≡◌, ℕ, false, length};
+ghost use Rattle.std.specs.Prelude.{◌≡◌, false, length};
 ghost use Rattle.std.specs.Io.{ReadsAtMost, WritesAtMost};
 ghost use Rattle.std.specs.Io.KnownBytes.{Keeps, ReadConsumes, WriteAppends};
 ghost use Rattle.cbor_view.specs.Counting.{inner_of, failures_of, moved_none, one_more, failures_after, moves_none};

@@ -144,6 +144,73 @@ fn converts(rt: HostRuntime) -> Result<(), Fail> {
     Ok(())
 }
 
+/// Strings of no chunks, in notation and in each form that is written.
+const OF_NO_CHUNKS: [(&str, &[u8], &str, &str, &str); 5] = [
+    (
+        "''_",
+        b"\x5f\xff",
+        "5f    # bytes(*)\n   ff #   break\n",
+        "''_\n",
+        "''_\n",
+    ),
+    (
+        "\"\"_",
+        b"\x7f\xff",
+        "7f    # text(*)\n   ff #   break\n",
+        "\"\"_\n",
+        "\"\"_\n",
+    ),
+    (
+        "(_)",
+        b"\x5f\xff",
+        "5f    # bytes(*)\n   ff #   break\n",
+        "''_\n",
+        "''_\n",
+    ),
+    (
+        "[ ''_, /text/ \"\"_ ]\n",
+        b"\x82\x5f\xff\x7f\xff",
+        "\
+82       # array(2)
+   5f    #   bytes(*)
+      ff #     break
+   7f    #   text(*)
+      ff #     break
+",
+        "[''_,\"\"_]\n",
+        "[''_, \"\"_]\n",
+    ),
+    (
+        "22(''_)",
+        b"\xd6\x5f\xff",
+        "\
+d6       # suggested base64 encoding, tag(22)
+   5f    #   bytes(*)
+      ff #     break
+",
+        "22(''_)\n",
+        "22(''_)\n",
+    ),
+];
+
+#[test]
+fn converts_strings_of_no_chunks(rt: HostRuntime) -> Result<(), Fail> {
+    for (notation, bytes, dump, compact, pretty) in OF_NO_CHUNKS {
+        let outputs = [
+            (To::Bytes, bytes),
+            (To::Hex, dump.as_bytes()),
+            (To::Diag, compact.as_bytes()),
+            (To::Pretty, pretty.as_bytes()),
+        ];
+        for (to, wanted) in outputs {
+            let (output, end) = run_on(rt.alloc(), Source::Diag, to, notation.as_bytes());
+            assert_eq!(rt; end, Ok(()), "on {notation}");
+            assert_eq!(rt; output.as_slice(), wanted, "on {notation}");
+        }
+    }
+    Ok(())
+}
+
 #[test]
 fn refuses(rt: HostRuntime) -> Result<(), Fail> {
     let rows = [

@@ -56,9 +56,6 @@ pub ends_after_byte : (byte : ℕ) (bytes text : List ℕ) → list_all (λ b. n
 ends_after_byte byte bytes [] all is = refl
 ends_after_byte byte bytes (b ∷ text) all is = rw (not-true (b == byte) (holds_of (λ c. not (c == byte)) bytes b all is)) refl
 
-pub begins_after_byte : (byte : ℕ) (bytes text : List ℕ) → list_all (λ b. not (b == byte)) bytes ≡ true → Begins bytes text → after_byte byte text ≡ None
-begins_after_byte byte bytes text all is = ends_after_byte byte bytes text all (begins_ends bytes text is)
-
 -- no blank goes on with one of them
 abbrev pub no_blank : ℕ → Bool
 no_blank b = not (is_whitespace b || (b == 47))

@@ -7,18 +7,19 @@ mod estimate;
 mod members;
 mod scalars;
 
-ghost use Rattle.std.specs.Prelude.{◌≡◌, ◌↔◌, true, ◌+◌, ◌-◌, ◌*◌, ◌<◌, ◌≤◌, ◌++◌, ℕ, OnOk, IfOk, IfErr, codes, map};
+ghost use Rattle.std.specs.Prelude.{◌≡◌, ◌↔◌, true, ◌+◌, ◌-◌, ◌*◌, ◌<◌, ◌≤◌, ◌++◌, ℕ, OnOk, IfOk, IfErr};
 ghost use Rattle.std.specs.String.{string_bytes};
-ghost use Rattle.cbor_diag.specs.View.{view, items_view, pairs_view, byte_chunk, text_chunk};
+ghost use Rattle.cbor_diag.specs.View.{view, items_view, pairs_view};
 ghost use Rattle.cbor_diag.specs.Notation.{IsNotation};
 ghost use Rattle.cbor_diag.specs.declared.encode.encoding.Encoding.{Encoding};
-ghost use Rattle.cbor_diag.specs.Item.{Item};
+ghost use Rattle.cbor_diag.specs.declared.syntax.IntegerWidth.{IntegerWidth};
+ghost use Rattle.cbor_diag.specs.Item.{Chunk, Item, atom, byte_string, tagged};
 ghost use Rattle.cbor_diag.specs.Estimate.{full, long};
-ghost use Rattle.cbor_diag.specs.Pretty.{pretty, in_one_line, in_lines};
+ghost use Rattle.cbor_diag.specs.Pretty.{pretty, in_one_line, in_lines, sequence_in_one_line, sequence_in_lines};
 ghost use Rattle.cbor_diag.specs.Facts.{IsWellFormed, diag_of, pretty_of, normal_of};
 ghost use Rattle.cbor_diag.specs.WellFormed.{deepest, WellFormed, WellFormedItems, WellFormedPairs};
-ghost use Rattle.cbor_diag.specs.NotationText.{indent_of, listing_indent, members, members_layout, inside, colon, item_texts, pair_texts, embedded_text, rest_text, sequence_text, content_text, text_at};
-ghost use Rattle.cbor_diag.specs.Embedded.{embedded_at, sequence_at};
+ghost use Rattle.cbor_diag.specs.NotationText.{indent_of, listing_indent, members, members_layout, inside, colon, item_texts, pair_texts, embedded_text, sequence_size, sequence_text, content_text, text_at};
+ghost use Rattle.cbor_diag.specs.Embedded.{embedded_at, sequence, sequence_at};
 
 use crate::error::{Error, Result};
 use crate::syntax::DataItem;
@@ -264,6 +265,13 @@ impl DataItem {
             → full i < long → pretty e level indent i ≡ in_one_line e level indent i }
         ensures lines { (level indent : ℕ) (e : Encoding) (i : Item) → level ≤ deepest
             → long ≤ full i → pretty e level indent i ≡ in_lines e level indent i }
+        // So are the items of a byte string right below tag 63, by the estimate of an array of them.
+        ensures sequence_one_line { (level indent : ℕ) (e : Encoding) (w : IntegerWidth) (b : Chunk) → level < deepest
+            → sequence_size (sequence (level + 2) b.bytes) < long
+            → pretty e level indent (tagged 63 w (atom (byte_string b))) ≡ sequence_in_one_line e level indent w b.bytes }
+        ensures sequence_lines { (level indent : ℕ) (e : Encoding) (w : IntegerWidth) (b : Chunk) → level < deepest
+            → long ≤ sequence_size (sequence (level + 2) b.bytes)
+            → pretty e level indent (tagged 63 w (atom (byte_string b))) ≡ sequence_in_lines e level indent w b.bytes }
         ensures refused { IfErr result (λ e. e ≡ Error.Memory) }
     {
         let mut out = String::new(alloc);

@@ -1,6 +1,6 @@
 //! Reads an item from hex with comments.
 //!
-//! The lines are gone through once: comments are skipped, and what is kept is decoded where it stands.
+//! The lines are gone through once: comments are skipped, and what is kept is gathered and then decoded.
 ghost use Rattle.std.specs.Prelude.{◌≡◌, ◌≢◌, ◌<◌, ◌≤◌, ◌++◌, ◌%◌, ◌⊎◌, ◌==◌, length, take, drop, slice_index, IfOk, IfErr, OnOk, Ok};
 ghost use Rattle.std.specs.List.{AllPass, after_first};
 ghost use Rattle.std.specs.Str.Lines.{strip_carriage_return};

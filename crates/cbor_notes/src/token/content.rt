@@ -1,6 +1,6 @@
 //! What stands between quotes in diagnostic notation: text with escapes, and digits with blanks.
 
-ghost use Rattle.std.specs.Prelude.{◌≡◌, ◌≢◌, ◌⊎◌, ◌++◌, ◌∷◌, ◌+◌, ◌<◌, ◌≤◌, [], List, ℕ, drop, length, IfNone, IfOk, IfSome, IsSomeAnd, not, ◌-◌};
+ghost use Rattle.std.specs.Prelude.{◌≡◌, ◌≢◌, ◌⊎◌, ◌++◌, ◌∷◌, ◌+◌, ◌<◌, ◌≤◌, List, ℕ, drop, length, IfNone, IfOk, IfSome, IsSomeAnd, not, ◌-◌};
 ghost use Rattle.std.specs.List.{position_or_len};
 ghost use Rattle.cbor_notes.specs.Token.{DigitsBetween, in_quotes, is_digit, is_special};
 

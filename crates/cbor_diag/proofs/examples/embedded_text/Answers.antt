@@ -39,3 +39,7 @@ returns-clause-deeper c = refl
 pub returns-clause-encoding : goal.returns-clause-encoding
 unfolding digits encode_with encode_symbols wide_at info_at numbered unnumbered head_at content_at items_at item_at sequence_of members text_at normal_at
 returns-clause-encoding c = refl
+
+pub returns-clause-base64 : goal.returns-clause-base64
+unfolding digits encode_with encode_symbols wide_at info_at numbered unnumbered head_at content_at items_at item_at sequence_of members text_at normal_at
+returns-clause-base64 c = refl

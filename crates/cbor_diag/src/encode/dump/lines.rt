@@ -1,12 +1,12 @@
 //! The lines of what holds no item, and those round members, handed to a sink.
-ghost use Rattle.std.specs.Prelude.{◌≡◌, ◌<◌, ◌≤◌, ◌+◌, ◌++◌, ◌^◌, ℕ, List, [], ◌∷◌, length, map, Option, Some, None, OnOk, codes};
-ghost use Rattle.std.specs.List.{AllByRecursion, flat_map};
+ghost use Rattle.std.specs.Prelude.{◌≡◌, ◌<◌, ◌+◌, ◌^◌, length, map, Option, Some, None, OnOk};
+ghost use Rattle.std.specs.List.{AllByRecursion};
 ghost use Rattle.cbor_diag.specs.Head.{FitsWidth};
-ghost use Rattle.cbor_diag.specs.View.{view, items_view, pairs_view, byte_chunk, text_chunk};
-ghost use Rattle.cbor_diag.specs.WellFormed.{WellFormed, WellFormedItems, WellFormedPairs, FitsCount, FitsFloat, IsByteChunk, IsTextChunk};
+ghost use Rattle.cbor_diag.specs.View.{byte_chunk, text_chunk};
+ghost use Rattle.cbor_diag.specs.WellFormed.{FitsCount, FitsFloat, IsByteChunk, IsTextChunk};
 ghost use Rattle.cbor_diag.specs.Written.{encoded_head, encoded_float, encoded_simple};
-ghost use Rattle.cbor_diag.specs.Comments.{bytes_comment, encoding_below, float_comment, text_comment, simple_comment};
-ghost use Rattle.cbor_diag.specs.Pieces.{byte_pieces, text_pieces};
+ghost use Rattle.cbor_diag.specs.Comments.{float_comment, text_comment, simple_comment};
+ghost use Rattle.cbor_diag.specs.Pieces.{text_pieces};
 ghost use Rattle.cbor_diag.specs.Pieces.{text_cut as cut_of};
 ghost use Rattle.std.specs.Str.{IsCharBoundary};
 ghost use Rattle.cbor_diag.specs.Dump as spec;
@@ -45,6 +45,7 @@ pub(super) fn number_line(
     sink.line(depth, Form::Head, head, comment)
 }
 
+/// The line of a float.
 pub(super) fn float_line(
     sink: &mut Sink,
     head: &mut Vec<u8>,
@@ -64,6 +65,7 @@ pub(super) fn float_line(
     sink.line(depth, Form::Head, head, &Comment::Float(head))
 }
 
+/// The line of a simple value.
 pub(super) fn simple_line(
     sink: &mut Sink,
     head: &mut Vec<u8>,

@@ -1,5 +1,5 @@
 //! Notes as lines without digits, handed to a sink.
-ghost use Rattle.std.specs.Prelude.{◌≡◌, ◌<◌, ◌+◌, ℕ, List, [], ◌∷◌, map, flat_map, OnOk};
+ghost use Rattle.std.specs.Prelude.{◌≡◌, ◌<◌, ◌+◌, ℕ, List, [], map, flat_map, OnOk};
 ghost use Rattle.std.specs.List.{AllByRecursion};
 ghost use Rattle.std.specs.String.{string_bytes};
 ghost use Rattle.cbor_notes.specs.Columns.{IsPlain};

@@ -1,6 +1,6 @@
 //! Items that are embedded in the bytes of a byte string, read when they are printed. That they can't be
 //! read is no refusal: they are shown as bytes. Want of memory is.
-ghost use Rattle.std.specs.Prelude.{◌≡◌, ◌≤◌, ◌-◌, ℕ, IfOk, IfErr, IfSome, option_map};
+ghost use Rattle.std.specs.Prelude.{◌≡◌, ◌≤◌, ◌-◌, IfOk, IfErr, IfSome, option_map};
 ghost use Rattle.cbor_diag.specs.View.{view, items_view};
 ghost use Rattle.cbor_diag.specs.WellFormed.{WellFormed, WellFormedItems};
 ghost use Rattle.cbor_diag.specs.Embedded.{embedded_at, sequence_at};

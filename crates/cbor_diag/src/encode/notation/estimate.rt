@@ -3,11 +3,11 @@
 //!
 //! Each function takes how much room is left and gives what is left of it behind its part, or `None` as
 //! soon as the part is longer. So an item is looked at in steps that the room bounds, however large it is.
-ghost use Rattle.std.specs.Prelude.{◌≡◌, ◌+◌, ◌-◌, ◌*◌, ◌≤◌, ◌<◌, IsTrue, ◌↔◌, length, map, sum_by, nat_lt};
+ghost use Rattle.std.specs.Prelude.{◌≡◌, ◌+◌, ◌-◌, ◌*◌, ◌≤◌, ◌<◌, map, sum_by};
 ghost use Rattle.std.specs.Option.{SomeIff};
 ghost use Rattle.cbor_diag.specs.View.{view, items_view, pairs_view, byte_chunk, text_chunk};
 ghost use Rattle.cbor_diag.specs.NotationText.{listing};
-ghost use Rattle.cbor_diag.specs.Estimate.{digit_count, full_bytes, full_text, full_float, full, full_items, full_pairs, long};
+ghost use Rattle.cbor_diag.specs.Estimate.{digit_count, full_bytes, full_text, full_float, full, full_items, full_pairs};
 
 use super::context::{Layout, Listing};
 use crate::syntax::{ByteString, DataItem, FloatWidth, TextString};

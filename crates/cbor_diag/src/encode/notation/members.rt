@@ -1,9 +1,9 @@
-//! What stands round the members of containers and the chunks of strings, as their `Listing` has it. These
-//! functions are short and called at each member, so they are inlined.
-ghost use Rattle.std.specs.Prelude.{◌≡◌, ◌∷◌, [], ◌++◌, ◌<◌, ◌^◌, OnOk, map, codes, replicate};
+//! What stands round the members of containers and the chunks of strings, as their `Listing` has it. What is
+//! short and called at each member is inlined.
+ghost use Rattle.std.specs.Prelude.{◌≡◌, ◌∷◌, [], ◌++◌, ◌<◌, ◌^◌, OnOk, map, codes};
 ghost use Rattle.std.specs.String.{string_bytes};
 ghost use Rattle.cbor_diag.specs.View.{byte_chunk, text_chunk};
-ghost use Rattle.cbor_diag.specs.NotationText.{line, start, end, last_line, mark, opened, colon, listing_indent, members, quoted, text, chunks_text, rest_text};
+ghost use Rattle.cbor_diag.specs.NotationText.{line, start, end, last_line, opened, colon, listing_indent, quoted, text, chunks_text, rest_text};
 
 use super::context::{Context, Layout, Listing};
 use super::scalars::{push_quoted, push_text};

@@ -1,8 +1,8 @@
 //! What stands between quotes: text with escapes, and digits with blanks.
-ghost use Rattle.std.specs.Prelude.{◌≡◌, ◌≢◌, ◌⊎◌, ◌<◌, ◌≤◌, length, codes, true, false, IfOk, IfSome, Some, None, Err, option_map};
-ghost use Rattle.cbor_diag.specs.Reading.{Gives, Fails};
+ghost use Rattle.std.specs.Prelude.{◌≡◌, ◌⊎◌, ◌<◌, length, true, false, IfOk, Some, None, Err};
+ghost use Rattle.cbor_diag.specs.Reading.{Gives};
 ghost use Rattle.cbor_notes.specs.TokenReading.{unquoted, digits_of};
-ghost use Rattle.cbor_diag.specs.NotationReading.{or_refused, base16_of, base32_of, base32hex_of, base64_of, decoded_at, h_notation, b_notation};
+ghost use Rattle.cbor_diag.specs.NotationReading.{or_refused, base16_of, base32_of, base32hex_of, base64_of, h_notation, b_notation};
 
 use super::scan::after_word;
 use crate::error::{Error, Result};

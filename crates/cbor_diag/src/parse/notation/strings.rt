@@ -23,6 +23,7 @@ fn byte_string(content: Vec<u8>) -> ByteString
     ensures gives { Ok (byte_chunk result) ≡ checked bytes_kind content.items }
     ensures well { IsByteChunk (byte_chunk result) }
 {
+    // A slice is no longer than a length of 64 bits tells, which `well` asks for.
     let _content = content.as_slice();
     ByteString {
         content,
@@ -39,6 +40,7 @@ fn text_string(content: Vec<u8>) -> crate::Result<TextString>
     let Ok(content) = String::from_utf8(content) else {
         return Err(Error::Utf8);
     };
+    // The same of a text.
     let _content = content.as_str();
     Ok(TextString {
         content,

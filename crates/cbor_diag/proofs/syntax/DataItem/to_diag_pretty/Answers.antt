@@ -7,7 +7,7 @@ use Rattle.cbor_diag.specs.Notation.{Reads}
 use Rattle.cbor_diag.specs.NotationText.{in_encoding, text_at}
 use Rattle.cbor_diag.specs.Normal.{normal_at}
 use Rattle.cbor_diag.proofs.ReadBack.{reads_back}
-use Rattle.cbor_diag.proofs.PrettyForms.{short_is, long_is}
+use Rattle.cbor_diag.proofs.PrettyForms.{short_is, long_is, short_sequence, long_sequence}
 use Rattle.cbor_diag.proofs.syntax.DataItem.to_diag_pretty.Goals as goal
 
 pub returns-clause-read_back : goal.returns-clause-read_back
@@ -27,3 +27,15 @@ returns-clause-one_line c = short_is
 
 pub returns-clause-lines : goal.returns-clause-lines
 returns-clause-lines c = long_is
+
+pub returns-in_err-push_item-clause-sequence_one_line : goal.returns-in_err-push_item-clause-sequence_one_line
+returns-in_err-push_item-clause-sequence_one_line c = short_sequence
+
+pub returns-in_err-push_item-clause-sequence_lines : goal.returns-in_err-push_item-clause-sequence_lines
+returns-in_err-push_item-clause-sequence_lines c = long_sequence
+
+pub returns-clause-sequence_one_line : goal.returns-clause-sequence_one_line
+returns-clause-sequence_one_line c = short_sequence
+
+pub returns-clause-sequence_lines : goal.returns-clause-sequence_lines
+returns-clause-sequence_lines c = long_sequence
