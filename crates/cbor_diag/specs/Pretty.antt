@@ -30,7 +30,8 @@ in_one_line e level indent i = laid_out (Row indent) e level indent i
 abbrev pub in_lines : Encoding → ℕ → ℕ → Item → List ℕ
 in_lines e level indent i = laid_out (Lines indent) e level indent i
 
--- tag 63 at this level over a byte string, the items that the bytes are laid out so, however long they are
+-- tag 63 over a byte string: the tag stands at this level, and the items in the bytes are laid out so, however
+-- long they are
 abbrev pub sequence_laid_out : Listing → Encoding → ℕ → ℕ → IntegerWidth → List ℕ → List ℕ
 sequence_laid_out l e level indent w b =
     number 63 w ++ (codes "(" ++ (sequence_listed (text_at (129 - (level + 2))) (below 63 (in_encoding (Pretty indent) e)) l (sequence (level + 2) b) ++ codes ")"))
