@@ -3,7 +3,8 @@
 //! Each private function takes the text that is left, as bytes of UTF-8, and gives a value with the text
 //! after it, or the first refusal from the left. The text is read once: what stands next is told by its
 //! first byte, but for `''_` and `""_`, and for a list's last comma, behind which whitespace and the close
-//! are looked for.
+//! are looked for. What stands between `core_at` and the list that keeps its item is inlined, so that the
+//! item isn't handed from one to the other.
 mod content;
 mod number;
 mod scan;
@@ -35,6 +36,7 @@ use word::word_at;
 /// The item at the front, which stands at `level`, from 1 to 129, with the blanks round it. At level 129
 /// no item can stand.
 #[cycle(diag)]
+#[inline(always)]
 fn item_at(alloc: Global, text: &[u8], level: u8) -> Result<(DataItem, &[u8])>
     requires { level ≤ 129 }
     ensures gives { Gives (λ x. (view x.0, x.1.now)) result (item_at (129 - level) text.now) }
@@ -50,6 +52,7 @@ fn item_at(alloc: Global, text: &[u8], level: u8) -> Result<(DataItem, &[u8])>
 
 /// The item at the front, without the blanks round it; the items in it stand at `inner`, from 2 to 129.
 #[cycle(diag)]
+#[inline(never)]
 fn core_at(alloc: Global, text: &[u8], inner: u8) -> Result<(DataItem, &[u8])>
     requires low { 1 ≤ inner }
     requires high { inner ≤ 129 }
@@ -172,6 +175,7 @@ fn pairs_at(alloc: Global, text: &[u8], level: u8) -> Result<(Vec<(DataItem, Dat
 
 /// A key, `:` and its value.
 #[cycle(diag)]
+#[inline(always)]
 fn pair_at(alloc: Global, text: &[u8], level: u8) -> Result<((DataItem, DataItem), &[u8])>
     requires { level ≤ 129 }
     ensures gives { Gives (λ x. ((view x.0.0, view x.0.1), x.1.now)) result

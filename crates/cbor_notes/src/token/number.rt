@@ -7,6 +7,9 @@ ghost use Rattle.cbor_notes.specs.TokenReading.{base_of, digit_run, indicator_of
 /// What all values past 2^64 are answered as.
 const PAST: u128 = (1 << 64) + 1;
 
+/// What is less than this fits 64 bits with one more digit of any base.
+const SHORT: u64 = 1 << 60;
+
 /// The bases that a number may be written in.
 #[derive(Clone, Copy)]
 enum Base {
@@ -98,7 +101,8 @@ impl Base {
     }
 }
 
-/// The number that the digits from `start` on write, past 2^64 as 2^64 + 1, and where they end.
+/// The number that the digits from `start` on write, past 2^64 as 2^64 + 1, and where they end. What fits
+/// 64 bits is computed in these.
 fn digits_from(text: &[u8], start: usize, radix: u32) -> (u128, usize)
     requires start { start ≤ length text.now }
     requires radix { (2 ≤ radix) × (radix ≤ 16) }
@@ -106,13 +110,34 @@ fn digits_from(text: &[u8], start: usize, radix: u32) -> (u128, usize)
     ensures run { (value : ℕ) × (result.0 ≡ capped value)
         × (digit_run radix 0 (drop start text.now) ≡ (value, drop result.1 text.now)) }
 {
-    let mut value = 0;
-    let mut end = start;
+    let (short, mut end) = short_digits_from(text, start, radix);
+    let mut value = u128::from(short);
     while end < text.len() {
         let Some(digit) = char::from(text[end]).to_digit(radix) else {
             break;
         };
         value = (value * u128::from(radix) + u128::from(digit)).min(PAST);
+        end += 1;
+    }
+    (value, end)
+}
+
+/// The number that the digits from `start` on write as far as a further digit fits 64 bits, and where
+/// these digits end.
+fn short_digits_from(text: &[u8], start: usize, radix: u32) -> (u64, usize)
+    requires start { start ≤ length text.now }
+    requires radix { (2 ≤ radix) × (radix ≤ 16) }
+    ensures within { (start ≤ result.1) × (result.1 ≤ length text.now) }
+    ensures run { digit_run radix result.0 (drop result.1 text.now)
+        ≡ digit_run radix 0 (drop start text.now) }
+{
+    let mut value = 0;
+    let mut end = start;
+    while end < text.len() && value < SHORT {
+        let Some(digit) = char::from(text[end]).to_digit(radix) else {
+            break;
+        };
+        value = value * u64::from(radix) + u64::from(digit);
         end += 1;
     }
     (value, end)

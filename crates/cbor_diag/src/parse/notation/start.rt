@@ -51,6 +51,7 @@ impl Start {
     }
 
     /// What the text begins with, and the text behind that byte.
+    #[inline(always)]
     pub(super) fn split(text: &[u8]) -> (Start, &[u8])
         ensures start { result.0 ≡ first_start text.now }
         ensures rest { result.1.now ≡ rest_of text.now }
