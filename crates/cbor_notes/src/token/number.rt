@@ -101,8 +101,8 @@ impl Base {
     }
 }
 
-/// The number that the digits from `start` on write, past 2^64 as 2^64 + 1, and where they end. What fits
-/// 64 bits is computed in these.
+/// The number that the digits from `start` on write, past 2^64 as 2^64 + 1, and where they end. As far as
+/// a further digit is sure to fit 64 bits, it is computed in these.
 fn digits_from(text: &[u8], start: usize, radix: u32) -> (u128, usize)
     requires start { start ≤ length text.now }
     requires radix { (2 ≤ radix) × (radix ≤ 16) }
