@@ -1,10 +1,9 @@
 -- The hex digits of bytes.
-use Rattle.std.proofs.Common.{◌≡◌, ℕ, true, ltb, eqb, eqb-true, List, [], ◌∷◌, ◌++◌, length, get_or, Result, Ok, Err, refl, sym, ap, ◌∙◌, append_assoc, arith}
+use Rattle.std.proofs.Common.{◌≡◌, ℕ, true, ltb, eqb, eqb-true, List, [], ◌∷◌, ◌++◌, length, get_or, refl, sym, ap, ◌∙◌, append_assoc, arith}
 use Rattle.std.proofs.lemmas.Bool.Decides.{nat_tests}
 use Rattle.std.proofs.lemmas.List.{append-nil}
 use Rattle.std.proofs.lemmas.Str.Ascii.{IsAscii-nil, IsAscii-cons}
 use Rattle.std.specs.List.{list_all}
-use Rattle.std.specs.Result.{MatchResult, IsOk}
 use Rattle.std.specs.Str.{IsAscii}
 use Rattle.hex.specs.Hex.{encode_lower, encode_with, lower_digits}
 use Rattle.hex.proofs.HexLemmas.{IsAscii-encode_with}
@@ -35,8 +34,3 @@ pub hex_end : (out rest whole : List ℕ) → eqb (length rest) 0 ≡ true → o
 unfolding encode_with
 hex_end out [] whole none h = sym (append-nil out) ∙ h
 hex_end out (x ∷ rest) whole none h = absurd (omega (arith, eqb-true (length (x ∷ rest)) 0 none))
-
--- a test of UTF-8 passes
-pub utf8_passes : {T E U : Type 0} (P : T → Type 0) (Q : E → Type 0) (r : Result T E) → MatchResult r P (λ e. (¬ U) × Q e) → U → IsOk r
-utf8_passes P Q (Ok x) h u = refl
-utf8_passes P Q (Err e) h u = absurd (h.0 u)

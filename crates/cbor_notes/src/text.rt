@@ -82,7 +82,8 @@ fn push_hex_piece(text: &mut String, piece: &[u8]) -> Result<(), AllocError>
     let mut buffer = [0; 2 * PIECE];
     let digits = &mut buffer[..2 * piece.len()];
     hex::encode_to_slice(piece, digits).unwrap();
-    text.push_str(str::from_utf8(digits).unwrap())
+    // Hex digits are ASCII, so a test of UTF-8 would only take time.
+    text.push_str(unsafe { str::from_utf8_unchecked(digits) })
 }
 
 /// Appends the two hex digits of `byte` to `text`, in lower case.
