@@ -168,7 +168,7 @@ some_or_none : (ds : List ℕ) → (ds ≡ []) ⊎ (0 < length ds)
 some_or_none [] = inl refl
 some_or_none (d ∷ ds) = inr (omega arith)
 
-between : (comments : Bool) (ds : List ℕ) → Digits comments ds → DigitsBetween comments ds ds
+pub between : (comments : Bool) (ds : List ℕ) → Digits comments ds → DigitsBetween comments ds ds
 between comments ds h = (spaced comments ds h, some_or_none ds)
 
 bytes_index : (b : List ℕ) → AllBytes b → (i : ℕ) → slice_index b i < 256

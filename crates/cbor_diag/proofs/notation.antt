@@ -2,6 +2,7 @@ pub mod Ends
 pub mod Lists
 pub mod Decoded
 pub mod Pieces
+pub mod PlainDigits
 pub mod Strings
 pub mod Chunked
 pub mod Numbers

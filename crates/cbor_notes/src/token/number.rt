@@ -101,9 +101,26 @@ impl Base {
     }
 }
 
-/// The number that the digits from `start` on write, past 2^64 as 2^64 + 1, and where they end. As far as
-/// a further digit is sure to fit 64 bits, it is computed in these.
+/// The number that the digits from `start` on write, past 2^64 as 2^64 + 1, and where they end.
 fn digits_from(text: &[u8], start: usize, radix: u32) -> (u128, usize)
+    requires start { start ≤ length text.now }
+    requires radix { (2 ≤ radix) × (radix ≤ 16) }
+    ensures within { (start ≤ result.1) × (result.1 ≤ length text.now) }
+    ensures run { (value : ℕ) × (result.0 ≡ capped value)
+        × (digit_run radix 0 (drop start text.now) ≡ (value, drop result.1 text.now)) }
+{
+    // Most numbers are decimal, and a loop for a radix that is known has less to do for each digit.
+    if radix == 10 {
+        digits_of_radix(text, start, 10)
+    } else {
+        digits_of_radix(text, start, radix)
+    }
+}
+
+/// The same, inlined for the radix that is given. As far as a further digit is sure to fit 64 bits, the
+/// number is computed in these.
+#[inline(always)]
+fn digits_of_radix(text: &[u8], start: usize, radix: u32) -> (u128, usize)
     requires start { start ≤ length text.now }
     requires radix { (2 ≤ radix) × (radix ≤ 16) }
     ensures within { (start ≤ result.1) × (result.1 ≤ length text.now) }
@@ -124,6 +141,7 @@ fn digits_from(text: &[u8], start: usize, radix: u32) -> (u128, usize)
 
 /// The number that the digits from `start` on write as far as a further digit fits 64 bits, and where
 /// these digits end.
+#[inline(always)]
 fn short_digits_from(text: &[u8], start: usize, radix: u32) -> (u64, usize)
     requires start { start ≤ length text.now }
     requires radix { (2 ≤ radix) × (radix ≤ 16) }

@@ -2,11 +2,12 @@
 ghost use Rattle.std.specs.Prelude.{◌≡◌, ◌⊎◌, ◌<◌, length, true, false, IfOk, Some, None, Err};
 ghost use Rattle.cbor_diag.specs.Reading.{Gives};
 ghost use Rattle.cbor_notes.specs.TokenReading.{unquoted, digits_of};
-ghost use Rattle.cbor_diag.specs.NotationReading.{or_refused, base16_of, base32_of, base32hex_of, base64_of, h_notation, b_notation};
+ghost use Rattle.cbor_diag.specs.NotationReading.{or_refused, base16_of, base32_of, base32hex_of, base64_of, decoded_at, h_notation, b_notation};
 
 use super::scan::after_word;
 use crate::error::{Error, Result};
 use hex::FromHexError;
+use memchr::memchr;
 use std::alloc::Global;
 
 /// The content up to the closing quote, without its escapes.
@@ -33,14 +34,32 @@ fn digits_at(alloc: Global, text: &[u8], comments: bool) -> Result<(Vec<u8>, &[u
 }
 
 /// The bytes of hex digits, two for each, of either case.
-fn base16(alloc: Global, digits: Vec<u8>) -> Result<Vec<u8>>
-    ensures { Gives (λ x. x.items) result (or_refused (base16_of digits.items)) }
+fn base16(alloc: Global, digits: &[u8]) -> Result<Vec<u8>>
+    ensures { Gives (λ x. x.items) result (or_refused (base16_of digits.now)) }
 {
     match hex::decode(alloc, digits) {
         Ok(bytes) => Ok(bytes),
         Err(FromHexError::OutOfMemory) => Err(Error::Memory),
         Err(_) => Err(Error::Notation),
     }
+}
+
+/// The bytes of hex digits up to the closing apostrophe. Digits with no blanks between them, as they mostly
+/// are, are decoded where they stand; others are gathered first.
+fn base16_at(alloc: Global, text: &[u8]) -> Result<(Vec<u8>, &[u8])>
+    ensures gives { Gives (λ x. (x.0.items, x.1.now)) result (decoded_at true base16_of text.now) }
+    ensures shorter { IfOk result (λ x. length x.1.now < length text.now) }
+{
+    if let Some(end) = memchr(b'\'', text) {
+        match base16(alloc, &text[..end]) {
+            Ok(bytes) => return Ok((bytes, &text[end + 1..])),
+            Err(Error::Memory) => return Err(Error::Memory),
+            // There are blanks between them, or other bytes.
+            Err(_) => {}
+        }
+    }
+    let (digits, rest) = digits_at(alloc, text, true)?;
+    Ok((base16(alloc, &digits)?, rest))
 }
 
 /// The bytes that base 32 digits encode.
@@ -80,8 +99,7 @@ pub(super) fn h_notation(alloc: Global, text: &[u8]) -> Result<(Vec<u8>, &[u8])>
     ensures shorter { IfOk result (λ x. length x.1.now < length text.now) }
 {
     if let Some(quoted) = after_word(text, b"'") {
-        let (digits, rest) = digits_at(alloc, quoted, true)?;
-        Ok((base16(alloc, digits)?, rest))
+        base16_at(alloc, quoted)
     } else if let Some(quoted) = after_word(text, b"32'") {
         let (digits, rest) = digits_at(alloc, quoted, true)?;
         Ok((base32hex(alloc, &digits)?, rest))

@@ -1,7 +1,7 @@
 use Rattle.std.proofs.Common.{◌≡◌, ℕ, ◌≤◌, ◌-◌, length, drop}
 use Rattle.cbor_notes.specs.Token.{capped}
 use Rattle.cbor_notes.specs.TokenReading.{digit_run}
-use Rattle.cbor_notes.proofs.token.number.digits_from.Given as goal
+use Rattle.cbor_notes.proofs.token.number.digits_of_radix.Given as goal
 
 abbrev pub invariant-loop-end : goal.invariant-loop-end
 invariant-loop-end l = record {
