@@ -4,22 +4,6 @@
 #[cfg(test)]
 mod bytes;
 #[cfg(test)]
-mod dump;
-#[cfg(test)]
-mod dump_addresses;
-#[cfg(test)]
-mod dump_carried;
-#[cfg(test)]
-mod dump_elements;
-#[cfg(test)]
-mod dump_embedded;
-#[cfg(test)]
-mod dump_notes;
-#[cfg(test)]
-mod dump_shared;
-#[cfg(test)]
-mod dumped;
-#[cfg(test)]
 mod hex_text;
 #[cfg(test)]
 mod hostile;

@@ -106,11 +106,12 @@ fn push_unspaced(out: &mut Vec<u8>, line: &[u8]) -> Result<(), AllocError>
     Ok(())
 }
 
-/// What is kept of all lines. Whether those bytes are hex digits is seen when they are decoded.
+/// What is kept of all lines. Whether those bytes are hex digits is seen when they are decoded. Room is made at
+/// first for a fourth of the text: of a dump less is kept, and other texts are rare.
 fn strip(alloc: Global, text: &str) -> Result<Vec<u8>, AllocError>
     ensures { IfOk result (λ digits. digits.items ≡ strip text.now) }
 {
-    let mut digits = Vec::with_capacity(alloc, text.len())?;
+    let mut digits = Vec::with_capacity(alloc, text.len() / 4)?;
     let mut rest = text.as_bytes();
     'lines: while !rest.is_empty() {
         let (line, after) = cut_line(rest);

@@ -11,12 +11,16 @@ use crate::encode::encoding::Encoding;
 use crate::syntax::{ByteString, IntegerWidth, TextString};
 use std::alloc::AllocError;
 
+/// A line feed, and as many blanks as are written with it at once.
+const LINE: &str = "\n                                                                ";
+
 /// Begins a new line with so many blanks.
 fn push_line(out: &mut String, indent: usize) -> Result<(), AllocError>
     ensures { OnOk result (string_bytes out.new ≡ string_bytes out.old ++ line indent) }
 {
-    out.push('\n')?;
-    'blanks: for _ in 0..indent {
+    let near = indent.min(64);
+    out.push_str(&LINE[..1 + near])?;
+    'blanks: for _ in near..indent {
         out.push(' ')?;
     }
     Ok(())

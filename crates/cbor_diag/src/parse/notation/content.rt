@@ -54,7 +54,7 @@ fn base16_at(alloc: Global, text: &[u8]) -> Result<(Vec<u8>, &[u8])>
         match base16(alloc, &text[..end]) {
             Ok(bytes) => return Ok((bytes, &text[end + 1..])),
             Err(Error::Memory) => return Err(Error::Memory),
-            // There are blanks between them, or other bytes.
+            // There are blanks between them, other bytes, or an odd number of digits.
             Err(_) => {}
         }
     }

@@ -331,12 +331,11 @@ fn what_is_no_address(rt: HostRuntime) -> Result<(), Fail> {
 /// An address and a zone under a tag.
 fn with_zone(alloc: Global, tag: u64, octets: &[u8], zone: &str) -> cbor_diag::Result<DataItem> {
     let mut content = Vec::new(alloc);
-    content.push(DataItem::ByteString(bytes(alloc, octets, IntegerWidth::Unknown)?))?;
+    content.push(bytes(alloc, octets)?)?;
     content.push(DataItem::Simple(Simple::NULL))?;
-    content.push(DataItem::TextString(text(alloc, zone, IntegerWidth::Unknown)?))?;
+    content.push(text(alloc, zone)?)?;
     let bitwidth = Some(IntegerWidth::Zero);
-    let members = DataItem::Array { content, bitwidth };
-    tagged(alloc, tag, IntegerWidth::Unknown, members)
+    tagged(alloc, tag, DataItem::Array { content, bitwidth })
 }
 
 // A zone is carried as it is, and shown so that it stays in its line.

@@ -265,13 +265,7 @@ failed to parse remaining encoded cbor sequence
 fn embed(rt: &impl Abort, alloc: Global, item: &DataItem) -> cbor_diag::Result<DataItem> {
     assert!(rt; item.is_well_formed());
     let content = item.to_bytes(alloc)?;
-    let string = bytes(alloc, &content, IntegerWidth::Unknown)?;
-    tagged(
-        alloc,
-        24,
-        IntegerWidth::Unknown,
-        DataItem::ByteString(string),
-    )
+    tagged(alloc, 24, bytes(alloc, &content)?)
 }
 
 /// The number 1 as an embedded item, in so many tags round one another.

@@ -200,7 +200,7 @@ fn open_widths_at_each_border(rt: HostRuntime) -> Result<(), Fail> {
             bitwidth: IntegerWidth::Unknown,
         };
         dump_of(&rt, alloc, &negative)?;
-        let tagged = tagged(alloc, value, IntegerWidth::Unknown, integer)?;
+        let tagged = tagged(alloc, value, integer)?;
         dump_of(&rt, alloc, &tagged)?;
     }
     Ok(())
@@ -212,13 +212,7 @@ fn byte_strings_of_some_lengths(rt: HostRuntime) -> Result<(), Fail> {
     for length in [0usize, 1, 15, 16, 17, 31, 32, 33, 255, 256] {
         let content = vec![in alloc; 0x0au8; length]?;
         for tag in [2, 21, 22, 23, 37, 52, 54, 260] {
-            let string = bytes(alloc, &content, IntegerWidth::Unknown)?;
-            let item = tagged(
-                alloc,
-                tag,
-                IntegerWidth::Unknown,
-                DataItem::ByteString(string),
-            )?;
+            let item = tagged(alloc, tag, bytes(alloc, &content)?)?;
             dump_of(&rt, alloc, &item)?;
         }
     }
@@ -246,8 +240,8 @@ fn texts_of_all_lengths_near_the_cut(rt: HostRuntime) -> Result<(), Fail> {
         for place in 0..length {
             for character in ['\n', 'é', '\u{2028}', '𐅑'] {
                 let content = with_character(alloc, length, place, character)?;
-                let string = text(alloc, content.as_str(), IntegerWidth::Unknown)?;
-                dump_of(&rt, alloc, &DataItem::TextString(string))?;
+                let item = text(alloc, content.as_str())?;
+                dump_of(&rt, alloc, &item)?;
             }
         }
     }

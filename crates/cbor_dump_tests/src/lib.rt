@@ -1,0 +1,21 @@
+//! Tests alone, of the dumps that `cbor_diag` prints: examples of the standards and of docs/DUMP.md.
+#![tactic(auto)]
+
+#[cfg(test)]
+mod addresses;
+#[cfg(test)]
+mod carried;
+#[cfg(test)]
+mod dump;
+#[cfg(test)]
+mod dumped;
+#[cfg(test)]
+mod elements;
+#[cfg(test)]
+mod embedded;
+#[cfg(test)]
+mod make;
+#[cfg(test)]
+mod notes;
+#[cfg(test)]
+mod shared;
