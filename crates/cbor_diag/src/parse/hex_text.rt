@@ -107,7 +107,7 @@ fn push_unspaced(out: &mut Vec<u8>, line: &[u8]) -> Result<(), AllocError>
 }
 
 /// What is kept of all lines. Whether those bytes are hex digits is seen when they are decoded. Room is made at
-/// first for a fourth of the text: of a dump less is kept, and other texts are rare.
+/// first for a fourth of the text: most dumps keep less.
 fn strip(alloc: Global, text: &str) -> Result<Vec<u8>, AllocError>
     ensures { IfOk result (λ digits. digits.items ≡ strip text.now) }
 {
