@@ -63,8 +63,11 @@ fn push_item(out: &mut Vec<u8>, item: &DataItem) -> Result<(), AllocError>
     ensures { OnOk result (out.new.items ≡ out.old.items ++ encoded (view item.now)) }
 {
     match item {
-        DataItem::Integer { value, bitwidth } => push_head(out, 0, *value, *bitwidth),
-        DataItem::Negative { value, bitwidth } => push_head(out, 1, *value, *bitwidth),
+        // One arm for both: which of them comes next can't be foretold, so two would cost a jump.
+        DataItem::Integer { value, bitwidth } | DataItem::Negative { value, bitwidth } => {
+            let major = u8::from(matches!(item, DataItem::Negative { .. }));
+            push_head(out, major, *value, *bitwidth)
+        }
         DataItem::ByteString(string) => { push_string(out, 2, &string.content, string.bitwidth) }
         DataItem::TextString(string) => {
             push_string(out, 3, string.content.as_bytes(), string.bitwidth)

@@ -64,7 +64,7 @@ push_item-returns-in_ok-push_head-in-Tag t c =
     let out = c.args.out.now.items in
     let body = encoded (view c.in-Tag.value.value) in
     let spelled = ap (λ x. x ++ body) c.in_ok-push_head-in-Tag.ensures ∙ append_assoc out (encoded_head 6 c.in-Tag.tag.0 c.in-Tag.bitwidth) body ∙ ap (λ i. out ++ encoded i) (sym seen) in
-    subst (λ x. OnOk c.push_item.result (c.push_item.new.out.items ≡ x)) (ap (λ v. c.push_head-in-Tag.new.out.items ++ encoded (view v)) c.deref-in-Tag.ensures ∙ spelled) c.push_item.ensures
+    subst (λ x. OnOk c.push_item.result (c.push_item.new.out.items ≡ x)) (ap (λ v. c.push_head.new.out.items ++ encoded (view v)) c.deref-in-Tag.ensures ∙ spelled) c.push_item.ensures
 
 pub push_pairs-push_item-requires-in-pairs : goal.push_pairs-push_item-requires-in-pairs
 push_pairs-push_item-requires-in-pairs t c = (
