@@ -5,15 +5,17 @@ ghost use Rattle.cbor_diag.specs.Head.{FitsWidth};
 ghost use Rattle.cbor_diag.specs.View.{view, items_view, pairs_view, byte_chunk, text_chunk};
 ghost use Rattle.cbor_diag.specs.WellFormed.{WellFormed, WellFormedItems, WellFormedPairs, IsByteChunk, IsTextChunk};
 ghost use Rattle.cbor_diag.specs.Facts.{IsItem, IsStrictItem, IsWellFormed};
+ghost use Rattle.cbor_diag.specs.Item as spec;
 ghost use Rattle.cbor_diag.specs.Item.{Item};
 ghost use Rattle.cbor_diag.specs.Written.{encoded, resolve, encoded_items, encoded_pairs, encoded_chunk, encoded_chunks};
 
 use super::head::{push_close, push_float, push_head, push_open, push_simple};
 use crate::error::Error;
-use crate::syntax::{ByteString, DataItem, IntegerWidth, TextString};
+use crate::syntax::{ByteString, DataItem, IntegerWidth, Tag, TextString};
 use std::alloc::{AllocError, Global};
 
 /// Writes a string of definite length: of major type 2 its bytes, of major type 3 its UTF-8.
+#[inline(never)]
 fn push_string(
     out: &mut Vec<u8>,
     major: u8,
@@ -31,6 +33,7 @@ fn push_string(
 }
 
 /// Writes the chunks of an indefinite byte string, from its opening byte to its break.
+#[inline(never)]
 fn push_byte_chunks(out: &mut Vec<u8>, chunks: &[ByteString]) -> Result<(), AllocError>
     requires { AllByRecursion IsByteChunk (map byte_chunk chunks.now) }
     ensures { OnOk result (out.new.items ≡ out.old.items ++ encoded_chunks 2 (map byte_chunk chunks.now)) }
@@ -44,6 +47,7 @@ fn push_byte_chunks(out: &mut Vec<u8>, chunks: &[ByteString]) -> Result<(), Allo
 }
 
 /// Writes the chunks of an indefinite text string, from its opening byte to its break.
+#[inline(never)]
 fn push_text_chunks(out: &mut Vec<u8>, chunks: &[TextString]) -> Result<(), AllocError>
     requires { AllByRecursion IsTextChunk (map text_chunk chunks.now) }
     ensures { OnOk result (out.new.items ≡ out.old.items ++ encoded_chunks 3 (map text_chunk chunks.now)) }
@@ -56,7 +60,8 @@ fn push_text_chunks(out: &mut Vec<u8>, chunks: &[TextString]) -> Result<(), Allo
     Ok(())
 }
 
-/// Writes an item.
+/// Writes an item. What it holds is written by functions that aren't inlined: they need room on the stack,
+/// which an integer would then take, too.
 #[cycle(push)]
 fn push_item(out: &mut Vec<u8>, item: &DataItem) -> Result<(), AllocError>
     requires { (level : ℕ) × WellFormed level (view item.now) }
@@ -68,33 +73,73 @@ fn push_item(out: &mut Vec<u8>, item: &DataItem) -> Result<(), AllocError>
             let major = u8::from(matches!(item, DataItem::Negative { .. }));
             push_head(out, major, *value, *bitwidth)
         }
-        DataItem::ByteString(string) => { push_string(out, 2, &string.content, string.bitwidth) }
+        DataItem::ByteString(string) => push_string(out, 2, &string.content, string.bitwidth),
         DataItem::TextString(string) => {
             push_string(out, 3, string.content.as_bytes(), string.bitwidth)
         }
         DataItem::IndefiniteByteString(chunks) => push_byte_chunks(out, chunks),
         DataItem::IndefiniteTextString(chunks) => push_text_chunks(out, chunks),
-        DataItem::Array { content, bitwidth } => {
-            push_open(out, 4, content.len(), *bitwidth)?;
-            push_items(out, content)?;
-            push_close(out, *bitwidth)
-        }
-        DataItem::Map { content, bitwidth } => {
-            push_open(out, 5, content.len(), *bitwidth)?;
-            push_pairs(out, content)?;
-            push_close(out, *bitwidth)
-        }
+        DataItem::Array { content, bitwidth } => push_array(out, content, *bitwidth),
+        DataItem::Map { content, bitwidth } => push_map(out, content, *bitwidth),
         DataItem::Tag {
             tag,
             bitwidth,
             value,
-        } => {
-            push_head(out, 6, tag.0, *bitwidth)?;
-            push_item(out, value)
-        }
+        } => push_tagged(out, *tag, *bitwidth, value),
         DataItem::Float { bits, bitwidth } => push_float(out, *bits, *bitwidth),
         DataItem::Simple(simple) => push_simple(out, simple.0),
     }
+}
+
+/// Writes an array of these items.
+#[cycle(push)]
+#[inline(never)]
+fn push_array(
+    out: &mut Vec<u8>,
+    items: &Vec<DataItem>,
+    width: Option<IntegerWidth>,
+) -> Result<(), AllocError>
+    requires { (level : ℕ) × WellFormed level (spec.array (items_view items.now.items) width) }
+    ensures { OnOk result (out.new.items
+        ≡ out.old.items ++ encoded (spec.array (items_view items.now.items) width)) }
+{
+    push_open(out, 4, items.len(), width)?;
+    push_items(out, items)?;
+    push_close(out, width)
+}
+
+/// Writes a map of these pairs.
+#[cycle(push)]
+#[inline(never)]
+fn push_map(
+    out: &mut Vec<u8>,
+    pairs: &Vec<(DataItem, DataItem)>,
+    width: Option<IntegerWidth>,
+) -> Result<(), AllocError>
+    requires { (level : ℕ) × WellFormed level (spec.map (pairs_view pairs.now.items) width) }
+    ensures { OnOk result (out.new.items
+        ≡ out.old.items ++ encoded (spec.map (pairs_view pairs.now.items) width)) }
+{
+    push_open(out, 5, pairs.len(), width)?;
+    push_pairs(out, pairs)?;
+    push_close(out, width)
+}
+
+/// Writes a tag and the item below it.
+#[cycle(push)]
+#[inline(never)]
+fn push_tagged(
+    out: &mut Vec<u8>,
+    tag: Tag,
+    width: IntegerWidth,
+    value: &DataItem,
+) -> Result<(), AllocError>
+    requires { (level : ℕ) × WellFormed level (spec.tagged tag.0 width (view value.now)) }
+    ensures { OnOk result (out.new.items
+        ≡ out.old.items ++ encoded (spec.tagged tag.0 width (view value.now))) }
+{
+    push_head(out, 6, tag.0, width)?;
+    push_item(out, value)
 }
 
 /// Writes items one after the other.
