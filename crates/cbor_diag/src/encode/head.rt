@@ -27,12 +27,12 @@ pub(crate) fn push_head(
             out.extend_from_slice(&[first + 25, a, b])?;
         }
         IntegerWidth::ThirtyTwo => {
-            let [a, b, c, d] = (number as u32).to_be_bytes();
-            out.extend_from_slice(&[first + 26, a, b, c, d])?;
+            out.push(first + 26)?;
+            out.extend_from_slice(&(number as u32).to_be_bytes())?;
         }
         IntegerWidth::SixtyFour => {
-            let [a, b, c, d, e, f, g, h] = number.to_be_bytes();
-            out.extend_from_slice(&[first + 27, a, b, c, d, e, f, g, h])?;
+            out.push(first + 27)?;
+            out.extend_from_slice(&number.to_be_bytes())?;
         }
         // A stated width is never open.
         IntegerWidth::Unknown => unreachable!(),
