@@ -1,4 +1,7 @@
 //! Writes an item as bytes (RFC 7049 section 2), each byte once, at the end of one vector.
+//!
+//! What writes strings and containers isn't inlined where an item is told by its kind: it keeps values over
+//! calls, and room for these would be made for each integer, too.
 ghost use Rattle.std.specs.Prelude.{◌≡◌, ◌<◌, ◌++◌, ℕ, List, ◌↔◌, length, map, OnOk, IfOk, IfErr};
 ghost use Rattle.std.specs.List.{AllByRecursion};
 ghost use Rattle.cbor_diag.specs.Head.{FitsWidth};
@@ -60,8 +63,7 @@ fn push_text_chunks(out: &mut Vec<u8>, chunks: &[TextString]) -> Result<(), Allo
     Ok(())
 }
 
-/// Writes an item. What it holds is written by functions that aren't inlined: they need room on the stack,
-/// which an integer would then take, too.
+/// Writes an item.
 #[cycle(push)]
 fn push_item(out: &mut Vec<u8>, item: &DataItem) -> Result<(), AllocError>
     requires { (level : ℕ) × WellFormed level (view item.now) }
