@@ -55,6 +55,7 @@ pub mod NotationLoops
 pub mod NotationTokens
 pub mod NotationCores
 pub mod NotationReaders
+pub mod PlainTexts
 pub mod PrettyForms
 pub mod ReadTokens
 pub mod ReadLists

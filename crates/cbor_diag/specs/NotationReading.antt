@@ -333,6 +333,15 @@ byte_string_of read text None = string_at read bytes_kind text >>= λ c. Ok (ato
 abbrev pub byte_string_at : (List ℕ → Read Item) → List ℕ → Read Item
 byte_string_at read text = byte_string_of read text (after_word (codes "''_") text)
 
+-- a text string of this content, and what stands behind it
+abbrev pub one_text : List ℕ → List ℕ → Read Item
+one_text content rest = checked text_kind content >>= λ c. Ok (atom (text_string c), rest)
+
+-- whether a list goes on or closes here, so that a string before it ends
+abbrev pub ends_string : List ℕ → Bool
+ends_string [] = false
+ends_string (b ∷ text) = (b == 44) || (b == 58) || (b == 93) || (b == 125)
+
 -- an indefinite text string of no chunks, or a text string
 abbrev pub text_string_of : (List ℕ → Read Item) → List ℕ → Option (List ℕ) → Read Item
 text_string_of read text (Some rest) = Ok (atom (text_chunks []), rest)

@@ -1,10 +1,10 @@
 //! What stands between quotes: text with escapes, and digits with blanks.
-ghost use Rattle.std.specs.Prelude.{◌≡◌, ◌⊎◌, ◌<◌, length, true, false, IfOk, Some, None, Err};
+ghost use Rattle.std.specs.Prelude.{◌≡◌, ◌⊎◌, ◌<◌, length, true, false, IfOk, IfSome, Some, None, Err};
 ghost use Rattle.cbor_diag.specs.Reading.{Gives};
 ghost use Rattle.cbor_notes.specs.TokenReading.{unquoted, digits_of};
 ghost use Rattle.cbor_diag.specs.NotationReading.{or_refused, base16_of, base32_of, base32hex_of, base64_of, decoded_at, h_notation, b_notation};
 
-use super::scan::after_word;
+use super::scan::{after_byte, after_word};
 use crate::error::{Error, Result};
 use hex::FromHexError;
 use memchr::memchr;
@@ -20,6 +20,20 @@ pub(super) fn quoted_at(alloc: Global, text: &[u8], quote: u8) -> Result<(Vec<u8
         Some((content, end)) => Ok((content, &text[end..])),
         None => Err(Error::Notation),
     }
+}
+
+/// The content of a text without escapes behind its opening quote, and the text behind its closing one.
+/// `None` where a backslash stands before that, or there is none.
+pub(super) fn plain_at(text: &[u8]) -> Option<(&[u8], &[u8])>
+    ensures gives { IfSome result (λ x. unquoted 34 false text.now ≡ Some (x.0.now, x.1.now)) }
+    ensures shorter { IfSome result (λ x. length x.1.now < length text.now) }
+{
+    let end = text
+        .iter()
+        .position(|byte| matches!(*byte, b'"' | b'\\'))?;
+    let (content, rest) = text.split_at(end);
+    let behind = after_byte(rest, b'"')?;
+    Some((content, behind))
 }
 
 /// The digits up to the closing apostrophe, without the blanks between them.

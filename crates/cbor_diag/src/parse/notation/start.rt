@@ -32,6 +32,7 @@ pub(super) enum Start {
 impl Start {
     /// What begins with this byte.
     #[tactic(auto, unfolding(crate::specs::NotationReading::start_of))]
+    #[inline(always)]
     fn of_byte(byte: u8) -> Start
         ensures { result ≡ start_of byte }
     {

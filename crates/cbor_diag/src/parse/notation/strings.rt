@@ -1,17 +1,18 @@
 //! Strings in pieces, and the chunks of indefinite ones.
-ghost use Rattle.std.specs.Prelude.{◌≡◌, ◌-◌, ◌++◌, ◌<◌, ◌≤◌, ℕ, Some, suc, length, map, IfOk, Ok, OnOk, true, false};
+ghost use Rattle.std.specs.Prelude.{◌≡◌, ◌-◌, ◌++◌, ◌<◌, ◌≤◌, ℕ, List, Some, suc, length, map, IfOk, IfSome, Ok, OnOk, true, false};
 ghost use Rattle.std.specs.List.{AllByRecursion};
 ghost use Rattle.cbor_diag.specs.declared.syntax.IntegerWidth.TheVariants.{Unknown};
 ghost use Rattle.cbor_diag.specs.View.{view, items_view, byte_chunk, text_chunk};
 ghost use Rattle.cbor_diag.specs.WellFormed.{WellFormed, WellFormedItems, IsByteChunk, IsTextChunk};
 ghost use Rattle.cbor_diag.specs.Bytes.{bytes_kind, text_kind};
 ghost use Rattle.cbor_diag.specs.Written.{encoded_items};
-ghost use Rattle.cbor_diag.specs.Reading.{Gives};
-ghost use Rattle.cbor_diag.specs.NotationReading.{byte_string_at, text_string_at, checked, chunk_at, chunks_at, embedded_at, item_at, members_at, piece_at, pieces_at, string_at};
+ghost use Rattle.cbor_diag.specs.Item.{Item};
+ghost use Rattle.cbor_diag.specs.Reading.{Gives, Read};
+ghost use Rattle.cbor_diag.specs.NotationReading.{byte_string_at, text_string_at, checked, chunk_at, chunks_at, embedded_at, ends_string, item_at, members_at, one_text, piece_at, pieces_at, string_at};
 
-use super::content::{b_notation, h_notation, quoted_at};
+use super::content::{b_notation, h_notation, plain_at, quoted_at};
 use super::items_at;
-use super::scan::{after_blank, after_word, end_at, expect_byte};
+use super::scan::{after_blank, after_byte, after_word, end_at, expect_byte};
 use super::start::Start;
 use crate::encode::push_items;
 use crate::error::Error;
@@ -173,6 +174,30 @@ pub(super) fn byte_item_at(
     Ok((DataItem::ByteString(string), rest))
 }
 
+/// Whether a string ends before this text: a list goes on or closes here. Neither a blank nor a piece of a
+/// string begins so.
+fn ends_string(text: &[u8]) -> bool
+    ensures { result ≡ ends_string text.now }
+{
+    matches!(text, [b',' | b':' | b']' | b'}', ..])
+}
+
+/// The content of a text string of one piece without escapes that ends right there, and the text behind it.
+/// `None` where it isn't so, or not seen at once to be.
+fn plain_text_at(text: &[u8]) -> Option<(&[u8], &[u8])>
+    ensures gives { IfSome result (λ x. (read : List ℕ → Read Item)
+        → text_string_at read text.now ≡ one_text x.0.now x.1.now) }
+    ensures shorter { IfSome result (λ x. length x.1.now ≤ length text.now) }
+{
+    let inner = after_byte(text, b'"')?;
+    let (content, rest) = plain_at(inner)?;
+    if ends_string(rest) {
+        Some((content, rest))
+    } else {
+        None
+    }
+}
+
 /// A text string, or `""_`, an indefinite one of no chunks.
 #[cycle(diag)]
 pub(super) fn text_item_at(
@@ -187,6 +212,11 @@ pub(super) fn text_item_at(
     ensures well { IfOk result (λ x. WellFormed (inner - 1) (view x.0)) }
     ensures shorter { IfOk result (λ x. length x.1.now ≤ length text.now) }
 {
+    // Most texts are so, and their content is then copied from where it stands.
+    if let Some((content, rest)) = plain_text_at(text) {
+        let string = text_string(content.to_vec(alloc)?)?;
+        return Ok((DataItem::TextString(string), rest));
+    }
     if let Some(rest) = after_word(text, b"\"\"_") {
         return Ok((DataItem::IndefiniteTextString(Vec::new(alloc)), rest));
     }
