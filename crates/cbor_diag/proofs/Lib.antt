@@ -21,6 +21,7 @@ pub mod CutShort
 pub mod Faults
 pub mod Three
 pub mod Fitting
+pub mod OnePiece
 pub mod Outcomes
 pub mod Readers
 pub mod Strict
@@ -55,7 +56,6 @@ pub mod NotationLoops
 pub mod NotationTokens
 pub mod NotationCores
 pub mod NotationReaders
-pub mod PlainTexts
 pub mod PrettyForms
 pub mod ReadTokens
 pub mod ReadLists

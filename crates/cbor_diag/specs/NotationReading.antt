@@ -333,9 +333,10 @@ byte_string_of read text None = string_at read bytes_kind text >>= λ c. Ok (ato
 abbrev pub byte_string_at : (List ℕ → Read Item) → List ℕ → Read Item
 byte_string_at read text = byte_string_of read text (after_word (codes "''_") text)
 
--- a text string of this content, and what stands behind it
-abbrev pub one_text : List ℕ → List ℕ → Read Item
-one_text content rest = checked text_kind content >>= λ c. Ok (atom (text_string c), rest)
+-- a string of this kind and content, and what stands behind it
+abbrev pub one_string : StringKind → List ℕ → List ℕ → Read Item
+one_string bytes_kind content rest = checked bytes_kind content >>= λ c. Ok (atom (byte_string c), rest)
+one_string text_kind content rest = checked text_kind content >>= λ c. Ok (atom (text_string c), rest)
 
 -- whether a list goes on or closes here, so that a string before it ends
 abbrev pub ends_string : List ℕ → Bool

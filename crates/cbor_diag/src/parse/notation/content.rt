@@ -1,5 +1,5 @@
 //! What stands between quotes: text with escapes, and digits with blanks.
-ghost use Rattle.std.specs.Prelude.{◌≡◌, ◌⊎◌, ◌<◌, length, true, false, IfOk, IfSome, Some, None, Err};
+ghost use Rattle.std.specs.Prelude.{◌≡◌, ◌⊎◌, ◌<◌, length, true, false, option_map, IfOk, IfErr, IfSome, Some, None, Err};
 ghost use Rattle.cbor_diag.specs.Reading.{Gives};
 ghost use Rattle.cbor_notes.specs.TokenReading.{unquoted, digits_of};
 ghost use Rattle.cbor_diag.specs.NotationReading.{or_refused, base16_of, base32_of, base32hex_of, base64_of, decoded_at, h_notation, b_notation};
@@ -47,14 +47,16 @@ fn digits_at(alloc: Global, text: &[u8], comments: bool) -> Result<(Vec<u8>, &[u
     }
 }
 
-/// The bytes of hex digits, two for each, of either case.
-fn base16(alloc: Global, digits: &[u8]) -> Result<Vec<u8>>
-    ensures { Gives (λ x. x.items) result (or_refused (base16_of digits.now)) }
+/// The bytes of hex digits, two for each, of either case, or `None` where they aren't such digits. The only
+/// refusal is want of memory.
+pub(super) fn base16(alloc: Global, digits: &[u8]) -> Result<Option<Vec<u8>>>
+    ensures gives { IfOk result (λ bytes. option_map (λ x. x.items) bytes ≡ base16_of digits.now) }
+    ensures refused { IfErr result (λ e. e ≡ Error.Memory) }
 {
     match hex::decode(alloc, digits) {
-        Ok(bytes) => Ok(bytes),
+        Ok(bytes) => Ok(Some(bytes)),
         Err(FromHexError::OutOfMemory) => Err(Error::Memory),
-        Err(_) => Err(Error::Notation),
+        Err(_) => Ok(None),
     }
 }
 
@@ -65,15 +67,16 @@ fn base16_at(alloc: Global, text: &[u8]) -> Result<(Vec<u8>, &[u8])>
     ensures shorter { IfOk result (λ x. length x.1.now < length text.now) }
 {
     if let Some(end) = memchr(b'\'', text) {
-        match base16(alloc, &text[..end]) {
-            Ok(bytes) => return Ok((bytes, &text[end + 1..])),
-            Err(Error::Memory) => return Err(Error::Memory),
-            // There are blanks between them, other bytes, or an odd number of digits.
-            Err(_) => {}
+        // `None` here: blanks between them, other bytes, or an odd number of digits.
+        if let Some(bytes) = base16(alloc, &text[..end])? {
+            return Ok((bytes, &text[end + 1..]));
         }
     }
     let (digits, rest) = digits_at(alloc, text, true)?;
-    Ok((base16(alloc, &digits)?, rest))
+    match base16(alloc, &digits)? {
+        Some(bytes) => Ok((bytes, rest)),
+        None => Err(Error::Notation),
+    }
 }
 
 /// The bytes that base 32 digits encode.

@@ -8,15 +8,16 @@ ghost use Rattle.cbor_diag.specs.Bytes.{bytes_kind, text_kind};
 ghost use Rattle.cbor_diag.specs.Written.{encoded_items};
 ghost use Rattle.cbor_diag.specs.Item.{Item};
 ghost use Rattle.cbor_diag.specs.Reading.{Gives, Read};
-ghost use Rattle.cbor_diag.specs.NotationReading.{byte_string_at, text_string_at, checked, chunk_at, chunks_at, embedded_at, ends_string, item_at, members_at, one_text, piece_at, pieces_at, string_at};
+ghost use Rattle.cbor_diag.specs.NotationReading.{base16_of, byte_string_at, text_string_at, checked, chunk_at, chunks_at, embedded_at, ends_string, item_at, members_at, one_string, piece_at, pieces_at, string_at};
 
-use super::content::{b_notation, h_notation, plain_at, quoted_at};
+use super::content::{b_notation, base16, h_notation, plain_at, quoted_at};
 use super::items_at;
 use super::scan::{after_blank, after_byte, after_word, end_at, expect_byte};
 use super::start::Start;
 use crate::encode::push_items;
 use crate::error::Error;
 use crate::syntax::{ByteString, DataItem, IntegerWidth, TextString};
+use memchr::memchr;
 use std::alloc::{AllocError, Global};
 
 /// A byte string of an open width.
@@ -153,6 +154,24 @@ fn text_string_at(alloc: Global, text: &[u8], inner: u8) -> crate::Result<(TextS
     Ok((text_string(content)?, rest))
 }
 
+/// The digits of an `h'..'` of one piece up to its first apostrophe, where a string that it is ends right there,
+/// and the text behind it. It is one if they are hex digits. `None` where it isn't so, or not seen at once to be.
+fn plain_hex_at(text: &[u8]) -> Option<(&[u8], &[u8])>
+    ensures gives { IfSome result (λ x. (read : List ℕ → Read Item) (bytes : List ℕ)
+        → base16_of x.0.now ≡ Some bytes
+        → byte_string_at read text.now ≡ one_string bytes_kind bytes x.1.now) }
+    ensures shorter { IfSome result (λ x. length x.1.now ≤ length text.now) }
+{
+    let inner = after_word(text, b"h'")?;
+    let end = memchr(b'\'', inner)?;
+    let rest = &inner[end + 1..];
+    if ends_string(rest) {
+        Some((&inner[..end], rest))
+    } else {
+        None
+    }
+}
+
 /// A byte string, or `''_`, an indefinite one of no chunks.
 #[cycle(diag)]
 pub(super) fn byte_item_at(
@@ -167,6 +186,12 @@ pub(super) fn byte_item_at(
     ensures well { IfOk result (λ x. WellFormed (inner - 1) (view x.0)) }
     ensures shorter { IfOk result (λ x. length x.1.now ≤ length text.now) }
 {
+    // Most byte strings are so, and their digits are then decoded where they stand.
+    if let Some((digits, rest)) = plain_hex_at(text) {
+        if let Some(content) = base16(alloc, digits)? {
+            return Ok((DataItem::ByteString(byte_string(content)), rest));
+        }
+    }
     if let Some(rest) = after_word(text, b"''_") {
         return Ok((DataItem::IndefiniteByteString(Vec::new(alloc)), rest));
     }
@@ -186,7 +211,7 @@ fn ends_string(text: &[u8]) -> bool
 /// `None` where it isn't so, or not seen at once to be.
 fn plain_text_at(text: &[u8]) -> Option<(&[u8], &[u8])>
     ensures gives { IfSome result (λ x. (read : List ℕ → Read Item)
-        → text_string_at read text.now ≡ one_text x.0.now x.1.now) }
+        → text_string_at read text.now ≡ one_string text_kind x.0.now x.1.now) }
     ensures shorter { IfSome result (λ x. length x.1.now ≤ length text.now) }
 {
     let inner = after_byte(text, b'"')?;

@@ -2,7 +2,7 @@ use Rattle.std.proofs.Common.{sym, ◌∙◌, rules, tests}
 use Rattle.std.proofs.lemmas.Iterator.{YieldsList-from_slice}
 use Rattle.std.proofs.lemmas.Iterator.Search.{position_from_yields_List}
 use Rattle.cbor_notes.specs.Token.{is_special}
-use Rattle.cbor_diag.proofs.PlainTexts.{plain}
+use Rattle.cbor_diag.proofs.OnePiece.{plain}
 use Rattle.cbor_diag.proofs.sound.Steps.{after_byte_is}
 use Rattle.cbor_diag.proofs.parse.notation.content.plain_at.Goals as goal
 

@@ -1,5 +1,5 @@
 use Rattle.std.proofs.Common.{sym, ◌∙◌}
-use Rattle.cbor_diag.proofs.PlainTexts.{plain_text}
+use Rattle.cbor_diag.proofs.OnePiece.{plain_text}
 use Rattle.cbor_diag.proofs.sound.Steps.{after_byte_is}
 use Rattle.cbor_diag.proofs.parse.notation.strings.plain_text_at.Goals as goal
 
