@@ -14,7 +14,7 @@ use Rattle.cbor_diag.specs.View.{view, items_view, pairs_view}
 use Rattle.cbor_diag.specs.WellFormed.{WellFormed, WellFormedItems, WellFormedPairs, FitsCount}
 use Rattle.cbor_diag.specs.Bytes.{StringKind, text_kind}
 use Rattle.cbor_diag.specs.Reading.{Read, ◌>>=◌, Fails}
-use Rattle.cbor_diag.specs.NotationReading.{blank_at, first_start, rest_of, core_of, core_at, item_at, piece_of, piece_at, begins_piece, begins_string, pieces_at, string_of, string_at}
+use Rattle.cbor_diag.specs.NotationReading.{blank_at, first_start, rest_of, core_of, core_at, item_at, piece_of, piece_at, begins_piece, begins_string, pieces_at, string_of, string_at, byte_string_at}
 use Rattle.cbor_diag.proofs.Loops.{Fails-bind, onto, onto_fails}
 use Rattle.cbor_diag.proofs.Views.{view-Array, view-Map, item_count_view, pair_count_view}
 
@@ -22,6 +22,13 @@ pub core_by : (read : List ℕ → Read Item) (text rest : List ℕ) (s : Start)
 unfolding core_at
 core_by read [] rest s is behind = sym (ap (λ s. core_of read s [] rest) is)
 core_by read (b ∷ text) rest s is behind = ap (λ s. core_of read s (b ∷ text) text) (sym is) ∙ ap (core_of read s (b ∷ text)) (sym behind)
+
+-- what bytes begin with
+pub bytes_core : (read : List ℕ → Read Item) (text rest : List ℕ) (s : Start) → (s ≡ start.Apostrophe) ⊎ ((s ≡ start.Angle) ⊎ ((s ≡ start.LetterB) ⊎ (s ≡ start.LetterH))) → core_of read s text rest ≡ byte_string_at read text
+bytes_core read text rest s (inl e) = rw e refl
+bytes_core read text rest s (inr (inl e)) = rw e refl
+bytes_core read text rest s (inr (inr (inl e))) = rw e refl
+bytes_core read text rest s (inr (inr (inr e))) = rw e refl
 
 pub piece_by : (read : List ℕ → Read Item) (text rest : List ℕ) (s : Start) → s ≡ first_start text → rest ≡ rest_of text → piece_at read text ≡ piece_of read s rest
 unfolding piece_at

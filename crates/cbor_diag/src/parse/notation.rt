@@ -81,10 +81,9 @@ fn core_at(alloc: Global, text: &[u8], inner: u8) -> Result<(DataItem, &[u8])>
             Ok((DataItem::Map { content, bitwidth }, rest))
         }
         Start::Parenthesis => chunks_at(alloc, rest, inner),
-        Start::Apostrophe => byte_item_at(alloc, text, inner),
-        Start::Angle => byte_item_at(alloc, text, inner),
-        Start::LetterB => byte_item_at(alloc, text, inner),
-        Start::LetterH => byte_item_at(alloc, text, inner),
+        Start::Apostrophe | Start::Angle | Start::LetterB | Start::LetterH => {
+            byte_item_at(alloc, text, inner)
+        }
         Start::Quote => text_item_at(alloc, text, inner),
         Start::Other => word_at(text),
     }

@@ -11,7 +11,7 @@ use Rattle.cbor_diag.specs.Reading.{◌>>=◌, Fails}
 use Rattle.cbor_diag.specs.NotationReading.{blank_at, after_byte, end_at, integer_or_tag, sized_at, below_zero_at, length_at, pair_at, chunk_at, item_at, core_at, members_at, pieces_at, checked, begins_piece, begins_string, string_at}
 use Rattle.cbor_diag.proofs.Loops.{Fails-bind}
 use Rattle.cbor_diag.proofs.NotationLoops.{members_closed, members_begin, member_fails, member_last, no_comma, member_more}
-use Rattle.cbor_diag.proofs.NotationCores.{core_by, piece_by, no_piece, no_text, string_by, item_none, item_some, pieces_begin, pieces_end, piece_fails, piece_more, items_push, pair_view, pairs_push, all_push, array_well, map_well}
+use Rattle.cbor_diag.proofs.NotationCores.{core_by, bytes_core, piece_by, no_piece, no_text, string_by, item_none, item_some, pieces_begin, pieces_end, piece_fails, piece_more, items_push, pair_view, pairs_push, all_push, array_well, map_well}
 use Rattle.cbor_diag.proofs.Views.{view-Array, view-Map, view-Negative}
 use Rattle.cbor_diag.proofs.parse.notation.+diag.Goals as goal
 
@@ -307,22 +307,9 @@ core_at-returns-in-Other-clause-gives t c =
 pub core_at-returns-in-Apostrophe-clause-gives : goal.core_at-returns-in-Apostrophe-clause-gives
 core_at-returns-in-Apostrophe-clause-gives t c =
     let read = item_at (129 - c.args.inner) in
-    rw (core_by read c.args.text.now c.split-start.result.1.now start.Apostrophe (sym c.in-Apostrophe.is ∙ c.split-start.ensures.start) c.split-start.ensures.rest) c.byte_item_at.ensures.gives
-
-pub core_at-returns-in-Angle-clause-gives : goal.core_at-returns-in-Angle-clause-gives
-core_at-returns-in-Angle-clause-gives t c =
-    let read = item_at (129 - c.args.inner) in
-    rw (core_by read c.args.text.now c.split-start.result.1.now start.Angle (sym c.in-Angle.is ∙ c.split-start.ensures.start) c.split-start.ensures.rest) c.byte_item_at-in-Angle.ensures.gives
-
-pub core_at-returns-in-LetterB-clause-gives : goal.core_at-returns-in-LetterB-clause-gives
-core_at-returns-in-LetterB-clause-gives t c =
-    let read = item_at (129 - c.args.inner) in
-    rw (core_by read c.args.text.now c.split-start.result.1.now start.LetterB (sym c.in-LetterB.is ∙ c.split-start.ensures.start) c.split-start.ensures.rest) c.byte_item_at-in-LetterB.ensures.gives
-
-pub core_at-returns-in-LetterH-clause-gives : goal.core_at-returns-in-LetterH-clause-gives
-core_at-returns-in-LetterH-clause-gives t c =
-    let read = item_at (129 - c.args.inner) in
-    rw (core_by read c.args.text.now c.split-start.result.1.now start.LetterH (sym c.in-LetterH.is ∙ c.split-start.ensures.start) c.split-start.ensures.rest) c.byte_item_at-in-LetterH.ensures.gives
+    let text = c.args.text.now in
+    let begins = bytes_core read text c.split-start.result.1.now c.split-start.result.0 c.in-Apostrophe.is in
+    rw (core_by read text c.split-start.result.1.now c.split-start.result.0 c.split-start.ensures.start c.split-start.ensures.rest, begins) c.byte_item_at.ensures.gives
 
 pub core_at-returns-in-Quote-clause-gives : goal.core_at-returns-in-Quote-clause-gives
 core_at-returns-in-Quote-clause-gives t c =
