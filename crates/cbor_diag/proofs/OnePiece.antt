@@ -1,5 +1,5 @@
 -- Strings of one piece: what the rules of pieces give of them.
-use Rattle.std.proofs.Common.{◌≡◌, ◌⊎◌, inl, inr, ℕ, suc, Bool, true, false, List, [], ◌∷◌, ◌++◌, ◌||◌, ◌==◌, nat_eq, length, take, drop, position, codes, Option, Some, None, Result, Ok, Err, refl, sym, ap, ◌∙◌, rules, tests}
+use Rattle.std.proofs.Common.{◌≡◌, ◌⊎◌, inl, inr, ℕ, suc, Bool, true, false, List, [], ◌∷◌, ◌++◌, ◌==◌, nat_eq, length, take, drop, position, codes, Option, Some, None, Result, Ok, Err, refl, sym, ap, ◌∙◌, rules, tests}
 use Rattle.std.specs.List.{starts_with}
 use Rattle.std.proofs.lemmas.Bool.{cond-false, eqb-true}
 use Rattle.std.proofs.lemmas.List.{append-nil}

@@ -1,10 +1,11 @@
 //! Reads an item from diagnostic notation (RFC 7049 section 6), by recursion over the levels of nesting.
 //!
 //! Each private function takes the text that is left, as bytes of UTF-8, and gives a value with the text
-//! after it, or the first refusal from the left. The text is read once: what stands next is told by its
-//! first byte, but for `''_` and `""_`, and for a list's last comma, behind which whitespace and the close
-//! are looked for. What stands between `core_at` and the list that keeps its item is inlined, so that the
-//! item isn't handed from one to the other.
+//! after it, or the first refusal from the left. What stands next is told by its first byte, but for `''_`
+//! and `""_`, and for a list's last comma, behind which whitespace and the close are looked for. The text is
+//! read once, and a string's first piece twice where the short way of `strings` doesn't serve. What stands
+//! between `core_at` and the list that keeps its item is inlined, so that the item isn't handed from one to
+//! the other.
 mod content;
 mod number;
 mod scan;

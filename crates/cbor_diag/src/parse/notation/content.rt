@@ -28,9 +28,7 @@ pub(super) fn plain_at(text: &[u8]) -> Option<(&[u8], &[u8])>
     ensures gives { IfSome result (λ x. unquoted 34 false text.now ≡ Some (x.0.now, x.1.now)) }
     ensures shorter { IfSome result (λ x. length x.1.now < length text.now) }
 {
-    let end = text
-        .iter()
-        .position(|byte| matches!(*byte, b'"' | b'\\'))?;
+    let end = text.iter().position(|byte| matches!(*byte, b'"' | b'\\'))?;
     let (content, rest) = text.split_at(end);
     let behind = after_byte(rest, b'"')?;
     Some((content, behind))

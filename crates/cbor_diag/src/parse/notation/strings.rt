@@ -1,4 +1,7 @@
 //! Strings in pieces, and the chunks of indefinite ones.
+//!
+//! Most strings are one piece, a text without escapes or hex digits without blanks, right behind which a list
+//! goes on or closes. These are read by a short way, straight into the item; all others piece by piece.
 ghost use Rattle.std.specs.Prelude.{◌≡◌, ◌-◌, ◌++◌, ◌<◌, ◌≤◌, ℕ, List, Some, suc, length, map, IfOk, IfSome, Ok, OnOk, true, false};
 ghost use Rattle.std.specs.List.{AllByRecursion};
 ghost use Rattle.cbor_diag.specs.declared.syntax.IntegerWidth.TheVariants.{Unknown};
@@ -154,8 +157,16 @@ fn text_string_at(alloc: Global, text: &[u8], inner: u8) -> crate::Result<(TextS
     Ok((text_string(content)?, rest))
 }
 
-/// The digits of an `h'..'` of one piece up to its first apostrophe, where a string that it is ends right there,
-/// and the text behind it. It is one if they are hex digits. `None` where it isn't so, or not seen at once to be.
+/// Whether a string ends before this text: a list goes on or closes here. Neither a blank nor a piece of a
+/// string begins so.
+fn ends_string(text: &[u8]) -> bool
+    ensures { result ≡ ends_string text.now }
+{
+    matches!(text, [b',' | b':' | b']' | b'}', ..])
+}
+
+/// What stands between the quotes of an `h'..'`, up to its first apostrophe, and the text behind it, where a
+/// string ends there. If that is hex digits, it is the whole string. `None` anywhere else.
 fn plain_hex_at(text: &[u8]) -> Option<(&[u8], &[u8])>
     ensures gives { IfSome result (λ x. (read : List ℕ → Read Item) (bytes : List ℕ)
         → base16_of x.0.now ≡ Some bytes
@@ -199,16 +210,8 @@ pub(super) fn byte_item_at(
     Ok((DataItem::ByteString(string), rest))
 }
 
-/// Whether a string ends before this text: a list goes on or closes here. Neither a blank nor a piece of a
-/// string begins so.
-fn ends_string(text: &[u8]) -> bool
-    ensures { result ≡ ends_string text.now }
-{
-    matches!(text, [b',' | b':' | b']' | b'}', ..])
-}
-
-/// The content of a text string of one piece without escapes that ends right there, and the text behind it.
-/// `None` where it isn't so, or not seen at once to be.
+/// The content of a text of one piece without escapes, and the text behind it, where a string ends there.
+/// `None` anywhere else.
 fn plain_text_at(text: &[u8]) -> Option<(&[u8], &[u8])>
     ensures gives { IfSome result (λ x. (read : List ℕ → Read Item)
         → text_string_at read text.now ≡ one_string text_kind x.0.now x.1.now) }

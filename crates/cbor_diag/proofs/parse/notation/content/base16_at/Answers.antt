@@ -1,4 +1,4 @@
-use Rattle.std.proofs.Common.{get_or, ap, sym, ◌∙◌, arith}
+use Rattle.std.proofs.Common.{get_or, sym, arith}
 use Rattle.std.proofs.lemmas.Bool.{eqb-true}
 use Rattle.cbor_diag.proofs.notation.PlainDigits.{plain_digits}
 use Rattle.cbor_diag.proofs.parse.notation.content.base16_at.Goals as goal
