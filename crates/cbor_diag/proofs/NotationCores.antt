@@ -14,7 +14,7 @@ use Rattle.cbor_diag.specs.View.{view, items_view, pairs_view}
 use Rattle.cbor_diag.specs.WellFormed.{WellFormed, WellFormedItems, WellFormedPairs, FitsCount}
 use Rattle.cbor_diag.specs.Bytes.{StringKind, text_kind}
 use Rattle.cbor_diag.specs.Reading.{Read, ◌>>=◌, Fails}
-use Rattle.cbor_diag.specs.NotationReading.{blank_at, first_start, rest_of, core_of, core_at, item_at, piece_of, piece_at, begins_piece, begins_string, pieces_at, string_of, string_at, byte_string_at}
+use Rattle.cbor_diag.specs.NotationReading.{or_refused, after_byte, blank_at, pair_at, first_start, rest_of, core_of, core_at, item_at, piece_of, piece_at, begins_piece, begins_string, pieces_at, string_of, string_at, byte_string_at}
 use Rattle.cbor_diag.proofs.Loops.{Fails-bind, onto, onto_fails}
 use Rattle.cbor_diag.proofs.Views.{view-Array, view-Map, item_count_view, pair_count_view}
 
@@ -107,6 +107,29 @@ module _ (read : List ℕ → Read Item) (texts : Bool) (front : List ℕ) (n : 
 pub items_push : (level : ℕ) (vs : List DataItem) (v : DataItem) → WellFormedItems level (items_view vs) → WellFormed level (view v) → WellFormedItems level (items_view (vs ++ v ∷ []))
 items_push level [] v held well = (well, tt)
 items_push level (w ∷ vs) v held well = (held.0, items_push level vs v held.1 well)
+
+-- ---- a key, `:` and its value, one after the other
+
+module _ (read : List ℕ → Read Item) (text : List ℕ) where
+  pub no_key : (e : Error) → Fails e (read text) → Fails e (pair_at read text)
+  no_key e h = Fails-bind e (read text) (λ k. or_refused (after_byte 58 k.1) >>= λ rest. read rest >>= λ v. Ok ((k.0, v.0), v.1)) h
+
+  module _ (key : Item) (behind : List ℕ) (read_key : read text ≡ Ok (key, behind)) where
+    behind_key : pair_at read text ≡ (or_refused (after_byte 58 behind) >>= λ rest. read rest >>= λ v. Ok ((key, v.0), v.1))
+    behind_key = ap (λ r. r >>= λ k. or_refused (after_byte 58 k.1) >>= λ rest. read rest >>= λ v. Ok ((k.0, v.0), v.1)) read_key
+
+    pub no_colon : (e : Error) → Fails e (or_refused (after_byte 58 behind)) → Fails e (pair_at read text)
+    no_colon e h = subst (λ r. Fails e r) (sym behind_key) (Fails-bind e (or_refused (after_byte 58 behind)) (λ rest. read rest >>= λ v. Ok ((key, v.0), v.1)) h)
+
+    module _ (next : List ℕ) (colon : or_refused (after_byte 58 behind) ≡ Ok next) where
+      behind_colon : pair_at read text ≡ (read next >>= λ v. Ok ((key, v.0), v.1))
+      behind_colon = behind_key ∙ ap (λ r. r >>= λ rest. read rest >>= λ v. Ok ((key, v.0), v.1)) colon
+
+      pub no_value : (e : Error) → Fails e (read next) → Fails e (pair_at read text)
+      no_value e h = subst (λ r. Fails e r) (sym behind_colon) (Fails-bind e (read next) (λ v. Ok ((key, v.0), v.1)) h)
+
+      pub pair_read : (value : Item) (after : List ℕ) → read next ≡ Ok (value, after) → pair_at read text ≡ Ok ((key, value), after)
+      pair_read value after e = behind_colon ∙ ap (λ r. r >>= λ v. Ok ((key, v.0), v.1)) e
 
 abbrev pub pair_view : DataItem × DataItem → Item × Item
 pair_view p = (view p.0, view p.1)

@@ -13,6 +13,7 @@ use Rattle.cbor_diag.specs.Bytes.{bytes_kind, text_kind}
 use Rattle.cbor_diag.specs.Reading.{Read, ◌>>=◌}
 use Rattle.cbor_diag.specs.NotationReading.{after_word, or_refused, blank_at, start_of, first_start, begins_piece, ends_string, one_string, piece_at, pieces_at, string_at, checked, base16_of, decoded_at, byte_string_at, text_string_at}
 
+-- What stands before the first quote or backslash of a text is its content, where that is the quote.
 pub plain : (text content rest : List ℕ) (place : Option ℕ) (n : ℕ) → place ≡ position (is_special 34) text → place ≡ Some n → content ≡ take n text → drop n text ≡ 34 ∷ rest → unquoted 34 false text ≡ Some (content, rest)
 plain text content rest place n found at front behind =
     let first = first_at (is_special 34) text place n found at in

@@ -59,9 +59,10 @@ fn end_of_piece(text: &[u8], at: usize, comments: bool) -> Option<usize>
     Some(at + words + 2)
 }
 
-/// Whether a byte is a space, a tab, a line feed or a carriage return.
+/// Whether a byte is a space, a tab, a line feed or a carriage return. Most bytes of a text are above all of
+/// these, which one comparison tells.
 pub(crate) fn is_whitespace(byte: u8) -> bool
     ensures { result ≡ is_whitespace byte }
 {
-    matches!(byte, b' ' | b'\t' | b'\n' | b'\r')
+    byte <= b' ' && matches!(byte, b' ' | b'\t' | b'\n' | b'\r')
 }

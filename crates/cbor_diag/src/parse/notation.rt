@@ -3,9 +3,9 @@
 //! Each private function takes the text that is left, as bytes of UTF-8, and gives a value with the text
 //! after it, or the first refusal from the left. What stands next is told by its first byte, but for `''_`
 //! and `""_`, and for a list's last comma, behind which whitespace and the close are looked for. The text is
-//! read once, and a string's first piece twice where the short way of `strings` doesn't serve. What stands
-//! between `core_at` and the list that keeps its item is inlined, so that the item isn't handed from one to
-//! the other.
+//! read once, and a string's first piece once more where the short way of `strings` doesn't serve. What
+//! stands between `core_at` and the list that keeps its item is inlined, and a map's loop reads key and value
+//! itself, so that an item isn't handed from one to the other.
 mod content;
 mod number;
 mod scan;
@@ -164,30 +164,15 @@ fn pairs_at(alloc: Global, text: &[u8], level: u8) -> Result<(Vec<(DataItem, Dat
     }
     let mut pairs = Vec::with_capacity(alloc, 1)?;
     'pairs: loop {
-        let (pair, after) = pair_at(alloc, rest, level)?;
-        pairs.push(pair)?;
+        let (key, behind) = item_at(alloc, rest, level)?;
+        let next = expect_byte(behind, b':')?;
+        let (value, after) = item_at(alloc, next, level)?;
+        pairs.push((key, value))?;
         if let Some(end) = end_at(after, b'}') {
             return Ok((pairs, end));
         }
         rest = expect_byte(after, b',')?;
     }
-}
-
-/// A key, `:` and its value.
-#[cycle(diag)]
-#[inline(always)]
-fn pair_at(alloc: Global, text: &[u8], level: u8) -> Result<((DataItem, DataItem), &[u8])>
-    requires { level ≤ 129 }
-    ensures gives { Gives (λ x. ((view x.0.0, view x.0.1), x.1.now)) result
-        (pair_at (item_at (129 - level)) text.now) }
-    ensures well_key { IfOk result (λ x. WellFormed level (view x.0.0)) }
-    ensures well_value { IfOk result (λ x. WellFormed level (view x.0.1)) }
-    ensures shorter { IfOk result (λ x. length x.1.now ≤ length text.now) }
-{
-    let (key, rest) = item_at(alloc, text, level)?;
-    let rest = expect_byte(rest, b':')?;
-    let (value, rest) = item_at(alloc, rest, level)?;
-    Ok(((key, value), rest))
 }
 
 /// The item that a text is, all of it.

@@ -7,11 +7,12 @@ ghost use Rattle.cbor_diag.specs.NotationReading.{or_refused, blank_at, after_by
 use crate::error::{Error, Result};
 use crate::syntax::IntegerWidth;
 
-/// Whether a byte is a space, a tab, a line feed or a carriage return.
+/// Whether a byte is a space, a tab, a line feed or a carriage return. Most bytes of a text are above all of
+/// these, which one comparison tells.
 fn is_whitespace(byte: u8) -> bool
     ensures { result ≡ is_whitespace byte }
 {
-    matches!(byte, b' ' | b'\t' | b'\n' | b'\r')
+    byte <= b' ' && matches!(byte, b' ' | b'\t' | b'\n' | b'\r')
 }
 
 /// The text behind the longest blank at its front.

@@ -1,7 +1,8 @@
-use Rattle.std.proofs.Common.{◌≡◌, ℕ, suc, ◌+◌, ◌-◌, ◌++◌, ◌∷◌, [], true, false, Ok, length, map, Some, sym, ap, subst, ◌∙◌, arith}
+use Rattle.std.proofs.Common.{◌≡◌, ℕ, suc, ◌+◌, ◌-◌, ◌≤◌, ◌++◌, ◌∷◌, [], true, false, Ok, length, map, Some, sym, ap, subst, ◌∙◌, arith}
 use Rattle.std.proofs.lemmas.Result.{err_from_is_err_and}
 use Rattle.std.proofs.lemmas.List.{map_push}
 use Rattle.cbor_diag.specs.declared.parse.notation.start.Start.TheVariants as start
+use Rattle.cbor_diag.specs.declared.syntax.DataItem.{DataItem}
 use Rattle.cbor_diag.specs.Item as spec
 use Rattle.cbor_diag.specs.Item.{Item, atom, negative, array, byte_chunks, text_chunks}
 use Rattle.cbor_diag.specs.View.{view, items_of, pairs_of, items_view, pairs_view, byte_chunk, text_chunk}
@@ -11,7 +12,7 @@ use Rattle.cbor_diag.specs.Reading.{◌>>=◌, Fails}
 use Rattle.cbor_diag.specs.NotationReading.{blank_at, after_byte, end_at, integer_or_tag, sized_at, below_zero_at, length_at, pair_at, chunk_at, item_at, core_at, members_at, pieces_at, checked, begins_piece, begins_string, string_at}
 use Rattle.cbor_diag.proofs.Loops.{Fails-bind}
 use Rattle.cbor_diag.proofs.NotationLoops.{members_closed, members_begin, member_fails, member_last, no_comma, member_more}
-use Rattle.cbor_diag.proofs.NotationCores.{core_by, bytes_core, piece_by, no_piece, no_text, string_by, item_none, item_some, pieces_begin, pieces_end, piece_fails, piece_more, items_push, pair_view, pairs_push, all_push, array_well, map_well}
+use Rattle.cbor_diag.proofs.NotationCores.{core_by, bytes_core, piece_by, no_piece, no_text, string_by, item_none, item_some, pieces_begin, pieces_end, piece_fails, piece_more, items_push, no_key, no_colon, no_value, pair_read, pair_view, pairs_push, all_push, array_well, map_well}
 use Rattle.cbor_diag.proofs.Views.{view-Array, view-Map, view-Negative}
 use Rattle.cbor_diag.proofs.parse.notation.+diag.Goals as goal
 
@@ -85,47 +86,65 @@ pairs_at-pairs-init t c =
     let begun = members_begin read close c.args.text.now c.after_blank-rest.result.now (map pair_view c.in_ok-pairs.pairs.items) (ap (map pair_view) c.in_ok-pairs.ensures.items) c.after_blank-rest.ensures.gives (sym c.in_default.ensures.gives) in
     (begun.0, begun.1, begun.2, c.after_blank-rest.ensures.shorter, rw c.in_ok-pairs.ensures.items tt)
 
-pub pairs_at-returns-in_err-pair-clause-gives : goal.pairs_at-returns-in_err-pair-clause-gives
-pairs_at-returns-in_err-pair-clause-gives t c =
-    let p = err_from_is_err_and c.from_residual-in_err-pair.result c.from_residual-in_err-pair.ensures.1 in
-    let read = pair_at (item_at (129 - c.args.level)) in
-    let close : ℕ = 125 in
-    let total = members_at read close c.args.text.now in
+pub pairs_at-returns-in_err-key-clause-gives : goal.pairs_at-returns-in_err-key-clause-gives
+pairs_at-returns-in_err-key-clause-gives t c =
+    let p = err_from_is_err_and c.from_residual-in_err-key.result c.from_residual-in_err-key.ensures.1 in
+    let item = item_at (129 - c.args.level) in
+    let total = members_at (pair_at item) 125 c.args.text.now in
     let i = c.pairs.invariant in
-    rw (p.1, p.2) (member_fails read close (map pair_view c.pairs.pairs.items) i.0 c.pairs.rest.now total i.1 i.2 c.in_err-pair.field-0.0 c.in_err-pair.ensures.gives)
+    rw (p.1, p.2) (member_fails (pair_at item) 125 (map pair_view c.pairs.pairs.items) i.0 c.pairs.rest.now total i.1 i.2 c.in_err-key.field-0.0 (no_key item c.pairs.rest.now c.in_err-key.field-0.0 c.in_err-key.ensures.gives))
+
+pub pairs_at-returns-in_err-next-clause-gives : goal.pairs_at-returns-in_err-next-clause-gives
+pairs_at-returns-in_err-next-clause-gives t c =
+    let p = err_from_is_err_and c.from_residual-in_err-next.result c.from_residual-in_err-next.ensures.1 in
+    let item = item_at (129 - c.args.level) in
+    let total = members_at (pair_at item) 125 c.args.text.now in
+    let i = c.pairs.invariant in
+    rw (p.1, p.2) (member_fails (pair_at item) 125 (map pair_view c.pairs.pairs.items) i.0 c.pairs.rest.now total i.1 i.2 c.in_err-next.field-0.0 (no_colon item c.pairs.rest.now (view c.in_ok-key.key) c.in_ok-key.behind.now c.in_ok-key.ensures.gives c.in_err-next.field-0.0 c.in_err-next.ensures.gives))
+
+pub pairs_at-returns-in_err-value-clause-gives : goal.pairs_at-returns-in_err-value-clause-gives
+pairs_at-returns-in_err-value-clause-gives t c =
+    let p = err_from_is_err_and c.from_residual-in_err-value.result c.from_residual-in_err-value.ensures.1 in
+    let item = item_at (129 - c.args.level) in
+    let total = members_at (pair_at item) 125 c.args.text.now in
+    let i = c.pairs.invariant in
+    rw (p.1, p.2) (member_fails (pair_at item) 125 (map pair_view c.pairs.pairs.items) i.0 c.pairs.rest.now total i.1 i.2 c.in_err-value.field-0.0 (no_value item c.pairs.rest.now (view c.in_ok-key.key) c.in_ok-key.behind.now c.in_ok-key.ensures.gives c.in_ok-next.next.now c.in_ok-next.ensures.gives c.in_err-value.field-0.0 c.in_err-value.ensures.gives))
 
 pub pairs_at-returns-in-Some-end_at-clause-gives : goal.pairs_at-returns-in-Some-end_at-clause-gives
 pairs_at-returns-in-Some-end_at-clause-gives t c =
-    let read = pair_at (item_at (129 - c.args.level)) in
-    let close : ℕ = 125 in
-    let total = members_at read close c.args.text.now in
+    let item = item_at (129 - c.args.level) in
+    let total = members_at (pair_at item) 125 c.args.text.now in
     let i = c.pairs.invariant in
     let held = c.pairs.pairs.items in
-    let pushed : map pair_view c.push.new.self.items ≡ map pair_view held ++ (pair_view c.in_ok-pair.pair) ∷ [] = rw c.in_ok-push.ensures.items (map_push pair_view held c.in_ok-pair.pair) in
-    rw pushed (member_last read close (map pair_view held) i.0 c.pairs.rest.now total i.1 i.2 (pair_view c.in_ok-pair.pair) c.in_ok-pair.after.now c.in-Some-end_at.end.now c.in_ok-pair.ensures.gives (sym c.in-Some-end_at.ensures.gives))
+    let p : DataItem × DataItem = (c.in_ok-key.key, c.in_ok-value.value) in
+    let read = pair_read item c.pairs.rest.now (view p.0) c.in_ok-key.behind.now c.in_ok-key.ensures.gives c.in_ok-next.next.now c.in_ok-next.ensures.gives (view p.1) c.in_ok-value.after.now c.in_ok-value.ensures.gives in
+    let pushed : map pair_view c.push.new.self.items ≡ map pair_view held ++ pair_view p ∷ [] = rw c.in_ok-push.ensures.items (map_push pair_view held p) in
+    rw pushed (member_last (pair_at item) 125 (map pair_view held) i.0 c.pairs.rest.now total i.1 i.2 (pair_view p) c.in_ok-value.after.now c.in-Some-end_at.end.now read (sym c.in-Some-end_at.ensures.gives))
 
 pub pairs_at-returns-in_err-rest-clause-gives : goal.pairs_at-returns-in_err-rest-clause-gives
 pairs_at-returns-in_err-rest-clause-gives t c =
     let p = err_from_is_err_and c.from_residual-in_err-rest.result c.from_residual-in_err-rest.ensures.1 in
-    let read = pair_at (item_at (129 - c.args.level)) in
-    let close : ℕ = 125 in
-    let total = members_at read close c.args.text.now in
+    let item = item_at (129 - c.args.level) in
+    let total = members_at (pair_at item) 125 c.args.text.now in
     let i = c.pairs.invariant in
-    rw (p.1, p.2) (no_comma read close (map pair_view c.pairs.pairs.items) i.0 c.pairs.rest.now total i.1 i.2 (pair_view c.in_ok-pair.pair) c.in_ok-pair.after.now c.in_err-rest.field-0.0 c.in_ok-pair.ensures.gives (sym c.in_default-end_at.ensures.gives) c.in_err-rest.ensures.gives)
+    let read = pair_read item c.pairs.rest.now (view c.in_ok-key.key) c.in_ok-key.behind.now c.in_ok-key.ensures.gives c.in_ok-next.next.now c.in_ok-next.ensures.gives (view c.in_ok-value.value) c.in_ok-value.after.now c.in_ok-value.ensures.gives in
+    rw (p.1, p.2) (no_comma (pair_at item) 125 (map pair_view c.pairs.pairs.items) i.0 c.pairs.rest.now total i.1 i.2 (view c.in_ok-key.key, view c.in_ok-value.value) c.in_ok-value.after.now c.in_err-rest.field-0.0 read (sym c.in_default-end_at.ensures.gives) c.in_err-rest.ensures.gives)
 
 pub pairs_at-pairs-preserved : goal.pairs_at-pairs-preserved
 pairs_at-pairs-preserved t c =
-    let read = pair_at (item_at (129 - c.args.level)) in
-    let close : ℕ = 125 in
-    let total = members_at read close c.args.text.now in
+    let item = item_at (129 - c.args.level) in
+    let total = members_at (pair_at item) 125 c.args.text.now in
     let i = c.pairs.invariant in
     let held = c.pairs.pairs.items in
-    let pushed : map pair_view c.push.new.self.items ≡ map pair_view held ++ (pair_view c.in_ok-pair.pair) ∷ [] = rw c.in_ok-push.ensures.items (map_push pair_view held c.in_ok-pair.pair) in
-    let next = member_more read close (map pair_view held) i.0 c.pairs.rest.now total i.1 i.2 (pair_view c.in_ok-pair.pair) c.in_ok-pair.after.now c.in_ok-rest.rest.now c.in_ok-pair.ensures.gives (sym c.in_default-end_at.ensures.gives) c.in_ok-rest.ensures.gives c.in_ok-pair.ensures.shorter c.in_ok-rest.ensures.shorter in
-    (next.0, next.1, rw pushed next.2, omega (arith, c.in_ok-rest.ensures.shorter, c.in_ok-pair.ensures.shorter), rw c.in_ok-push.ensures.items (pairs_push c.args.level held c.in_ok-pair.pair i.4 c.in_ok-pair.ensures.well_key c.in_ok-pair.ensures.well_value))
+    let p : DataItem × DataItem = (c.in_ok-key.key, c.in_ok-value.value) in
+    let read = pair_read item c.pairs.rest.now (view p.0) c.in_ok-key.behind.now c.in_ok-key.ensures.gives c.in_ok-next.next.now c.in_ok-next.ensures.gives (view p.1) c.in_ok-value.after.now c.in_ok-value.ensures.gives in
+    let shorter : length c.in_ok-value.after.now ≤ length c.pairs.rest.now = omega (arith, c.in_ok-key.ensures.shorter, c.in_ok-next.ensures.shorter, c.in_ok-value.ensures.shorter) in
+    let pushed : map pair_view c.push.new.self.items ≡ map pair_view held ++ pair_view p ∷ [] = rw c.in_ok-push.ensures.items (map_push pair_view held p) in
+    let next = member_more (pair_at item) 125 (map pair_view held) i.0 c.pairs.rest.now total i.1 i.2 (pair_view p) c.in_ok-value.after.now c.in_ok-rest.rest.now read (sym c.in_default-end_at.ensures.gives) c.in_ok-rest.ensures.gives shorter c.in_ok-rest.ensures.shorter in
+    (next.0, next.1, rw pushed next.2, omega (arith, c.in_ok-rest.ensures.shorter, shorter), rw c.in_ok-push.ensures.items (pairs_push c.args.level held p i.4 c.in_ok-key.ensures.well c.in_ok-value.ensures.well))
 
 pub pairs_at-returns-in-Some-end_at-clause-well : goal.pairs_at-returns-in-Some-end_at-clause-well
-pairs_at-returns-in-Some-end_at-clause-well t c = rw c.in_ok-push.ensures.items (pairs_push c.args.level c.pairs.pairs.items c.in_ok-pair.pair c.pairs.invariant.4 c.in_ok-pair.ensures.well_key c.in_ok-pair.ensures.well_value)
+pairs_at-returns-in-Some-end_at-clause-well t c = rw c.in_ok-push.ensures.items (pairs_push c.args.level c.pairs.pairs.items (c.in_ok-key.key, c.in_ok-value.value) c.pairs.invariant.4 c.in_ok-key.ensures.well c.in_ok-value.ensures.well)
 
 pub strings::byte_chunks_at-returns-in-Some-clause-gives : goal.strings::byte_chunks_at-returns-in-Some-clause-gives
 strings::byte_chunks_at-returns-in-Some-clause-gives t c =

@@ -17,11 +17,8 @@ decreases-integer_or_tag l = (130 - l.inner) * 9 + 1
 abbrev pub decreases-items_at : goal.decreases-items_at
 decreases-items_at l = (130 - l.level) * 9 + 1
 
-abbrev pub decreases-pair_at : goal.decreases-pair_at
-decreases-pair_at l = (130 - l.level) * 9 + 1
-
 abbrev pub decreases-pairs_at : goal.decreases-pairs_at
-decreases-pairs_at l = (130 - l.level) * 9 + 2
+decreases-pairs_at l = (130 - l.level) * 9 + 1
 
 abbrev pub decreases-strings::embedded_at : goal.decreases-strings::embedded_at
 decreases-strings::embedded_at l = (130 - l.inner) * 9 + 2
