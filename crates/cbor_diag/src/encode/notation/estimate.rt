@@ -42,15 +42,14 @@ impl Layout {
 }
 
 /// Room behind the decimal digits of a number.
-#[tactic(auto, using(std::proofs::lemmas::Fmt::decimal_digit))]
+#[tactic(auto, using(std::proofs::lemmas::Fmt::decimal_digit, crate::proofs::Rooms::power_below))]
 fn digits_room(number: u64, room: usize) -> Option<usize>
     ensures { SomeIff result (digit_count number ≤ room) (room - digit_count number) }
 {
-    if number < 10 {
-        return room.checked_sub(1);
-    }
-    let mut digits = itoa::Buffer::new();
-    room.checked_sub(digits.format(number).len())
+    let digits = number
+        .checked_ilog10()
+        .map_or(1, |power| power as usize + 1);
+    room.checked_sub(digits)
 }
 
 /// Room behind a byte string.
