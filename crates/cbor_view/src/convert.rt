@@ -10,7 +10,8 @@ use crate::words::{Source, To};
 use cbor_diag::{DataItem, Error, parse_bytes, parse_diag, parse_hex};
 use std::alloc::Global;
 
-/// The output for an input, which is let go as soon as its item is read.
+/// The output for an input, in the memory of the input where it can: that was used already, and fresh
+/// memory takes longer.
 ///
 /// The item's memory is left to the end of the process. Only the writing of the output comes after, and
 /// to let go of an item's many small blocks one by one took up to half of the whole time.
@@ -19,8 +20,7 @@ pub(crate) fn convert(alloc: Global, from: Source, to: To, input: Vec<u8>) -> Re
     ensures refused { RefusedSo result (λ e. IsOutput from to input.items (Err e)) }
 {
     let item = read_item(alloc, from, &input)?;
-    drop(input);
-    let output = write_item(alloc, to, &item);
+    let output = write_item(alloc, to, &item, input);
     std::mem::forget(item);
     output
 }
@@ -43,17 +43,38 @@ fn read_item(alloc: Global, from: Source, input: &[u8]) -> Result<DataItem, Erro
     }
 }
 
-/// The output of an item.
-pub(crate) fn write_item(alloc: Global, to: To, item: &DataItem) -> Result<Vec<u8>, Error>
+/// The output of an item, in the memory of `spare`, whose bytes are dropped; a dump has memory of its own.
+pub(crate) fn write_item(
+    alloc: Global,
+    to: To,
+    item: &DataItem,
+    spare: Vec<u8>,
+) -> Result<Vec<u8>, Error>
     requires { IsWellFormed (view item.now) }
     ensures written { IfOk result (λ output. output.items ≡ output_of to (view item.now)) }
     ensures memory { IfErr result (λ e. e ≡ Error.Memory) }
 {
+    let mut output = spare;
+    output.clear();
     match to {
-        To::Bytes => item.to_bytes(alloc),
-        To::Hex => Ok(item.to_hex(alloc)?.into_bytes()),
-        To::Diag => ended_line(item.to_diag(alloc)?),
-        To::Pretty => ended_line(item.to_diag_pretty(alloc)?),
+        To::Bytes => {
+            item.push_bytes(&mut output)?;
+            Ok(output)
+        }
+        To::Hex => {
+            drop(output);
+            Ok(item.to_hex(alloc)?.into_bytes())
+        }
+        To::Diag => {
+            let mut text = String::from_utf8(output).unwrap();
+            item.push_diag(alloc, &mut text)?;
+            ended_line(text)
+        }
+        To::Pretty => {
+            let mut text = String::from_utf8(output).unwrap();
+            item.push_diag_pretty(alloc, &mut text)?;
+            ended_line(text)
+        }
     }
 }
 

@@ -117,7 +117,7 @@ fn write_first<W: Write>(
     let Some((item, used)) = parse_bytes_partial(alloc, bytes)? else {
         return Err(ViewError::Item(Error::CutShort));
     };
-    let written = write_item(alloc, to, &item)?;
+    let written = write_item(alloc, to, &item, Vec::new(alloc))?;
     write_whole(output, &written)?;
     Ok(used)
 }

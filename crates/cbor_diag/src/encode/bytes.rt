@@ -189,7 +189,20 @@ impl DataItem {
         ensures refused { IfErr result (λ e. e ≡ Error.Memory) }
     {
         let mut out = Vec::new(alloc);
-        push_item(&mut out, self)?;
+        self.push_bytes(&mut out)?;
         Ok(out)
+    }
+
+    /// Appends what [`DataItem::to_bytes`] answers to `out`, for whoever has memory for it already.
+    ///
+    /// The item has to be well formed, which `is_well_formed` tells. Refuses with `Memory` alone, and then
+    /// `out` may end with a part of the bytes.
+    pub fn push_bytes(&self, out: &mut Vec<u8>) -> crate::Result<()>
+        requires { IsWellFormed (view self.now) }
+        ensures bytes { OnOk result (out.new.items ≡ out.old.items ++ encoded (view self.now)) }
+        ensures refused { IfErr result (λ e. e ≡ Error.Memory) }
+    {
+        push_item(out, self)?;
+        Ok(())
     }
 }

@@ -247,8 +247,21 @@ impl DataItem {
         ensures refused { IfErr result (λ e. e ≡ Error.Memory) }
     {
         let mut out = String::new(alloc);
-        push_item(&mut out, alloc, self, Context::new(Layout::Compact), 1)?;
+        self.push_diag(alloc, &mut out)?;
         Ok(out)
+    }
+
+    /// Appends what [`DataItem::to_diag`] answers to `out`, for whoever has memory for it already.
+    ///
+    /// The item has to be well formed, which `is_well_formed` tells. Refuses with `Memory` alone, and then
+    /// `out` may end with a part of the text.
+    pub fn push_diag(&self, alloc: Global, out: &mut String) -> Result<()>
+        requires { IsWellFormed (view self.now) }
+        ensures text { OnOk result
+            (string_bytes out.new ≡ string_bytes out.old ++ diag_of (view self.now)) }
+        ensures refused { IfErr result (λ e. e ≡ Error.Memory) }
+    {
+        push_item(out, alloc, self, Context::new(Layout::Compact), 1)
     }
 
     /// The item in diagnostic notation over several lines (RFC 7049 section 6).
@@ -275,8 +288,21 @@ impl DataItem {
         ensures refused { IfErr result (λ e. e ≡ Error.Memory) }
     {
         let mut out = String::new(alloc);
-        let layout = Layout::Pretty { indent: 0 };
-        push_item(&mut out, alloc, self, Context::new(layout), 1)?;
+        self.push_diag_pretty(alloc, &mut out)?;
         Ok(out)
+    }
+
+    /// Appends what [`DataItem::to_diag_pretty`] answers to `out`, for whoever has memory for it already.
+    ///
+    /// The item has to be well formed, which `is_well_formed` tells. Refuses with `Memory` alone, and then
+    /// `out` may end with a part of the text.
+    pub fn push_diag_pretty(&self, alloc: Global, out: &mut String) -> Result<()>
+        requires { IsWellFormed (view self.now) }
+        ensures text { OnOk result
+            (string_bytes out.new ≡ string_bytes out.old ++ pretty_of (view self.now)) }
+        ensures refused { IfErr result (λ e. e ≡ Error.Memory) }
+    {
+        let layout = Layout::Pretty { indent: 0 };
+        push_item(out, alloc, self, Context::new(layout), 1)
     }
 }

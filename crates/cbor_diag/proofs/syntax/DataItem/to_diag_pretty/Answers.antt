@@ -3,8 +3,9 @@ use Rattle.cbor_diag.specs.declared.encode.notation.context.Content.TheVariants.
 use Rattle.cbor_diag.specs.declared.encode.encoding.Encoding.TheVariants.{Base16}
 use Rattle.cbor_diag.specs.declared.encode.notation.context.Layout.TheVariants.{Pretty}
 use Rattle.cbor_diag.specs.View.{view}
+use Rattle.cbor_diag.specs.Facts.{pretty_of}
 use Rattle.cbor_diag.specs.Notation.{Reads}
-use Rattle.cbor_diag.specs.NotationText.{in_encoding, text_at}
+use Rattle.cbor_diag.specs.NotationText.{in_encoding}
 use Rattle.cbor_diag.specs.Normal.{normal_at}
 use Rattle.cbor_diag.proofs.ReadBack.{reads_back}
 use Rattle.cbor_diag.proofs.PrettyForms.{short_is, long_is, short_sequence, long_sequence}
@@ -13,14 +14,14 @@ use Rattle.cbor_diag.proofs.syntax.DataItem.to_diag_pretty.Goals as goal
 pub returns-clause-read_back : goal.returns-clause-read_back
 returns-clause-read_back c =
     let i = view c.args.self.now in
-    let written = c.in_ok-push_item.ensures.text ∙ ap (λ x. x ++ text_at 128 c.new.result i) c.new-out.ensures.bytes ∙ ap (λ k. text_at 128 k i) c.new.ensures in
+    let written = c.in_ok-push_diag_pretty.ensures.text ∙ ap (λ x. x ++ pretty_of i) c.new-out.ensures.bytes in
     subst (λ x. Reads 128 x (normal_at 128 Bytes i)) (sym written) (reads_back 1 128 (omega arith) (in_encoding (Pretty 0) Base16) i c.requires)
 
-pub returns-in_err-push_item-clause-one_line : goal.returns-in_err-push_item-clause-one_line
-returns-in_err-push_item-clause-one_line c = short_is
+pub returns-in_err-push_diag_pretty-clause-one_line : goal.returns-in_err-push_diag_pretty-clause-one_line
+returns-in_err-push_diag_pretty-clause-one_line c = short_is
 
-pub returns-in_err-push_item-clause-lines : goal.returns-in_err-push_item-clause-lines
-returns-in_err-push_item-clause-lines c = long_is
+pub returns-in_err-push_diag_pretty-clause-lines : goal.returns-in_err-push_diag_pretty-clause-lines
+returns-in_err-push_diag_pretty-clause-lines c = long_is
 
 pub returns-clause-one_line : goal.returns-clause-one_line
 returns-clause-one_line c = short_is
@@ -28,11 +29,11 @@ returns-clause-one_line c = short_is
 pub returns-clause-lines : goal.returns-clause-lines
 returns-clause-lines c = long_is
 
-pub returns-in_err-push_item-clause-sequence_one_line : goal.returns-in_err-push_item-clause-sequence_one_line
-returns-in_err-push_item-clause-sequence_one_line c = short_sequence
+pub returns-in_err-push_diag_pretty-clause-sequence_one_line : goal.returns-in_err-push_diag_pretty-clause-sequence_one_line
+returns-in_err-push_diag_pretty-clause-sequence_one_line c = short_sequence
 
-pub returns-in_err-push_item-clause-sequence_lines : goal.returns-in_err-push_item-clause-sequence_lines
-returns-in_err-push_item-clause-sequence_lines c = long_sequence
+pub returns-in_err-push_diag_pretty-clause-sequence_lines : goal.returns-in_err-push_diag_pretty-clause-sequence_lines
+returns-in_err-push_diag_pretty-clause-sequence_lines c = long_sequence
 
 pub returns-clause-sequence_one_line : goal.returns-clause-sequence_one_line
 returns-clause-sequence_one_line c = short_sequence
