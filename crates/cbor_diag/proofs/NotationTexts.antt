@@ -1,6 +1,6 @@
 -- Texts that are written piece by piece: escaped text, and members.
 use Rattle.std.proofs.Common.{◌≡◌, ℕ, ◌+◌, ◌<◌, ◌≤◌, Bool, true, false, eqb, List, [], ◌∷◌, ◌++◌, length, map, codes, None, get_or, take, drop, refl, sym, ap, ◌∙◌, append_assoc, arith}
-use Rattle.std.specs.List.{flat_map}
+use Rattle.std.specs.List.{flat_map, list_any}
 use Rattle.std.proofs.lemmas.List.{length-take, take_more, drop_more, drop-append-le, drop_at, append-nil}
 use Rattle.std.proofs.lemmas.Grind.{flat_map-append}
 use Rattle.std.proofs.lemmas.Bool.Decides.{nat_tests}
@@ -33,6 +33,15 @@ special_more s done place out old plain out' order here special is written h =
     let b : escaped (get_or s place 0) ≡ 92 ∷ get_or s place 0 ∷ [] = rw special refl in
     let last : drop place (take (place + 1) s) ≡ get_or s place 0 ∷ [] = ap (drop place) (take_more s place 0 here) ∙ drop_at (take place s) (get_or s place 0 ∷ []) place (omega (arith, length-take place s)) in
     rw (last, escaped_more s place here, b, written, is) (ap (λ x. (x ++ 92 ∷ []) ++ get_or s place 0 ∷ []) h ∙ simp append_assoc)
+
+-- a text without such bytes is written as it is
+pub plain_text : (s : List ℕ) → list_any is_escaped s ≡ false → flat_map escaped s ≡ s
+plain_text [] h = refl
+plain_text (b ∷ bs) h =
+    let here : is_escaped b ≡ false = grind arith in
+    let there : list_any is_escaped bs ≡ false = grind arith in
+    let first : escaped b ≡ b ∷ [] = rw here refl in
+    ap (λ x. x ++ flat_map escaped bs) first ∙ ap (λ x. b ∷ x) (plain_text bs there)
 
 -- ---- members
 

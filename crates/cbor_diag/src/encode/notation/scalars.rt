@@ -1,7 +1,7 @@
 //! What holds no item: numbers, strings, floats and simple values (RFC 7049 section 6).
 ghost use Rattle.std.specs.Prelude.{◌≡◌, ◌+◌, ◌++◌, codes, OnOk};
 ghost use Rattle.std.specs.Fmt.{decimal};
-ghost use Rattle.std.specs.List.{flat_map};
+ghost use Rattle.std.specs.List.{flat_map, list_any};
 ghost use Rattle.std.specs.String.{string_bytes};
 ghost use Rattle.cbor_notes.specs.Base64.{standard, url_safe};
 ghost use Rattle.cbor_diag.specs.WellFormed.{FitsFloat};
@@ -136,6 +136,18 @@ pub(crate) fn push_text(out: &mut String, content: &str) -> Result<(), AllocErro
     out.push('"')
 }
 
+/// Whether the text has a byte that stands behind a backslash. It is looked at to its end, whatever is
+/// found: so the loop has one way out, and many bytes are looked at together.
+fn has_escaped(content: &str) -> bool
+    ensures { result ≡ list_any is_escaped content.now }
+{
+    let mut found = 0;
+    'bytes: for byte in content.as_bytes() {
+        found = u8::from(is_escaped(*byte)).max(found);
+    }
+    found > 0
+}
+
 /// Whether the byte stands behind a backslash in a text.
 fn is_escaped(byte: u8) -> bool
     ensures { result ≡ is_escaped byte }
@@ -143,11 +155,15 @@ fn is_escaped(byte: u8) -> bool
     byte == b'"' || byte == b'\\'
 }
 
-/// Writes a text with a backslash before each quote and each backslash.
+/// Writes a text with a backslash before each quote and each backslash. Most texts have none of these.
+#[tactic(auto, using(crate::proofs::NotationTexts::plain_text))]
 fn push_escaped(out: &mut String, content: &str) -> Result<(), AllocError>
     ensures { OnOk result
         (string_bytes out.new ≡ string_bytes out.old ++ flat_map escaped content.now) }
 {
+    if !has_escaped(content) {
+        return out.push_str(content);
+    }
     let mut done = 0;
     'bytes: for (place, byte) in content.as_bytes().iter().enumerate() {
         if is_escaped(*byte) {

@@ -22,7 +22,7 @@ bytes-preserved c =
           let special = test ∙ w.if-is_escaped.true in
           let end : c.bytes.done + (c.bytes.place - c.bytes.done) ≡ c.bytes.place = omega arith in
           let plain : w.range.result.now ≡ drop c.bytes.done (take c.bytes.place s) = w.range.ensures.value ∙ sym (drop-take c.bytes.done (c.bytes.place - c.bytes.done) s) ∙ ap (λ n. drop c.bytes.done (take n s)) end in
-          let written = w.in_ok-push.ensures.bytes ∙ ap (λ x. string_bytes w.push_str.new.self ++ x) (w.in_ok-push.ensures.ascii (omega arith)) ∙ ap (λ x. x ++ 92 ∷ []) w.in_ok-push_str.ensures.bytes in
+          let written = w.in_ok-push.ensures.bytes ∙ ap (λ x. string_bytes w.push_str-then-is_escaped.new.self ++ x) (w.in_ok-push.ensures.ascii (omega arith)) ∙ ap (λ x. x ++ 92 ∷ []) w.in_ok-push_str.ensures.bytes in
           rw (w.out-is, w.done-is) (record {
             written = special_more s c.bytes.done c.bytes.place (string_bytes c.bytes.out) (string_bytes c.args.out.now) w.range.result.now (string_bytes w.push.new.self) i.order here special plain written i.written;
             order = omega arith;
