@@ -7,22 +7,24 @@ mod estimate;
 mod members;
 mod scalars;
 
-ghost use Rattle.std.specs.Prelude.{◌≡◌, ◌↔◌, true, ◌+◌, ◌-◌, ◌*◌, ◌<◌, ◌≤◌, ◌++◌, ℕ, OnOk, IfOk, IfErr};
+ghost use Rattle.std.specs.Prelude.{◌≡◌, ◌↔◌, true, ◌+◌, ◌-◌, ◌*◌, ◌^◌, ◌<◌, ◌≤◌, ◌++◌, ℕ, OnOk, IfOk, IfErr, map, codes};
 ghost use Rattle.std.specs.String.{string_bytes};
-ghost use Rattle.cbor_diag.specs.View.{view, items_view, pairs_view};
+ghost use Rattle.cbor_diag.specs.View.{view, items_view, pairs_view, byte_chunk, text_chunk};
 ghost use Rattle.cbor_diag.specs.Notation.{IsNotation};
 ghost use Rattle.cbor_diag.specs.declared.encode.encoding.Encoding.{Encoding};
 ghost use Rattle.cbor_diag.specs.declared.syntax.IntegerWidth.{IntegerWidth};
+ghost use Rattle.cbor_diag.specs.Item as spec;
 ghost use Rattle.cbor_diag.specs.Item.{Chunk, Item, atom, byte_string, tagged};
 ghost use Rattle.cbor_diag.specs.Estimate.{full, long};
 ghost use Rattle.cbor_diag.specs.Pretty.{pretty, in_one_line, in_lines, sequence_in_one_line, sequence_in_lines};
 ghost use Rattle.cbor_diag.specs.Facts.{IsWellFormed, diag_of, pretty_of, normal_of};
 ghost use Rattle.cbor_diag.specs.WellFormed.{deepest, WellFormed, WellFormedItems, WellFormedPairs};
+ghost use Rattle.cbor_diag.specs.NotationText as notation;
 ghost use Rattle.cbor_diag.specs.NotationText.{indent_of, listing_indent, members, members_layout, inside, colon, item_texts, pair_texts, embedded_text, sequence_size, sequence_text, content_text, text_at};
 ghost use Rattle.cbor_diag.specs.Embedded.{embedded_at, sequence, sequence_at};
 
-use crate::error::{Error, Result};
-use crate::syntax::DataItem;
+use crate::error::Error;
+use crate::syntax::{ByteString, DataItem, IntegerWidth, Tag, TextString};
 use context::{Content, Context, Layout, Listing};
 use embedded::{embedded, sequence};
 use members::{
@@ -31,61 +33,153 @@ use members::{
 };
 pub(crate) use scalars::push_quoted;
 use scalars::{push_float, push_negative, push_number, push_simple, push_text};
-use std::alloc::Global;
+use std::alloc::{AllocError, Global};
 
 /// Writes an item that stands at `level`, from 1 to 128.
+///
+/// What writes containers and tags isn't inlined here: it keeps values over calls, and room for these would
+/// be made for each number and text, too.
 #[cycle(text)]
 fn push_item(
     out: &mut String,
     alloc: Global,
     item: &DataItem,
-    context: Context,
+    context: &Context,
     level: u8,
-) -> Result<()>
+) -> Result<(), AllocError>
     requires well_formed { WellFormed level (view item.now) }
-    requires indent { indent_of context.layout ≤ 4 * level }
-    ensures text { OnOk result (string_bytes out.new
-        ≡ string_bytes out.old ++ text_at (129 - level) context (view item.now)) }
-    ensures refused { IfErr result (λ e. e ≡ Error.Memory) }
+    requires indent { indent_of context.now.layout ≤ 4 * level }
+    ensures { OnOk result (string_bytes out.new
+        ≡ string_bytes out.old ++ text_at (129 - level) context.now (view item.now)) }
 {
     match item {
-        DataItem::Integer { value, bitwidth } => push_number(out, *value, *bitwidth)?,
-        DataItem::Negative { value, bitwidth } => push_negative(out, *value, *bitwidth)?,
+        DataItem::Integer { value, bitwidth } => push_number(out, *value, *bitwidth),
+        DataItem::Negative { value, bitwidth } => push_negative(out, *value, *bitwidth),
         DataItem::ByteString(string) => {
-            push_content(out, alloc, &string.content, context, level + 1)?;
+            push_content(out, alloc, &string.content, context, level + 1)
         }
-        DataItem::TextString(string) => push_text(out, string.content.as_str())?,
-        DataItem::IndefiniteByteString(chunks) => {
-            push_byte_chunks(out, chunks, context.encoding, context.layout.listing(item))?;
-        }
-        DataItem::IndefiniteTextString(chunks) => {
-            push_text_chunks(out, chunks, context.layout.listing(item))?;
-        }
+        DataItem::TextString(string) => push_text(out, string.content.as_str()),
+        DataItem::IndefiniteByteString(chunks) => push_chunked_bytes(out, item, chunks, context),
+        DataItem::IndefiniteTextString(chunks) => push_chunked_text(out, item, chunks, context),
         DataItem::Array { content, bitwidth } => {
-            let listing = context.layout.listing(item);
-            push_opening(out, '[', *bitwidth, listing)?;
-            push_items(out, alloc, content, listing, context, level + 1)?;
-            push_closing(out, listing, ']')?;
+            push_array(out, alloc, item, content, *bitwidth, context, level)
         }
         DataItem::Map { content, bitwidth } => {
-            let listing = context.layout.listing(item);
-            push_opening(out, '{', *bitwidth, listing)?;
-            push_pairs(out, alloc, content, listing, context, level + 1)?;
-            push_closing(out, listing, '}')?;
+            push_map(out, alloc, item, content, *bitwidth, context, level)
         }
         DataItem::Tag {
             tag,
             bitwidth,
             value,
-        } => {
-            push_number(out, tag.0, *bitwidth)?;
-            out.push('(')?;
-            push_item(out, alloc, value, context.below(*tag), level + 1)?;
-            out.push(')')?;
-        }
-        DataItem::Float { bits, bitwidth } => push_float(out, *bits, *bitwidth)?,
-        DataItem::Simple(simple) => push_simple(out, *simple)?,
+        } => push_tagged(out, alloc, *tag, *bitwidth, value, context, level),
+        DataItem::Float { bits, bitwidth } => push_float(out, *bits, *bitwidth),
+        DataItem::Simple(simple) => push_simple(out, *simple),
     }
+}
+
+/// Writes `string`, a byte string of indefinite length, by its chunks.
+#[inline(never)]
+fn push_chunked_bytes(
+    out: &mut String,
+    string: &DataItem,
+    chunks: &[ByteString],
+    context: &Context,
+) -> Result<(), AllocError>
+    requires { indent_of context.now.layout < 2 ^ 32 }
+    ensures { OnOk result (string_bytes out.new ≡ string_bytes out.old
+        ++ notation.chunks_text (notation.listing context.now.layout (full (view string.now)))
+            (codes "''_") (map (λ s. notation.quoted context.now.encoding s.bytes) (map byte_chunk chunks.now))) }
+{
+    let listing = context.layout.listing(string);
+    push_byte_chunks(out, chunks, context.encoding, listing)
+}
+
+/// Writes `string`, a text string of indefinite length, by its chunks.
+#[inline(never)]
+fn push_chunked_text(
+    out: &mut String,
+    string: &DataItem,
+    chunks: &[TextString],
+    context: &Context,
+) -> Result<(), AllocError>
+    requires { indent_of context.now.layout < 2 ^ 32 }
+    ensures { OnOk result (string_bytes out.new ≡ string_bytes out.old
+        ++ notation.chunks_text (notation.listing context.now.layout (full (view string.now)))
+            (codes "\"\"_") (map (λ s. notation.text s.bytes) (map text_chunk chunks.now))) }
+{
+    let listing = context.layout.listing(string);
+    push_text_chunks(out, chunks, listing)
+}
+
+/// Writes an array, `item`, which has these items and stands at `level`.
+#[cycle(text)]
+#[inline(never)]
+fn push_array(
+    out: &mut String,
+    alloc: Global,
+    item: &DataItem,
+    items: &Vec<DataItem>,
+    width: Option<IntegerWidth>,
+    context: &Context,
+    level: u8,
+) -> Result<(), AllocError>
+    requires array { view item.now ≡ spec.array (items_view items.now.items) width }
+    requires well_formed { WellFormed level (view item.now) }
+    requires indent { indent_of context.now.layout ≤ 4 * level }
+    ensures { OnOk result (string_bytes out.new
+        ≡ string_bytes out.old ++ text_at (129 - level) context.now (view item.now)) }
+{
+    let listing = context.layout.listing(item);
+    push_opening(out, '[', width, listing)?;
+    push_items(out, alloc, items, listing, context, level + 1)?;
+    push_closing(out, listing, ']')
+}
+
+/// Writes a map, `item`, which has these pairs and stands at `level`.
+#[cycle(text)]
+#[inline(never)]
+fn push_map(
+    out: &mut String,
+    alloc: Global,
+    item: &DataItem,
+    pairs: &Vec<(DataItem, DataItem)>,
+    width: Option<IntegerWidth>,
+    context: &Context,
+    level: u8,
+) -> Result<(), AllocError>
+    requires map { view item.now ≡ spec.map (pairs_view pairs.now.items) width }
+    requires well_formed { WellFormed level (view item.now) }
+    requires indent { indent_of context.now.layout ≤ 4 * level }
+    ensures { OnOk result (string_bytes out.new
+        ≡ string_bytes out.old ++ text_at (129 - level) context.now (view item.now)) }
+{
+    let listing = context.layout.listing(item);
+    push_opening(out, '{', width, listing)?;
+    push_pairs(out, alloc, pairs, listing, context, level + 1)?;
+    push_closing(out, listing, '}')
+}
+
+/// Writes a tag that stands at `level`, and the item below it.
+#[cycle(text)]
+#[inline(never)]
+fn push_tagged(
+    out: &mut String,
+    alloc: Global,
+    tag: Tag,
+    width: IntegerWidth,
+    value: &DataItem,
+    context: &Context,
+    level: u8,
+) -> Result<(), AllocError>
+    requires well_formed { WellFormed level (tagged tag.0 width (view value.now)) }
+    requires indent { indent_of context.now.layout ≤ 4 * level }
+    ensures { OnOk result (string_bytes out.new
+        ≡ string_bytes out.old ++ text_at (129 - level) context.now (tagged tag.0 width (view value.now))) }
+{
+    push_number(out, tag.0, width)?;
+    out.push('(')?;
+    push_item(out, alloc, value, &context.below(tag), level + 1)?;
+    out.push(')')?;
     Ok(())
 }
 
@@ -96,21 +190,20 @@ fn push_items(
     alloc: Global,
     items: &Vec<DataItem>,
     listing: Listing,
-    context: Context,
+    context: &Context,
     level: u8,
-) -> Result<()>
+) -> Result<(), AllocError>
     requires level { (1 ≤ level) × (level ≤ 129) }
     requires well_formed { WellFormedItems level (items_view items.now.items) }
     requires indent { listing_indent listing + 4 ≤ 4 * level }
-    ensures text { OnOk result (string_bytes out.new ≡ string_bytes out.old ++ members listing true
-        (item_texts (text_at (129 - level) (inside (members_layout listing) context)) (items_view items.now.items))) }
-    ensures refused { IfErr result (λ e. e ≡ Error.Memory) }
+    ensures { OnOk result (string_bytes out.new ≡ string_bytes out.old ++ members listing true
+        (item_texts (text_at (129 - level) (inside (members_layout listing) context.now)) (items_view items.now.items))) }
 {
     let inner = context.inside(listing.members_layout());
     let mut first = true;
     'items: for item in items {
         push_start(out, listing, first)?;
-        push_item(out, alloc, item, inner, level)?;
+        push_item(out, alloc, item, &inner, level)?;
         push_end(out, listing)?;
         first = false;
     }
@@ -124,23 +217,22 @@ fn push_pairs(
     alloc: Global,
     pairs: &Vec<(DataItem, DataItem)>,
     listing: Listing,
-    context: Context,
+    context: &Context,
     level: u8,
-) -> Result<()>
+) -> Result<(), AllocError>
     requires level { (1 ≤ level) × (level ≤ 129) }
     requires well_formed { WellFormedPairs level (pairs_view pairs.now.items) }
     requires indent { listing_indent listing + 4 ≤ 4 * level }
-    ensures text { OnOk result (string_bytes out.new ≡ string_bytes out.old ++ members listing true
-        (pair_texts (text_at (129 - level) (inside (members_layout listing) context)) (colon listing) (pairs_view pairs.now.items))) }
-    ensures refused { IfErr result (λ e. e ≡ Error.Memory) }
+    ensures { OnOk result (string_bytes out.new ≡ string_bytes out.old ++ members listing true
+        (pair_texts (text_at (129 - level) (inside (members_layout listing) context.now)) (colon listing) (pairs_view pairs.now.items))) }
 {
     let inner = context.inside(listing.members_layout());
     let mut first = true;
     'pairs: for (key, value) in pairs {
         push_start(out, listing, first)?;
-        push_item(out, alloc, key, inner, level)?;
+        push_item(out, alloc, key, &inner, level)?;
         push_colon(out, listing)?;
-        push_item(out, alloc, value, inner, level)?;
+        push_item(out, alloc, value, &inner, level)?;
         push_end(out, listing)?;
         first = false;
     }
@@ -154,20 +246,16 @@ fn push_content(
     out: &mut String,
     alloc: Global,
     bytes: &[u8],
-    context: Context,
+    context: &Context,
     level: u8,
-) -> Result<()>
+) -> Result<(), AllocError>
     requires level { (1 ≤ level) × (level ≤ 129) }
-    requires indent { indent_of context.layout + 4 ≤ 4 * level }
-    ensures text { OnOk result (string_bytes out.new ≡ string_bytes out.old
-        ++ content_text (129 - level) (text_at (129 - level)) context.content context bytes.now) }
-    ensures refused { IfErr result (λ e. e ≡ Error.Memory) }
+    requires indent { indent_of context.now.layout + 4 ≤ 4 * level }
+    ensures { OnOk result (string_bytes out.new ≡ string_bytes out.old
+        ++ content_text (129 - level) (text_at (129 - level)) context.now.content context.now bytes.now) }
 {
     match context.content {
-        Content::Bytes => {
-            push_quoted(out, bytes, context.encoding)?;
-            Ok(())
-        }
+        Content::Bytes => push_quoted(out, bytes, context.encoding),
         Content::Item => push_embedded(out, alloc, bytes, context, level),
         Content::Sequence => push_sequence(out, alloc, bytes, context, level),
     }
@@ -180,20 +268,19 @@ fn push_embedded(
     out: &mut String,
     alloc: Global,
     bytes: &[u8],
-    context: Context,
+    context: &Context,
     level: u8,
-) -> Result<()>
+) -> Result<(), AllocError>
     requires level { (1 ≤ level) × (level ≤ 129) }
-    requires indent { indent_of context.layout + 4 ≤ 4 * level }
-    ensures text { OnOk result (string_bytes out.new ≡ string_bytes out.old
-        ++ embedded_text (text_at (129 - level)) context bytes.now (embedded_at (129 - level) bytes.now)) }
-    ensures refused { IfErr result (λ e. e ≡ Error.Memory) }
+    requires indent { indent_of context.now.layout + 4 ≤ 4 * level }
+    ensures { OnOk result (string_bytes out.new ≡ string_bytes out.old
+        ++ embedded_text (text_at (129 - level)) context.now bytes.now (embedded_at (129 - level) bytes.now)) }
 {
     if bytes.is_empty() {
         out.push_str("<<>>")?;
     } else if let Some(item) = embedded(alloc, bytes, level)? {
         out.push_str("<<")?;
-        push_item(out, alloc, &item, context.inside(context.layout), level)?;
+        push_item(out, alloc, &item, &context.inside(context.layout), level)?;
         out.push_str(">>")?;
     } else {
         push_quoted(out, bytes, context.encoding)?;
@@ -208,14 +295,13 @@ fn push_sequence(
     out: &mut String,
     alloc: Global,
     bytes: &[u8],
-    context: Context,
+    context: &Context,
     level: u8,
-) -> Result<()>
+) -> Result<(), AllocError>
     requires level { (1 ≤ level) × (level ≤ 129) }
-    requires indent { indent_of context.layout + 4 ≤ 4 * level }
-    ensures text { OnOk result (string_bytes out.new ≡ string_bytes out.old
-        ++ sequence_text (text_at (129 - level)) context (sequence_at (129 - level) bytes.now)) }
-    ensures refused { IfErr result (λ e. e ≡ Error.Memory) }
+    requires indent { indent_of context.now.layout + 4 ≤ 4 * level }
+    ensures { OnOk result (string_bytes out.new ≡ string_bytes out.old
+        ++ sequence_text (text_at (129 - level)) context.now (sequence_at (129 - level) bytes.now)) }
 {
     let (items, rest) = sequence(alloc, bytes, level)?;
     let listing = context.layout.sequence_listing(&items);
@@ -223,15 +309,14 @@ fn push_sequence(
     push_items(out, alloc, &items, listing, context, level)?;
     push_closing(out, listing, '>')?;
     out.push('>')?;
-    push_rest(out, rest, context)?;
-    Ok(())
+    push_rest(out, rest, context)
 }
 
 impl DataItem {
     /// The item in diagnostic notation on one line, without blanks (RFC 7049 section 6).
     ///
     /// The item has to be well formed, which `is_well_formed` tells. Refuses with `Memory` alone.
-    pub fn to_diag(&self, alloc: Global) -> Result<String>
+    pub fn to_diag(&self, alloc: Global) -> crate::Result<String>
         requires { IsWellFormed (view self.now) }
         ensures text { IfOk result (λ s. string_bytes s ≡ diag_of (view self.now)) }
         // It is read back as the normal form.
@@ -255,19 +340,20 @@ impl DataItem {
     ///
     /// The item has to be well formed, which `is_well_formed` tells. Refuses with `Memory` alone, and then
     /// `out` may end with a part of the text.
-    pub fn push_diag(&self, alloc: Global, out: &mut String) -> Result<()>
+    pub fn push_diag(&self, alloc: Global, out: &mut String) -> crate::Result<()>
         requires { IsWellFormed (view self.now) }
         ensures text { OnOk result
             (string_bytes out.new ≡ string_bytes out.old ++ diag_of (view self.now)) }
         ensures refused { IfErr result (λ e. e ≡ Error.Memory) }
     {
-        push_item(out, alloc, self, Context::new(Layout::Compact), 1)
+        push_item(out, alloc, self, &Context::new(Layout::Compact), 1)?;
+        Ok(())
     }
 
     /// The item in diagnostic notation over several lines (RFC 7049 section 6).
     ///
     /// The item has to be well formed, which `is_well_formed` tells. Refuses with `Memory` alone.
-    pub fn to_diag_pretty(&self, alloc: Global) -> Result<String>
+    pub fn to_diag_pretty(&self, alloc: Global) -> crate::Result<String>
         requires { IsWellFormed (view self.now) }
         ensures text { IfOk result (λ s. string_bytes s ≡ pretty_of (view self.now)) }
         // It is read back as the normal form.
@@ -296,13 +382,14 @@ impl DataItem {
     ///
     /// The item has to be well formed, which `is_well_formed` tells. Refuses with `Memory` alone, and then
     /// `out` may end with a part of the text.
-    pub fn push_diag_pretty(&self, alloc: Global, out: &mut String) -> Result<()>
+    pub fn push_diag_pretty(&self, alloc: Global, out: &mut String) -> crate::Result<()>
         requires { IsWellFormed (view self.now) }
         ensures text { OnOk result
             (string_bytes out.new ≡ string_bytes out.old ++ pretty_of (view self.now)) }
         ensures refused { IfErr result (λ e. e ≡ Error.Memory) }
     {
         let layout = Layout::Pretty { indent: 0 };
-        push_item(out, alloc, self, Context::new(layout), 1)
+        push_item(out, alloc, self, &Context::new(layout), 1)?;
+        Ok(())
     }
 }

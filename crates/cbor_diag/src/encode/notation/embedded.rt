@@ -1,40 +1,42 @@
 //! Items that are embedded in the bytes of a byte string, read when they are printed. That they can't be
 //! read is no refusal: they are shown as bytes. Want of memory is.
-ghost use Rattle.std.specs.Prelude.{◌≡◌, ◌≤◌, ◌-◌, IfOk, IfErr, IfSome, option_map};
+ghost use Rattle.std.specs.Prelude.{◌≡◌, ◌≤◌, ◌-◌, IfOk, IfSome, option_map};
 ghost use Rattle.cbor_diag.specs.View.{view, items_view};
 ghost use Rattle.cbor_diag.specs.WellFormed.{WellFormed, WellFormedItems};
 ghost use Rattle.cbor_diag.specs.Embedded.{embedded_at, sequence_at};
 
-use crate::error::{Error, Result};
+use crate::error::Error;
 use crate::parse::{front_at, whole_at};
 use crate::syntax::DataItem;
-use std::alloc::Global;
+use std::alloc::{AllocError, Global};
 
 /// The item that the bytes are, all of them, read from `level`, or `None` where they are none.
-pub(crate) fn embedded(alloc: Global, bytes: &[u8], level: u8) -> Result<Option<DataItem>>
+pub(crate) fn embedded(alloc: Global, bytes: &[u8], level: u8) -> Result<Option<DataItem>, AllocError>
     requires from { 1 ≤ level }
     requires to { level ≤ 129 }
     ensures item { IfOk result (λ o. option_map view o ≡ embedded_at (129 - level) bytes.now) }
     ensures well_formed { IfOk result (λ o. IfSome o (λ i. WellFormed level (view i))) }
-    ensures refused { IfErr result (λ e. e ≡ Error.Memory) }
 {
     match whole_at(alloc, bytes, level) {
         Ok(item) => Ok(Some(item)),
         Err(error) => match error {
-            Error::Memory => Err(error),
+            Error::Memory => Err(AllocError),
             _ => Ok(None),
         },
     }
 }
 
 /// As many items as can be read one after the other from `level`, and the rest of the bytes.
-pub(crate) fn sequence(alloc: Global, bytes: &[u8], level: u8) -> Result<(Vec<DataItem>, &[u8])>
+pub(crate) fn sequence(
+    alloc: Global,
+    bytes: &[u8],
+    level: u8,
+) -> Result<(Vec<DataItem>, &[u8]), AllocError>
     requires from { 1 ≤ level }
     requires to { level ≤ 129 }
     ensures items { IfOk result (λ x.
         (items_view x.0.items, x.1.now) ≡ sequence_at (129 - level) bytes.now) }
     ensures well_formed { IfOk result (λ x. WellFormedItems level (items_view x.0.items)) }
-    ensures refused { IfErr result (λ e. e ≡ Error.Memory) }
 {
     let mut items = Vec::new(alloc);
     let mut rest = bytes;
@@ -47,7 +49,7 @@ pub(crate) fn sequence(alloc: Global, bytes: &[u8], level: u8) -> Result<(Vec<Da
             }
             Ok(None) => return Ok((items, rest)),
             Err(error) => match error {
-                Error::Memory => return Err(error),
+                Error::Memory => return Err(AllocError),
                 _ => return Ok((items, rest)),
             },
         }

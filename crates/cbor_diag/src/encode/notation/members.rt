@@ -149,8 +149,8 @@ pub(crate) fn push_text_chunks(
 }
 
 /// Writes what of a sequence can't be read as an item.
-pub(crate) fn push_rest(out: &mut String, rest: &[u8], context: Context) -> Result<(), AllocError>
-    ensures { OnOk result (string_bytes out.new ≡ string_bytes out.old ++ rest_text context rest.now) }
+pub(crate) fn push_rest(out: &mut String, rest: &[u8], context: &Context) -> Result<(), AllocError>
+    ensures { OnOk result (string_bytes out.new ≡ string_bytes out.old ++ rest_text context.now rest.now) }
 {
     if rest.is_empty() {
         return Ok(());

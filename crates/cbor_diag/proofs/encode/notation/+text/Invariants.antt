@@ -6,24 +6,33 @@ use Rattle.cbor_diag.specs.NotationText.{members, members_layout, inside, colon,
 use Rattle.cbor_diag.proofs.encode.notation.+text.Given as goal
 
 -- Each level is deeper than the one before; at one level a byte string is asked for its bytes, these for
--- an item or a sequence, and members for an item.
+-- an item or a sequence, members for an item, and an item for a container.
+abbrev pub decreases-push_array : goal.decreases-push_array
+decreases-push_array l = (130 - l.level) * 5
+
+abbrev pub decreases-push_map : goal.decreases-push_map
+decreases-push_map l = (130 - l.level) * 5
+
+abbrev pub decreases-push_tagged : goal.decreases-push_tagged
+decreases-push_tagged l = (130 - l.level) * 5
+
 abbrev pub decreases-push_item : goal.decreases-push_item
-decreases-push_item l = (130 - l.level) * 5
+decreases-push_item l = (130 - l.level) * 5 + 1
 
 abbrev pub decreases-push_items : goal.decreases-push_items
-decreases-push_items l = (130 - l.level) * 5 + 1
+decreases-push_items l = (130 - l.level) * 5 + 2
 
 abbrev pub decreases-push_pairs : goal.decreases-push_pairs
-decreases-push_pairs l = (130 - l.level) * 5 + 1
+decreases-push_pairs l = (130 - l.level) * 5 + 2
 
 abbrev pub decreases-push_embedded : goal.decreases-push_embedded
-decreases-push_embedded l = (130 - l.level) * 5 + 2
+decreases-push_embedded l = (130 - l.level) * 5 + 3
 
 abbrev pub decreases-push_sequence : goal.decreases-push_sequence
-decreases-push_sequence l = (130 - l.level) * 5 + 2
+decreases-push_sequence l = (130 - l.level) * 5 + 3
 
 abbrev pub decreases-push_content : goal.decreases-push_content
-decreases-push_content l = (130 - l.level) * 5 + 3
+decreases-push_content l = (130 - l.level) * 5 + 4
 
 -- what is written and the members that are left are the whole
 abbrev pub invariant-push_items-items : goal.invariant-push_items-items

@@ -12,4 +12,4 @@ returns-in-Ok-clause-well_formed c = whole_well_formed c.args.level c.args.bytes
 pub returns-in_default : goal.returns-in_default
 returns-in_default c =
     let none = no_whole_item c.args.level c.args.bytes.now c.in-Err.error c.requires.to (refused_is c.args.level c.args.bytes.now c.in-Err.error c.in_default.not-Memory c.in-Err.ensures.answer) in
-    record { item = sym none; well_formed = tt; refused = tt }
+    record { item = sym none; well_formed = tt }

@@ -26,4 +26,4 @@ pub returns-in_default : goal.returns-in_default
 returns-in_default c =
     let s = c.items.invariant in
     let ends = fault_ends c.args.level c.items.rest.now c.in-Err.error c.requires.to (fault_is c.args.level c.items.rest.now c.in-Err.error c.in_default.not-Memory c.in-Err.ensures.outcome) in
-    record { items = no_more c.args.level _ _ _ _ ends s; well_formed = s.well_formed; refused = tt }
+    record { items = no_more c.args.level _ _ _ _ ends s; well_formed = s.well_formed }
