@@ -1,4 +1,5 @@
-//! What holds no item: numbers, strings, floats and simple values (RFC 7049 section 6).
+//! What holds no item: numbers, strings, floats and simple values (RFC 7049 section 6). Each is written by
+//! a function of its own, which isn't inlined where an item is told by its kind.
 ghost use Rattle.std.specs.Prelude.{◌≡◌, ◌+◌, ◌++◌, codes, OnOk};
 ghost use Rattle.std.specs.Fmt.{decimal};
 ghost use Rattle.std.specs.List.{flat_map, list_any};
@@ -41,7 +42,7 @@ fn push_decimal(out: &mut String, value: u64) -> Result<(), AllocError>
 }
 
 /// Writes a number or a tag.
-#[inline(always)]
+#[inline(never)]
 pub(crate) fn push_number(
     out: &mut String,
     value: u64,
@@ -54,7 +55,7 @@ pub(crate) fn push_number(
 }
 
 /// Writes a negative integer by its encoded number, which is one less than what is written.
-#[inline(always)]
+#[inline(never)]
 pub(crate) fn push_negative(
     out: &mut String,
     value: u64,
@@ -176,6 +177,7 @@ fn push_escaped(out: &mut String, content: &str) -> Result<(), AllocError>
 }
 
 /// Writes a float by its bits, as hex digits of its width; an open width has 64 bits.
+#[inline(never)]
 pub(crate) fn push_float(out: &mut String, bits: u64, width: FloatWidth) -> Result<(), AllocError>
     requires { FitsFloat width bits }
     ensures { OnOk result (string_bytes out.new ≡ string_bytes out.old ++ float_text bits width) }
@@ -190,6 +192,7 @@ pub(crate) fn push_float(out: &mut String, bits: u64, width: FloatWidth) -> Resu
 }
 
 /// Writes a simple value, by its name where it has one.
+#[inline(never)]
 pub(crate) fn push_simple(out: &mut String, simple: Simple) -> Result<(), AllocError>
     ensures { OnOk result (string_bytes out.new ≡ string_bytes out.old ++ simple_text simple.0) }
 {
