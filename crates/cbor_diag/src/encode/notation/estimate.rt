@@ -130,6 +130,7 @@ fn item_room(item: &DataItem, room: usize) -> Option<usize>
 
 /// Room behind the members of an array, two more for each.
 #[cycle(room)]
+#[inline(never)]
 fn items_room(items: &Vec<DataItem>, room: usize) -> Option<usize>
     ensures { SomeIff result (full_items (items_view items.now.items) ≤ room)
         (room - full_items (items_view items.now.items)) }
@@ -143,6 +144,7 @@ fn items_room(items: &Vec<DataItem>, room: usize) -> Option<usize>
 
 /// Room behind the keys and values of a map, two more for each pair.
 #[cycle(room)]
+#[inline(never)]
 fn pairs_room(pairs: &Vec<(DataItem, DataItem)>, room: usize) -> Option<usize>
     ensures { SomeIff result (full_pairs (pairs_view pairs.now.items) ≤ room)
         (room - full_pairs (pairs_view pairs.now.items)) }
