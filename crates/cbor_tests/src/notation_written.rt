@@ -1,10 +1,11 @@
 // Items in diagnostic notation (docs/NOTATION.md), and what their texts are read back as.
 
-use crate::make::{float, integer, negative, tagged};
+use crate::make::{float, integer, negative, tagged, text};
 use crate::printed::{check_item, check_texts, read_back};
 use crate::samples::{deep_bytes, deep_text};
-use cbor_diag::{FloatWidth, IntegerWidth, parse_bytes, parse_hex};
+use cbor_diag::{DataItem, FloatWidth, IntegerWidth, parse_bytes, parse_hex};
 use std::alloc::Global;
+use std::process::Abort;
 use std::test::Fail;
 
 fn diag(alloc: Global, bytes: &[u8]) -> cbor_diag::Result<String> {
@@ -289,6 +290,49 @@ fn which_items_a_text_tells_apart(rt: HostRuntime) -> Result<(), Fail> {
     for (one, other, alike) in rows {
         let (one, other) = (diag(alloc, one)?, diag(alloc, other)?);
         assert_eq!(rt; one.as_str() == other.as_str(), alike);
+    }
+    Ok(())
+}
+
+// Both texts stand behind what was there, and that stays.
+#[test]
+fn texts_are_appended(rt: HostRuntime) -> Result<(), Fail> {
+    let alloc = rt.alloc();
+    let item = parse_bytes(alloc, b"\xa1\x01\x82\x02\x03")?;
+    let mut text = String::from_str(alloc, "one: ")?;
+    item.push_diag(alloc, &mut text)?;
+    text.push_str(", two: ")?;
+    item.push_diag_pretty(alloc, &mut text)?;
+    assert_eq!(rt; text.as_str(), "one: {1:[2,3]}, two: {1: [2, 3]}");
+    Ok(())
+}
+
+/// A text of letters has this one among them, at a place, and once more at its end.
+fn check_escaped(
+    rt: &impl Abort,
+    alloc: Global,
+    len: usize,
+    place: usize,
+    special: &str,
+) -> cbor_diag::Result<()> {
+    let before = "a".repeat(alloc, place)?;
+    let behind = "\u{e9}".repeat(alloc, len.saturating_sub(place))?;
+    let content = format!(in alloc; "{before}{special}{behind}{special}")?;
+    let expected = format!(in alloc; "\"{before}\\{special}{behind}\\{special}\"")?;
+    let item = DataItem::TextString(text(alloc, content.as_str(), IntegerWidth::Unknown)?);
+    assert!(rt; item.is_well_formed());
+    assert_eq!(rt; item.to_diag(alloc)?, expected);
+    Ok(())
+}
+
+// A text is looked at in pieces: so a quote or a backslash stands at each place of texts up to 70 letters long.
+#[test]
+fn escapes_anywhere_in_a_text(rt: HostRuntime) -> Result<(), Fail> {
+    for len in 0..70usize {
+        for place in 0..=len {
+            check_escaped(&rt, rt.alloc(), len, place, "\"")?;
+            check_escaped(&rt, rt.alloc(), len, place, "\\")?;
+        }
     }
     Ok(())
 }

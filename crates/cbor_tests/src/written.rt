@@ -80,3 +80,19 @@ fn an_open_count_of_255_takes_one_byte(rt: HostRuntime) -> Result<(), Fail> {
     assert_eq!(rt; &bytes[..2], b"\x98\xff".as_slice());
     Ok(())
 }
+
+// The same bytes stand behind what was there, and that stays.
+#[test]
+fn what_is_appended_stands_at_the_end(rt: HostRuntime) -> Result<(), Fail> {
+    let alloc = rt.alloc();
+    let mut bytes = Vec::from_slice(alloc, b"\xff\x00")?;
+    for input in [b"\x83\x01\x02\x03".as_slice(), b"\x61a".as_slice()] {
+        let item = parse_bytes(alloc, input)?;
+        item.push_bytes(&mut bytes)?;
+    }
+    assert_eq!(rt;
+        bytes.as_slice(),
+        b"\xff\x00\x83\x01\x02\x03\x61a".as_slice()
+    );
+    Ok(())
+}

@@ -88,7 +88,7 @@ fn push_chunked_bytes(
     requires { indent_of context.now.layout < 2 ^ 32 }
     ensures { OnOk result (string_bytes out.new ≡ string_bytes out.old
         ++ notation.chunks_text (notation.listing context.now.layout (full (view string.now)))
-            (codes "''_") (map (λ s. notation.quoted context.now.encoding s.bytes) (map byte_chunk chunks.now))) }
+        (codes "''_") (map (λ s. notation.quoted context.now.encoding s.bytes) (map byte_chunk chunks.now))) }
 {
     let listing = context.layout.listing(string);
     push_byte_chunks(out, chunks, context.encoding, listing)
@@ -105,7 +105,7 @@ fn push_chunked_text(
     requires { indent_of context.now.layout < 2 ^ 32 }
     ensures { OnOk result (string_bytes out.new ≡ string_bytes out.old
         ++ notation.chunks_text (notation.listing context.now.layout (full (view string.now)))
-            (codes "\"\"_") (map (λ s. notation.text s.bytes) (map text_chunk chunks.now))) }
+        (codes "\"\"_") (map (λ s. notation.text s.bytes) (map text_chunk chunks.now))) }
 {
     let listing = context.layout.listing(string);
     push_text_chunks(out, chunks, listing)

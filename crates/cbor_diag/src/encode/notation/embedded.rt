@@ -11,7 +11,11 @@ use crate::syntax::DataItem;
 use std::alloc::{AllocError, Global};
 
 /// The item that the bytes are, all of them, read from `level`, or `None` where they are none.
-pub(crate) fn embedded(alloc: Global, bytes: &[u8], level: u8) -> Result<Option<DataItem>, AllocError>
+pub(crate) fn embedded(
+    alloc: Global,
+    bytes: &[u8],
+    level: u8,
+) -> Result<Option<DataItem>, AllocError>
     requires from { 1 ≤ level }
     requires to { level ≤ 129 }
     ensures item { IfOk result (λ o. option_map view o ≡ embedded_at (129 - level) bytes.now) }
