@@ -7,7 +7,7 @@ use Rattle.cbor_diag.specs.View.{view, items_view, pairs_view, byte_chunk, text_
 use Rattle.cbor_diag.specs.NotationText.{content_text, text, quoted, text_at, inside, listing, members, members_layout, colon, item_texts, pair_texts, chunks_text}
 use Rattle.cbor_diag.specs.WellFormed.{WellFormedItems, WellFormedPairs}
 use Rattle.cbor_diag.specs.Estimate.{full}
-use Rattle.cbor_diag.proofs.Views.{view-Integer, view-Negative, view-ByteString, view-TextString, view-IndefiniteByteString, view-IndefiniteTextString, view-Array, view-Map, view-Tag, view-Float, view-Simple}
+use Rattle.cbor_diag.proofs.Views.{view-Integer, view-Negative, view-ByteString, view-TextString, view-IndefiniteByteString, view-IndefiniteTextString, view-Float, view-Simple}
 use Rattle.cbor_diag.proofs.NotationTexts.{drop_here, member_more, members_end}
 use Rattle.cbor_diag.proofs.TextParts.{left_below, write_below, shown, array_shown, map_shown, tag_shown, items_rest, pairs_rest}
 use Rattle.cbor_diag.proofs.encode.notation.+text.Goals as goal
