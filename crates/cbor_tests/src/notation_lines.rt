@@ -173,6 +173,25 @@ fn check_pretty(
     Ok(())
 }
 
+// A line has four blanks for each container round it, however many they are.
+#[test]
+fn blanks_of_each_depth(rt: HostRuntime) -> Result<(), Fail> {
+    let alloc = rt.alloc();
+    let long = repeated_text(alloc, "\"", "a", 60, "\"")?;
+    let mut front = String::new(alloc);
+    let mut back = String::new(alloc);
+    for level in 0..40 {
+        let opening = repeated_text(alloc, "[\n", "    ", level + 1, "")?;
+        front.push_str(opening.as_str())?;
+        let mut closing = repeated_text(alloc, ",\n", "    ", level, "]")?;
+        closing.push_str(back.as_str())?;
+        back = closing;
+        let round = (front.as_str(), back.as_str());
+        check_pretty(&rt, alloc, round, long.as_str(), 1)?;
+    }
+    Ok(())
+}
+
 // A container is one line where its estimate is 59, and lines where it is 60: so many letters in its one
 // member are the most that stand on one line. Bytes count two each, so that these estimates are 58 and 60.
 #[test]

@@ -1,10 +1,10 @@
 //! How long a container would be on one line, roughly: pretty text gives each member of a long one a line
 //! of its own.
 //!
-//! Each function takes how much room is left and gives what is left of it behind its part, or `None` as
-//! soon as the part is longer. So an item is looked at in steps that the room bounds, however large it is.
-ghost use Rattle.std.specs.Prelude.{◌≡◌, ◌+◌, ◌-◌, ◌*◌, ◌≤◌, ◌<◌, map, sum_by};
-ghost use Rattle.std.specs.Option.{SomeIff};
+//! Each function takes how much room is left and gives what is left of it behind its part: none, where the
+//! part fills it or is longer. Nothing is looked for behind that, so an item is looked at in steps that the
+//! room bounds, however large it is.
+ghost use Rattle.std.specs.Prelude.{◌≡◌, ◌+◌, ◌-◌, ◌*◌, ◌^◌, ◌≤◌, map, sum_by};
 ghost use Rattle.cbor_diag.specs.View.{view, items_view, pairs_view, byte_chunk, text_chunk};
 ghost use Rattle.cbor_diag.specs.NotationText.{listing};
 ghost use Rattle.cbor_diag.specs.Estimate.{digit_count, full_bytes, full_text, full_float, full, full_items, full_pairs};
@@ -12,8 +12,8 @@ ghost use Rattle.cbor_diag.specs.Estimate.{digit_count, full_bytes, full_text, f
 use super::context::{Layout, Listing};
 use crate::syntax::{ByteString, DataItem, FloatWidth, TextString};
 
-/// The room for a container that is not long.
-const ROOM: usize = 59;
+/// The room that a container fills which is long.
+const ROOM: usize = 60;
 
 impl Layout {
     /// How the members of this item are laid out.
@@ -22,7 +22,7 @@ impl Layout {
     {
         match self {
             Layout::Compact => Listing::Joined,
-            Layout::Pretty { indent } if item_room(item, ROOM).is_some() => Listing::Row { indent },
+            Layout::Pretty { indent } if item_room(item, ROOM) > 0 => Listing::Row { indent },
             Layout::Pretty { indent } => Listing::Lines { indent },
         }
     }
@@ -33,65 +33,67 @@ impl Layout {
     {
         match self {
             Layout::Compact => Listing::Joined,
-            Layout::Pretty { indent } if items_room(items, ROOM - 4).is_some() => {
-                Listing::Row { indent }
-            }
+            Layout::Pretty { indent } if items_room(items, ROOM - 4) > 0 => Listing::Row { indent },
             Layout::Pretty { indent } => Listing::Lines { indent },
         }
     }
 }
 
-/// Room behind the decimal digits of a number.
+/// How many decimal digits a number has.
 #[tactic(auto, using(std::proofs::lemmas::Fmt::decimal_digit, crate::proofs::Rooms::power_below))]
-fn digits_room(number: u64, room: usize) -> Option<usize>
-    ensures { SomeIff result (digit_count number ≤ room) (room - digit_count number) }
+fn digit_count(number: u64) -> usize
+    ensures count { result ≡ digit_count number }
+    ensures small { result ≤ 2 ^ 32 }
 {
-    let digits = number
+    number
         .checked_ilog10()
-        .map_or(1, |power| power as usize + 1);
-    room.checked_sub(digits)
+        .map_or(1, |power| power as usize + 1)
 }
 
 /// Room behind a byte string.
-fn bytes_room(string: &ByteString, room: usize) -> Option<usize>
-    ensures { SomeIff result (full_bytes (byte_chunk string.now) ≤ room)
-        (room - full_bytes (byte_chunk string.now)) }
+fn bytes_room(string: &ByteString, room: usize) -> usize
+    ensures { result ≡ room - full_bytes (byte_chunk string.now) }
 {
     let len = string.content.as_slice().len();
-    room.checked_sub(4)?.checked_sub(len)?.checked_sub(len)
+    room.saturating_sub(4)
+        .saturating_sub(len)
+        .saturating_sub(len)
 }
 
 /// Room behind a text.
-fn text_room(string: &TextString, room: usize) -> Option<usize>
-    ensures { SomeIff result (full_text (text_chunk string.now) ≤ room)
-        (room - full_text (text_chunk string.now)) }
+fn text_room(string: &TextString, room: usize) -> usize
+    ensures { result ≡ room - full_text (text_chunk string.now) }
 {
     let len = string.content.as_str().len();
-    room.checked_sub(2)?.checked_sub(len)
+    room.saturating_sub(2).saturating_sub(len)
 }
 
 /// Room behind the chunks of a byte string.
-fn byte_chunks_room(chunks: &[ByteString], room: usize) -> Option<usize>
-    ensures { SomeIff result (sum_by (λ c. full_bytes c + 2) (map byte_chunk chunks.now) ≤ room)
-        (room - sum_by (λ c. full_bytes c + 2) (map byte_chunk chunks.now)) }
+fn byte_chunks_room(chunks: &[ByteString], room: usize) -> usize
+    ensures { result ≡ room - sum_by (λ c. full_bytes c + 2) (map byte_chunk chunks.now) }
 {
     let mut left = room;
     'chunks: for chunk in chunks {
-        left = bytes_room(chunk, left)?.checked_sub(2)?;
+        if left == 0 {
+            return 0;
+        }
+        left = bytes_room(chunk, left).saturating_sub(2);
     }
-    Some(left)
+    left
 }
 
 /// Room behind the chunks of a text string.
-fn text_chunks_room(chunks: &[TextString], room: usize) -> Option<usize>
-    ensures { SomeIff result (sum_by (λ c. full_text c + 2) (map text_chunk chunks.now) ≤ room)
-        (room - sum_by (λ c. full_text c + 2) (map text_chunk chunks.now)) }
+fn text_chunks_room(chunks: &[TextString], room: usize) -> usize
+    ensures { result ≡ room - sum_by (λ c. full_text c + 2) (map text_chunk chunks.now) }
 {
     let mut left = room;
     'chunks: for chunk in chunks {
-        left = text_room(chunk, left)?.checked_sub(2)?;
+        if left == 0 {
+            return 0;
+        }
+        left = text_room(chunk, left).saturating_sub(2);
     }
-    Some(left)
+    left
 }
 
 /// How long a float is.
@@ -107,52 +109,55 @@ fn float_len(width: FloatWidth) -> usize
 
 /// Room behind an item.
 #[cycle(room)]
-fn item_room(item: &DataItem, room: usize) -> Option<usize>
-    ensures { SomeIff result (full (view item.now) ≤ room) (room - full (view item.now)) }
+fn item_room(item: &DataItem, room: usize) -> usize
+    ensures { result ≡ room - full (view item.now) }
 {
     match item {
-        DataItem::Integer { value, .. } => digits_room(*value, room.checked_sub(2)?),
-        DataItem::Negative { value, .. } => digits_room(*value, room.checked_sub(3)?),
+        DataItem::Integer { value, .. } => room.saturating_sub(digit_count(*value) + 2),
+        DataItem::Negative { value, .. } => room.saturating_sub(digit_count(*value) + 3),
         DataItem::ByteString(string) => bytes_room(string, room),
         DataItem::TextString(string) => text_room(string, room),
-        DataItem::IndefiniteByteString(chunks) => byte_chunks_room(chunks, room.checked_sub(4)?),
-        DataItem::IndefiniteTextString(chunks) => text_chunks_room(chunks, room.checked_sub(4)?),
-        DataItem::Array { content, .. } => items_room(content, room.checked_sub(4)?),
-        DataItem::Map { content, .. } => pairs_room(content, room.checked_sub(4)?),
-        DataItem::Tag { tag, value, .. } => {
-            let room = digits_room(tag.0, room.checked_sub(2)?)?;
-            item_room(value, room)
-        }
-        DataItem::Float { bitwidth, .. } => room.checked_sub(float_len(*bitwidth)),
-        DataItem::Simple(simple) => digits_room(simple.0 as u64, room.checked_sub(8)?),
+        DataItem::IndefiniteByteString(chunks) => byte_chunks_room(chunks, room.saturating_sub(4)),
+        DataItem::IndefiniteTextString(chunks) => text_chunks_room(chunks, room.saturating_sub(4)),
+        DataItem::Array { content, .. } => items_room(content, room.saturating_sub(4)),
+        DataItem::Map { content, .. } => pairs_room(content, room.saturating_sub(4)),
+        DataItem::Tag { tag, value, .. } => match room.saturating_sub(digit_count(tag.0) + 2) {
+            0 => 0,
+            left => item_room(value, left),
+        },
+        DataItem::Float { bitwidth, .. } => room.saturating_sub(float_len(*bitwidth)),
+        DataItem::Simple(simple) => room.saturating_sub(digit_count(simple.0 as u64) + 8),
     }
 }
 
 /// Room behind the members of an array, two more for each.
 #[cycle(room)]
 #[inline(never)]
-fn items_room(items: &Vec<DataItem>, room: usize) -> Option<usize>
-    ensures { SomeIff result (full_items (items_view items.now.items) ≤ room)
-        (room - full_items (items_view items.now.items)) }
+fn items_room(items: &Vec<DataItem>, room: usize) -> usize
+    ensures { result ≡ room - full_items (items_view items.now.items) }
 {
     let mut left = room;
     'items: for item in items {
-        left = item_room(item, left)?.checked_sub(2)?;
+        if left == 0 {
+            return 0;
+        }
+        left = item_room(item, left).saturating_sub(2);
     }
-    Some(left)
+    left
 }
 
 /// Room behind the keys and values of a map, two more for each pair.
 #[cycle(room)]
 #[inline(never)]
-fn pairs_room(pairs: &Vec<(DataItem, DataItem)>, room: usize) -> Option<usize>
-    ensures { SomeIff result (full_pairs (pairs_view pairs.now.items) ≤ room)
-        (room - full_pairs (pairs_view pairs.now.items)) }
+fn pairs_room(pairs: &Vec<(DataItem, DataItem)>, room: usize) -> usize
+    ensures { result ≡ room - full_pairs (pairs_view pairs.now.items) }
 {
     let mut left = room;
     'pairs: for (key, value) in pairs {
-        let behind = item_room(key, left)?;
-        left = item_room(value, behind)?.checked_sub(2)?;
+        if left == 0 {
+            return 0;
+        }
+        left = item_room(value, item_room(key, left)).saturating_sub(2);
     }
-    Some(left)
+    left
 }

@@ -14,8 +14,24 @@ use std::alloc::AllocError;
 /// A line feed, and as many blanks as are written with it at once.
 const LINE: &str = "\n                                                                ";
 
-/// Begins a new line with so many blanks.
+/// Begins a new line with so many blanks. Lines near the left are most of them, and a text whose length is
+/// known here is written in less time.
 fn push_line(out: &mut String, indent: usize) -> Result<(), AllocError>
+    ensures { OnOk result (string_bytes out.new ≡ string_bytes out.old ++ line indent) }
+{
+    match indent {
+        0 => out.push('\n'),
+        4 => out.push_str("\n    "),
+        8 => out.push_str("\n        "),
+        12 => out.push_str("\n            "),
+        16 => out.push_str("\n                "),
+        _ => push_far_line(out, indent),
+    }
+}
+
+/// The same, however far from the left.
+#[inline(never)]
+fn push_far_line(out: &mut String, indent: usize) -> Result<(), AllocError>
     ensures { OnOk result (string_bytes out.new ≡ string_bytes out.old ++ line indent) }
 {
     let near = indent.min(64);

@@ -3,7 +3,7 @@ use Rattle.std.specs.String.{string_bytes}
 use Rattle.std.proofs.lemmas.List.{take-replicate}
 use Rattle.std.proofs.lemmas.Str.{IsCharBoundary-from_ascii}
 use Rattle.cbor_notes.proofs.HexLemmas.{IsAscii-from_test}
-use Rattle.cbor_diag.proofs.encode.notation.members.push_line.Goals as goal
+use Rattle.cbor_diag.proofs.encode.notation.members.push_far_line.Goals as goal
 
 -- a line feed and some of the blanks behind it
 line_cut : (n : ℕ) → n ≤ 64 → slice_range {X = ℕ} (10 ∷ replicate 64 32) 0 (1 + n) ≡ 10 ∷ replicate n 32
