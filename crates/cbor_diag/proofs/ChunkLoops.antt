@@ -15,7 +15,8 @@ pub stops_go : {A B : Type 0} (e : Error) (n : ℕ) (r : Read A) (f : A × List 
 stops_go refusal.Memory n r f h = then_grows (n, r) f
 stops_go _ n r f h = ap (λ x. go_on n x f) h
 
-pub stops_with : {A B : Type 0} (e : Error) (n : ℕ) (c : Counted A) (f : Counted A → Counted B) → ((d : Error) → f (n, Err d) ≡ (n, Err d)) → ((d : Counted A) → d.0 ≤ (f d).0) → Stops e n c → Stops e n (f c)
+pub stops_with : {A B : Type 0} (e : Error) (n : ℕ) (c : Counted A) (f : Counted A → Counted B)
+    → ((d : Error) → f (n, Err d) ≡ (n, Err d)) → ((d : Counted A) → d.0 ≤ (f d).0) → Stops e n c → Stops e n (f c)
 stops_with refusal.Memory n c f fails grows h = omega (arith, grows c)
 stops_with e n c f fails grows h = ap f h ∙ fails e
 
@@ -53,7 +54,8 @@ more_chunk kind front t n b c after total e lt le so_far =
     (r.0, r.2, sym next ∙ so_far)
 
 -- memory ran out for the chunk that was read
-pub chunk_wants : (kind : StringKind) (front : List Chunk) (t n : ℕ) (b : List ℕ) (c : Chunk) (after : List ℕ) (total : Counted (List Chunk)) → chunk_at kind b ≡ Ok (Some c, after) → length after < length b → length b ≤ n
+pub chunk_wants : (kind : StringKind) (front : List Chunk) (t n : ℕ) (b : List ℕ) (c : Chunk) (after : List ℕ)
+    (total : Counted (List Chunk)) → chunk_at kind b ≡ Ok (Some c, after) → length after < length b → length b ≤ n
     → later t (onto front (counted_chunks n kind b)) ≡ total → Stops refusal.Memory (t + 1) total
 chunk_wants kind front t n b c after total e lt le so_far =
     let next = more_chunk kind front t n b c after total e lt le so_far in

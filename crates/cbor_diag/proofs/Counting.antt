@@ -50,7 +50,8 @@ closing_grows left (f ∷ fs) c =
     let more : Item × List ℕ → Counted Item = λ i. parts_at (counted_item left) (put f i.0) i.1 in
     omega (arith, closing_grows (left - 1) fs c, then_grows (closing (left - 1) fs c) more)
 
-pub deliver_grows : (left : ℕ) (outer : List Frame) (top : Option Frame) (c : Counted Item) → c.0 ≤ (deliver left outer top c).0
+pub deliver_grows : (left : ℕ) (outer : List Frame) (top : Option Frame) (c : Counted Item)
+    → c.0 ≤ (deliver left outer top c).0
 deliver_grows left outer None c = omega arith
 deliver_grows left outer (Some f) c =
     let more : Item × List ℕ → Counted Item = λ i. parts_at (counted_item (left - 1 - length outer)) (put f i.0) i.1 in

@@ -25,7 +25,8 @@ first_fails left old new b refusal.Memory h = tt
 first_fails left old new b e h = sym (item_first left b) ∙ ap (λ (c : Counted Item). c.1) h
 
 -- its turns, and no more where memory ran out
-pub run_within : {X : Type 0} (f : X → Item × List ℕ) (old new : ℕ) (r : Result X Error) (c : Counted Item) → Runs f old new r c → new ≤ old + c.0
+pub run_within : {X : Type 0} (f : X → Item × List ℕ) (old new : ℕ) (r : Result X Error) (c : Counted Item)
+    → Runs f old new r c → new ≤ old + c.0
 run_within f old new (Ok x) c h = omega (arith, ap (λ (d : Counted Item). d.0) h)
 run_within f old new (Err refusal.Memory) c h = h
 run_within f old new (Err e) c h = omega (arith, ap (λ (d : Counted Item). d.0) h)
@@ -47,15 +48,19 @@ fault_risen level left old new b e levels other h = λ f. sym (ap (λ (x : Count
 abbrev Within : ℕ → ℕ → List ℕ → Type 0
 Within old new b = new ≤ old + (counted_item 128 b).0
 
-pub within_item : (old new n : ℕ) (b : List ℕ) (i : Item) → Within old new b → Spells any 1 (take n b) i → new ≤ old + item_turns i
+pub within_item : (old new n : ℕ) (b : List ℕ) (i : Item)
+    → Within old new b → Spells any 1 (take n b) i → new ≤ old + item_turns i
 within_item old new n b i h s =
-    let is = ap (counted_item 128) (sym (take-append-drop n b)) ∙ counted_again 1 128 (take n b) i (drop n b) (omega arith) s in
+    let is =
+    ap (counted_item 128) (sym (take-append-drop n b))
+    ∙ counted_again 1 128 (take n b) i (drop n b) (omega arith) s in
     omega (arith, h, ap (λ (c : Counted Item). c.0) is)
 
 pub within_cut : (old new : ℕ) (b : List ℕ) → Within old new b → (c : Cut 1 b) → new ≤ old + (cut_spent c + 1)
 within_cut old new b h c = omega (arith, h, ap (λ (x : Counted Item). x.0) (cut_turns 1 128 b (omega arith) c))
 
-pub within_fault : (old new : ℕ) (b : List ℕ) (e : Error) → Within old new b → (f : Fault 1 b e) → new ≤ old + (fault_spent f + 1)
+pub within_fault : (old new : ℕ) (b : List ℕ) (e : Error)
+    → Within old new b → (f : Fault 1 b e) → new ≤ old + (fault_spent f + 1)
 within_fault old new b e h f = omega (arith, h, ap (λ (x : Counted Item). x.0) (fault_turns 1 128 b e (omega arith) f))
 
 pub of_item : (old new : ℕ) (b : List ℕ) (r : Result (Option (DataItem × ℕ)) Error) → HasTurns 1 b old new r → IfOk r (λ o. IfSome o (λ x. new ≡ old + item_turns (view x.0)))

@@ -41,10 +41,13 @@ pub returns-clause-turns_of_fault : goal.returns-clause-turns_of_fault
 returns-clause-turns_of_fault c = of_fault c.args.turns.now _ c.args.bytes.now c.counted_front_at.result c.counted_front_at.ensures.counted
 
 pub returns-clause-within_item : goal.returns-clause-within_item
-returns-clause-within_item c = λ i n begins. within_item c.args.turns.now _ n c.args.bytes.now i c.counted_front_at.ensures.within begins.2
+returns-clause-within_item c =
+    let within = c.counted_front_at.ensures.within in
+    λ i n begins. within_item c.args.turns.now _ n c.args.bytes.now i within begins.2
 
 pub returns-clause-within_cut : goal.returns-clause-within_cut
 returns-clause-within_cut c = within_cut c.args.turns.now _ c.args.bytes.now c.counted_front_at.ensures.within
 
 pub returns-clause-within_fault : goal.returns-clause-within_fault
-returns-clause-within_fault c = λ e. within_fault c.args.turns.now _ c.args.bytes.now e c.counted_front_at.ensures.within
+returns-clause-within_fault c =
+    λ e. within_fault c.args.turns.now _ c.args.bytes.now e c.counted_front_at.ensures.within

@@ -21,19 +21,23 @@ pub returns-in_err-close-clause-stops : goal.returns-in_err-close-clause-stops
 returns-in_err-close-clause-stops c =
     let s = c.args.stack.now in
     let p = err_from_is_err_and c.from_residual.result c.from_residual.ensures.1 in
-    rw (p.1, p.2, c.in_err-close.ensures.memory, c.rise.ensures) (turn_wants (129 - c.args.level) c.args.turns.now (outer_of s) (top_of s) c.args.bytes.now)
+    rw (p.1, p.2, c.in_err-close.ensures.memory, c.rise.ensures)
+    (turn_wants (129 - c.args.level) c.args.turns.now (outer_of s) (top_of s) c.args.bytes.now)
 
 pub returns-in_err-container-clause-stops : goal.returns-in_err-container-clause-stops
 returns-in_err-container-clause-stops c =
     let s = c.args.stack.now in
     let p = err_from_is_err_and c.from_residual-in_err-container.result c.from_residual-in_err-container.ensures.1 in
-    rw (p.1, p.2, c.in_err-container.ensures.memory.0, c.rise.ensures) (turn_wants (129 - c.args.level) c.args.turns.now (outer_of s) (top_of s) c.args.bytes.now)
+    rw (p.1, p.2, c.in_err-container.ensures.memory.0, c.rise.ensures)
+    (turn_wants (129 - c.args.level) c.args.turns.now (outer_of s) (top_of s) c.args.bytes.now)
 
 pub returns-in_err-open-in-Some-2-clause-stops : goal.returns-in_err-open-in-Some-2-clause-stops
 returns-in_err-open-in-Some-2-clause-stops c =
     let s = c.args.stack.now in
-    let p = err_from_is_err_and c.from_residual-in_err-open-in-Some-2.result c.from_residual-in_err-open-in-Some-2.ensures.1 in
-    rw (p.1, p.2, c.in_err-open-in-Some-2.ensures.memory, c.rise.ensures) (turn_wants (129 - c.args.level) c.args.turns.now (outer_of s) (top_of s) c.args.bytes.now)
+    let residual = c.from_residual-in_err-open-in-Some-2 in
+    let p = err_from_is_err_and residual.result residual.ensures.1 in
+    rw (p.1, p.2, c.in_err-open-in-Some-2.ensures.memory, c.rise.ensures)
+    (turn_wants (129 - c.args.level) c.args.turns.now (outer_of s) (top_of s) c.args.bytes.now)
 
 pub returns-in_err-head-clause-stops : goal.returns-in_err-head-clause-stops
 returns-in_err-head-clause-stops c =

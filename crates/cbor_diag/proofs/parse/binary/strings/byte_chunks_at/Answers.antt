@@ -16,7 +16,12 @@ pub returns-in_err-push-clause-gives : goal.returns-in_err-push-clause-gives
 returns-in_err-push-clause-gives c =
     let p = err_from_is_err_and c.from_residual-in_err-push.result c.from_residual-in_err-push.ensures.1 in
     let i = c.chunks.invariant in
-    rw (p.1, p.2, c.rise.ensures) (chunk_wants bytes_kind (map byte_chunk c.chunks.chunks.items) c.chunks.turns i.bound c.chunks.rest.now (byte_chunk c.in-Some.chunk) c.in_ok-chunk.after.now _ (rw c.in-Some.is at c.in_ok-chunk.ensures.gives) c.in_ok-chunk.ensures.shorter i.enough i.so_far)
+    let front = map byte_chunk c.chunks.chunks.items in
+    let gave = rw c.in-Some.is at c.in_ok-chunk.ensures.gives in
+    let wants =
+    chunk_wants bytes_kind front c.chunks.turns i.bound c.chunks.rest.now (byte_chunk c.in-Some.chunk)
+    c.in_ok-chunk.after.now _ gave c.in_ok-chunk.ensures.shorter i.enough i.so_far in
+    rw (p.1, p.2, c.rise.ensures) wants
 
 pub returns-in_default-clause-gives : goal.returns-in_default-clause-gives
 returns-in_default-clause-gives c =
