@@ -7,24 +7,25 @@ use Rattle.cbor_diag.specs.Item.{Chunk}
 use Rattle.cbor_diag.specs.Bytes.{StringKind}
 use Rattle.cbor_diag.specs.Reading.{Read, Fails, chunk_at}
 use Rattle.cbor_diag.specs.Counting.{Counted, later, go_on, ◌>>-◌, Stops, counted_more, counted_chunks}
-use Rattle.cbor_diag.proofs.Counting.{later_later, then_later, then_then, then_same}
+use Rattle.cbor_diag.proofs.Counting.{later_later, then_later, then_then, then_same, then_grows}
 
 -- ---- what stops a step stops all
 
 pub stops_go : {A B : Type 0} (e : Error) (n : ℕ) (r : Read A) (f : A × List ℕ → Counted B) → Fails e r → Stops e n (go_on n r f)
-stops_go refusal.Memory n r f h = tt
+stops_go refusal.Memory n r f h = then_grows (n, r) f
 stops_go _ n r f h = ap (λ x. go_on n x f) h
 
-pub stops_with : {A B : Type 0} (e : Error) (n : ℕ) (c : Counted A) (f : Counted A → Counted B) → ((d : Error) → f (n, Err d) ≡ (n, Err d)) → Stops e n c → Stops e n (f c)
-stops_with refusal.Memory n c f fails h = tt
-stops_with e n c f fails h = ap f h ∙ fails e
+pub stops_with : {A B : Type 0} (e : Error) (n : ℕ) (c : Counted A) (f : Counted A → Counted B)
+    → ((d : Error) → f (n, Err d) ≡ (n, Err d)) → ((d : Counted A) → d.0 ≤ (f d).0) → Stops e n c → Stops e n (f c)
+stops_with refusal.Memory n c f fails grows h = omega (arith, grows c)
+stops_with e n c f fails grows h = ap f h ∙ fails e
 
 pub stops_later : {X : Type 0} (e : Error) (t n : ℕ) (c : Counted X) → Stops e n c → Stops e (t + n) (later t c)
-stops_later refusal.Memory t n c h = tt
+stops_later refusal.Memory t n c h = omega arith
 stops_later _ t n c h = ap (later t) h
 
 pub stops_then : {A B : Type 0} (e : Error) (n : ℕ) (c : Counted A) (f : A × List ℕ → Counted B) → Stops e n c → Stops e n (c >>- f)
-stops_then refusal.Memory n c f h = tt
+stops_then refusal.Memory n c f h = omega (arith, then_grows c f)
 stops_then _ n c f h = ap (λ x. x >>- f) h
 
 -- ---- chunks
@@ -51,6 +52,14 @@ more_chunk kind front t n b c after total e lt le so_far =
     let next : later t (onto front (counted_chunks n kind b)) ≡ later (t + 1) (onto (front ++ c ∷ []) many) =
     ap (λ x. later t (onto front x)) here ∙ ap (later t) (then_later 1 (many >>- cons) _ ∙ ap (later 1) turned) ∙ later_later t 1 _ in
     (r.0, r.2, sym next ∙ so_far)
+
+-- memory ran out for the chunk that was read
+pub chunk_wants : (kind : StringKind) (front : List Chunk) (t n : ℕ) (b : List ℕ) (c : Chunk) (after : List ℕ)
+    (total : Counted (List Chunk)) → chunk_at kind b ≡ Ok (Some c, after) → length after < length b → length b ≤ n
+    → later t (onto front (counted_chunks n kind b)) ≡ total → Stops refusal.Memory (t + 1) total
+chunk_wants kind front t n b c after total e lt le so_far =
+    let next = more_chunk kind front t n b c after total e lt le so_far in
+    omega (arith, ap (λ (d : Counted (List Chunk)). d.0) next.2)
 
 pub no_more_chunk : (kind : StringKind) (front : List Chunk) (t n : ℕ) (b after : List ℕ) (total : Counted (List Chunk)) → chunk_at kind b ≡ Ok (None, after) → length after < length b → length b ≤ n
     → later t (onto front (counted_chunks n kind b)) ≡ total → total ≡ (t + 1, Ok (front, after))

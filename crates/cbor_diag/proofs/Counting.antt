@@ -1,9 +1,9 @@
 -- Counted reading, one step after the other.
-use Rattle.std.proofs.Common.{◌≡◌, ℕ, zero, suc, ◌+◌, ◌-◌, ◌<◌, List, [], ◌∷◌, ◌++◌, length, Option, Some, None, Ok, Err, refl, sym, ap, ◌∙◌, arith}
+use Rattle.std.proofs.Common.{◌≡◌, ℕ, zero, suc, ◌+◌, ◌-◌, ◌<◌, ◌≤◌, List, [], ◌∷◌, ◌++◌, length, Option, Some, None, Ok, Err, refl, sym, ap, ◌∙◌, arith}
 use Rattle.cbor_diag.specs.declared.error.Error.{Error}
 use Rattle.cbor_diag.specs.Item.{Item}
-use Rattle.cbor_diag.specs.Reading.{Read}
-use Rattle.cbor_diag.specs.Counting.{Counted, later, go_on, ◌>>-◌, Frame, put, end_at, closed, close_or, goes_on, parts_at, counted_item, closing, deliver}
+use Rattle.cbor_diag.specs.Reading.{Read, head_at}
+use Rattle.cbor_diag.specs.Counting.{Counted, later, go_on, ◌>>-◌, Frame, put, end_at, closed, close_or, goes_on, parts_at, opened, part_at, counted_item, closing, resume, deliver}
 
 -- ---- turns before
 
@@ -33,6 +33,54 @@ go_same n (Err e) f g h = refl
 
 pub then_same : {A B : Type 0} (c : Counted A) (f g : A × List ℕ → Counted B) → ((x : A × List ℕ) → c.1 ≡ Ok x → f x ≡ g x) → (c >>- f) ≡ (c >>- g)
 then_same c f g h = go_same c.0 c.1 f g h
+
+-- ---- what follows takes no turn back
+
+go_grows : {A B : Type 0} (n : ℕ) (r : Read A) (f : A × List ℕ → Counted B) → n ≤ (go_on n r f).0
+go_grows n (Ok x) f = omega arith
+go_grows n (Err e) f = omega arith
+
+pub then_grows : {A B : Type 0} (c : Counted A) (f : A × List ℕ → Counted B) → c.0 ≤ (c >>- f).0
+then_grows c f = go_grows c.0 c.1 f
+
+pub closing_grows : (left : ℕ) (fs : List Frame) (c : Counted Item) → c.0 ≤ (closing left fs c).0
+unfolding closing
+closing_grows left [] c = omega arith
+closing_grows left (f ∷ fs) c =
+    let more : Item × List ℕ → Counted Item = λ i. parts_at (counted_item left) (put f i.0) i.1 in
+    omega (arith, closing_grows (left - 1) fs c, then_grows (closing (left - 1) fs c) more)
+
+pub deliver_grows : (left : ℕ) (outer : List Frame) (top : Option Frame) (c : Counted Item)
+    → c.0 ≤ (deliver left outer top c).0
+deliver_grows left outer None c = omega arith
+deliver_grows left outer (Some f) c =
+    let more : Item × List ℕ → Counted Item = λ i. parts_at (counted_item (left - 1 - length outer)) (put f i.0) i.1 in
+    omega (arith, then_grows c more, closing_grows (left - 1) outer (c >>- more))
+
+-- ---- each item and each part of a container takes a turn
+
+item_counts : (left : ℕ) (b : List ℕ) → 1 ≤ (counted_item left b).0
+unfolding counted_item
+item_counts zero b = omega arith
+item_counts (suc left) b = then_grows (1, head_at b) (λ h. part_at (counted_item left) (opened h.0) h.0 h.1)
+
+close_counts : (o : Option Item) (e : Option (List ℕ)) (more : Counted Item) → 1 ≤ more.0 → 1 ≤ (close_or o e more).0
+close_counts (Some i) (Some after) more h = omega arith
+close_counts (Some i) None more h = h
+close_counts None e more h = h
+
+parts_count : (left : ℕ) (f : Frame) (b : List ℕ) → 1 ≤ (parts_at (counted_item left) f b).0
+unfolding goes_on
+parts_count left f b =
+    let read : List ℕ → Counted Item = counted_item left in
+    let more : Item × List ℕ → Counted Item = λ i. goes_on (length b) read (put f i.0) i.1 in
+    close_counts (closed f) (end_at f b) (read b >>- more) (omega (arith, item_counts left b, then_grows (read b) more))
+
+pub resume_counts : (left : ℕ) (outer : List Frame) (top : Option Frame) (b : List ℕ) → 1 ≤ (resume left outer top b).0
+resume_counts left outer None b = item_counts left b
+resume_counts left outer (Some f) b =
+    let held : Counted Item = parts_at (counted_item (left - 1 - length outer)) f b in
+    omega (arith, parts_count (left - 1 - length outer) f b, closing_grows (left - 1) outer held)
 
 -- ---- the parts of one container
 

@@ -1,5 +1,6 @@
 pub mod Utf8
 pub mod Views
+pub mod Compared
 pub mod Frames
 pub mod Tops
 pub mod Counting

@@ -12,7 +12,7 @@ use Rattle.cbor_diag.specs.Reading.{Fails, HoldsContent, head_at}
 use Rattle.cbor_diag.specs.Counting.{Counted, later, go_on, ◌>>-◌, Stops, Frame, put, end_at, closed, parts_at, opened, atom_at, part_at, wanted_at, counted_item, closing, pushed, depth_of, resume, deliver, IsStack}
 use Rattle.cbor_diag.proofs.Heads.{IsBytes}
 use Rattle.cbor_diag.proofs.Outcomes.{memory_opens}
-use Rattle.cbor_diag.proofs.Counting.{later_later, later_none, parts_end, parts_more, closing_later, closing_append, deliver_later, deliver_err}
+use Rattle.cbor_diag.proofs.Counting.{later_later, later_none, parts_end, parts_more, closing_later, closing_append, deliver_later, deliver_err, deliver_grows, resume_counts}
 use Rattle.cbor_diag.proofs.ChunkLoops.{stops_go, stops_with, stops_later}
 use Rattle.cbor_diag.proofs.Uncounted.{item_shortens}
 
@@ -33,6 +33,11 @@ closes left outer inner (Some f) under b after i ends is parts bottom =
     ap (closing (left - 1) outer) (parts_end (counted_item (left - 1 - length outer)) (item_shortens (left - 1 - length outer)) f b after i is (sym ends))
     ∙ ap (λ fs. closing (left - 1) fs (1, Ok (i, after))) parts ∙ closes_in left inner under i after bottom
 
+-- a turn in which memory ran out
+pub turn_wants : (left t : ℕ) (outer : List Frame) (top : Option Frame) (b : List ℕ)
+    → Stops refusal.Memory (t + 1) (later t (resume left outer top b))
+turn_wants left t outer top b = omega (arith, resume_counts left outer top b)
+
 -- ---- a head that is wanted
 
 pub wants : (left : ℕ) (outer : List Frame) (top : Option Frame) (b : List ℕ) → None ≡ option_and_then (λ f. end_at f b) top → resume left outer top b ≡ deliver left outer top (counted_item (left - depth_of outer top) b)
@@ -45,7 +50,7 @@ wants left outer (Some f) b none =
 
 too_deep : (e : Error) (b : List ℕ) → Fails e (wanted_at 0 b) → Stops e 1 (counted_item 0 b)
 unfolding counted_item
-too_deep refusal.Memory b h = tt
+too_deep refusal.Memory b h = omega arith
 too_deep refusal.CutShort [] h = refl
 too_deep e [] h = absurd cc
 too_deep refusal.TooDeep (first ∷ b) h = refl
@@ -63,7 +68,9 @@ later_deliver left outer top t c = sym (deliver_later left outer top t (later 1 
 pub wanted_stops : (e : Error) (left t : ℕ) (outer : List Frame) (top : Option Frame) (b : List ℕ) → None ≡ option_and_then (λ f. end_at f b) top → Fails e (wanted_at (left - depth_of outer top) b) → Stops e (t + 1) (later t (resume left outer top b))
 wanted_stops e left t outer top b none h =
     let head = head_stops e (left - depth_of outer top) b h in
-    let all = stops_with e 1 (counted_item (left - depth_of outer top) b) (deliver left outer top) (λ d. deliver_err left outer top 1 d) head in
+    let read : Counted Item = counted_item (left - depth_of outer top) b in
+    let err = λ (d : Error). deliver_err left outer top 1 d in
+    let all = stops_with e 1 read (deliver left outer top) err (deliver_grows left outer top) head in
     rw (wants left outer top b none) (stops_later e t 1 (deliver left outer top (counted_item (left - depth_of outer top) b)) all)
 
 -- the head was there, and so was a level for it
@@ -128,7 +135,10 @@ read_atom left t outer top b h rest none e is =
 pub atom_stops : (error : Error) (left t n : ℕ) (outer : List Frame) (top : Option Frame) (b : List ℕ) (h : ItemHead) (rest : List ℕ) → None ≡ option_and_then (λ f. end_at f b) top → wanted_at (left - depth_of outer top) b ≡ Ok (h, rest) → opened h ≡ None
     → Stops error n (later (t + 1) (atom_at h rest)) → Stops error n (later t (resume left outer top b))
 atom_stops error left t n outer top b h rest none e is stops =
-    subst (Stops error n) (sym (read_atom left t outer top b h rest none e is)) (stops_with error n (later (t + 1) (atom_at h rest)) (deliver left outer top) (λ d. deliver_err left outer top n d) stops)
+    let read : Counted Item = later (t + 1) (atom_at h rest) in
+    let err = λ (d : Error). deliver_err left outer top n d in
+    let all = stops_with error n read (deliver left outer top) err (deliver_grows left outer top) stops in
+    subst (Stops error n) (sym (read_atom left t outer top b h rest none e is)) all
 
 pub atom_whole : (left t n : ℕ) (outer : List Frame) (top : Option Frame) (b : List ℕ) (h : ItemHead) (rest : List ℕ) (i : Item) (after : List ℕ) → None ≡ option_and_then (λ f. end_at f b) top → wanted_at (left - depth_of outer top) b ≡ Ok (h, rest) → opened h ≡ None
     → later (t + 1) (atom_at h rest) ≡ (n, Ok (i, after)) → later t (resume left outer top b) ≡ later n (deliver left outer top (0, Ok (i, after)))

@@ -1,7 +1,7 @@
 -- Reading as in `specs/Reading.antt`, with its turns counted and over a stack of open containers, as the
 -- code of `parse/binary.rt` goes: what is open is what is left to do with the next item. No public clause
 -- names it: proofs/ shows that it reads the same, and that its turns are those of `specs/Turns.antt`.
-use Rattle.std.specs.Prelude.{◌≡◌, ℕ, zero, suc, ◌+◌, ◌-◌, List, [], ◌∷◌, ◌++◌, length, Option, Some, None, Result, Ok, Err}
+use Rattle.std.specs.Prelude.{◌≡◌, ℕ, zero, suc, ◌+◌, ◌-◌, ◌≤◌, List, [], ◌∷◌, ◌++◌, length, Option, Some, None, Result, Ok, Err}
 use Rattle.cbor_diag.specs.declared.syntax.IntegerWidth.{IntegerWidth}
 use Rattle.cbor_diag.specs.declared.error.Error.{Error}
 use Rattle.cbor_diag.specs.declared.error.Error.TheVariants as refusal
@@ -29,13 +29,14 @@ infixl 10 ◌>>-◌
 abbrev pub ◌>>-◌ : {A B : Type 0} → Counted A → (A × List ℕ → Counted B) → Counted B
 c >>- f = go_on c.0 c.1 f
 
--- counted reading stops with this refusal, which is no want of memory, after so many turns
+-- Counted reading stops with this refusal after so many turns. Where memory ran out, these are at most the
+-- turns that it takes in all.
 abbrev pub Stops : {X : Type 0} → Error → ℕ → Counted X → Type 0
-Stops refusal.Memory n c = Unit {0}
+Stops refusal.Memory n c = n ≤ c.0
 Stops e n c = c ≡ (n, Err e)
 
 -- A count that rose from old to new and what a function returned, seen by view, are what counted reading
--- gives, unless memory ran out.
+-- gives; where memory ran out, the count rose no further.
 abbrev pub Runs : {X Y : Type 0} → (X → Y × List ℕ) → ℕ → ℕ → Result X Error → Counted Y → Type 0
 Runs view old new (Ok x) c = later old c ≡ (new, Ok (view x))
 Runs view old new (Err e) c = Stops e new (later old c)

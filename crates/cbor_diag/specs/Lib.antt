@@ -1,6 +1,8 @@
 pub mod Refusals
 pub mod Item
 pub mod View
+pub mod Same
+pub mod SameDecides
 pub mod Head
 pub mod WellFormed
 pub mod Written

@@ -1,5 +1,6 @@
 //! The data item, with all that its encoding chose: widths, and definite or indefinite lengths.
 mod clone;
+mod equal;
 mod tags;
 mod well_formed;
 mod width;
@@ -87,7 +88,7 @@ pub struct TextString {
 /// The outermost item stands at level 1, and what a container or a tag holds one level deeper than
 /// it; chunks of a string have no level. An item is well formed where each number fits its width
 /// and none stands deeper than level 128; `DataItem::is_well_formed` tells.
-#[derive(PartialEq, Eq, Debug, Drop)]
+#[derive(Debug, Drop)]
 pub enum DataItem {
     /// An unsigned integer (RFC 7049 section 2.1, major type 0).
     Integer {

@@ -158,6 +158,7 @@ fn item_at<'a>(
     ensures gives { Runs (λ x. (view x.0, x.1.now)) turns.old turns.new result
         (counted_item (deepest + 1 - level) bytes.now) }
     ensures few { turns.new ≤ turns.old + 2 * length bytes.now + 1 }
+    ensures rises { turns.old < turns.new }
     ensures memory { result ≡ Err Error.Memory → MayWantMemory bytes.now }
 {
     let mut stack = Stack::new(alloc);
@@ -186,7 +187,9 @@ fn counted_front_at(
     requires room { turns.old ≤ 2 ^ 64 }
     ensures outcome { HasOutcome level bytes.now result }
     ensures counted { HasTurns level bytes.now turns.old turns.new result }
+    ensures within { turns.new ≤ turns.old + (counted_item (deepest + 1 - level) bytes.now).0 }
     ensures few { turns.new ≤ turns.old + 2 * length bytes.now + 1 }
+    ensures rises { turns.old < turns.new }
     ensures memory { result ≡ Err Error.Memory → MayWantMemory bytes.now }
 {
     match item_at(alloc, bytes, level, turns) {
@@ -323,8 +326,16 @@ pub fn parse_bytes_counted(
     ensures turns_of_fault { RefusedSo result (λ e.
         (f : HasFault bytes.now e) → turns.new ≡ turns.old + (fault_spent f + 1)) }
 
-    // Whatever the answer is, two turns for each byte, and one.
+    // Whatever the answer is, at least one turn, and at most two for each byte, and one.
+    ensures rises { turns.old < turns.new }
     ensures turns_bounded { turns.new ≤ turns.old + 2 * length bytes.now + 1 }
+
+    // Where memory ran out, too, no more turns than the item takes, the cut or the fault.
+    ensures within_item { (i : Item) → (n : ℕ) →
+        BeginsWithItem bytes.now i n → turns.new ≤ turns.old + item_turns i }
+    ensures within_cut { (c : IsCut bytes.now) → turns.new ≤ turns.old + (cut_spent c + 1) }
+    ensures within_fault { (e : Error) → (f : HasFault bytes.now e) →
+        turns.new ≤ turns.old + (fault_spent f + 1) }
 {
     counted_front_at(alloc, bytes, 1, turns)
 }

@@ -22,6 +22,7 @@ turns-preserved c =
       bottom = c.in_ok-whole.ensures.bottom;
       level = c.in_ok-whole.ensures.level;
       falls = omega (arith, c.in_ok-whole.ensures.falls);
+      rises = omega (arith, c.in_ok-whole.ensures.rises);
       opened = inr (
         held,
         elim i.opened [

@@ -15,5 +15,6 @@ invariant-turns l = record {
   bottom : IsStack (outer_of l.stack) (top_of l.stack);
   level : l.level + depth l.stack ≤ deepest + 1;
   falls : l.turns + 2 * length l.rest + depth l.stack ≤ l.initial.turns + 2 * length l.bytes;
+  rises : l.initial.turns ≤ l.turns;
   opened : ((depth l.stack ≡ 0) × (l.rest ≡ l.bytes)) ⊎ ((1 ≤ depth l.stack) × MayWantMemory l.bytes);
 }

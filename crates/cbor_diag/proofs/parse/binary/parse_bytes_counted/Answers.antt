@@ -1,5 +1,5 @@
 use Rattle.std.proofs.Common.{arith}
-use Rattle.cbor_diag.proofs.FrontTurns.{of_item, twice, of_cut, of_fault}
+use Rattle.cbor_diag.proofs.FrontTurns.{of_item, twice, of_cut, of_fault, within_item, within_cut, within_fault}
 use Rattle.cbor_diag.proofs.Three.{one_outcome}
 use Rattle.cbor_diag.proofs.Readers.{found_is, cut_is, fault_is, exactly, fault_stays, found_stays, front_well_formed}
 use Rattle.cbor_diag.proofs.parse.binary.parse_bytes_counted.Goals as goal
@@ -39,3 +39,15 @@ returns-clause-turns_of_cut c = of_cut c.args.turns.now _ c.args.bytes.now c.cou
 
 pub returns-clause-turns_of_fault : goal.returns-clause-turns_of_fault
 returns-clause-turns_of_fault c = of_fault c.args.turns.now _ c.args.bytes.now c.counted_front_at.result c.counted_front_at.ensures.counted
+
+pub returns-clause-within_item : goal.returns-clause-within_item
+returns-clause-within_item c =
+    let within = c.counted_front_at.ensures.within in
+    λ i n begins. within_item c.args.turns.now _ n c.args.bytes.now i within begins.2
+
+pub returns-clause-within_cut : goal.returns-clause-within_cut
+returns-clause-within_cut c = within_cut c.args.turns.now _ c.args.bytes.now c.counted_front_at.ensures.within
+
+pub returns-clause-within_fault : goal.returns-clause-within_fault
+returns-clause-within_fault c =
+    λ e. within_fault c.args.turns.now _ c.args.bytes.now e c.counted_front_at.ensures.within

@@ -7,7 +7,7 @@ use Rattle.cbor_diag.specs.Counting.{Stops, later, wanted_at, atom_at}
 use Rattle.cbor_diag.specs.Stack.{frame, outer_of, top_of, depth}
 use Rattle.cbor_diag.specs.declared.error.Error.TheVariants as refusal
 use Rattle.cbor_diag.proofs.HeadRefusals.{err_is}
-use Rattle.cbor_diag.proofs.Turning.{closes, wanted_stops, wanted_opens, opened_holds, some_holds, opens, opened_level, opened_depth, atom_stops, atom_whole}
+use Rattle.cbor_diag.proofs.Turning.{closes, turn_wants, wanted_stops, wanted_opens, opened_holds, some_holds, opens, opened_level, opened_depth, atom_stops, atom_whole}
 use Rattle.cbor_diag.proofs.Counting.{later_later}
 use Rattle.cbor_diag.proofs.parse.binary.turn.Goals as goal
 
@@ -16,6 +16,28 @@ returns-in-Some-clause-gives c =
     let s = c.args.stack.now in
     let is = closes (129 - c.args.level) (outer_of s) (outer_of c.close.new.self) (top_of s) (top_of c.close.new.self) c.args.bytes.now c.in-Some.rest.now (view c.in_ok-close.field-0) c.in-Some.ensures c.in_ok-close.ensures.item c.close.ensures.outer c.close.ensures.bottom in
     rw c.rise.ensures (ap (later c.args.turns.now) is ∙ later_later c.args.turns.now 1 _)
+
+pub returns-in_err-close-clause-stops : goal.returns-in_err-close-clause-stops
+returns-in_err-close-clause-stops c =
+    let s = c.args.stack.now in
+    let p = err_from_is_err_and c.from_residual.result c.from_residual.ensures.1 in
+    rw (p.1, p.2, c.in_err-close.ensures.memory, c.rise.ensures)
+    (turn_wants (129 - c.args.level) c.args.turns.now (outer_of s) (top_of s) c.args.bytes.now)
+
+pub returns-in_err-container-clause-stops : goal.returns-in_err-container-clause-stops
+returns-in_err-container-clause-stops c =
+    let s = c.args.stack.now in
+    let p = err_from_is_err_and c.from_residual-in_err-container.result c.from_residual-in_err-container.ensures.1 in
+    rw (p.1, p.2, c.in_err-container.ensures.memory.0, c.rise.ensures)
+    (turn_wants (129 - c.args.level) c.args.turns.now (outer_of s) (top_of s) c.args.bytes.now)
+
+pub returns-in_err-open-in-Some-2-clause-stops : goal.returns-in_err-open-in-Some-2-clause-stops
+returns-in_err-open-in-Some-2-clause-stops c =
+    let s = c.args.stack.now in
+    let residual = c.from_residual-in_err-open-in-Some-2 in
+    let p = err_from_is_err_and residual.result residual.ensures.1 in
+    rw (p.1, p.2, c.in_err-open-in-Some-2.ensures.memory, c.rise.ensures)
+    (turn_wants (129 - c.args.level) c.args.turns.now (outer_of s) (top_of s) c.args.bytes.now)
 
 pub returns-in_err-head-clause-stops : goal.returns-in_err-head-clause-stops
 returns-in_err-head-clause-stops c =
