@@ -6,7 +6,11 @@ use Rattle.std.proofs.lemmas.List.{append-nil, get_or_append_left}
 use Rattle.std.proofs.lemmas.List.Folds.{list_all_at, list_any-append}
 use Rattle.base64.specs.Rfc4648.{encode_symbols, padding_len}
 use Rattle.cbor_notes.specs.AreBytes.{AreBytes}
-use Rattle.cbor_notes.specs.Base64.{encoding, is_standard_only, standard, url_safe}
+use Rattle.base64.proofs.EngineFacts.{decode_of-encode_of, decode_of_strict}
+use Rattle.base64.specs.Engines as engines
+use Rattle.base64.specs.GeneralPurpose.{decode_of, decoded_of}
+use Rattle.std.specs.Result.{result_ok}
+use Rattle.cbor_notes.specs.Base64.{decoded, encoding, is_standard_only, standard, url_safe}
 
 -- the letters and figures that both alphabets begin with
 abbrev letters : List ℕ
@@ -152,3 +156,21 @@ pub none_from : {V E : Type 0} (r : Result (Option V) E) (items : V → List ℕ
 none_from (Ok (Some v)) items P Q p q = tt
 none_from (Ok None) items P Q p q = λ bytes all. (p bytes all, q bytes all)
 none_from (Err e) items P Q p q = tt
+
+some_ok : {V E : Type 0} (r : Result V E) (v : V) → result_ok r ≡ Some v → r ≡ Ok v
+some_ok (Ok x) v is = cc
+some_ok (Err e) v is = cc
+
+-- digits that decode are the encoding of what they decode to
+pub decoded_found : (url : Bool) (digits bytes : List ℕ) → AreBytes digits → decoded url digits ≡ Some bytes → digits ≡ encoding url bytes
+unfolding decoded decoded_of
+decoded_found true digits bytes all is =
+    decode_of_strict engines.url_safe_no_pad digits bytes (refl, refl) (bytes_at digits all) (some_ok (decode_of engines.url_safe_no_pad digits) bytes is)
+decoded_found false digits bytes all is =
+    decode_of_strict engines.standard digits bytes (refl, refl) (bytes_at digits all) (some_ok (decode_of engines.standard digits) bytes is)
+
+-- and the encoding of bytes decodes to them
+pub decoded_every : (url : Bool) (bytes : List ℕ) → AreBytes bytes → decoded url (encoding url bytes) ≡ Some bytes
+unfolding decoded decoded_of
+decoded_every true bytes all = ap result_ok (decode_of-encode_of engines.url_safe_no_pad bytes refl (bytes_at bytes all))
+decoded_every false bytes all = ap result_ok (decode_of-encode_of engines.standard bytes refl (bytes_at bytes all))

@@ -6,20 +6,12 @@ use Rattle.jiff.proofs.SpanFacts.{signed_arith}
 use Rattle.jiff.specs.Types.{Date}
 use Rattle.jiff.specs.Words.{IsEpochDay, days_in_month, epoch_day}
 use Rattle.cbor_notes.proofs.DateTexts.{not_negative}
-use Rattle.cbor_notes.specs.Days.{CalendarDay, calendar_day, day_count, day_number, next_day}
-
--- a date as a day of the calendar
-abbrev pub parts : Date → CalendarDay
-parts date = record { year = date.year; month = date.month; day = date.day }
+use Rattle.cbor_notes.specs.Days.{IsDateOn, calendar_day, day_count, day_number, day_of, next_day}
 
 month_long : (year : ℤ) (month : ℕ) → 1 ≤ days_in_month year month
 month_long year month = grind arith
 
--- the day is that of a date, whose number is this
-abbrev pub IsDateOn : ℤ → CalendarDay → Type 0
-IsDateOn number day = (date : Date) × (parts date ≡ day) × (epoch_day date ≡ number)
-
-is_date : (date : Date) (number : ℤ) → epoch_day date ≡ number → IsDateOn number (parts date)
+is_date : (date : Date) (number : ℤ) → epoch_day date ≡ number → IsDateOn number (day_of date)
 is_date date number is = (date, refl, is)
 
 later_in_month : (date : Date) → date.day < days_in_month date.year date.month → IsDateOn (epoch_day date +ℤ pos 1) (record { year = date.year; month = date.month; day = date.day + 1 })
@@ -49,7 +41,7 @@ next_year date last late before =
     (rw (month, day) (days_from_civil-next_year date.year (date.year +ℤ pos 1) (omega (arith, signed_arith)) refl))
 
 -- the day after a date is that of the next number
-tomorrow : (date : Date) → epoch_day date <ℤ pos 2_932_896 → IsDateOn (epoch_day date +ℤ pos 1) (next_day (parts date))
+tomorrow : (date : Date) → epoch_day date <ℤ pos 2_932_896 → IsDateOn (epoch_day date +ℤ pos 1) (next_day (day_of date))
 tomorrow date before =
     let P = IsDateOn (epoch_day date +ℤ pos 1) in
     cond_both (nat_lt date.day (days_in_month date.year date.month)) _ _ P
@@ -76,13 +68,13 @@ place_in number range =
     let back = not_negative (number -ℤ day_number 0) (omega (arith, signed_arith)) in
     (omega (arith, signed_arith), omega (arith, signed_arith))
 
-same_parts : (a b : Date) → epoch_day a ≡ epoch_day b → parts a ≡ parts b
+same_parts : (a b : Date) → epoch_day a ≡ epoch_day b → day_of a ≡ day_of b
 same_parts a b e =
     let same = epoch_day_injective a b e in
     rw (same.0, same.1, same.2) refl
 
 -- and each date is one of them
-pub place_of : (date : Date) → (place (epoch_day date) < day_count) × (day_number (place (epoch_day date)) ≡ epoch_day date) × (parts date ≡ calendar_day (place (epoch_day date)))
+pub place_of : (date : Date) → (place (epoch_day date) < day_count) × (day_number (place (epoch_day date)) ≡ epoch_day date) × (day_of date ≡ calendar_day (place (epoch_day date)))
 place_of date =
     let here = place_in (epoch_day date) (epoch_day_range date) in
     let on = date_on (place (epoch_day date)) here.0 in

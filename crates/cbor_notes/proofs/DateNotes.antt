@@ -10,8 +10,8 @@ use Rattle.jiff.proofs.SpanFacts.{signed_arith}
 use Rattle.jiff.specs.Types.{Date}
 use Rattle.jiff.specs.Words.{IsEpochDay, epoch_day}
 use Rattle.cbor_notes.specs.Date.{IsDateText, IsDayText, IsMomentText, date_of_epoch, datetime_of_epoch, date_text, day_text, epoch_of_date, grouped_signed, is_day_text, time_text}
-use Rattle.cbor_notes.specs.Days.{CalendarDay, calendar_day, day_count, day_number, is_day_number}
-use Rattle.cbor_notes.proofs.CalendarDays.{date_on, parts, place, place_in, place_of}
+use Rattle.cbor_notes.specs.Days.{CalendarDay, calendar_day, day_count, day_number, day_of, is_day_number}
+use Rattle.cbor_notes.proofs.CalendarDays.{date_on, place, place_in, place_of}
 use Rattle.cbor_notes.proofs.Moments.{day_and_clock, moment_found, moment_text}
 use Rattle.cbor_notes.proofs.Searches.{IfSome-first_found, IfSome-tested, IsSome-first_found, IsSome-tested}
 
@@ -40,7 +40,7 @@ Decides-is_day_number number =
     (Decides-and (int_le (day_number 0) number) (int_lt number (day_number day_count)) low high)
 
 -- the text of a date by its parts
-pub text_of : (date : Date) → day_text (parts date) ≡ date_text date
+pub text_of : (date : Date) → day_text (day_of date) ≡ date_text date
 unfolding date_text
 text_of date = refl
 
@@ -83,7 +83,7 @@ pub epoch_of_date_some : (text : List ℕ) (date : Date) → IsDateText text dat
 unfolding epoch_of_date
 epoch_of_date_some text date is =
     let at = place_of date in
-    IsSome-first_found day_count _ (place (epoch_day date)) at.0 (IsSome-tested _ _ (rw (← at.2) ((Decides-is_day_text text (parts date)).1 (is.0, is.1 ∙ sym (text_of date)))))
+    IsSome-first_found day_count _ (place (epoch_day date)) at.0 (IsSome-tested _ _ (rw (← at.2) ((Decides-is_day_text text (day_of date)).1 (is.0, is.1 ∙ sym (text_of date)))))
 
 -- what holds of what is made of what is found
 pub IfSome-option_map : {A B : Type 0} (f : A → B) (found : Option A) (P : A → Type 0) (Q : B → Type 0) → IfSome found P → ((x : A) → P x → Q (f x)) → IfSome (option_map f found) Q

@@ -16,9 +16,9 @@ use Rattle.jiff.specs.Types.{Date}
 use Rattle.jiff.specs.Words.{epoch_day}
 use Rattle.cbor_notes.specs.Date.{civil_seconds, clock_text, date_text, day_seconds, day_text}
 use Rattle.cbor_notes.specs.DateTime.{IsDateTimeText, IsFraction, no_fraction, some_digits, IsOffset, ahead, behind, IsZone, dotted, epoch_of_datetime, epoch_text, is_civil_text, offset_text, read_civil, read_digits, read_zone, signed_seconds}
-use Rattle.cbor_notes.specs.Days.{CalendarDay, calendar_day, day_count}
+use Rattle.cbor_notes.specs.Days.{CalendarDay, calendar_day, day_count, day_number, day_of}
 use Rattle.cbor_notes.specs.Search.{first_minute}
-use Rattle.cbor_notes.proofs.CalendarDays.{date_on, parts, place, place_of}
+use Rattle.cbor_notes.proofs.CalendarDays.{date_on, place, place_of}
 use Rattle.cbor_notes.proofs.DateNotes.{Decides-int_le, IfSome-option_map, IsSome-option_map, text_of}
 use Rattle.cbor_notes.proofs.DateTexts.{clock_text-eight, date_text-ten}
 use Rattle.cbor_notes.proofs.DateTimeTexts.{all_digits, digits_then, zone_first}
@@ -161,7 +161,7 @@ read_civil_some text seconds is =
     let second_in = is.second_in in
     let time = clock_text is.hour is.minute is.second in
     let letter = from_letter text (date_text is.date) time is.separator is.separator_is is.text_is in
-    let fits : is_civil_text text (parts is.date) time ≡ true = (Decides-is_civil_text text (parts is.date) time).1 (is.year_in, rw (text_of is.date) letter) in
+    let fits : is_civil_text text (day_of is.date) time ≡ true = (Decides-is_civil_text text (day_of is.date) time).1 (is.year_in, rw (text_of is.date) letter) in
     IsSome-first_found day_count _ (place (epoch_day is.date)) here.0
     (IsSome-first_minute _ is.hour is.minute (omega arith) (omega arith)
     (IsSome-first_found 61 _ is.second (omega arith) (IsSome-tested _ _ (subst (λ day. is_civil_text text day time ≡ true) here.2 fits))))

@@ -15,6 +15,7 @@ pub mod DateTimeTexts
 pub mod DecodedLineLemmas
 pub mod ElementLemmas
 pub mod Fives
+pub mod Fronts
 pub mod Groups
 pub mod HexLemmas
 pub mod Moments

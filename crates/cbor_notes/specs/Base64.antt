@@ -4,13 +4,20 @@ use Rattle.base64.specs.Rfc4648.{encode}
 use Rattle.base64.specs.GeneralPurpose.{decoded_of}
 use Rattle.base64.specs.Engines as engines
 
+-- the digits 0 to 63 of the standard alphabet, and of the one that is safe in URLs
+abbrev pub standard_alphabet : List ℕ
+standard_alphabet = codes "ABCDEFGHIJKLMNOPQRSTUVWXYZabcdefghijklmnopqrstuvwxyz0123456789+/"
+
+abbrev pub url_safe_alphabet : List ℕ
+url_safe_alphabet = codes "ABCDEFGHIJKLMNOPQRSTUVWXYZabcdefghijklmnopqrstuvwxyz0123456789-_"
+
 -- the encoding in the standard alphabet, with `=` up to a multiple of four characters
 abbrev pub standard : List ℕ → List ℕ
-standard = encode (codes "ABCDEFGHIJKLMNOPQRSTUVWXYZabcdefghijklmnopqrstuvwxyz0123456789+/") 61 true
+standard = encode standard_alphabet 61 true
 
 -- the encoding in the alphabet that is safe in URLs, without padding
 abbrev pub url_safe : List ℕ → List ℕ
-url_safe = encode (codes "ABCDEFGHIJKLMNOPQRSTUVWXYZabcdefghijklmnopqrstuvwxyz0123456789-_") 61 false
+url_safe = encode url_safe_alphabet 61 false
 
 -- `+`, `/` and `=`, which only the standard encoding has
 abbrev pub is_standard_only : ℕ → Bool

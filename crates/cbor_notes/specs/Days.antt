@@ -1,13 +1,22 @@
--- The days of the calendar, one after the other. They are the dates of `jiff`, with the same numbers:
--- the clauses `found` and `only` of the calls speak of its dates, and `value` of these days.
-use Rattle.std.specs.Prelude.{ℕ, zero, suc, ◌+◌, Bool, ◌&&◌, int_le, int_lt, unsigned_abs, ℤ, pos, neg_ℤ, ◌+ℤ◌, ◌-ℤ◌, nat_lt, if◌then◌else◌}
-use Rattle.jiff.specs.Words.{days_in_month}
+-- The days of the calendar, one after the other. They are the dates of `jiff`, with the same numbers, as
+-- the law `calendar_days` of laws.rt states.
+use Rattle.std.specs.Prelude.{◌≡◌, ℕ, zero, suc, ◌+◌, Bool, ◌&&◌, int_le, int_lt, unsigned_abs, ℤ, pos, neg_ℤ, ◌+ℤ◌, ◌-ℤ◌, nat_lt, if◌then◌else◌}
+use Rattle.jiff.specs.Types.{Date}
+use Rattle.jiff.specs.Words.{days_in_month, epoch_day}
 
 -- a day by its year, month and day of the month
 pub record CalendarDay : Type 0 where
   pub year : ℤ
   pub month : ℕ
   pub day : ℕ
+
+-- a date of `jiff` as a day of the calendar
+abbrev pub day_of : Date → CalendarDay
+day_of date = record { year = date.year; month = date.month; day = date.day }
+
+-- the day is that of a date, whose number is this
+abbrev pub IsDateOn : ℤ → CalendarDay → Type 0
+IsDateOn number day = (date : Date) × (day_of date ≡ day) × (epoch_day date ≡ number)
 
 -- the day after a day
 abbrev pub next_day : CalendarDay → CalendarDay

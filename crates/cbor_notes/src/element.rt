@@ -1,12 +1,13 @@
 //! The elements of typed arrays: RFC 8746, section 2.
 
-ghost use Rattle.std.specs.Prelude.{◌≡◌, [], ◌++◌, is_some, unwrap_or, ◌-◌, ◌<◌, ◌≤◌, ◌*◌, ◌^◌, length, take, reverse, option_map, if◌then◌else◌, IfSome, IfNone, IfOk, OnOk, false, true};
+ghost use Rattle.std.specs.Prelude.{◌≡◌, [], ◌++◌, is_some, unwrap_or, ◌-◌, ◌<◌, ◌≤◌, ◌*◌, ◌^◌, length, take, reverse, option_map, if◌then◌else◌, IfSome, IfNone, IfOk, OnOk, OnErr, false, true};
+ghost use Rattle.std.specs.Io.{StartsWith};
 ghost use Rattle.std.specs.Int.{IsInRange};
 ghost use Rattle.std.specs.Int.Digits.{number_from_digits};
 ghost use Rattle.std.specs.String.{string_bytes};
 ghost use Rattle.cbor_notes.specs.Element as spec;
 
-use crate::text::{push_grouped, push_hex};
+use crate::text::{cut_after_error, push_grouped, push_hex};
 use std::alloc::{AllocError, Global};
 
 /// What the elements of a typed array are.
@@ -50,12 +51,13 @@ pub fn element_text(alloc: Global, tag: u64, bytes: &[u8]) -> Result<Option<Stri
     }
 }
 
-/// Appends what [`element_text`] answers to `text`, and tells whether there is such a text. The only
-/// refusal is want of memory, and after it `text` may end with a part of what was to be appended.
+/// Appends what [`element_text`] answers to `text`, and answers whether there is such a text. The only
+/// error is out of memory, and after it `text` is unchanged.
 pub fn push_element_text(text: &mut String, tag: u64, bytes: &[u8]) -> Result<bool, AllocError>
     ensures some { IfOk result (λ some. some ≡ is_some (spec.element_text tag bytes.now)) }
     ensures text { OnOk result (string_bytes text.new
         ≡ string_bytes text.old ++ unwrap_or (spec.element_text tag bytes.now) []) }
+    ensures unchanged { OnErr result (string_bytes text.new ≡ string_bytes text.old) }
 {
     let Some(element) = Element::of_tag(tag) else {
         return Ok(false);
@@ -64,11 +66,24 @@ pub fn push_element_text(text: &mut String, tag: u64, bytes: &[u8]) -> Result<bo
         return Ok(false);
     }
     let ordered = element.ordered(bytes);
-    text.push_str(element.kind.word())?;
-    text.push('(')?;
-    push_value(text, element.kind, &ordered[..bytes.len()])?;
-    text.push(')')?;
+    let len = text.len();
+    let answer = write_value_text(text, element.kind, &ordered[..bytes.len()]);
+    cut_after_error(text, len, answer)?;
     Ok(true)
+}
+
+/// Appends an element, whose highest byte comes first, between brackets, after what it is called. After
+/// an error `text` may end with a part of it.
+fn write_value_text(text: &mut String, kind: Kind, bytes: &[u8]) -> Result<(), AllocError>
+    requires { IsInRange 1 16 (length bytes.now) }
+    ensures text { OnOk result
+        (string_bytes text.new ≡ string_bytes text.old ++ spec.value_text kind bytes.now) }
+    ensures front { OnErr result (StartsWith (string_bytes text.new) (string_bytes text.old)) }
+{
+    text.push_str(kind.word())?;
+    text.push('(')?;
+    push_value(text, kind, bytes)?;
+    text.push(')')
 }
 
 impl Kind {
@@ -129,11 +144,12 @@ impl Element {
     }
 }
 
-/// Appends an element, whose highest byte comes first. After a refusal `text` may end with a part of it.
+/// Appends an element, whose highest byte comes first. After an error `text` is unchanged.
 fn push_value(text: &mut String, kind: Kind, bytes: &[u8]) -> Result<(), AllocError>
     requires { IsInRange 1 16 (length bytes.now) }
     ensures text { OnOk result
         (string_bytes text.new ≡ string_bytes text.old ++ spec.value kind bytes.now) }
+    ensures unchanged { OnErr result (string_bytes text.new ≡ string_bytes text.old) }
 {
     match kind {
         Kind::Unsigned => push_grouped(text, number(bytes), false),
@@ -155,11 +171,13 @@ fn number(bytes: &[u8]) -> u128
     number
 }
 
-/// Appends a number in two's complement, grouped: from half of its range on it is negative.
+/// Appends a number in two's complement, grouped: from half of its range on it is negative. After an
+/// error `text` is unchanged.
 fn push_signed(text: &mut String, bytes: &[u8]) -> Result<(), AllocError>
     requires { IsInRange 1 16 (length bytes.now) }
     ensures text { OnOk result (string_bytes text.new ≡ string_bytes text.old
         ++ spec.signed_text (length bytes.now) (number_from_digits 256 bytes.now)) }
+    ensures unchanged { OnErr result (string_bytes text.new ≡ string_bytes text.old) }
 {
     let number = number(bytes);
     let half = 1u128 << (8 * bytes.len() - 1);

@@ -15,6 +15,7 @@ mod datetime;
 mod element;
 mod examples;
 mod identifier;
+mod laws;
 mod line;
 mod tags;
 mod text;

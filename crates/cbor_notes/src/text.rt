@@ -1,8 +1,12 @@
 //! Bytes, text and numbers as a comment writes them.
 
-ghost use Rattle.std.specs.Prelude.{◌≡◌, ◌≤◌, [], ◌∷◌, ◌++◌, length, IfOk, OnOk};
-ghost use Rattle.std.specs.String.{string_bytes};
+ghost use Rattle.std.specs.Prelude.{◌≡◌, ◌≤◌, ◌<◌, ◌+◌, ◌*◌, [], ◌∷◌, ◌++◌, length, take, IfOk, OnOk, OnErr};
+ghost use Rattle.std.specs.Io.{StartsWith};
+ghost use Rattle.std.specs.String.{string_bytes, string_capacity, string_len};
+ghost use Rattle.std.specs.String.Boundary.{IsSplitPoint};
 ghost use Rattle.std.specs.Str.{IsAscii};
+ghost use Rattle.std.specs.Prelude.{codes, false};
+ghost use Rattle.std.specs.Fmt.{digit_glyph, digits};
 ghost use Rattle.hex.specs.Hex.{encode_lower};
 ghost use Rattle.cbor_notes.specs.Text as spec;
 
@@ -22,11 +26,42 @@ pub fn quoted_bytes(alloc: Global, bytes: &[u8]) -> Result<String, AllocError>
     Ok(text)
 }
 
-/// Appends what [`quoted_bytes`] writes of `bytes` to `text`. The only refusal is want of memory, and
-/// after it `text` may end with a part of what was to be appended.
+/// Appends what [`quoted_bytes`] writes of `bytes` to `text`. The only error is out of memory, and after
+/// it `text` is unchanged.
 pub fn push_quoted_bytes(text: &mut String, bytes: &[u8]) -> Result<(), AllocError>
     ensures text { OnOk result
         (string_bytes text.new ≡ string_bytes text.old ++ spec.quoted_bytes bytes.now) }
+    ensures unchanged { OnErr result (string_bytes text.new ≡ string_bytes text.old) }
+{
+    let len = text.len();
+    let answer = write_quoted_bytes(text, bytes);
+    cut_after_error(text, len, answer)
+}
+
+/// Hands on what an append to `text` answered, and cuts `text` back to its first `len` bytes after an
+/// error.
+pub(crate) fn cut_after_error(
+    text: &mut String,
+    len: usize,
+    answer: Result<(), AllocError>,
+) -> Result<(), AllocError>
+    requires { OnErr answer (IsSplitPoint (string_bytes text.old) len) }
+    ensures answer { result ≡ answer }
+    ensures kept { OnOk answer (string_bytes text.new ≡ string_bytes text.old) }
+    ensures cut { OnErr answer (string_bytes text.new ≡ take len (string_bytes text.old)) }
+{
+    if answer.is_err() {
+        text.truncate(len);
+    }
+    answer
+}
+
+/// The same as `push_quoted_bytes`, but after an error `text` may end with a part of what was to be
+/// appended.
+fn write_quoted_bytes(text: &mut String, bytes: &[u8]) -> Result<(), AllocError>
+    ensures text { OnOk result
+        (string_bytes text.new ≡ string_bytes text.old ++ spec.quoted_bytes bytes.now) }
+    ensures front { OnErr result (StartsWith (string_bytes text.new) (string_bytes text.old)) }
 {
     text.push('"')?;
     for byte in bytes {
@@ -38,6 +73,7 @@ pub fn push_quoted_bytes(text: &mut String, bytes: &[u8]) -> Result<(), AllocErr
 fn push_escaped_byte(text: &mut String, byte: u8) -> Result<(), AllocError>
     ensures text { OnOk result
         (string_bytes text.new ≡ string_bytes text.old ++ spec.escaped_byte byte) }
+    ensures front { OnErr result (StartsWith (string_bytes text.new) (string_bytes text.old)) }
 {
     match byte {
         b'\t' => text.push_str("\\t"),
@@ -55,13 +91,14 @@ fn push_escaped_byte(text: &mut String, byte: u8) -> Result<(), AllocError>
     }
 }
 
-/// Appends the hex digits of `bytes` to `text`, two for each, in lower case. The only refusal is want of
-/// memory, and after it `text` may end with some of them.
+/// Appends the hex digits of `bytes` to `text`, two for each, in lower case. The only error is out of
+/// memory, and after it `text` is unchanged.
 pub fn push_hex(text: &mut String, bytes: &[u8]) -> Result<(), AllocError>
-    ensures { OnOk result (string_bytes text.new ≡ string_bytes text.old ++ encode_lower bytes.now) }
+    ensures text { OnOk result (string_bytes text.new ≡ string_bytes text.old ++ encode_lower bytes.now) }
+    ensures unchanged { OnErr result (string_bytes text.new ≡ string_bytes text.old) }
 {
-    // Room for all of them at once.
-    text.reserve(bytes.len().saturating_mul(2))?;
+    // Room for all of them at once, so that no later append can fail.
+    text.reserve(2 * bytes.len())?;
     let mut rest = bytes;
     'pieces: while !rest.is_empty() {
         let (piece, after) = rest.split_at(rest.len().min(PIECE));
@@ -77,7 +114,10 @@ const PIECE: usize = 64;
 /// Appends the hex digits of a few bytes to `text`, all at once: byte by byte takes longer.
 fn push_hex_piece(text: &mut String, piece: &[u8]) -> Result<(), AllocError>
     requires { length piece.now ≤ PIECE }
-    ensures { OnOk result (string_bytes text.new ≡ string_bytes text.old ++ encode_lower piece.now) }
+    ensures text { OnOk result (string_bytes text.new ≡ string_bytes text.old ++ encode_lower piece.now) }
+    ensures len { OnOk result (string_len text.new ≡ string_len text.old + 2 * length piece.now) }
+    ensures capacity { string_capacity text.old ≤ string_capacity text.new }
+    ensures full { OnErr result (string_capacity text.old < string_len text.old + 2 * length piece.now) }
 {
     let mut buffer = [0; 2 * PIECE];
     let digits = &mut buffer[..2 * piece.len()];
@@ -90,6 +130,7 @@ fn push_hex_piece(text: &mut String, piece: &[u8]) -> Result<(), AllocError>
 pub(crate) fn push_hex_byte(text: &mut String, byte: u8) -> Result<(), AllocError>
     ensures text { OnOk result
         (string_bytes text.new ≡ string_bytes text.old ++ encode_lower (byte ∷ [])) }
+    ensures front { OnErr result (StartsWith (string_bytes text.new) (string_bytes text.old)) }
 {
     let mut digits = [0; 2];
     hex::encode_to_slice([byte], &mut digits).unwrap();
@@ -109,11 +150,24 @@ pub fn escaped_text(alloc: Global, text: &str) -> Result<String, AllocError>
     Ok(escaped)
 }
 
-/// Appends what [`escaped_text`] writes of `text` to `escaped`. The only refusal is want of memory, and
-/// after it `escaped` may end with a part of what was to be appended.
+/// Appends what [`escaped_text`] writes of `text` to `escaped`. The only error is out of memory, and
+/// after it `escaped` is unchanged.
 pub fn push_escaped_text(escaped: &mut String, text: &str) -> Result<(), AllocError>
     ensures text { OnOk result
         (string_bytes escaped.new ≡ string_bytes escaped.old ++ spec.escaped_text text.now) }
+    ensures unchanged { OnErr result (string_bytes escaped.new ≡ string_bytes escaped.old) }
+{
+    let len = escaped.len();
+    let answer = write_escaped_text(escaped, text);
+    cut_after_error(escaped, len, answer)
+}
+
+/// The same as `push_escaped_text`, but after an error `escaped` may end with a part of what was to be
+/// appended.
+fn write_escaped_text(escaped: &mut String, text: &str) -> Result<(), AllocError>
+    ensures text { OnOk result
+        (string_bytes escaped.new ≡ string_bytes escaped.old ++ spec.escaped_text text.now) }
+    ensures front { OnErr result (StartsWith (string_bytes escaped.new) (string_bytes escaped.old)) }
 {
     for character in text.chars() {
         push_escaped_char(escaped, character)?;
@@ -124,6 +178,7 @@ pub fn push_escaped_text(escaped: &mut String, text: &str) -> Result<(), AllocEr
 fn push_escaped_char(text: &mut String, character: char) -> Result<(), AllocError>
     ensures text { OnOk result
         (string_bytes text.new ≡ string_bytes text.old ++ spec.escaped_char character) }
+    ensures front { OnErr result (StartsWith (string_bytes text.new) (string_bytes text.old)) }
 {
     match character {
         '\t' => text.push_str("\\t"),
@@ -133,12 +188,36 @@ fn push_escaped_char(text: &mut String, character: char) -> Result<(), AllocErro
             text.push('\\')?;
             text.push(character)
         }
-        '\0'..='\u{1f}' | '\u{7f}'..='\u{9f}' => {
-            let code = u32::from(character);
-            write!(text, "\\u{{{code:x}}}")
-        }
+        '\0'..='\u{1f}' | '\u{7f}'..='\u{9f}' => push_code(text, u32::from(character) as u8),
         _ => text.push(character),
     }
+}
+
+/// Appends the escape `\u{h}` of a character below U+0100, with its code in hex digits.
+fn push_code(text: &mut String, code: u8) -> Result<(), AllocError>
+    ensures text { OnOk result (string_bytes text.new
+        ≡ string_bytes text.old ++ codes "\\u{" ++ digits 16 false code ++ codes "}") }
+    ensures front { OnErr result (StartsWith (string_bytes text.new) (string_bytes text.old)) }
+{
+    text.push_str("\\u{")?;
+    if code >= 16 {
+        text.push(hex_digit(code / 16))?;
+    }
+    text.push(hex_digit(code % 16))?;
+    text.push('}')
+}
+
+/// The hex digit of a number below 16, in lower case.
+fn hex_digit(number: u8) -> char
+    requires { number < 16 }
+    ensures digit { result ≡ digit_glyph false number }
+    ensures ascii { result < 128 }
+{
+    char::from(if number < 10 {
+        b'0' + number
+    } else {
+        b'a' + (number - 10)
+    })
 }
 
 /// `number` in decimal digits, in groups of three from the right with `,` between them, and with `-`
@@ -154,11 +233,23 @@ pub fn grouped(alloc: Global, number: u128, negative: bool) -> Result<String, Al
     Ok(text)
 }
 
-/// Appends what [`grouped`] writes of `number` to `text`. The only refusal is want of memory, and after
-/// it `text` may end with a part of what was to be appended.
+/// Appends what [`grouped`] writes of `number` to `text`. The only error is out of memory, and after it
+/// `text` is unchanged.
 pub fn push_grouped(text: &mut String, number: u128, negative: bool) -> Result<(), AllocError>
     ensures text { OnOk result
         (string_bytes text.new ≡ string_bytes text.old ++ spec.grouped number negative) }
+    ensures unchanged { OnErr result (string_bytes text.new ≡ string_bytes text.old) }
+{
+    let len = text.len();
+    let answer = write_grouped(text, number, negative);
+    cut_after_error(text, len, answer)
+}
+
+/// The same as `push_grouped`, but after an error `text` may end with a part of what was to be appended.
+fn write_grouped(text: &mut String, number: u128, negative: bool) -> Result<(), AllocError>
+    ensures text { OnOk result
+        (string_bytes text.new ≡ string_bytes text.old ++ spec.grouped number negative) }
+    ensures front { OnErr result (StartsWith (string_bytes text.new) (string_bytes text.old)) }
 {
     if negative {
         text.push('-')?;
@@ -171,6 +262,7 @@ fn push_in_groups(text: &mut String, digits: &[u8]) -> Result<(), AllocError>
     requires { IsAscii digits.now }
     ensures text { OnOk result
         (string_bytes text.new ≡ string_bytes text.old ++ spec.in_groups digits.now) }
+    ensures front { OnErr result (StartsWith (string_bytes text.new) (string_bytes text.old)) }
 {
     for (place, digit) in digits.iter().enumerate() {
         text.push(char::from(*digit))?;

@@ -1,5 +1,5 @@
-// Calls where memory is found, and where it is not. What each has to answer is an example of the tests on
-// its subject.
+// Calls where memory is found, and where it is refused. What each has to answer is an example of the tests
+// on its subject.
 
 use cbor_notes::{
     Line, base32_decode, base32hex_decode, base58, base64_any_decode, base64_lines, date_of_epoch,
@@ -27,6 +27,7 @@ enum Call {
     EpochOfDatetime,
     ElementText,
     UrlVerdict,
+    UrlVerdictInUnicode,
     Base58,
     QuotedBytes,
     EscapedText,
@@ -43,35 +44,56 @@ enum Call {
     PutLine,
 }
 
-const CALLS: [Call; 27] = [
-    Call::Base32,
-    Call::Base32Hex,
-    Call::Base64Any,
-    Call::Base64Lines,
-    Call::UuidLines,
-    Call::QuotedAt,
-    Call::DigitsAt,
-    Call::DateOfEpoch,
-    Call::DatetimeOfEpoch,
-    Call::EpochOfDate,
-    Call::EpochOfDatetime,
-    Call::ElementText,
-    Call::UrlVerdict,
-    Call::Base58,
-    Call::QuotedBytes,
-    Call::EscapedText,
-    Call::Grouped,
-    Call::Ipv4,
-    Call::Ipv6,
-    Call::Mac,
-    Call::Merge,
-    Call::PushElementText,
-    Call::PushQuotedBytes,
-    Call::PushEscapedText,
-    Call::PushGrouped,
-    Call::PushHex,
-    Call::PutLine,
+/// Each call that takes memory, with its answer as `answer` shows it.
+const ROWS: [(Call, &str); 28] = [
+    (Call::Base32, "666f6f6261"),
+    (Call::Base32Hex, "666f6f6261"),
+    // the second alphabet that is tried
+    (Call::Base64Any, "fbff"),
+    (
+        Call::Base64Lines,
+        "54686520717569636b2062726f776e20 # \"The quick brown \"
+666f78                           # \"fox\"
+",
+    ),
+    (
+        Call::UuidLines,
+        "uuid(variant(RFC4122), version(1, Mac))
+base16(f81d4fae-7dec-11d0-a765-00a0c91e6bf6)
+base58(Xe22UfxT3rxcKJEAfL5373)
+base64(+B1Prn3sEdCnZQCgyR5r9g)
+",
+    ),
+    (Call::QuotedAt, "612762 up to 5"),
+    (Call::DigitsAt, "3031 up to 8"),
+    (Call::DateOfEpoch, "1980-12-08"),
+    (Call::DatetimeOfEpoch, "2013-03-21T20:04:00Z"),
+    (Call::EpochOfDate, "-10,676"),
+    (Call::EpochOfDatetime, "482196050.520"),
+    (Call::ElementText, "unsigned(1,000)"),
+    (Call::UrlVerdict, "true"),
+    (Call::UrlVerdictInUnicode, "true"),
+    (Call::Base58, "Xe22UfxT3rxcKJEAfL5373"),
+    (Call::QuotedBytes, "\"\\x00A\\\"\""),
+    (Call::EscapedText, "\\u{0}\\u{85}"),
+    (Call::Grouped, "-1,234,567"),
+    (Call::Ipv4, "192.0.2.1"),
+    (Call::Ipv6, "::ffff:192.0.2.1"),
+    (Call::Mac, "00:00:5e:00:53:01"),
+    (
+        Call::Merge,
+        "f4 # false, simple(20)\n   #   note\n",
+    ),
+    (Call::PushElementText, "before unsigned(1,000)"),
+    (Call::PushQuotedBytes, "before \"\\x00A\\\"\""),
+    (Call::PushEscapedText, "before \\u{0}\\u{85}"),
+    (Call::PushGrouped, "before -1,234,567"),
+    (Call::PushHex, "before 00ff"),
+    (Call::PutLine, "before    0a #   \"\\n\"\n"),
 ];
+
+/// What is appended to.
+const BEFORE: &str = "before ";
 
 /// The example of RFC 4122, section 3.
 const UUID: [u8; 16] = [
@@ -81,186 +103,188 @@ const UUID: [u8; 16] = [
 /// The IPv6 address that 192.0.2.1 is mapped to (RFC 4291, section 2.5.5.2).
 const MAPPED: [u8; 16] = [0, 0, 0, 0, 0, 0, 0, 0, 0, 0, 0xff, 0xff, 192, 0, 2, 1];
 
-fn is_found(found: &Option<Vec<u8>>, bytes: &[u8]) -> bool {
+/// Bytes that were found, in hex.
+fn found_bytes(alloc: Global, found: Option<Vec<u8>>) -> Result<String, AllocError> {
     match found {
-        Some(answer) => answer.as_slice() == bytes,
-        None => false,
+        Some(bytes) => hex::encode(alloc, &bytes),
+        None => String::from_str(alloc, "none"),
     }
 }
 
-fn ends_at(found: &Option<(Vec<u8>, usize)>, bytes: &[u8], place: usize) -> bool {
+/// Content that was found, in hex, and the place after it.
+fn found_content(alloc: Global, found: Option<(Vec<u8>, usize)>) -> Result<String, AllocError> {
     match found {
-        Some((content, end)) => content.as_slice() == bytes && *end == place,
-        None => false,
+        Some((content, end)) => {
+            let content = hex::encode(alloc, &content)?;
+            format!(in alloc; "{content} up to {end}")
+        }
+        None => String::from_str(alloc, "none"),
     }
 }
 
-fn is_text(found: &Option<String>, text: &str) -> bool {
+/// A text that was found.
+fn found_text(alloc: Global, found: Option<String>) -> Result<String, AllocError> {
     match found {
-        Some(answer) => answer.as_str() == text,
-        None => false,
+        Some(text) => Ok(text),
+        None => String::from_str(alloc, "none"),
     }
 }
 
-fn are_lines(answer: &Vec<String>, lines: &[&str]) -> bool {
-    answer.len() == lines.len()
-        && answer
-            .iter()
-            .zip(lines)
-            .all(|(line, wanted)| line.as_str() == *wanted)
+/// Lines, each with a line feed.
+fn joined(alloc: Global, lines: &Vec<String>) -> Result<String, AllocError> {
+    let mut text = String::new(alloc);
+    for line in lines {
+        text.push_str(line.as_str())?;
+        text.push('\n')?;
+    }
+    Ok(text)
 }
 
-/// Whether a call answers what it should, of those that decode.
-fn is_right(alloc: Global, call: Call) -> Result<bool, AllocError> {
-    Ok(match call {
-        Call::Base32 => is_found(&base32_decode(alloc, b"MZXW6YTB")?, b"fooba"),
-        Call::Base32Hex => is_found(&base32hex_decode(alloc, b"CPNMUOJ1")?, b"fooba"),
-        // the second alphabet that is tried
-        Call::Base64Any => is_found(&base64_any_decode(alloc, b"-_8")?, b"\xfb\xff"),
-        Call::Base64Lines => match base64_lines(alloc, "VGhlIHF1aWNrIGJyb3duIGZveA==", false)? {
-            Some(lines) => are_lines(
-                &lines,
-                &[
-                    "54686520717569636b2062726f776e20 # \"The quick brown \"",
-                    "666f78                           # \"fox\"",
-                ],
-            ),
-            None => false,
-        },
-        Call::UuidLines => are_lines(
-            &uuid_lines(alloc, &UUID)?,
-            &[
-                "uuid(variant(RFC4122), version(1, Mac))",
-                "base16(f81d4fae-7dec-11d0-a765-00a0c91e6bf6)",
-                "base58(Xe22UfxT3rxcKJEAfL5373)",
-                "base64(+B1Prn3sEdCnZQCgyR5r9g)",
-            ],
-        ),
-        Call::QuotedAt => ends_at(&quoted_at(alloc, b"a\\'b'", 0, b'\'')?, b"a'b", 5),
-        Call::DigitsAt => ends_at(&digits_at(alloc, b"0 /x/ 1'", 0, true)?, b"01", 8),
-        _ => is_note_right(alloc, call)?,
-    })
+/// What a call answers, of those that decode.
+fn decoded(alloc: Global, call: Call) -> Result<String, AllocError> {
+    match call {
+        Call::Base32 => found_bytes(alloc, base32_decode(alloc, b"MZXW6YTB")?),
+        Call::Base32Hex => found_bytes(alloc, base32hex_decode(alloc, b"CPNMUOJ1")?),
+        Call::Base64Any => found_bytes(alloc, base64_any_decode(alloc, b"-_8")?),
+        Call::Base64Lines => {
+            match base64_lines(alloc, "VGhlIHF1aWNrIGJyb3duIGZveA==", false)? {
+                Some(lines) => joined(alloc, &lines),
+                None => String::from_str(alloc, "none"),
+            }
+        }
+        Call::UuidLines => joined(alloc, &uuid_lines(alloc, &UUID)?),
+        Call::QuotedAt => found_content(alloc, quoted_at(alloc, b"a\\'b'", 0, b'\'')?),
+        _ => found_content(alloc, digits_at(alloc, b"0 /x/ 1'", 0, true)?),
+    }
 }
 
 /// The same of those that may have no text to answer.
-fn is_note_right(alloc: Global, call: Call) -> Result<bool, AllocError> {
-    Ok(match call {
-        Call::DateOfEpoch => is_text(&date_of_epoch(alloc, 3_994)?, "1980-12-08"),
-        Call::DatetimeOfEpoch => {
-            is_text(
-                &datetime_of_epoch(alloc, 1_363_896_240)?,
-                "2013-03-21T20:04:00Z",
-            )
-        }
-        Call::EpochOfDate => is_text(&epoch_of_date(alloc, "1940-10-09")?, "-10,676"),
+fn noted(alloc: Global, call: Call) -> Result<String, AllocError> {
+    match call {
+        Call::DateOfEpoch => found_text(alloc, date_of_epoch(alloc, 3_994)?),
+        Call::DatetimeOfEpoch => found_text(alloc, datetime_of_epoch(alloc, 1_363_896_240)?),
+        Call::EpochOfDate => found_text(alloc, epoch_of_date(alloc, "1940-10-09")?),
         Call::EpochOfDatetime => {
-            is_text(
-                &epoch_of_datetime(alloc, "1985-04-12T23:20:50.52Z")?,
-                "482196050.520",
-            )
+            found_text(alloc, epoch_of_datetime(alloc, "1985-04-12T23:20:50.52Z")?)
         }
         Call::ElementText => {
-            is_text(
-                &element_text(alloc, 66, b"\x00\x00\x03\xe8")?,
-                "unsigned(1,000)",
-            )
+            found_text(alloc, element_text(alloc, 66, b"\x00\x00\x03\xe8")?)
         }
         Call::UrlVerdict => {
-            url_verdict(alloc, "https://[2001:db8::1]:8080/a%20b?c#d")?
-                && url_verdict(alloc, "http://xn--bcher-kva.example/\u{fc}")?
+            let verdict = url_verdict(alloc, "https://[2001:db8::1]:8080/a%20b?c#d")?;
+            format!(in alloc; "{verdict}")
         }
-        _ => is_text_right(alloc, call)?,
-    })
+        _ => {
+            let verdict = url_verdict(alloc, "http://xn--bcher-kva.example/\u{fc}")?;
+            format!(in alloc; "{verdict}")
+        }
+    }
 }
 
 /// The same of those that answer a text.
-fn is_text_right(alloc: Global, call: Call) -> Result<bool, AllocError> {
-    Ok(match call {
-        Call::Base58 => base58(alloc, &UUID)?.as_str() == "Xe22UfxT3rxcKJEAfL5373",
-        Call::QuotedBytes => quoted_bytes(alloc, b"\x00A\"")?.as_str() == "\"\\x00A\\\"\"",
-        Call::EscapedText => escaped_text(alloc, "\0\u{85}")?.as_str() == "\\u{0}\\u{85}",
-        Call::Grouped => grouped(alloc, 1_234_567, true)?.as_str() == "-1,234,567",
-        Call::Ipv4 => ipv4_text(alloc, &[192, 0, 2, 1])?.as_str() == "192.0.2.1",
-        Call::Ipv6 => ipv6_text(alloc, &MAPPED)?.as_str() == "::ffff:192.0.2.1",
-        Call::Mac => { mac_text(alloc, &[0, 0, 0x5e, 0, 0x53, 1])?.as_str() == "00:00:5e:00:53:01" }
-        Call::Merge => {
-            let (hex, comment) = ("f4", "false, simple(20)");
-            let hex = String::from_str(alloc, hex)?;
-            let mut line = Line::new(alloc, hex, String::from_str(alloc, comment)?);
-            let note = String::from_str(alloc, "note")?;
-            line.sublines
-                .push(Line::new(alloc, String::new(alloc), note))?;
-            line.fits() && merge(alloc, &line)?.as_str() == "f4 # false, simple(20)\n   #   note\n"
-        }
-        _ => is_appended_right(alloc, call)?,
-    })
+fn written(alloc: Global, call: Call) -> Result<String, AllocError> {
+    match call {
+        Call::Base58 => base58(alloc, &UUID),
+        Call::QuotedBytes => quoted_bytes(alloc, b"\x00A\""),
+        Call::EscapedText => escaped_text(alloc, "\0\u{85}"),
+        Call::Grouped => grouped(alloc, 1_234_567, true),
+        Call::Ipv4 => ipv4_text(alloc, &[192, 0, 2, 1]),
+        Call::Ipv6 => ipv6_text(alloc, &MAPPED),
+        _ => mac_text(alloc, &[0, 0, 0x5e, 0, 0x53, 1]),
+    }
 }
 
-/// The same of those that append.
-fn is_appended_right(alloc: Global, call: Call) -> Result<bool, AllocError> {
-    let mut text = String::new(alloc);
-    let wanted = match call {
+/// The text of a line with a note below it.
+fn merged(rt: &impl Abort, alloc: Global) -> Result<String, AllocError> {
+    let (hex, comment) = ("f4", "false, simple(20)");
+    let hex = String::from_str(alloc, hex)?;
+    let mut line = Line::new(alloc, hex, String::from_str(alloc, comment)?);
+    let note = String::from_str(alloc, "note")?;
+    line.sublines
+        .push(Line::new(alloc, String::new(alloc), note))?;
+    assert!(rt; line.fits());
+    merge(alloc, &line)
+}
+
+/// Appends to `text`.
+fn append(text: &mut String, call: Call) -> Result<(), AllocError> {
+    match call {
         Call::PushElementText => {
-            if !push_element_text(&mut text, 66, b"\x00\x00\x03\xe8")? {
-                return Ok(false);
-            }
-            "unsigned(1,000)"
+            push_element_text(text, 66, b"\x00\x00\x03\xe8")?;
+            Ok(())
         }
-        Call::PushQuotedBytes => {
-            push_quoted_bytes(&mut text, b"\x00A\"")?;
-            "\"\\x00A\\\"\""
-        }
-        Call::PushEscapedText => {
-            push_escaped_text(&mut text, "\0\u{85}")?;
-            "\\u{0}\\u{85}"
-        }
-        Call::PushGrouped => {
-            push_grouped(&mut text, 1_234_567, true)?;
-            "-1,234,567"
-        }
-        Call::PushHex => {
-            push_hex(&mut text, b"\x00\xff")?;
-            "00ff"
-        }
-        Call::PutLine => {
-            put_line(&mut text, 5, 1, "0a", "\"\\n\"")?;
-            "   0a #   \"\\n\"\n"
-        }
-        _ => return Ok(false),
-    };
-    Ok(text.as_str() == wanted)
+        Call::PushQuotedBytes => push_quoted_bytes(text, b"\x00A\""),
+        Call::PushEscapedText => push_escaped_text(text, "\0\u{85}"),
+        Call::PushGrouped => push_grouped(text, 1_234_567, true),
+        Call::PushHex => push_hex(text, b"\x00\xff"),
+        _ => put_line(text, 5, 1, "0a", "\"\\n\""),
+    }
 }
 
-/// Each call answers what it should, or memory is wanting. Where it was, the call is made again, and
-/// answers then if memory is found again.
-fn check_all(rt: &impl Abort, alloc: Global, found_again: bool) {
-    for call in CALLS {
-        match is_right(alloc, call) {
-            Ok(right) => assert!(rt; right, "{call:?}"),
-            Err(AllocError) => match is_right(alloc, call) {
-                Ok(right) => assert!(rt; right, "{call:?}, once more"),
-                Err(AllocError) => assert!(rt; !found_again, "{call:?}, once more"),
-            },
-        }
+/// The text after an append. After an error it is unchanged.
+fn appended(rt: &impl Abort, alloc: Global, call: Call) -> Result<String, AllocError> {
+    let mut text = String::from_str(alloc, BEFORE)?;
+    let answer = append(&mut text, call);
+    if answer.is_err() {
+        assert_eq!(rt; text.as_str(), BEFORE, "after an error of {call:?}");
+    }
+    answer?;
+    Ok(text)
+}
+
+/// What a call answers, as a text.
+fn answer(rt: &impl Abort, alloc: Global, call: Call) -> Result<String, AllocError> {
+    match call {
+        Call::Base32
+        | Call::Base32Hex
+        | Call::Base64Any
+        | Call::Base64Lines
+        | Call::UuidLines
+        | Call::QuotedAt
+        | Call::DigitsAt => decoded(alloc, call),
+        Call::DateOfEpoch
+        | Call::DatetimeOfEpoch
+        | Call::EpochOfDate
+        | Call::EpochOfDatetime
+        | Call::ElementText
+        | Call::UrlVerdict
+        | Call::UrlVerdictInUnicode => noted(alloc, call),
+        Call::Base58
+        | Call::QuotedBytes
+        | Call::EscapedText
+        | Call::Grouped
+        | Call::Ipv4
+        | Call::Ipv6
+        | Call::Mac => written(alloc, call),
+        Call::Merge => merged(rt, alloc),
+        _ => appended(rt, alloc, call),
     }
 }
 
 #[test]
-fn no_note_wants_memory_where_it_is_found(rt: HostRuntime) -> Result<(), Fail> {
-    for call in CALLS {
-        assert!(rt; is_right(rt.alloc(), call)?, "{call:?}");
+fn calls_answer_where_memory_is_found(rt: HostRuntime) -> Result<(), Fail> {
+    for (call, want) in ROWS {
+        let got = answer(&rt, rt.alloc(), call)?;
+        assert_eq!(rt; got.as_str(), want, "{call:?}");
     }
     Ok(())
 }
 
-// For one request that is refused alone.
+// compare/failing_calls runs this with requests for memory refused, and reads the lines: a call that a
+// request was refused to has to print `memory`, and where memory is found again `ok` right after it. Where
+// nothing is refused, as in the gate, it shows no more than the test above.
 #[test]
-fn a_note_is_answered_once_memory_is_found_again(rt: HostRuntime) {
-    check_all(&rt, rt.alloc(), true);
-}
-
-// For one request that is refused with all after it.
-#[test]
-fn a_note_wants_memory_and_is_nothing_else(rt: HostRuntime) {
-    check_all(&rt, rt.alloc(), false);
+fn a_call_answers_or_memory_is_refused(rt: HostRuntime) -> Result<(), Fail> {
+    for (call, want) in ROWS {
+        for _ in 0..2 {
+            match answer(&rt, rt.alloc(), call) {
+                Ok(got) => {
+                    assert_eq!(rt; got.as_str(), want, "{call:?}");
+                    println!(rt; "{call:?} ok")?;
+                }
+                Err(AllocError) => println!(rt; "{call:?} memory")?,
+            }
+        }
+    }
+    Ok(())
 }

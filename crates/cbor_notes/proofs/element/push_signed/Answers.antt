@@ -6,17 +6,17 @@ use Rattle.cbor_notes.specs.Text.{grouped}
 use Rattle.cbor_notes.proofs.ElementLemmas.{half_is, halves, signed_text-lower, signed_text-upper}
 use Rattle.cbor_notes.proofs.element.push_signed.Goals as goal
 
-pub returns-then-number-half : goal.returns-then-number-half
-returns-then-number-half c =
+pub returns-then-number-half-clause-text : goal.returns-then-number-half-clause-text
+returns-then-number-half-clause-text c =
     let bytes = c.args.bytes.now in
     let half = half_is (length bytes) c.requires.0 c.requires.1 in
     let value = c.number-number.ensures.value in
     let below : number_from_digits 256 bytes < 2 ^ (8 * length bytes - 1) = omega arith in
     let text = ap (λ n. grouped n false) value ∙ sym (signed_text-lower (length bytes) (number_from_digits 256 bytes) below) in
-    record { text = on_ok_weaker c.push_grouped.result (λ q. q ∙ ap (λ t. string_bytes c.args.text.now ++ t) text) c.push_grouped.ensures.text }
+    on_ok_weaker c.push_grouped.result (λ q. q ∙ ap (λ t. string_bytes c.args.text.now ++ t) text) c.push_grouped.ensures.text
 
-pub returns-else-number-half : goal.returns-else-number-half
-returns-else-number-half c =
+pub returns-else-number-half-clause-text : goal.returns-else-number-half-clause-text
+returns-else-number-half-clause-text c =
     let bytes = c.args.bytes.now in
     let half = half_is (length bytes) c.requires.0 c.requires.1 in
     let whole = halves (length bytes) c.requires.0 in
@@ -26,4 +26,4 @@ returns-else-number-half c =
     let shifted = (1 * 2 ^ (8 * length bytes - 1)) % 2 ^ 128 in
     let below : shifted - (c.number-number.result - shifted) ≡ 2 ^ (8 * length bytes) - number_from_digits 256 bytes = omega arith in
     let text = ap (λ n. grouped n true) below ∙ sym upper in
-    record { text = on_ok_weaker c.push_grouped-else-number-half.result (λ q. q ∙ ap (λ t. string_bytes c.args.text.now ++ t) text) c.push_grouped-else-number-half.ensures.text }
+    on_ok_weaker c.push_grouped-else-number-half.result (λ q. q ∙ ap (λ t. string_bytes c.args.text.now ++ t) text) c.push_grouped-else-number-half.ensures.text

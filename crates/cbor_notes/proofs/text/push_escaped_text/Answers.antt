@@ -1,13 +1,7 @@
-use Rattle.std.proofs.Common.{ap, sym, ◌∙◌, ◌++◌, string_bytes}
-use Rattle.std.proofs.lemmas.Iterator.{YieldsList-from_chars}
-use Rattle.std.proofs.lemmas.Iterator.Consumers.{YieldsList-end}
-use Rattle.std.proofs.lemmas.List.{map-id}
-use Rattle.std.specs.List.{flat_map}
-use Rattle.cbor_notes.specs.Text as spec
+use Rattle.cbor_notes.proofs.Fronts.{cut_point}
 use Rattle.cbor_notes.proofs.text.push_escaped_text.Goals as goal
 
--- the loop has gone over the characters of the text
-pub returns : goal.returns
-returns c =
-    let t = YieldsList-end (YieldsList-from_chars c.args.text.now c.utf8.text cc) c.loop-character.yielded _ c.loop-character.yielded_by _ _ c.in-None.is c.next.ensures.steps in
-    record { text = c.loop-character.invariant ∙ ap (λ written. string_bytes c.args.escaped.now ++ flat_map spec.escaped_char written) (sym (map-id c.loop-character.yielded) ∙ t.0) }
+pub cut_after_error-requires : goal.cut_after_error-requires
+cut_after_error-requires c =
+    let written = c.write_escaped_text-answer in
+    cut_point c.args.escaped.now written.new.escaped written.result c.len-len.result c.len-len.ensures written.ensures.front

@@ -2,7 +2,7 @@ use Rattle.std.proofs.Common.{◌≡◌, ◌++◌, take}
 use Rattle.std.specs.String.{string_bytes}
 use Rattle.std.specs.List.{flat_map}
 use Rattle.cbor_notes.specs.Text as spec
-use Rattle.cbor_notes.proofs.text.push_quoted_bytes.Given as goal
+use Rattle.cbor_notes.proofs.text.write_quoted_bytes.Given as goal
 
 -- the bytes so far are written after what stood there
 abbrev pub invariant-loop-byte : goal.invariant-loop-byte

@@ -2,7 +2,7 @@ use Rattle.std.proofs.Common.{◌≡◌, ◌++◌}
 use Rattle.std.specs.String.{string_bytes}
 use Rattle.std.specs.List.{flat_map}
 use Rattle.cbor_notes.specs.Text as spec
-use Rattle.cbor_notes.proofs.text.push_escaped_text.Given as goal
+use Rattle.cbor_notes.proofs.text.write_escaped_text.Given as goal
 
 -- the characters so far are written after what stood there
 abbrev pub invariant-loop-character : goal.invariant-loop-character
