@@ -35,7 +35,7 @@ no_both : (b after : List ℕ) (i : Item) (e : Error) → item_at 128 b ≡ Ok (
 no_both b after i e found none = let never : ◌≡◌ {A = Read Item} (Ok (i, after)) (Err e) = sym found ∙ none in cc never
 
 one_error : (b : List ℕ) (e d : Error) → IsRefused b e → IsRefused b d → e ≡ d
-one_error b e d none no = let same : ◌≡◌ {A = Read Item} (Err e) (Err d) = sym none ∙ no in cc same
+one_error b e d none also = let same : ◌≡◌ {A = Read Item} (Err e) (Err d) = sym none ∙ also in cc same
 
 one_front : (b after behind : List ℕ) (i j : Item) → item_at 128 b ≡ Ok (i, after) → item_at 128 b ≡ Ok (j, behind) → (i ≡ j) × (after ≡ behind)
 one_front b after behind i j found also =
@@ -75,9 +75,9 @@ module _ (to : To) (input a b rest end : List ℕ) (d : Error) (first : IsOutput
 
   -- what no item follows has the whole output
   whole_output : (e : Error) → IsRefused rest e → (a ≡ b) × (rest ≡ end)
-  whole_output e no =
+  whole_output e ends =
       let more = continues input first.items all.items rest end d first.input_is all.input_is none in
-      let there = ends_there rest more.0 end e no more.2 in
+      let there = ends_there rest more.0 end e ends more.2 in
       let items_are : all.items ≡ first.items = more.1 ∙ ap (λ (ks : List Item). first.items ++ ks) there.0 ∙ append-nil first.items in
       (first.output_is ∙ sym (all.output_is ∙ ap (flat_map (output_of to)) items_are), there.1)
 
@@ -86,10 +86,10 @@ of_all to input a b first all = let one = whole_output to input a b [] [] refusa
 
 pub before : (to : To) (input a b : List ℕ) (e d : Error) → IsOutputBefore to input e a → IsOutputBefore to input d b → (a ≡ b) × (e ≡ d)
 before to input a b e d first all =
-    let no = rest_refused first.0 e first.2 in
+    let ends = rest_refused first.0 e first.2 in
     let none = rest_refused all.0 d all.2 in
-    let one = whole_output to input a b first.0 all.0 d first.1 all.1 none e no in
-    (one.0, one_error first.0 e d no (ap (item_at 128) one.1 ∙ none))
+    let one = whole_output to input a b first.0 all.0 d first.1 all.1 none e ends in
+    (one.0, one_error first.0 e d ends (ap (item_at 128) one.1 ∙ none))
 
 not_ended : (e : Error) → EndsTheItems [] e → ⊥
 not_ended e (inl h) = h.1 refl

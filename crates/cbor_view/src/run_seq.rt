@@ -91,7 +91,7 @@ fn write_items<W: Write>(
 {
     let mut block = Vec::new(alloc);
     let mut rest = bytes;
-    while !rest.is_empty() {
+    'sequence: while !rest.is_empty() {
         let (used, end) = write_block(alloc, to, rest, &mut block, output);
         end?;
         rest = &rest[used..];
@@ -141,7 +141,7 @@ fn fill(alloc: Global, to: To, bytes: &[u8], block: &mut Vec<u8>) -> (usize, Res
 {
     block.clear();
     let mut used = 0;
-    while used < bytes.len() && block.len() < BLOCK {
+    'items: while used < bytes.len() && block.len() < BLOCK {
         match append_first(alloc, to, &bytes[used..], block) {
             Ok(count) => used += count,
             Err(error) => return (used, Err(error)),
