@@ -17,6 +17,9 @@ mod counted;
 mod error;
 #[cfg(test)]
 mod fakes;
+mod laws;
+#[cfg(test)]
+mod refused_memory;
 mod run;
 mod run_seq;
 #[cfg(test)]
