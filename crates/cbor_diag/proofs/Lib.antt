@@ -44,6 +44,7 @@ pub mod WholeDumps
 pub mod HexLines
 pub mod HexSearch
 pub mod HexDigits
+pub mod Appending
 pub mod NotationTexts
 pub mod EmbeddedItems
 pub mod Rooms

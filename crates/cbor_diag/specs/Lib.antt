@@ -6,6 +6,7 @@ pub mod SameDecides
 pub mod Head
 pub mod WellFormed
 pub mod Written
+pub mod Appends
 pub mod Bytes
 pub mod Refused
 pub mod Turns

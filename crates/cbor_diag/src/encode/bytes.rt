@@ -2,9 +2,12 @@
 //!
 //! What writes strings and containers isn't inlined where an item is told by its kind: it keeps values over
 //! calls, and room for these would be made for each integer, too.
-ghost use Rattle.std.specs.Prelude.{◌≡◌, ◌<◌, ◌++◌, ℕ, List, ◌↔◌, length, map, OnOk, IfOk, IfErr};
+#![tactic(auto, using(crate::proofs::Appending::appending_steps))]
+
+ghost use Rattle.std.specs.Prelude.{◌≡◌, ◌<◌, ◌++◌, ℕ, List, ◌↔◌, length, map, OnOk, OnErr, IfOk, IfErr};
 ghost use Rattle.std.specs.List.{AllByRecursion};
 ghost use Rattle.cbor_diag.specs.Head.{FitsWidth};
+ghost use Rattle.cbor_diag.specs.Appends.{Appends};
 ghost use Rattle.cbor_diag.specs.View.{view, items_view, pairs_view, byte_chunk, text_chunk};
 ghost use Rattle.cbor_diag.specs.WellFormed.{WellFormed, WellFormedItems, WellFormedPairs, IsByteChunk, IsTextChunk};
 ghost use Rattle.cbor_diag.specs.Facts.{IsItem, IsStrictItem, IsWellFormed};
@@ -27,8 +30,8 @@ fn push_string(
 ) -> Result<(), AllocError>
     requires major { major < 8 }
     requires fits { FitsWidth width (length content.now) }
-    ensures { OnOk result (out.new.items
-        ≡ out.old.items ++ encoded_chunk major (record { bytes = content.now; width = width })) }
+    ensures { Appends result out.old.items out.new.items
+        (encoded_chunk major (record { bytes = content.now; width = width })) }
 {
     push_head(out, major, content.len() as u64, width)?;
     out.extend_from_slice(content)?;
@@ -39,7 +42,8 @@ fn push_string(
 #[inline(never)]
 fn push_byte_chunks(out: &mut Vec<u8>, chunks: &[ByteString]) -> Result<(), AllocError>
     requires { AllByRecursion IsByteChunk (map byte_chunk chunks.now) }
-    ensures { OnOk result (out.new.items ≡ out.old.items ++ encoded_chunks 2 (map byte_chunk chunks.now)) }
+    ensures { Appends result out.old.items out.new.items
+        (encoded_chunks 2 (map byte_chunk chunks.now)) }
 {
     out.push(0x5f)?;
     'chunks: for chunk in chunks {
@@ -53,7 +57,8 @@ fn push_byte_chunks(out: &mut Vec<u8>, chunks: &[ByteString]) -> Result<(), Allo
 #[inline(never)]
 fn push_text_chunks(out: &mut Vec<u8>, chunks: &[TextString]) -> Result<(), AllocError>
     requires { AllByRecursion IsTextChunk (map text_chunk chunks.now) }
-    ensures { OnOk result (out.new.items ≡ out.old.items ++ encoded_chunks 3 (map text_chunk chunks.now)) }
+    ensures { Appends result out.old.items out.new.items
+        (encoded_chunks 3 (map text_chunk chunks.now)) }
 {
     out.push(0x7f)?;
     'chunks: for chunk in chunks {
@@ -67,7 +72,7 @@ fn push_text_chunks(out: &mut Vec<u8>, chunks: &[TextString]) -> Result<(), Allo
 #[cycle(push)]
 fn push_item(out: &mut Vec<u8>, item: &DataItem) -> Result<(), AllocError>
     requires { (level : ℕ) × WellFormed level (view item.now) }
-    ensures { OnOk result (out.new.items ≡ out.old.items ++ encoded (view item.now)) }
+    ensures { Appends result out.old.items out.new.items (encoded (view item.now)) }
 {
     match item {
         // One arm for both: which of them comes next can't be foretold, so two would cost a jump.
@@ -102,8 +107,8 @@ fn push_array(
     width: Option<IntegerWidth>,
 ) -> Result<(), AllocError>
     requires { (level : ℕ) × WellFormed level (spec.array (items_view items.now.items) width) }
-    ensures { OnOk result (out.new.items
-        ≡ out.old.items ++ encoded (spec.array (items_view items.now.items) width)) }
+    ensures { Appends result out.old.items out.new.items
+        (encoded (spec.array (items_view items.now.items) width)) }
 {
     push_open(out, 4, items.len(), width)?;
     push_items(out, items)?;
@@ -119,8 +124,8 @@ fn push_map(
     width: Option<IntegerWidth>,
 ) -> Result<(), AllocError>
     requires { (level : ℕ) × WellFormed level (spec.map (pairs_view pairs.now.items) width) }
-    ensures { OnOk result (out.new.items
-        ≡ out.old.items ++ encoded (spec.map (pairs_view pairs.now.items) width)) }
+    ensures { Appends result out.old.items out.new.items
+        (encoded (spec.map (pairs_view pairs.now.items) width)) }
 {
     push_open(out, 5, pairs.len(), width)?;
     push_pairs(out, pairs)?;
@@ -137,8 +142,8 @@ fn push_tagged(
     value: &DataItem,
 ) -> Result<(), AllocError>
     requires { (level : ℕ) × WellFormed level (spec.tagged tag.0 width (view value.now)) }
-    ensures { OnOk result (out.new.items
-        ≡ out.old.items ++ encoded (spec.tagged tag.0 width (view value.now))) }
+    ensures { Appends result out.old.items out.new.items
+        (encoded (spec.tagged tag.0 width (view value.now))) }
 {
     push_head(out, 6, tag.0, width)?;
     push_item(out, value)
@@ -148,7 +153,8 @@ fn push_tagged(
 #[cycle(push)]
 pub(crate) fn push_items(out: &mut Vec<u8>, items: &Vec<DataItem>) -> Result<(), AllocError>
     requires { (level : ℕ) × WellFormedItems level (items_view items.now.items) }
-    ensures { OnOk result (out.new.items ≡ out.old.items ++ encoded_items (items_view items.now.items)) }
+    ensures { Appends result out.old.items out.new.items
+        (encoded_items (items_view items.now.items)) }
 {
     'items: for item in items {
         push_item(out, item)?;
@@ -160,7 +166,8 @@ pub(crate) fn push_items(out: &mut Vec<u8>, items: &Vec<DataItem>) -> Result<(),
 #[cycle(push)]
 fn push_pairs(out: &mut Vec<u8>, pairs: &Vec<(DataItem, DataItem)>) -> Result<(), AllocError>
     requires { (level : ℕ) × WellFormedPairs level (pairs_view pairs.now.items) }
-    ensures { OnOk result (out.new.items ≡ out.old.items ++ encoded_pairs (pairs_view pairs.now.items)) }
+    ensures { Appends result out.old.items out.new.items
+        (encoded_pairs (pairs_view pairs.now.items)) }
 {
     'pairs: for (key, value) in pairs {
         push_item(out, key)?;
@@ -195,14 +202,21 @@ impl DataItem {
 
     /// Appends what [`DataItem::to_bytes`] answers to `out`, for whoever has memory for it already.
     ///
-    /// The item has to be well formed, which `is_well_formed` tells. Refuses with `Memory` alone, and then
-    /// `out` may end with a part of the bytes.
+    /// The item has to be well formed, which `is_well_formed` tells. The only error is `Memory`, and after it
+    /// `out` is unchanged.
     pub fn push_bytes(&self, out: &mut Vec<u8>) -> crate::Result<()>
         requires { IsWellFormed (view self.now) }
         ensures bytes { OnOk result (out.new.items ≡ out.old.items ++ encoded (view self.now)) }
+        ensures unchanged { OnErr result (out.new.items ≡ out.old.items) }
         ensures refused { IfErr result (λ e. e ≡ Error.Memory) }
     {
-        push_item(out, self)?;
-        Ok(())
+        let start = out.len();
+        match push_item(out, self) {
+            Ok(()) => Ok(()),
+            Err(_) => {
+                out.truncate(start);
+                Err(Error::Memory)
+            }
+        }
     }
 }

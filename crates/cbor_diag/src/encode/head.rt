@@ -1,5 +1,8 @@
 //! Heads as they are written (RFC 7049 section 2), and the opening byte and the break in their place.
-ghost use Rattle.std.specs.Prelude.{◌≡◌, ◌<◌, ◌++◌, OnOk};
+#![tactic(auto, using(crate::proofs::Appending::appending_steps))]
+
+ghost use Rattle.std.specs.Prelude.{◌<◌};
+ghost use Rattle.cbor_diag.specs.Appends.{Appends};
 ghost use Rattle.cbor_diag.specs.Head.{FitsWidth};
 ghost use Rattle.cbor_diag.specs.WellFormed.{FitsFloat, FitsCount};
 ghost use Rattle.cbor_diag.specs.Written.{encoded_head, encoded_float, encoded_simple, encoded_open, encoded_close};
@@ -16,7 +19,7 @@ pub(crate) fn push_head(
 ) -> Result<(), AllocError>
     requires major { major < 8 }
     requires fits { FitsWidth width number }
-    ensures { OnOk result (out.new.items ≡ out.old.items ++ encoded_head major number width) }
+    ensures { Appends result out.old.items out.new.items (encoded_head major number width) }
 {
     let first = major * 32;
     match width.stated(number) {
@@ -43,7 +46,7 @@ pub(crate) fn push_head(
 /// Writes a float by its bits.
 pub(crate) fn push_float(out: &mut Vec<u8>, bits: u64, width: FloatWidth) -> Result<(), AllocError>
     requires { FitsFloat width bits }
-    ensures { OnOk result (out.new.items ≡ out.old.items ++ encoded_float bits width) }
+    ensures { Appends result out.old.items out.new.items (encoded_float bits width) }
 {
     match width {
         FloatWidth::Sixteen => {
@@ -64,7 +67,7 @@ pub(crate) fn push_float(out: &mut Vec<u8>, bits: u64, width: FloatWidth) -> Res
 
 /// Writes a simple value.
 pub(crate) fn push_simple(out: &mut Vec<u8>, value: u8) -> Result<(), AllocError>
-    ensures { OnOk result (out.new.items ≡ out.old.items ++ encoded_simple value) }
+    ensures { Appends result out.old.items out.new.items (encoded_simple value) }
 {
     if value < 24 {
         out.push(0xe0 + value)?;
@@ -84,7 +87,7 @@ pub(crate) fn push_open(
 ) -> Result<(), AllocError>
     requires major { major < 8 }
     requires fits { FitsCount width count }
-    ensures { OnOk result (out.new.items ≡ out.old.items ++ encoded_open major count width) }
+    ensures { Appends result out.old.items out.new.items (encoded_open major count width) }
 {
     match width {
         Some(width) => push_head(out, major, count as u64, width),
@@ -97,7 +100,7 @@ pub(crate) fn push_open(
 
 /// Writes what stands after the members of a container: nothing, or the break.
 pub(crate) fn push_close(out: &mut Vec<u8>, width: Option<IntegerWidth>) -> Result<(), AllocError>
-    ensures { OnOk result (out.new.items ≡ out.old.items ++ encoded_close width) }
+    ensures { Appends result out.old.items out.new.items (encoded_close width) }
 {
     if width.is_none() {
         out.push(0xff)?;

@@ -1,17 +1,22 @@
 //! Writes an item as diagnostic notation (RFC 7049 section 6), each part once, at the end of one text.
 //!
 //! Compact and pretty text are written by the same functions: they differ in their `Layout` alone.
+#![tactic(auto, using(crate::proofs::Appending::appending_steps))]
+
 mod context;
 mod embedded;
 mod estimate;
 mod members;
 mod scalars;
 
-ghost use Rattle.std.specs.Prelude.{◌≡◌, ◌↔◌, true, ◌+◌, ◌-◌, ◌*◌, ◌^◌, ◌<◌, ◌≤◌, ◌++◌, ℕ, OnOk, IfOk, IfErr, map, codes};
+ghost use Rattle.std.specs.Prelude.{◌≡◌, ◌↔◌, true, ◌+◌, ◌-◌, ◌*◌, ◌^◌, ◌<◌, ◌≤◌, ◌++◌, ℕ, map, codes};
+ghost use Rattle.std.specs.Prelude.{OnOk, OnErr, IfOk, IfErr};
 ghost use Rattle.std.specs.String.{string_bytes};
+ghost use Rattle.cbor_diag.specs.Appends.{AppendsText};
 ghost use Rattle.cbor_diag.specs.View.{view, items_view, pairs_view, byte_chunk, text_chunk};
 ghost use Rattle.cbor_diag.specs.Notation.{IsNotation};
 ghost use Rattle.cbor_diag.specs.declared.encode.encoding.Encoding.{Encoding};
+ghost use Rattle.cbor_diag.specs.declared.encode.encoding.Encoding.TheVariants.{Base16};
 ghost use Rattle.cbor_diag.specs.declared.syntax.IntegerWidth.{IntegerWidth};
 ghost use Rattle.cbor_diag.specs.Item as spec;
 ghost use Rattle.cbor_diag.specs.Item.{Chunk, Item, atom, byte_string, tagged};
@@ -20,7 +25,9 @@ ghost use Rattle.cbor_diag.specs.Pretty.{pretty, in_one_line, in_lines, sequence
 ghost use Rattle.cbor_diag.specs.Facts.{IsWellFormed, diag_of, pretty_of, normal_of};
 ghost use Rattle.cbor_diag.specs.WellFormed.{deepest, WellFormed, WellFormedItems, WellFormedPairs};
 ghost use Rattle.cbor_diag.specs.NotationText as notation;
-ghost use Rattle.cbor_diag.specs.NotationText.{indent_of, listing_indent, members, members_layout, inside, colon, item_texts, pair_texts, embedded_text, sequence_size, sequence_text, content_text, text_at};
+ghost use Rattle.cbor_diag.specs.NotationText.{indent_of, listing_indent, members, members_layout, in_encoding};
+ghost use Rattle.cbor_diag.specs.NotationText.{inside, colon, item_texts, pair_texts, embedded_text};
+ghost use Rattle.cbor_diag.specs.NotationText.{sequence_size, sequence_text, content_text, text_at};
 ghost use Rattle.cbor_diag.specs.Embedded.{embedded_at, sequence, sequence_at};
 
 use crate::error::Error;
@@ -49,8 +56,8 @@ fn push_item(
 ) -> Result<(), AllocError>
     requires well_formed { WellFormed level (view item.now) }
     requires indent { indent_of context.now.layout ≤ 4 * level }
-    ensures { OnOk result (string_bytes out.new
-        ≡ string_bytes out.old ++ text_at (129 - level) context.now (view item.now)) }
+    ensures { AppendsText result out.old out.new
+        (text_at (129 - level) context.now (view item.now)) }
 {
     match item {
         DataItem::Integer { value, bitwidth } => push_number(out, *value, *bitwidth),
@@ -86,9 +93,10 @@ fn push_chunked_bytes(
     context: &Context,
 ) -> Result<(), AllocError>
     requires { indent_of context.now.layout < 2 ^ 32 }
-    ensures { OnOk result (string_bytes out.new ≡ string_bytes out.old
-        ++ notation.chunks_text (notation.listing context.now.layout (full (view string.now)))
-        (codes "''_") (map (λ s. notation.quoted context.now.encoding s.bytes) (map byte_chunk chunks.now))) }
+    ensures { AppendsText result out.old out.new
+        (notation.chunks_text (notation.listing context.now.layout (full (view string.now)))
+        (codes "''_")
+        (map (λ s. notation.quoted context.now.encoding s.bytes) (map byte_chunk chunks.now))) }
 {
     let listing = context.layout.listing(string);
     push_byte_chunks(out, chunks, context.encoding, listing)
@@ -103,8 +111,8 @@ fn push_chunked_text(
     context: &Context,
 ) -> Result<(), AllocError>
     requires { indent_of context.now.layout < 2 ^ 32 }
-    ensures { OnOk result (string_bytes out.new ≡ string_bytes out.old
-        ++ notation.chunks_text (notation.listing context.now.layout (full (view string.now)))
+    ensures { AppendsText result out.old out.new
+        (notation.chunks_text (notation.listing context.now.layout (full (view string.now)))
         (codes "\"\"_") (map (λ s. notation.text s.bytes) (map text_chunk chunks.now))) }
 {
     let listing = context.layout.listing(string);
@@ -126,8 +134,8 @@ fn push_array(
     requires array { view item.now ≡ spec.array (items_view items.now.items) width }
     requires well_formed { WellFormed level (view item.now) }
     requires indent { indent_of context.now.layout ≤ 4 * level }
-    ensures { OnOk result (string_bytes out.new
-        ≡ string_bytes out.old ++ text_at (129 - level) context.now (view item.now)) }
+    ensures { AppendsText result out.old out.new
+        (text_at (129 - level) context.now (view item.now)) }
 {
     let listing = context.layout.listing(item);
     push_opening(out, '[', width, listing)?;
@@ -150,8 +158,8 @@ fn push_map(
     requires map { view item.now ≡ spec.map (pairs_view pairs.now.items) width }
     requires well_formed { WellFormed level (view item.now) }
     requires indent { indent_of context.now.layout ≤ 4 * level }
-    ensures { OnOk result (string_bytes out.new
-        ≡ string_bytes out.old ++ text_at (129 - level) context.now (view item.now)) }
+    ensures { AppendsText result out.old out.new
+        (text_at (129 - level) context.now (view item.now)) }
 {
     let listing = context.layout.listing(item);
     push_opening(out, '{', width, listing)?;
@@ -173,8 +181,8 @@ fn push_tagged(
 ) -> Result<(), AllocError>
     requires well_formed { WellFormed level (tagged tag.0 width (view value.now)) }
     requires indent { indent_of context.now.layout ≤ 4 * level }
-    ensures { OnOk result (string_bytes out.new
-        ≡ string_bytes out.old ++ text_at (129 - level) context.now (tagged tag.0 width (view value.now))) }
+    ensures { AppendsText result out.old out.new
+        (text_at (129 - level) context.now (tagged tag.0 width (view value.now))) }
 {
     push_number(out, tag.0, width)?;
     out.push('(')?;
@@ -196,8 +204,10 @@ fn push_items(
     requires level { (1 ≤ level) × (level ≤ 129) }
     requires well_formed { WellFormedItems level (items_view items.now.items) }
     requires indent { listing_indent listing + 4 ≤ 4 * level }
-    ensures { OnOk result (string_bytes out.new ≡ string_bytes out.old ++ members listing true
-        (item_texts (text_at (129 - level) (inside (members_layout listing) context.now)) (items_view items.now.items))) }
+    ensures { AppendsText result out.old out.new
+        (members listing true (item_texts
+        (text_at (129 - level) (inside (members_layout listing) context.now))
+        (items_view items.now.items))) }
 {
     let inner = context.inside(listing.members_layout());
     let mut first = true;
@@ -223,8 +233,10 @@ fn push_pairs(
     requires level { (1 ≤ level) × (level ≤ 129) }
     requires well_formed { WellFormedPairs level (pairs_view pairs.now.items) }
     requires indent { listing_indent listing + 4 ≤ 4 * level }
-    ensures { OnOk result (string_bytes out.new ≡ string_bytes out.old ++ members listing true
-        (pair_texts (text_at (129 - level) (inside (members_layout listing) context.now)) (colon listing) (pairs_view pairs.now.items))) }
+    ensures { AppendsText result out.old out.new
+        (members listing true (pair_texts
+        (text_at (129 - level) (inside (members_layout listing) context.now)) (colon listing)
+        (pairs_view pairs.now.items))) }
 {
     let inner = context.inside(listing.members_layout());
     let mut first = true;
@@ -251,8 +263,9 @@ fn push_content(
 ) -> Result<(), AllocError>
     requires level { (1 ≤ level) × (level ≤ 129) }
     requires indent { indent_of context.now.layout + 4 ≤ 4 * level }
-    ensures { OnOk result (string_bytes out.new ≡ string_bytes out.old
-        ++ content_text (129 - level) (text_at (129 - level)) context.now.content context.now bytes.now) }
+    ensures { AppendsText result out.old out.new
+        (content_text (129 - level) (text_at (129 - level)) context.now.content context.now
+        bytes.now) }
 {
     match context.content {
         Content::Bytes => push_quoted(out, bytes, context.encoding),
@@ -273,8 +286,9 @@ fn push_embedded(
 ) -> Result<(), AllocError>
     requires level { (1 ≤ level) × (level ≤ 129) }
     requires indent { indent_of context.now.layout + 4 ≤ 4 * level }
-    ensures { OnOk result (string_bytes out.new ≡ string_bytes out.old
-        ++ embedded_text (text_at (129 - level)) context.now bytes.now (embedded_at (129 - level) bytes.now)) }
+    ensures { AppendsText result out.old out.new
+        (embedded_text (text_at (129 - level)) context.now bytes.now
+        (embedded_at (129 - level) bytes.now)) }
 {
     if bytes.is_empty() {
         out.push_str("<<>>")?;
@@ -300,8 +314,8 @@ fn push_sequence(
 ) -> Result<(), AllocError>
     requires level { (1 ≤ level) × (level ≤ 129) }
     requires indent { indent_of context.now.layout + 4 ≤ 4 * level }
-    ensures { OnOk result (string_bytes out.new ≡ string_bytes out.old
-        ++ sequence_text (text_at (129 - level)) context.now (sequence_at (129 - level) bytes.now)) }
+    ensures { AppendsText result out.old out.new
+        (sequence_text (text_at (129 - level)) context.now (sequence_at (129 - level) bytes.now)) }
 {
     let (items, rest) = sequence(alloc, bytes, level)?;
     let listing = context.layout.sequence_listing(&items);
@@ -310,6 +324,29 @@ fn push_sequence(
     push_closing(out, listing, '>')?;
     out.push('>')?;
     push_rest(out, rest, context)
+}
+
+/// Writes an item that stands at the outermost level. After an error the text is what it was.
+fn push_outermost(
+    out: &mut String,
+    alloc: Global,
+    item: &DataItem,
+    layout: Layout,
+) -> Result<(), AllocError>
+    requires well_formed { IsWellFormed (view item.now) }
+    requires indent { indent_of layout ≤ 4 }
+    ensures text { OnOk result (string_bytes out.new ≡ string_bytes out.old
+        ++ text_at 128 (in_encoding layout Base16) (view item.now)) }
+    ensures unchanged { OnErr result (string_bytes out.new ≡ string_bytes out.old) }
+{
+    let start = out.len();
+    match push_item(out, alloc, item, &Context::new(layout), 1) {
+        Ok(()) => Ok(()),
+        Err(error) => {
+            out.truncate(start);
+            Err(error)
+        }
+    }
 }
 
 impl DataItem {
@@ -338,15 +375,16 @@ impl DataItem {
 
     /// Appends what [`DataItem::to_diag`] answers to `out`, for whoever has memory for it already.
     ///
-    /// The item has to be well formed, which `is_well_formed` tells. Refuses with `Memory` alone, and then
-    /// `out` may end with a part of the text.
+    /// The item has to be well formed, which `is_well_formed` tells. The only error is `Memory`, and after it
+    /// `out` is unchanged.
     pub fn push_diag(&self, alloc: Global, out: &mut String) -> crate::Result<()>
         requires { IsWellFormed (view self.now) }
         ensures text { OnOk result
             (string_bytes out.new ≡ string_bytes out.old ++ diag_of (view self.now)) }
+        ensures unchanged { OnErr result (string_bytes out.new ≡ string_bytes out.old) }
         ensures refused { IfErr result (λ e. e ≡ Error.Memory) }
     {
-        push_item(out, alloc, self, &Context::new(Layout::Compact), 1)?;
+        push_outermost(out, alloc, self, Layout::Compact)?;
         Ok(())
     }
 
@@ -380,16 +418,16 @@ impl DataItem {
 
     /// Appends what [`DataItem::to_diag_pretty`] answers to `out`, for whoever has memory for it already.
     ///
-    /// The item has to be well formed, which `is_well_formed` tells. Refuses with `Memory` alone, and then
-    /// `out` may end with a part of the text.
+    /// The item has to be well formed, which `is_well_formed` tells. The only error is `Memory`, and after it
+    /// `out` is unchanged.
     pub fn push_diag_pretty(&self, alloc: Global, out: &mut String) -> crate::Result<()>
         requires { IsWellFormed (view self.now) }
         ensures text { OnOk result
             (string_bytes out.new ≡ string_bytes out.old ++ pretty_of (view self.now)) }
+        ensures unchanged { OnErr result (string_bytes out.new ≡ string_bytes out.old) }
         ensures refused { IfErr result (λ e. e ≡ Error.Memory) }
     {
-        let layout = Layout::Pretty { indent: 0 };
-        push_item(out, alloc, self, &Context::new(layout), 1)?;
+        push_outermost(out, alloc, self, Layout::Pretty { indent: 0 })?;
         Ok(())
     }
 }

@@ -1,7 +1,9 @@
 //! What stands round the members of containers and the chunks of strings, as their `Listing` has it. What is
 //! short and called at each member is inlined.
-ghost use Rattle.std.specs.Prelude.{◌≡◌, ◌∷◌, [], ◌++◌, ◌<◌, ◌^◌, OnOk, map, codes};
-ghost use Rattle.std.specs.String.{string_bytes};
+#![tactic(auto, using(crate::proofs::Appending::appending_steps))]
+
+ghost use Rattle.std.specs.Prelude.{◌∷◌, [], ◌++◌, ◌<◌, ◌^◌, map, codes};
+ghost use Rattle.cbor_diag.specs.Appends.{AppendsText};
 ghost use Rattle.cbor_diag.specs.View.{byte_chunk, text_chunk};
 ghost use Rattle.cbor_diag.specs.NotationText.{line, start, end, last_line, opened, colon, listing_indent, quoted, text, chunks_text, rest_text};
 
@@ -17,7 +19,7 @@ const LINE: &str = "\n                                                          
 /// Begins a new line with so many blanks. Lines near the left are most of them, and a text whose length is
 /// known here is written in less time.
 fn push_line(out: &mut String, indent: usize) -> Result<(), AllocError>
-    ensures { OnOk result (string_bytes out.new ≡ string_bytes out.old ++ line indent) }
+    ensures { AppendsText result out.old out.new (line indent) }
 {
     match indent {
         0 => out.push('\n'),
@@ -32,7 +34,7 @@ fn push_line(out: &mut String, indent: usize) -> Result<(), AllocError>
 /// The same, however far from the left.
 #[inline(never)]
 fn push_far_line(out: &mut String, indent: usize) -> Result<(), AllocError>
-    ensures { OnOk result (string_bytes out.new ≡ string_bytes out.old ++ line indent) }
+    ensures { AppendsText result out.old out.new (line indent) }
 {
     let near = indent.min(64);
     out.push_str(&LINE[..1 + near])?;
@@ -51,8 +53,7 @@ pub(crate) fn push_opening(
     listing: Listing,
 ) -> Result<(), AllocError>
     requires { bracket < 128 }
-    ensures { OnOk result
-        (string_bytes out.new ≡ string_bytes out.old ++ opened listing (bracket ∷ []) width) }
+    ensures { AppendsText result out.old out.new (opened listing (bracket ∷ []) width) }
 {
     out.push(bracket)?;
     match (width, listing) {
@@ -66,7 +67,7 @@ pub(crate) fn push_opening(
 #[inline(always)]
 pub(crate) fn push_start(out: &mut String, listing: Listing, first: bool) -> Result<(), AllocError>
     requires { listing_indent listing < 2 ^ 32 }
-    ensures { OnOk result (string_bytes out.new ≡ string_bytes out.old ++ start listing first) }
+    ensures { AppendsText result out.old out.new (start listing first) }
 {
     match listing {
         Listing::Lines { indent } => push_line(out, indent + 4),
@@ -79,7 +80,7 @@ pub(crate) fn push_start(out: &mut String, listing: Listing, first: bool) -> Res
 /// Writes what stands behind a member.
 #[inline(always)]
 pub(crate) fn push_end(out: &mut String, listing: Listing) -> Result<(), AllocError>
-    ensures { OnOk result (string_bytes out.new ≡ string_bytes out.old ++ end listing) }
+    ensures { AppendsText result out.old out.new (end listing) }
 {
     match listing {
         Listing::Lines { .. } => out.push(','),
@@ -90,7 +91,7 @@ pub(crate) fn push_end(out: &mut String, listing: Listing) -> Result<(), AllocEr
 /// Writes what stands between a key and its value.
 #[inline(always)]
 pub(crate) fn push_colon(out: &mut String, listing: Listing) -> Result<(), AllocError>
-    ensures { OnOk result (string_bytes out.new ≡ string_bytes out.old ++ colon listing) }
+    ensures { AppendsText result out.old out.new (colon listing) }
 {
     match listing {
         Listing::Joined => out.push(':'),
@@ -106,8 +107,7 @@ pub(crate) fn push_closing(
     bracket: char,
 ) -> Result<(), AllocError>
     requires { bracket < 128 }
-    ensures { OnOk result
-        (string_bytes out.new ≡ string_bytes out.old ++ (last_line listing ++ (bracket ∷ []))) }
+    ensures { AppendsText result out.old out.new (last_line listing ++ (bracket ∷ [])) }
 {
     if let Listing::Lines { indent } = listing {
         push_line(out, indent)?;
@@ -123,8 +123,9 @@ pub(crate) fn push_byte_chunks(
     listing: Listing,
 ) -> Result<(), AllocError>
     requires { listing_indent listing < 2 ^ 32 }
-    ensures { OnOk result (string_bytes out.new ≡ string_bytes out.old ++ chunks_text listing
-        (codes "''_") (map (λ s. quoted encoding s.bytes) (map byte_chunk chunks.now))) }
+    ensures { AppendsText result out.old out.new
+        (chunks_text listing (codes "''_")
+        (map (λ s. quoted encoding s.bytes) (map byte_chunk chunks.now))) }
 {
     if chunks.is_empty() {
         return out.push_str("''_");
@@ -147,8 +148,9 @@ pub(crate) fn push_text_chunks(
     listing: Listing,
 ) -> Result<(), AllocError>
     requires { listing_indent listing < 2 ^ 32 }
-    ensures { OnOk result (string_bytes out.new ≡ string_bytes out.old ++ chunks_text listing
-        (codes "\"\"_") (map (λ s. text s.bytes) (map text_chunk chunks.now))) }
+    ensures { AppendsText result out.old out.new
+        (chunks_text listing (codes "\"\"_")
+        (map (λ s. text s.bytes) (map text_chunk chunks.now))) }
 {
     if chunks.is_empty() {
         return out.push_str("\"\"_");
@@ -166,7 +168,7 @@ pub(crate) fn push_text_chunks(
 
 /// Writes what of a sequence can't be read as an item.
 pub(crate) fn push_rest(out: &mut String, rest: &[u8], context: &Context) -> Result<(), AllocError>
-    ensures { OnOk result (string_bytes out.new ≡ string_bytes out.old ++ rest_text context.now rest.now) }
+    ensures { AppendsText result out.old out.new (rest_text context.now rest.now) }
 {
     if rest.is_empty() {
         return Ok(());

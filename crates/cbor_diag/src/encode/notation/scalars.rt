@@ -1,9 +1,11 @@
 //! What holds no item: numbers, strings, floats and simple values (RFC 7049 section 6). Each is written by
 //! a function of its own, which isn't inlined where an item is told by its kind.
-ghost use Rattle.std.specs.Prelude.{◌≡◌, ◌+◌, ◌++◌, codes, OnOk};
+#![tactic(auto, using(crate::proofs::Appending::appending_steps))]
+
+ghost use Rattle.std.specs.Prelude.{◌≡◌, ◌+◌, ◌++◌, codes};
 ghost use Rattle.std.specs.Fmt.{decimal};
 ghost use Rattle.std.specs.List.{flat_map, list_any};
-ghost use Rattle.std.specs.String.{string_bytes};
+ghost use Rattle.cbor_diag.specs.Appends.{AppendsText};
 ghost use Rattle.cbor_notes.specs.Base64.{standard, url_safe};
 ghost use Rattle.cbor_diag.specs.WellFormed.{FitsFloat};
 ghost use Rattle.cbor_diag.specs.NotationText.{indicator, number, prefix, encoded_bytes, quoted, is_escaped, escaped, text, float_text, simple_text};
@@ -16,7 +18,7 @@ use std::alloc::AllocError;
 
 /// Writes the encoding indicator of a number of this width.
 fn push_indicator(out: &mut String, width: IntegerWidth) -> Result<(), AllocError>
-    ensures { OnOk result (string_bytes out.new ≡ string_bytes out.old ++ indicator width) }
+    ensures { AppendsText result out.old out.new (indicator width) }
 {
     let digit = match width {
         IntegerWidth::Unknown | IntegerWidth::Zero => return Ok(()),
@@ -30,9 +32,9 @@ fn push_indicator(out: &mut String, width: IntegerWidth) -> Result<(), AllocErro
 }
 
 /// Writes a number in decimal digits.
-#[tactic(auto, using(std::proofs::lemmas::Fmt::decimal_digit))]
+#[tactic(auto, using(std::proofs::lemmas::Fmt::decimal_digit, crate::proofs::Appending::appending_steps))]
 fn push_decimal(out: &mut String, value: u64) -> Result<(), AllocError>
-    ensures { OnOk result (string_bytes out.new ≡ string_bytes out.old ++ decimal value) }
+    ensures { AppendsText result out.old out.new (decimal value) }
 {
     if value < 10 {
         return out.push(char::from(b'0' + value as u8));
@@ -48,7 +50,7 @@ pub(crate) fn push_number(
     value: u64,
     width: IntegerWidth,
 ) -> Result<(), AllocError>
-    ensures { OnOk result (string_bytes out.new ≡ string_bytes out.old ++ number value width) }
+    ensures { AppendsText result out.old out.new (number value width) }
 {
     push_decimal(out, value)?;
     push_indicator(out, width)
@@ -61,8 +63,7 @@ pub(crate) fn push_negative(
     value: u64,
     width: IntegerWidth,
 ) -> Result<(), AllocError>
-    ensures { OnOk result
-        (string_bytes out.new ≡ string_bytes out.old ++ (codes "-" ++ number (value + 1) width)) }
+    ensures { AppendsText result out.old out.new (codes "-" ++ number (value + 1) width) }
 {
     out.push('-')?;
     match value.checked_add(1) {
@@ -77,7 +78,7 @@ pub(crate) fn push_negative(
 
 /// Writes what stands before the quotes of bytes.
 fn push_prefix(out: &mut String, encoding: Encoding) -> Result<(), AllocError>
-    ensures { OnOk result (string_bytes out.new ≡ string_bytes out.old ++ prefix encoding) }
+    ensures { AppendsText result out.old out.new (prefix encoding) }
 {
     match encoding {
         Encoding::Base16 => out.push('h'),
@@ -91,7 +92,7 @@ pub(crate) fn push_quoted(
     bytes: &[u8],
     encoding: Encoding,
 ) -> Result<(), AllocError>
-    ensures { OnOk result (string_bytes out.new ≡ string_bytes out.old ++ quoted encoding bytes.now) }
+    ensures { AppendsText result out.old out.new (quoted encoding bytes.now) }
 {
     push_prefix(out, encoding)?;
     out.push('\'')?;
@@ -101,8 +102,7 @@ pub(crate) fn push_quoted(
 
 /// Writes bytes as what stands between the quotes.
 fn push_encoded(out: &mut String, bytes: &[u8], encoding: Encoding) -> Result<(), AllocError>
-    ensures { OnOk result
-        (string_bytes out.new ≡ string_bytes out.old ++ encoded_bytes encoding bytes.now) }
+    ensures { AppendsText result out.old out.new (encoded_bytes encoding bytes.now) }
 {
     match encoding {
         Encoding::Base16 => push_hex(out, bytes),
@@ -115,7 +115,7 @@ fn push_encoded(out: &mut String, bytes: &[u8], encoding: Encoding) -> Result<()
 /// into would clear at each call.
 #[inline(never)]
 fn push_base64(out: &mut String, bytes: &[u8]) -> Result<(), AllocError>
-    ensures { OnOk result (string_bytes out.new ≡ string_bytes out.old ++ standard bytes.now) }
+    ensures { AppendsText result out.old out.new (standard bytes.now) }
 {
     STANDARD.encode_string(bytes, out)
 }
@@ -123,14 +123,14 @@ fn push_base64(out: &mut String, bytes: &[u8]) -> Result<(), AllocError>
 /// Writes bytes in the base 64 of URLs, apart for the same reason.
 #[inline(never)]
 fn push_base64_url(out: &mut String, bytes: &[u8]) -> Result<(), AllocError>
-    ensures { OnOk result (string_bytes out.new ≡ string_bytes out.old ++ url_safe bytes.now) }
+    ensures { AppendsText result out.old out.new (url_safe bytes.now) }
 {
     URL_SAFE_NO_PAD.encode_string(bytes, out)
 }
 
 /// Writes a text between quotes, with a backslash before each quote and each backslash.
 pub(crate) fn push_text(out: &mut String, content: &str) -> Result<(), AllocError>
-    ensures { OnOk result (string_bytes out.new ≡ string_bytes out.old ++ text content.now) }
+    ensures { AppendsText result out.old out.new (text content.now) }
 {
     out.push('"')?;
     push_escaped(out, content)?;
@@ -157,10 +157,9 @@ fn is_escaped(byte: u8) -> bool
 }
 
 /// Writes a text with a backslash before each quote and each backslash. Most texts have none of these.
-#[tactic(auto, using(crate::proofs::NotationTexts::plain_text))]
+#[tactic(auto, using(crate::proofs::NotationTexts::plain_text, crate::proofs::Appending::appending_steps))]
 fn push_escaped(out: &mut String, content: &str) -> Result<(), AllocError>
-    ensures { OnOk result
-        (string_bytes out.new ≡ string_bytes out.old ++ flat_map escaped content.now) }
+    ensures { AppendsText result out.old out.new (flat_map escaped content.now) }
 {
     if !has_escaped(content) {
         return out.push_str(content);
@@ -180,7 +179,7 @@ fn push_escaped(out: &mut String, content: &str) -> Result<(), AllocError>
 #[inline(never)]
 pub(crate) fn push_float(out: &mut String, bits: u64, width: FloatWidth) -> Result<(), AllocError>
     requires { FitsFloat width bits }
-    ensures { OnOk result (string_bytes out.new ≡ string_bytes out.old ++ float_text bits width) }
+    ensures { AppendsText result out.old out.new (float_text bits width) }
 {
     out.push_str("float'")?;
     match width {
@@ -194,7 +193,7 @@ pub(crate) fn push_float(out: &mut String, bits: u64, width: FloatWidth) -> Resu
 /// Writes a simple value, by its name where it has one.
 #[inline(never)]
 pub(crate) fn push_simple(out: &mut String, simple: Simple) -> Result<(), AllocError>
-    ensures { OnOk result (string_bytes out.new ≡ string_bytes out.old ++ simple_text simple.0) }
+    ensures { AppendsText result out.old out.new (simple_text simple.0) }
 {
     match simple {
         Simple::FALSE => out.push_str("false"),

@@ -1,9 +1,10 @@
-use Rattle.std.proofs.Common.{drop, drop-cons, suc, ◌∷◌, ◌≡◌, ℕ, List, ◌++◌, ap, sym, subst, ◌∙◌, append_assoc, arith, rules, OnOk}
+use Rattle.std.proofs.Common.{drop, drop-cons, suc, ◌∷◌, ◌≡◌, ℕ, List, ◌++◌, ap, sym, subst, ◌∙◌, append_assoc, arith, rules}
 use Rattle.cbor_diag.specs.Item.{item_count, pair_count}
 use Rattle.cbor_diag.specs.View.{items_view, pairs_view}
 use Rattle.cbor_diag.specs.WellFormed.{WellFormedPairs, FitsCount}
 use Rattle.cbor_diag.specs.Written.{encoded_items, encoded_pairs, encoded_open, encoded_close}
 use Rattle.cbor_diag.specs.declared.syntax.DataItem.{the_lemmas}
+use Rattle.cbor_diag.proofs.Appending.{begins_still, begins_through, begins_two, appends_after, appends_last}
 use Rattle.cbor_diag.proofs.Views.{item_count_view, pair_count_view}
 use Rattle.cbor_diag.proofs.encode.bytes.+push.Goals as goal
 
@@ -25,7 +26,8 @@ push_array-returns t c =
     let opened : c.push_items.new.out.items ≡ (out ++ encoded_open 4 c.len.result c.args.width) ++ members = c.in_ok-push_items.ensures ∙ ap (λ x. x ++ members) c.in_ok-push_open.ensures in
     let whole = around out (encoded_open 4 c.len.result c.args.width) members (encoded_close c.args.width) c.push_items.new.out.items opened in
     let spelled = whole ∙ ap (λ n. out ++ (encoded_open 4 n c.args.width ++ (members ++ encoded_close c.args.width))) (sym counted) in
-    subst (λ x. OnOk c.push_close.result (c.push_close.new.out.items ≡ x)) spelled c.push_close.ensures
+    let begun = begins_two out c.push_open.new.out.items (encoded_open 4 c.len.result c.args.width) members c.push_items.new.out.items c.in_ok-push_open.ensures c.in_ok-push_items.ensures in
+    appends_last c.push_close.result out c.push_items.new.out.items c.push_close.new.out.items (encoded_close c.args.width) _ begun (λ e. e ∙ spelled) c.push_close.ensures
 
 pub push_map-push_open-requires-clause-fits : goal.push_map-push_open-requires-clause-fits
 push_map-push_open-requires-clause-fits t c =
@@ -42,7 +44,8 @@ push_map-returns t c =
     let opened : c.push_pairs.new.out.items ≡ (out ++ encoded_open 5 c.len.result c.args.width) ++ members = c.in_ok-push_pairs.ensures ∙ ap (λ x. x ++ members) c.in_ok-push_open.ensures in
     let whole = around out (encoded_open 5 c.len.result c.args.width) members (encoded_close c.args.width) c.push_pairs.new.out.items opened in
     let spelled = whole ∙ ap (λ n. out ++ (encoded_open 5 n c.args.width ++ (members ++ encoded_close c.args.width))) (sym counted) in
-    subst (λ x. OnOk c.push_close.result (c.push_close.new.out.items ≡ x)) spelled c.push_close.ensures
+    let begun = begins_two out c.push_open.new.out.items (encoded_open 5 c.len.result c.args.width) members c.push_pairs.new.out.items c.in_ok-push_open.ensures c.in_ok-push_pairs.ensures in
+    appends_last c.push_close.result out c.push_pairs.new.out.items c.push_close.new.out.items (encoded_close c.args.width) _ begun (λ e. e ∙ spelled) c.push_close.ensures
 
 pub push_pairs-push_item-requires-in-pairs : goal.push_pairs-push_item-requires-in-pairs
 push_pairs-push_item-requires-in-pairs t c = (
@@ -53,3 +56,14 @@ push_pairs-push_item-requires-in-pairs t c = (
       let well = subst (λ ps. WellFormedPairs c.pairs.invariant.1 (pairs_view ps)) here c.pairs.invariant.2 in
       (c.pairs.invariant.1, well.1),
 )
+
+pub push_tagged-returns : goal.push_tagged-returns
+push_tagged-returns t c =
+    appends_after c.push_item.result c.args.out.now.items c.push_head.new.out.items c.push_item.new.out.items _ _ c.in_ok-push_head.ensures c.push_item.ensures
+
+pub push_pairs-returns-in_err-push_item-2 : goal.push_pairs-returns-in_err-push_item-2
+push_pairs-returns-in_err-push_item-2 t c =
+    let out = c.args.out.now.items in
+    let key = begins_still out c.pairs.out.items _ c.push_item.new.out.items c.pairs.invariant.3 c.in_ok-push_item.ensures in
+    let begun = begins_through out c.push_item.new.out.items c.push_item-in-pairs.new.out.items c.in_err-push_item-2.ensures key in
+    search (rules, begun)

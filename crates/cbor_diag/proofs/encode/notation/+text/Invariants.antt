@@ -1,4 +1,5 @@
 use Rattle.std.proofs.Common.{◌≡◌, ◌+◌, ◌-◌, ◌*◌, ◌++◌, true, drop}
+use Rattle.std.specs.Io.{StartsWith}
 use Rattle.std.specs.String.{string_bytes}
 use Rattle.cbor_diag.specs.View.{items_view, pairs_view}
 use Rattle.cbor_diag.specs.WellFormed.{WellFormedItems, WellFormedPairs}
@@ -40,9 +41,11 @@ invariant-push_items-items l =
     let rest = items_view (drop l.item-index l.item-items) in
     let write = text_at (129 - l.level) (inside (members_layout l.listing) l.fn.context) in
     (string_bytes l.out ++ members l.listing l.first (item_texts write rest) ≡ string_bytes l.fn.out ++ members l.listing true (item_texts write (items_view l.item-items))) × WellFormedItems l.level rest
+    × StartsWith (string_bytes l.out) (string_bytes l.fn.out)
 
 abbrev pub invariant-push_pairs-pairs : goal.invariant-push_pairs-pairs
 invariant-push_pairs-pairs l =
     let rest = pairs_view (drop l.key-index l.key-items) in
     let write = text_at (129 - l.level) (inside (members_layout l.listing) l.fn.context) in
     (string_bytes l.out ++ members l.listing l.first (pair_texts write (colon l.listing) rest) ≡ string_bytes l.fn.out ++ members l.listing true (pair_texts write (colon l.listing) (pairs_view l.key-items))) × WellFormedPairs l.level rest
+    × StartsWith (string_bytes l.out) (string_bytes l.fn.out)
