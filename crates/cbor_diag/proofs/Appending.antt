@@ -1,12 +1,12 @@
 -- What stands in memory after calls that append.
-use Rattle.std.specs.Prelude.{Result, Ok, Err}
+use Rattle.std.specs.Prelude.{Result, Ok, Err, is_ok, if◌then◌else◌}
 use Rattle.std.specs.Io.{StartsWith}
 use Rattle.std.specs.Str.{IsUtf8}
 use Rattle.std.specs.String.{string_bytes, string_len}
 use Rattle.std.specs.String.Boundary.{IsSplitPoint}
 use Rattle.std.specs.declared.string.String.{String}
 use Rattle.std.proofs.Common.{◌≡◌, ℕ, ◌≤◌, List, ◌++◌, length, take, drop, refl, ap, sym, subst, ◌∙◌, append_assoc, arith}
-use Rattle.std.proofs.Math.Seq.{take-append_seam}
+use Rattle.std.proofs.Math.Seq.{take-append_seam, take-length}
 use Rattle.std.proofs.lemmas.List.{length-take, take-append-drop}
 use Rattle.std.proofs.lemmas.Str.{IsCharBoundary-from_take, IsUtf8-string_bytes}
 use Rattle.cbor_diag.specs.Appends.{Appends}
@@ -29,6 +29,12 @@ begins_through old mid new h g =
 pub begins_still : (old mid text new : List ℕ) → StartsWith mid old → new ≡ mid ++ text → StartsWith new old
 begins_still old mid text new h is = begins_through old mid new (begins mid text new is) h
 
+-- after the three calls that write a member
+pub begins_after_member : (old mid start member end a b c : List ℕ) → StartsWith mid old → start ≡ mid ++ a
+    → member ≡ start ++ b → end ≡ member ++ c → StartsWith end old
+begins_after_member old mid start member end a b c h p q r =
+    begins_still old member c end (begins_still old start b member (begins_still old mid a start h p) q) r
+
 pub begins_two : (old mid a b new : List ℕ) → mid ≡ old ++ a → new ≡ mid ++ b → StartsWith new old
 begins_two old mid a b new p q = begins_still old mid b new (begins old a mid p) q
 
@@ -41,6 +47,16 @@ pub front_and_rest : (n : ℕ) (xs : List ℕ) → (take n xs ≡ take n xs) × 
 front_and_rest n xs = (refl, take-append-drop n xs)
 
 pub ruleset appending_steps = (begins_earlier, front_and_rest)
+
+-- a text begins with itself
+pub begins_same : (old : List ℕ) → StartsWith old old
+begins_same old = take-length old
+
+-- what std's calls that append ensure
+pub appends_of : {T E : Type 0} (r : Result T E) (old new text : List ℕ)
+    → new ≡ (if is_ok r then old ++ text else old) → Appends r old new text
+appends_of (Ok x) old new text h = h
+appends_of (Err e) old new text h = ap (take (length old)) h ∙ take-length old
 
 -- a call that appends the same, said in another way
 pub appends_as : {T E : Type 0} (r : Result T E) (old new text other : List ℕ) → (new ≡ old ++ text → new ≡ old ++ other) → Appends r old new text → Appends r old new other

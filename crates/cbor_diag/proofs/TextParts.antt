@@ -9,7 +9,7 @@ use Rattle.cbor_diag.specs.Item.{Item, Items, Pairs, atom, array, tagged}
 use Rattle.cbor_diag.specs.View.{view, items_view, pairs_view}
 use Rattle.cbor_diag.specs.WellFormed.{WellFormed}
 use Rattle.cbor_diag.specs.Estimate.{full}
-use Rattle.cbor_diag.specs.NotationText.{number, below, inside, listing, members_layout, members, last_line, opened, colon, item_texts, pair_texts, array_text, map_text, text_with, text_at}
+use Rattle.cbor_diag.specs.NotationText.{number, below, inside, listing, members_layout, members, last_line, opened, colon, item_texts, pair_texts, array_text, map_text, text_with, text_at, rest_text, sequence_listed, sequence_size, sequence_text}
 use Rattle.cbor_diag.proofs.NotationTexts.{drop_here}
 
 -- how many levels are left below an item
@@ -59,6 +59,19 @@ tag_shown level c d i v t w out a b e new well this under p q r s =
     let whole : new ≡ out ++ text_with (left_below level) (write_below level) c (tagged t w v) =
     s ∙ ap (λ x. x ++ codes ")") (inner ∙ ap (λ x. x ++ write_below level (below t c) v) (q ∙ ap (λ x. x ++ codes "(") p)) ∙ simp append_assoc in
     shown level c i (tagged t w v) out new well this whole
+
+-- what is written of a sequence and its rest
+pub sequence_shown : (write : Context → Item → List ℕ) (c : Context) (l : Listing) (s : Items × List ℕ) (out a b d e new : List ℕ)
+    → l ≡ listing c.layout (sequence_size s) → a ≡ out ++ codes "<<"
+    → b ≡ a ++ members l true (item_texts (write (inside (members_layout l) c)) s.0)
+    → d ≡ b ++ (last_line l ++ codes ">") → e ≡ d ++ codes ">" → new ≡ e ++ rest_text c s.1
+    → new ≡ out ++ sequence_text write c s
+sequence_shown write c l s out a b d e new laid p q r t u =
+    let ms = members l true (item_texts (write (inside (members_layout l) c)) s.0) in
+    let opened = q ∙ ap (λ x. x ++ ms) p in
+    let closed = t ∙ ap (λ x. x ++ codes ">") (r ∙ ap (λ x. x ++ (last_line l ++ codes ">")) opened) in
+    let whole : new ≡ out ++ sequence_listed write c l s = u ∙ ap (λ x. x ++ rest_text c s.1) closed ∙ simp append_assoc in
+    whole ∙ ap (λ k. out ++ sequence_listed write c k s) laid
 
 -- ---- members
 

@@ -1,4 +1,5 @@
 use Rattle.std.proofs.Common.{◌≡◌, ◌++◌, true, map, drop}
+use Rattle.std.specs.Io.{StartsWith}
 use Rattle.std.specs.String.{string_bytes}
 use Rattle.cbor_diag.specs.View.{byte_chunk}
 use Rattle.cbor_diag.specs.NotationText.{quoted, members}
@@ -8,4 +9,5 @@ use Rattle.cbor_diag.proofs.encode.notation.members.push_byte_chunks.Given as go
 abbrev pub invariant-chunks : goal.invariant-chunks
 invariant-chunks l =
     let written = map (λ s. quoted l.encoding s.bytes) in
-    string_bytes l.out ++ members l.listing l.first (written (map byte_chunk (drop l.chunk-index l.chunks))) ≡ string_bytes l.initial.out ++ members l.listing true (written (map byte_chunk l.chunks))
+    (string_bytes l.out ++ members l.listing l.first (written (map byte_chunk (drop l.chunk-index l.chunks))) ≡ string_bytes l.initial.out ++ members l.listing true (written (map byte_chunk l.chunks)))
+    × StartsWith (string_bytes l.out) (string_bytes l.fn.out)

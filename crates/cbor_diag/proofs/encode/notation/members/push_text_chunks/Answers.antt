@@ -1,10 +1,10 @@
 use Rattle.std.proofs.Common.{◌≡◌, ◌+◌, List, ℕ, [], ◌∷◌, ◌++◌, codes, drop, sym, ap, ◌∙◌}
 use Rattle.std.proofs.lemmas.List.{drop_all}
-use Rattle.std.proofs.lemmas.Result.{on_ok_weaker}
 use Rattle.std.specs.String.{string_bytes}
 use Rattle.cbor_diag.specs.Item.{Chunk}
 use Rattle.cbor_diag.specs.View.{text_chunk}
 use Rattle.cbor_diag.specs.NotationText.{text}
+use Rattle.cbor_diag.proofs.Appending.{begins_after_member, appends_last}
 use Rattle.cbor_diag.proofs.NotationTexts.{drop_here, member_more, members_end, chunks_written}
 use Rattle.cbor_diag.proofs.encode.notation.members.push_text_chunks.Goals as goal
 
@@ -14,14 +14,18 @@ chunks-preserved c =
     let i = c.chunks.chunk-index in
     let here : drop i all ≡ c.chunk-item.result ∷ drop (i + 1) all = drop_here all i c.chunk-item.result c.chunks-test.true c.chunk-item.is in
     let written = c.in_ok-push_text.ensures ∙ ap (λ b. string_bytes c.push_start.new.out ++ text b) c.as_str.ensures.value in
-    member_more c.args.listing c.chunks.first _ _ (string_bytes c.chunks.out) (string_bytes c.push_start.new.out) (string_bytes c.push_text.new.out) (string_bytes c.push_end.new.out) _ c.in_ok-push_start.ensures written c.in_ok-push_end.ensures
-    (rw here at c.chunks.invariant)
+    let begun = begins_after_member (string_bytes c.args.out.now) (string_bytes c.chunks.out) (string_bytes c.push_start.new.out)
+        (string_bytes c.push_text.new.out) (string_bytes c.push_end.new.out) _ _ _ c.chunks.invariant.1
+        c.in_ok-push_start.ensures c.in_ok-push_text.ensures c.in_ok-push_end.ensures in
+    (member_more c.args.listing c.chunks.first _ _ (string_bytes c.chunks.out) (string_bytes c.push_start.new.out) (string_bytes c.push_text.new.out) (string_bytes c.push_end.new.out) _ c.in_ok-push_start.ensures written c.in_ok-push_end.ensures
+    (rw here at c.chunks.invariant.0), begun)
 
 pub returns : goal.returns
 returns c =
     let all = c.args.chunks.now in
     let none : drop c.chunks.chunk-index all ≡ [] = drop_all c.chunks.chunk-index all c.chunks-test.false in
     let f : Chunk → List ℕ = λ s. text s.bytes in
-    let whole = members_end c.args.listing c.chunks.first (string_bytes c.chunks.out) _ (rw none at c.chunks.invariant) in
-    on_ok_weaker c.push_closing.result (λ e. chunks_written c.args.listing (codes "\"\"_") f text_chunk all (string_bytes c.args.out.now) (string_bytes c.push_opening.new.out) (string_bytes c.chunks.out) (string_bytes c.push_closing.new.out)
+    let whole = members_end c.args.listing c.chunks.first (string_bytes c.chunks.out) _ (rw none at c.chunks.invariant.0) in
+    appends_last c.push_closing.result (string_bytes c.args.out.now) (string_bytes c.chunks.out)
+    (string_bytes c.push_closing.new.out) _ _ c.chunks.invariant.1 (λ e. chunks_written c.args.listing (codes "\"\"_") f text_chunk all (string_bytes c.args.out.now) (string_bytes c.push_opening.new.out) (string_bytes c.chunks.out) (string_bytes c.push_closing.new.out)
     (sym c.is_empty.ensures ∙ c.if-is_empty.false) c.in_ok-push_opening.ensures whole e) c.push_closing.ensures

@@ -1,4 +1,5 @@
 use Rattle.std.proofs.Common.{◌≡◌, ◌≤◌, ◌++◌, take, drop}
+use Rattle.std.specs.Io.{StartsWith}
 use Rattle.std.specs.List.{flat_map}
 use Rattle.std.specs.Str.{IsCharBoundary}
 use Rattle.std.specs.String.{string_bytes}
@@ -9,6 +10,7 @@ use Rattle.cbor_diag.proofs.encode.notation.scalars.push_escaped.Given as goal
 abbrev pub invariant-bytes : goal.invariant-bytes
 invariant-bytes l = record {
   written : string_bytes l.out ++ drop l.done (take l.place l.content) ≡ string_bytes l.fn.out ++ flat_map escaped (take l.place l.content);
+  begins : StartsWith (string_bytes l.out) (string_bytes l.fn.out);
   order : l.done ≤ l.place;
   boundary : IsCharBoundary l.content l.done;
 }
