@@ -9,7 +9,7 @@ use Rattle.cbor_diag.specs.View.{view, items_view}
 use Rattle.cbor_diag.specs.Bytes.{any, Spells, SpellsItems}
 use Rattle.cbor_diag.specs.Answer.{spelled, cut, fault, IsOutcome, HasOutcome, HasAnswer, IsRefused}
 use Rattle.cbor_diag.specs.Reading.{Read, item_at}
-use Rattle.cbor_diag.specs.Embedded.{if_whole, embedded_at, before, and_then, sequence_of, sequence_at}
+use Rattle.cbor_diag.specs.Embedded.{if_whole, embedded_at, before, and_then, sequence_of, sequence_at, EmbedsExactly, RejectsExactly}
 use Rattle.cbor_diag.specs.Refused.{Cut}
 use Rattle.cbor_diag.specs.WellFormed.{WellFormed, WellFormedItems}
 use Rattle.cbor_diag.proofs.Heads.{IsBytes, IsBytes-drop, IsBytes-take}
@@ -176,3 +176,21 @@ pub no_item_before : (level left : ℕ) → level + left ≡ 129 → (b : List �
 no_item_before level left levels b x rest e sequenced parts s =
     let read = sym sequenced.ends ∙ ap (item_at left) parts ∙ item_again level left x e rest levels s in
     absurd cc
+
+-- what `embedded` and `sequence` mean
+pub embeds_exactly : EmbedsExactly
+embeds_exactly level b from to fits =
+    let read = sequence_spells level (129 - level) (omega arith) (length b) b (omega arith) fits in
+    record {
+      one = λ e. (embedded_spells level (129 - level) b e (omega arith) fits, spells_embedded level (129 - level) b e (omega arith));
+      items = read.spelled_so;
+      longest = λ x rest e parts s. no_item_before level (129 - level) (omega arith) _ x rest e read parts s;
+    }
+
+-- what reading bytes that are not one item answers
+pub rejects_exactly : RejectsExactly
+rejects_exactly level b to = record {
+  cut = λ here. outcome_reads level (129 - level) b cut (omega arith) here;
+  fault = λ e here. outcome_reads level (129 - level) b (fault e) (omega arith) here;
+  front = λ n i within s. outcome_reads level (129 - level) b (spelled i n) (omega arith) (within, s);
+}

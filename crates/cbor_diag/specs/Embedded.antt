@@ -1,5 +1,11 @@
 -- Items that are embedded in the bytes of a byte string (RFC 7049 section 2.4.4.1, RFC 8742).
-use Rattle.std.specs.Prelude.{ℕ, zero, suc, ◌-◌, List, [], length, Option, Some, None, Ok, Err}
+use Rattle.std.specs.Prelude.{◌≡◌, ◌↔◌, ℕ, zero, suc, ◌+◌, ◌-◌, ◌<◌, ◌≤◌, List, [], ◌++◌, length, take, drop, slice_index}
+use Rattle.std.specs.Prelude.{Option, Some, None, Ok, Err}
+use Rattle.cbor_diag.specs.declared.error.Error.{Error}
+use Rattle.cbor_diag.specs.declared.error.Error.TheVariants.{CutShort}
+use Rattle.cbor_diag.specs.WellFormed.{deepest}
+use Rattle.cbor_diag.specs.Bytes.{any, Spells, SpellsItems}
+use Rattle.cbor_diag.specs.Refused.{Cut, Fault}
 use Rattle.cbor_diag.specs.Item.{Item, Items, no_items, item}
 use Rattle.cbor_diag.specs.Reading.{Read, item_at}
 
@@ -13,7 +19,7 @@ abbrev pub embedded_at : ℕ → List ℕ → Option Item
 embedded_at left b = if_whole (item_at left b)
 
 -- The item that the bytes spell at this level, if there is one: `embedded level b` is `Some e` exactly
--- where `Spells any level b e`, as `embedded_items` of laws.rt says.
+-- where `Spells any level b e`, as `Embeds` below says.
 abbrev pub embedded : ℕ → List ℕ → Option Item
 embedded level b = embedded_at (129 - level) b
 
@@ -37,6 +43,30 @@ sequence_at left b = sequence_of (item_at left) (length b) b
 
 -- The longest list of items whose spellings at this level, joined, are a front of the bytes, and the rest:
 -- the items are spelled one after the other and then the rest follows, which begins with no item, as
--- `embedded_items` of laws.rt says.
+-- `Embeds` below says.
 abbrev pub sequence : ℕ → List ℕ → Items × List ℕ
 sequence level b = sequence_at (129 - level) b
+
+-- What `embedded` and `sequence` mean at this level, by the grammar of bytes alone: the item that the bytes
+-- spell; the longest list of items that are spelled one after the other, and a rest that begins with none.
+pub record Embeds (level : ℕ) (b : List ℕ) : Type 0 where
+  pub one : (e : Item) → (embedded level b ≡ Some e) ↔ Spells any level b e
+  pub items : SpellsItems any level b (sequence level b).0 (sequence level b).1
+  pub longest : (x rest : List ℕ) (e : Item) → (sequence level b).1 ≡ x ++ rest → ¬ (Spells any level x e)
+
+-- They mean so of all bytes, read from any level from 1 to 129. At level 129 there is no item.
+abbrev pub EmbedsExactly : Type 0
+EmbedsExactly = (level : ℕ) (b : List ℕ) → 1 ≤ level → level ≤ deepest + 1
+    → ((i : ℕ) → slice_index b i < 256) → Embeds level b
+
+-- What reading bytes that are not one item answers at this level, by the grammar of bytes alone: that they are
+-- cut, which fault they have, or the item that some first bytes are and the bytes that remain.
+pub record Rejects (level : ℕ) (b : List ℕ) : Type 0 where
+  pub cut : Cut level b → item_at (deepest + 1 - level) b ≡ Err CutShort
+  pub fault : (e : Error) → Fault level b e → item_at (deepest + 1 - level) b ≡ Err e
+  pub front : (n : ℕ) (i : Item) → n ≤ length b → Spells any level (take n b) i
+      → item_at (deepest + 1 - level) b ≡ Ok (i, drop n b)
+
+-- It answers so of all bytes, read from any level up to 129.
+abbrev pub RejectsExactly : Type 0
+RejectsExactly = (level : ℕ) (b : List ℕ) → level ≤ deepest + 1 → Rejects level b

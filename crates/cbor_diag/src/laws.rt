@@ -1,14 +1,11 @@
 //! Laws of the definitions of `specs/` alone: what holds of all bytes, whoever reads them. Nothing
 //! calls these functions.
-ghost use Rattle.std.specs.Prelude.{◌≡◌, ◌↔◌, ℕ, ◌+◌, ◌-◌, ◌++◌, ◌<◌, ◌≤◌, List, Ok, Err, drop, length, slice_index, take};
+ghost use Rattle.std.specs.Prelude.{◌≡◌, ℕ, ◌+◌, ◌<◌, ◌≤◌, List, slice_index};
 ghost use Rattle.cbor_diag.specs.WellFormed.{deepest};
 ghost use Rattle.cbor_diag.specs.Item.{Item};
-ghost use Rattle.cbor_diag.specs.Bytes.{any, Spells, SpellsItems};
-ghost use Rattle.cbor_diag.specs.Embedded.{embedded, sequence};
+ghost use Rattle.cbor_diag.specs.Embedded.{EmbedsExactly, RejectsExactly};
 ghost use Rattle.cbor_diag.specs.Answer.{OneOutcome};
 ghost use Rattle.cbor_diag.specs.declared.error.Error.{Error};
-ghost use Rattle.cbor_diag.specs.declared.error.Error.TheVariants.{CutShort};
-ghost use Rattle.cbor_diag.specs.Reading.{item_at};
 ghost use Rattle.cbor_diag.specs.Refused.{Cut, Fault};
 ghost use Rattle.cbor_diag.specs.Turns.{cut_spent, fault_spent};
 ghost use Rattle.cbor_diag.specs.NotationReading.{notation_of};
@@ -25,25 +22,13 @@ pub(crate) fn one_of_three()
 /// Which items are embedded in bytes: the one that they spell, and the longest list of items that are
 /// spelled one after the other, behind which the rest begins with none.
 pub(crate) fn embedded_items()
-    ensures item { (level : ℕ) (b : List ℕ) (e : Item) → 1 ≤ level → level ≤ deepest + 1
-        → ((i : ℕ) → slice_index b i < 256) → (embedded level b ≡ Some e) ↔ Spells any level b e }
-    ensures sequence { (level : ℕ) (b : List ℕ) → 1 ≤ level → level ≤ deepest + 1
-        → ((i : ℕ) → slice_index b i < 256)
-        → SpellsItems any level b (sequence level b).0 (sequence level b).1 }
-    ensures longest { (level : ℕ) (b x rest : List ℕ) (e : Item) → 1 ≤ level → level ≤ deepest + 1
-        → ((i : ℕ) → slice_index b i < 256) → (sequence level b).1 ≡ x ++ rest
-        → ¬ (Spells any level x e) }
+    ensures { EmbedsExactly }
 {}
 
 /// What a dump says of bytes that embed no item: that they are cut, which fault they have, or that bytes
 /// remain after an item. One of these holds of all other bytes, as `one_of_three` says.
 pub(crate) fn embedded_refusals()
-    ensures cut { (level : ℕ) (b : List ℕ) → level ≤ deepest + 1 → Cut level b
-        → item_at (deepest + 1 - level) b ≡ Err CutShort }
-    ensures fault { (level : ℕ) (b : List ℕ) (e : Error) → level ≤ deepest + 1 → Fault level b e
-        → item_at (deepest + 1 - level) b ≡ Err e }
-    ensures front { (level n : ℕ) (b : List ℕ) (i : Item) → level ≤ deepest + 1 → n ≤ length b
-        → Spells any level (take n b) i → item_at (deepest + 1 - level) b ≡ Ok (i, drop n b) }
+    ensures { RejectsExactly }
 {}
 
 /// What is whole of bytes that are cut or have a fault is one number of turns, however it is shown that

@@ -9,6 +9,7 @@ ghost use Rattle.hex.specs.Hex.{encode_lower};
 ghost use Rattle.cbor_notes.specs.Columns.{IsColumn, Lacks};
 ghost use Rattle.cbor_notes.specs.Layout.{width_of};
 ghost use Rattle.cbor_diag.specs.View.{view};
+ghost use Rattle.cbor_diag.specs.Embedded.{EmbedsExactly, RejectsExactly};
 ghost use Rattle.cbor_diag.specs.Facts.{IsWellFormed};
 ghost use Rattle.cbor_diag.specs.Written.{encoded, resolve};
 ghost use Rattle.cbor_diag.specs.HexText.{strip, IsHexOf};
@@ -46,6 +47,9 @@ impl DataItem {
         // The first `#` of every line stands in one column.
         ensures one_column { IfOk result (λ t.
             IsColumn (width_of (spec.lines (view self.now)) + 1) (string_bytes t)) }
+        // What is dumped as embedded items is exactly what the bytes spell, and else the note says why not.
+        ensures embedded { EmbedsExactly }
+        ensures not_embedded { RejectsExactly }
         ensures refused { IfErr result (λ e. e ≡ Error.Memory) }
     {
         Ok(dump(alloc, self, 1)?)

@@ -28,7 +28,7 @@ ghost use Rattle.cbor_diag.specs.NotationText as notation;
 ghost use Rattle.cbor_diag.specs.NotationText.{indent_of, listing_indent, members, members_layout, in_encoding};
 ghost use Rattle.cbor_diag.specs.NotationText.{inside, colon, item_texts, pair_texts, embedded_text};
 ghost use Rattle.cbor_diag.specs.NotationText.{sequence_size, sequence_text, content_text, text_at};
-ghost use Rattle.cbor_diag.specs.Embedded.{embedded_at, sequence, sequence_at};
+ghost use Rattle.cbor_diag.specs.Embedded.{embedded_at, sequence, sequence_at, EmbedsExactly};
 
 use crate::error::Error;
 use crate::syntax::{ByteString, DataItem, IntegerWidth, Tag, TextString};
@@ -366,6 +366,8 @@ impl DataItem {
         ensures alike { (other : Item) → IsWellFormed other
             → (diag_of (view self.now) ≡ diag_of other)
             ↔ (normal_of (view self.now) ≡ normal_of other) }
+        // What is shown as embedded items is exactly what the bytes spell.
+        ensures embedded { EmbedsExactly }
         ensures refused { IfErr result (λ e. e ≡ Error.Memory) }
     {
         let mut out = String::new(alloc);
@@ -409,6 +411,8 @@ impl DataItem {
         ensures sequence_lines { (level indent : ℕ) (e : Encoding) (w : IntegerWidth) (b : Chunk) → level < deepest
             → long ≤ sequence_size (sequence (level + 2) b.bytes)
             → pretty e level indent (tagged 63 w (atom (byte_string b))) ≡ sequence_in_lines e level indent w b.bytes }
+        // What is shown as embedded items is exactly what the bytes spell.
+        ensures embedded { EmbedsExactly }
         ensures refused { IfErr result (λ e. e ≡ Error.Memory) }
     {
         let mut out = String::new(alloc);

@@ -70,7 +70,7 @@ push_item-returns-in-IndefiniteTextString t c =
 pub push_array-returns : goal.push_array-returns
 push_array-returns t c =
     let begun = begins_two (string_bytes c.args.out.now) (string_bytes c.push_opening.new.out) _ _ (string_bytes c.push_items.new.out)
-        c.in_ok-push_opening.ensures c.in_ok-push_items.ensures in
+    c.in_ok-push_opening.ensures c.in_ok-push_items.ensures in
     appends_last c.push_closing.result (string_bytes c.args.out.now) (string_bytes c.push_items.new.out)
     (string_bytes c.push_closing.new.out) _ _ begun (λ e. array_shown c.args.level c.args.context.now (view c.args.item.now) (items_view c.args.items.now.items) c.args.width c.listing-listing.result (string_bytes c.args.out.now) (string_bytes c.push_opening.new.out) (string_bytes c.push_items.new.out) (string_bytes c.push_closing.new.out)
     c.requires.well_formed c.requires.array c.listing-listing.ensures c.in_ok-push_opening.ensures c.in_ok-push_items.ensures e) c.push_closing.ensures
@@ -78,7 +78,7 @@ push_array-returns t c =
 pub push_map-returns : goal.push_map-returns
 push_map-returns t c =
     let begun = begins_two (string_bytes c.args.out.now) (string_bytes c.push_opening.new.out) _ _ (string_bytes c.push_pairs.new.out)
-        c.in_ok-push_opening.ensures c.in_ok-push_pairs.ensures in
+    c.in_ok-push_opening.ensures c.in_ok-push_pairs.ensures in
     appends_last c.push_closing.result (string_bytes c.args.out.now) (string_bytes c.push_pairs.new.out)
     (string_bytes c.push_closing.new.out) _ _ begun (λ e. map_shown c.args.level c.args.context.now (view c.args.item.now) (pairs_view c.args.pairs.now.items) c.args.width c.listing-listing.result (string_bytes c.args.out.now) (string_bytes c.push_opening.new.out) (string_bytes c.push_pairs.new.out) (string_bytes c.push_closing.new.out)
     c.requires.well_formed c.requires.map c.listing-listing.ensures c.in_ok-push_opening.ensures c.in_ok-push_pairs.ensures e) c.push_closing.ensures
@@ -104,8 +104,8 @@ push_items-items-preserved t c =
     let left = ap (λ ms. string_bytes c.items.out ++ members l c.items.first ms) (sym (items_rest write all i v c.items-test.true c.item-item.is)) ∙ c.items.invariant.0 in
     let well = subst (λ vs. WellFormedItems c.args.level (items_view vs)) (drop_here all i v c.items-test.true c.item-item.is) c.items.invariant.1 in
     let begun = begins_after_member (string_bytes c.args.out.now) (string_bytes c.items.out) (string_bytes c.push_start.new.out)
-        (string_bytes c.push_item.new.out) (string_bytes c.push_end.new.out) _ _ _ c.items.invariant.2
-        c.in_ok-push_start.ensures c.in_ok-push_item.ensures c.in_ok-push_end.ensures in
+    (string_bytes c.push_item.new.out) (string_bytes c.push_end.new.out) _ _ _ c.items.invariant.2
+    c.in_ok-push_start.ensures c.in_ok-push_item.ensures c.in_ok-push_end.ensures in
     (member_more l c.items.first (write (view v)) rest (string_bytes c.items.out) (string_bytes c.push_start.new.out) (string_bytes c.push_item.new.out) (string_bytes c.push_end.new.out) _ c.in_ok-push_start.ensures item c.in_ok-push_end.ensures left, well.1, begun)
 
 pub push_items-returns : goal.push_items-returns
@@ -132,8 +132,8 @@ push_pairs-pairs-preserved t c =
     let left = ap (λ ms. string_bytes c.pairs.out ++ members l c.pairs.first ms) (sym (pairs_rest write (colon l) all i v c.pairs-test.true c.pairs-item.is)) ∙ c.pairs.invariant.0 in
     let well = subst (λ vs. WellFormedPairs c.args.level (pairs_view vs)) (drop_here all i v c.pairs-test.true c.pairs-item.is) c.pairs.invariant.1 in
     let begun = begins_after_member (string_bytes c.args.out.now) (string_bytes c.pairs.out) (string_bytes c.push_start.new.out)
-        (string_bytes c.push_item-in-pairs.new.out) (string_bytes c.push_end.new.out) _ _ _ c.pairs.invariant.2
-        c.in_ok-push_start.ensures pair c.in_ok-push_end.ensures in
+    (string_bytes c.push_item-in-pairs.new.out) (string_bytes c.push_end.new.out) _ _ _ c.pairs.invariant.2
+    c.in_ok-push_start.ensures pair c.in_ok-push_end.ensures in
     (member_more l c.pairs.first (write (view v.0) ++ (colon l ++ write (view v.1))) rest (string_bytes c.pairs.out) (string_bytes c.push_start.new.out) (string_bytes c.push_item-in-pairs.new.out) (string_bytes c.push_end.new.out) _ c.in_ok-push_start.ensures pair c.in_ok-push_end.ensures left, well.2, begun)
 
 pub push_pairs-returns : goal.push_pairs-returns
@@ -153,13 +153,13 @@ push_sequence-returns t c =
     let found : Items × List ℕ = (items_view c.in_ok-items.items.items, c.in_ok-items.rest.now) in
     let closing = c.in_ok-push.ensures.bytes ∙ ap (λ x. string_bytes c.push_closing.new.out ++ x) (c.in_ok-push.ensures.ascii (omega arith)) in
     let open_begun = begins_two out (string_bytes c.push_str.new.self) _ _ (string_bytes c.push_items.new.out)
-        c.in_ok-push_str.ensures.bytes c.in_ok-push_items.ensures in
+    c.in_ok-push_str.ensures.bytes c.in_ok-push_items.ensures in
     let begun = begins_still out (string_bytes c.push_closing.new.out) _ (string_bytes c.push.new.self)
-        (begins_still out (string_bytes c.push_items.new.out) _ (string_bytes c.push_closing.new.out) open_begun c.in_ok-push_closing.ensures)
-        closing in
+    (begins_still out (string_bytes c.push_items.new.out) _ (string_bytes c.push_closing.new.out) open_begun c.in_ok-push_closing.ensures)
+    closing in
     appends_last c.push_rest.result out (string_bytes c.push.new.self) (string_bytes c.push_rest.new.out) (rest_text context found.1) _ begun
-        (λ e. sequence_shown write context l found out (string_bytes c.push_str.new.self) (string_bytes c.push_items.new.out)
-            (string_bytes c.push_closing.new.out) (string_bytes c.push.new.self) (string_bytes c.push_rest.new.out)
-            c.sequence_listing-listing.ensures c.in_ok-push_str.ensures.bytes c.in_ok-push_items.ensures c.in_ok-push_closing.ensures closing e
-            ∙ ap (λ s. out ++ sequence_text write context s) c.in_ok-items.ensures.items)
-        c.push_rest.ensures
+    (λ e. sequence_shown write context l found out (string_bytes c.push_str.new.self) (string_bytes c.push_items.new.out)
+    (string_bytes c.push_closing.new.out) (string_bytes c.push.new.self) (string_bytes c.push_rest.new.out)
+    c.sequence_listing-listing.ensures c.in_ok-push_str.ensures.bytes c.in_ok-push_items.ensures c.in_ok-push_closing.ensures closing e
+    ∙ ap (λ s. out ++ sequence_text write context s) c.in_ok-items.ensures.items)
+    c.push_rest.ensures

@@ -10,6 +10,7 @@ use Rattle.cbor_diag.specs.Normal.{normal_at}
 use Rattle.cbor_diag.proofs.ReadBack.{reads_back}
 use Rattle.cbor_diag.proofs.NormalText.{normal_text, normal_twice}
 use Rattle.cbor_diag.proofs.TextsAlike.{texts_alike}
+use Rattle.cbor_diag.proofs.EmbeddedItems.{embeds_exactly}
 use Rattle.cbor_diag.proofs.syntax.DataItem.to_diag.Goals as goal
 
 pub returns-in_err-push_diag-clause-of_normal : goal.returns-in_err-push_diag-clause-of_normal
@@ -35,3 +36,9 @@ returns-in_err-push_diag-clause-alike c = λ other well. texts_alike (view c.arg
 
 pub returns-clause-alike : goal.returns-clause-alike
 returns-clause-alike c = λ other well. texts_alike (view c.args.self.now) other c.requires well
+
+pub returns-in_err-push_diag-clause-embedded : goal.returns-in_err-push_diag-clause-embedded
+returns-in_err-push_diag-clause-embedded c = embeds_exactly
+
+pub returns-clause-embedded : goal.returns-clause-embedded
+returns-clause-embedded c = embeds_exactly

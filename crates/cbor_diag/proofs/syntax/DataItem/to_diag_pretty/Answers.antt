@@ -9,6 +9,7 @@ use Rattle.cbor_diag.specs.NotationText.{in_encoding}
 use Rattle.cbor_diag.specs.Normal.{normal_at}
 use Rattle.cbor_diag.proofs.ReadBack.{reads_back}
 use Rattle.cbor_diag.proofs.PrettyForms.{short_is, long_is, short_sequence, long_sequence}
+use Rattle.cbor_diag.proofs.EmbeddedItems.{embeds_exactly}
 use Rattle.cbor_diag.proofs.syntax.DataItem.to_diag_pretty.Goals as goal
 
 pub returns-clause-read_back : goal.returns-clause-read_back
@@ -40,3 +41,9 @@ returns-clause-sequence_one_line c = short_sequence
 
 pub returns-clause-sequence_lines : goal.returns-clause-sequence_lines
 returns-clause-sequence_lines c = long_sequence
+
+pub returns-in_err-push_diag_pretty-clause-embedded : goal.returns-in_err-push_diag_pretty-clause-embedded
+returns-in_err-push_diag_pretty-clause-embedded c = embeds_exactly
+
+pub returns-clause-embedded : goal.returns-clause-embedded
+returns-clause-embedded c = embeds_exactly

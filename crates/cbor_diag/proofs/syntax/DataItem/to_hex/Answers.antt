@@ -16,6 +16,7 @@ use Rattle.cbor_diag.proofs.DumpDigits.{item_are}
 use Rattle.cbor_diag.proofs.DumpFits.{one_line_of}
 use Rattle.cbor_diag.proofs.Strict.{strict_any, strict_encoded}
 use Rattle.cbor_diag.proofs.WholeDumps.{plain}
+use Rattle.cbor_diag.proofs.EmbeddedItems.{embeds_exactly, rejects_exactly}
 use Rattle.cbor_diag.proofs.syntax.DataItem.to_hex.Goals as goal
 
 all_plain : (i : Item) → IsWellFormed i → AllByRecursion IsPlain (lines i)
@@ -46,3 +47,15 @@ returns-clause-read_back c =
     let i = view c.args.self.now in
     let bytes = is_bytes (encoded i) (item_bytes 1 i c.requires) in
     (encoded i, ap decode_of (returns-clause-digits c) ∙ decode_of-encode_lower (encoded i) bytes, strict_any 1 (encoded i) (resolve i) (strict_encoded 1 i c.requires))
+
+pub returns-in_err-dump-clause-embedded : goal.returns-in_err-dump-clause-embedded
+returns-in_err-dump-clause-embedded c = embeds_exactly
+
+pub returns-clause-embedded : goal.returns-clause-embedded
+returns-clause-embedded c = embeds_exactly
+
+pub returns-in_err-dump-clause-not_embedded : goal.returns-in_err-dump-clause-not_embedded
+returns-in_err-dump-clause-not_embedded c = rejects_exactly
+
+pub returns-clause-not_embedded : goal.returns-clause-not_embedded
+returns-clause-not_embedded c = rejects_exactly

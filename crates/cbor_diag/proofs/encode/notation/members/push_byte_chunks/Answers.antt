@@ -15,10 +15,12 @@ chunks-preserved c =
     let here : drop i all ≡ c.chunk-item.result ∷ drop (i + 1) all = drop_here all i c.chunk-item.result c.chunks-test.true c.chunk-item.is in
     let written = c.in_ok-push_quoted.ensures ∙ ap (λ b. string_bytes c.push_start.new.out ++ quoted c.args.encoding b) c.deref.ensures.value in
     let begun = begins_after_member (string_bytes c.args.out.now) (string_bytes c.chunks.out) (string_bytes c.push_start.new.out)
-        (string_bytes c.push_quoted.new.out) (string_bytes c.push_end.new.out) _ _ _ c.chunks.invariant.1
-        c.in_ok-push_start.ensures c.in_ok-push_quoted.ensures c.in_ok-push_end.ensures in
-    (member_more c.args.listing c.chunks.first _ _ (string_bytes c.chunks.out) (string_bytes c.push_start.new.out) (string_bytes c.push_quoted.new.out) (string_bytes c.push_end.new.out) _ c.in_ok-push_start.ensures written c.in_ok-push_end.ensures
-    (rw here at c.chunks.invariant.0), begun)
+    (string_bytes c.push_quoted.new.out) (string_bytes c.push_end.new.out) _ _ _ c.chunks.invariant.1
+    c.in_ok-push_start.ensures c.in_ok-push_quoted.ensures c.in_ok-push_end.ensures in (
+      member_more c.args.listing c.chunks.first _ _ (string_bytes c.chunks.out) (string_bytes c.push_start.new.out) (string_bytes c.push_quoted.new.out) (string_bytes c.push_end.new.out) _ c.in_ok-push_start.ensures written c.in_ok-push_end.ensures
+          (rw here at c.chunks.invariant.0),
+      begun,
+    )
 
 pub returns : goal.returns
 returns c =

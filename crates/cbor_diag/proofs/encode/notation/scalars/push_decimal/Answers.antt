@@ -10,6 +10,6 @@ returns-then-value-lt10 c =
     let out = string_bytes c.args.out.now in
     let new = string_bytes c.push.new.self in
     let digit = c.push.ensures.ascii (omega (arith, c.from.ensures)) ∙ ap (λ n. n ∷ []) c.from.ensures
-        ∙ sym (decimal_digit c.args.value c.if-value-lt10.true) in
+    ∙ sym (decimal_digit c.args.value c.if-value-lt10.true) in
     appends_as c.push.result out new (encode_utf8 c.from.result) _ (λ e. e ∙ ap (λ x. out ++ x) digit)
-        (appends_of c.push.result out new (encode_utf8 c.from.result) c.push.ensures.bytes)
+    (appends_of c.push.result out new (encode_utf8 c.from.result) c.push.ensures.bytes)

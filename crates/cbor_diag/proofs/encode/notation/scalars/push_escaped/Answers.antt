@@ -49,5 +49,5 @@ returns-then-not-has_escaped c =
     let content = c.args.content.now in
     let plain = plain_text content (sym c.has_escaped.ensures ∙ c.if-not-has_escaped.true) in
     appends_as c.push_str.result out (string_bytes c.push_str.new.self) content (flat_map escaped content)
-        (λ e. e ∙ ap (λ x. out ++ x) (sym plain))
-        (appends_of c.push_str.result out (string_bytes c.push_str.new.self) content c.push_str.ensures.bytes)
+    (λ e. e ∙ ap (λ x. out ++ x) (sym plain))
+    (appends_of c.push_str.result out (string_bytes c.push_str.new.self) content c.push_str.ensures.bytes)
