@@ -1,5 +1,5 @@
 -- The containers that an `Open` and a `Stack` are, in the words of `specs/Counting.antt`.
-use Rattle.std.specs.Prelude.{◌≡◌, ℕ, ◌+◌, ◌-◌, List, [], ◌∷◌, length, map, Option, Some, None, option_map, Ok}
+use Rattle.std.specs.Prelude.{◌≡◌, ℕ, ◌+◌, ◌-◌, ◌*◌, ◌≤◌, vec_capacity, List, [], ◌∷◌, length, map, Option, Some, None, option_map, Ok}
 use Rattle.cbor_diag.specs.declared.parse.binary.open.Length.{Length}
 use Rattle.cbor_diag.specs.declared.parse.binary.open.Length.TheVariants.{Definite, Indefinite}
 use Rattle.cbor_diag.specs.declared.parse.binary.open.Open.{Open}
@@ -22,6 +22,13 @@ frame (open_item.Map content (Some key) len) =
     value_of (pairs_view content.items) (view key) (wanted len (length content.items + 1))
 frame (open_item.Tag tag width None) = tag_of tag.0 width
 frame (open_item.Tag tag width (Some value)) = tagged_with tag.0 width (view value)
+
+-- room is made for few members at once, and only where as many bytes follow
+abbrev pub HasRoom : ℕ → Open → Type 0
+HasRoom following (open_item.Array content len) = (vec_capacity content ≤ following) × (vec_capacity content ≤ 32)
+HasRoom following (open_item.Map content key len) =
+    (2 * vec_capacity content ≤ following) × (vec_capacity content ≤ 32)
+HasRoom following (open_item.Tag tag width value) = Unit {0}
 
 -- the last of a list, and those before it
 abbrev pub last_of : List Open → Option Open

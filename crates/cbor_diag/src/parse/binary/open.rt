@@ -1,9 +1,9 @@
 //! Containers that are open: what was read of them, and what they still want.
-ghost use Rattle.std.specs.Prelude.{◌≡◌, ℕ, Some, IsSome, IfOk, IfErr, OnOk, option_map};
+ghost use Rattle.std.specs.Prelude.{◌≡◌, ◌≤◌, ℕ, Some, IsSome, IfSome, IfOk, IfErr, OnOk, option_map};
 ghost use Rattle.cbor_diag.specs.View.{view};
 ghost use Rattle.cbor_diag.specs.Reading.{break_at};
 ghost use Rattle.cbor_diag.specs.Counting.{put, end_at, wanted_end, width_of, closed, opened};
-ghost use Rattle.cbor_diag.specs.Stack.{wanted, frame};
+ghost use Rattle.cbor_diag.specs.Stack.{wanted, frame, HasRoom};
 
 use super::head::ItemHead;
 use crate::error::{Error, Result};
@@ -44,7 +44,11 @@ pub(super) enum Open {
 }
 
 /// For how many members room is made at once: no more than are claimed, than can be there, and than a few.
-fn room(count: u64, following: usize) -> usize {
+fn room(count: u64, following: usize) -> usize
+    ensures claimed { result ≤ count }
+    ensures there { result ≤ following }
+    ensures few { result ≤ ROOM }
+{
     let most = ROOM.min(following);
     if count < most as u64 {
         count as usize
@@ -92,6 +96,7 @@ impl Open {
     /// where the head opens no container. Room is made for members that can be there, and for few.
     pub(super) fn new(alloc: Global, head: ItemHead, following: usize) -> Result<Option<Open>>
         ensures opens { IfOk result (λ o. option_map frame o ≡ opened head) }
+        ensures room { IfOk result (λ o. IfSome o (λ container. HasRoom following container)) }
         ensures memory { IfErr result (λ e. (e ≡ Error.Memory) × IsSome (opened head)) }
     {
         let (key, value) = (None, None);
