@@ -4,11 +4,21 @@
 #[cfg(test)]
 mod bytes;
 #[cfg(test)]
+mod calls;
+#[cfg(test)]
+mod ends;
+#[cfg(test)]
+mod forms;
+#[cfg(test)]
 mod hex_text;
 #[cfg(test)]
 mod hostile;
 #[cfg(test)]
 mod items;
+#[cfg(test)]
+mod levels;
+#[cfg(test)]
+mod lines;
 #[cfg(test)]
 mod make;
 #[cfg(test)]
@@ -16,17 +26,9 @@ mod malformed;
 #[cfg(test)]
 mod notation;
 #[cfg(test)]
-mod notation_lines;
-#[cfg(test)]
-mod notation_written;
-#[cfg(test)]
-mod printed;
-#[cfg(test)]
 mod readme;
 #[cfg(test)]
 mod refusals;
-#[cfg(test)]
-mod refused_memory;
 #[cfg(test)]
 mod samples;
 #[cfg(test)]

@@ -1,137 +1,120 @@
 // What is cut, and what no item begins with.
 
-use cbor_diag::{DataItem, Error, parse_bytes, parse_bytes_partial};
+use crate::calls::{bytes_of, read, read_front};
+use cbor_diag::Error;
 use std::alloc::Global;
 use std::process::Abort;
 use std::test::Fail;
 
-fn is_cut(rt: &impl Abort, alloc: Global, bytes: &[u8]) -> Result<(), Error> {
-    assert_eq!(rt; parse_bytes_partial(alloc, bytes)?, None, "at {bytes:?}");
-    assert_eq!(rt;
-        parse_bytes(alloc, bytes).err(),
-        Some(Error::CutShort),
-        "at {bytes:?}"
-    );
+/// Bytes that end before their item does, in hex.
+const CUT: &[&str] = &[
+    "",
+    "18",
+    "d8207368747470733a2f2f6578616d706c652e636f",
+    "a101",
+    "8201",
+    "828101",
+    "5f58",
+    "5f410141",
+    "f8",
+    "fb00",
+    "62c3",
+    // too few bytes are a cut, whatever they are
+    "63ff",
+    "7f62ff",
+    // a cut in the first member, and what would be a fault never comes
+    "8262ff",
+    // a claimed count is not believed
+    "9bffffffffffffffff",
+    "bbffffffffffffffff",
+    "9affffffff01",
+];
+
+/// Strings that claim more bytes than there are.
+const CLAIMED: [&[u8]; 3] = [
+    b"\x5b\x20\x00\x00\x00\x00\x00\x00\x00",
+    b"\x7b\x20\x00\x00\x00\x00\x00\x00\x00",
+    b"\x5a\x40\x00\x00\x00\x01",
+];
+
+/// Bytes that no item begins with, in hex, and why.
+const FAULTS: &[(&str, Error)] = &[
+    // heads that mean nothing
+    ("1c", Error::Head),
+    ("1f", Error::Head),
+    ("3f", Error::Head),
+    ("df", Error::Head),
+    ("fc", Error::Head),
+    ("ff", Error::Head),
+    ("811c", Error::Head),
+    // breaks that end nothing
+    ("c1ff", Error::Head),
+    ("a101ff", Error::Head),
+    ("bf01ff", Error::Head),
+    ("bf010203ff", Error::Head),
+    ("9f8201ff", Error::Head),
+    ("9f8201ffff", Error::Head),
+    // chunks of another kind
+    ("5f01", Error::Head),
+    ("5f41016161ff", Error::Head),
+    ("5f5fffff", Error::Head),
+    ("5f5c", Error::Head),
+    ("7f41", Error::Head),
+    ("7f4100ff", Error::Head),
+    // the first byte decides, before more of its head is there
+    ("5f78", Error::Head),
+    // texts are UTF-8, each by itself
+    ("61ff", Error::Utf8),
+    ("62c328", Error::Utf8),
+    ("7f61c3", Error::Utf8),
+    ("7f61c361a9ff", Error::Utf8),
+    // a surrogate, which is no character
+    ("63eda080", Error::Utf8),
+    // a fault in the first member, and a cut after it
+    ("8261ff", Error::Utf8),
+    // a fault in the second member
+    ("83011c61", Error::Head),
+];
+
+/// Bytes end before their item does.
+fn check_cut(rt: &impl Abort, alloc: Global, bytes: &[u8]) {
+    assert_eq!(rt; read_front(alloc, bytes), Ok(None), "on {bytes:?}");
+    let whole = read(alloc, bytes);
+    assert_eq!(rt; whole, Err(Error::CutShort), "on {bytes:?}");
+}
+
+/// No item begins with these bytes, whatever follows them.
+fn check_fault(rt: &impl Abort, alloc: Global, digits: &str, fault: Error) -> Result<(), Fail> {
+    for more in ["", "00", "ff"] {
+        let longer = format!(in alloc; "{digits}{more}")?;
+        let bytes = bytes_of(alloc, longer.as_str())?;
+        let front = read_front(alloc, &bytes);
+        assert_eq!(rt; front, Err(fault), "on {digits}{more}");
+        assert_eq!(rt; read(alloc, &bytes), Err(fault), "on {digits}{more}");
+    }
     Ok(())
 }
 
-fn has_fault(rt: &impl Abort, alloc: Global, bytes: &[u8], fault: Error) {
-    assert_eq!(rt;
-        parse_bytes_partial(alloc, bytes).err(),
-        Some(fault),
-        "at {bytes:?}"
-    );
-    assert_eq!(rt;
-        parse_bytes(alloc, bytes).err(),
-        Some(fault),
-        "at {bytes:?}"
-    );
-}
-
 #[test]
-fn nothing_is_cut(rt: HostRuntime) -> Result<(), Fail> {
-    is_cut(&rt, rt.alloc(), b"")?;
+fn inputs_that_end_too_soon_are_cut(rt: HostRuntime) -> Result<(), Fail> {
+    for digits in CUT {
+        check_cut(&rt, rt.alloc(), &bytes_of(rt.alloc(), digits)?);
+    }
     Ok(())
 }
 
 // `compare/failing_calls` sees that no request for memory is made here.
 #[test]
-fn a_claimed_length_takes_no_memory(rt: HostRuntime) -> Result<(), Fail> {
-    let alloc = rt.alloc();
-    is_cut(&rt, alloc, b"\x5b\x20\x00\x00\x00\x00\x00\x00\x00")?;
-    is_cut(&rt, alloc, b"\x7b\x20\x00\x00\x00\x00\x00\x00\x00")?;
-    is_cut(&rt, alloc, b"\x5a\x40\x00\x00\x00\x01")?;
-    Ok(())
-}
-
-// An open container takes a place on the stack, and room for members that may be there.
-#[test]
-fn a_claimed_count_is_not_believed(rt: HostRuntime) -> Result<(), Fail> {
-    let alloc = rt.alloc();
-    is_cut(&rt, alloc, b"\x9b\xff\xff\xff\xff\xff\xff\xff\xff")?;
-    is_cut(&rt, alloc, b"\xbb\xff\xff\xff\xff\xff\xff\xff\xff")?;
-    is_cut(&rt, alloc, b"\x9a\xff\xff\xff\xff\x01")?;
-    Ok(())
+fn a_claimed_length_takes_no_memory(rt: HostRuntime) {
+    for bytes in CLAIMED {
+        check_cut(&rt, rt.alloc(), bytes);
+    }
 }
 
 #[test]
-fn parts_that_lack_are_a_cut(rt: HostRuntime) -> Result<(), Fail> {
-    let alloc = rt.alloc();
-    is_cut(&rt, alloc, b"\xd8\x20\x73https://example.co")?;
-    is_cut(&rt, alloc, b"\xa1\x01")?;
-    is_cut(&rt, alloc, b"\x82\x01")?;
-    is_cut(&rt, alloc, b"\x5f\x58")?;
-    is_cut(&rt, alloc, b"\xf8")?;
-    is_cut(&rt, alloc, b"\xfb\x00")?;
-    is_cut(&rt, alloc, b"\x62\xc3")?;
-    // too few bytes are a cut, whatever they are
-    is_cut(&rt, alloc, b"\x63\xff")?;
-    is_cut(&rt, alloc, b"\x7f\x62\xff")?;
-    Ok(())
-}
-
-#[test]
-fn heads_that_mean_nothing_are_faults(rt: HostRuntime) -> Result<(), Fail> {
-    let alloc = rt.alloc();
-    has_fault(&rt, alloc, b"\x1c", Error::Head);
-    has_fault(&rt, alloc, b"\x1f", Error::Head);
-    has_fault(&rt, alloc, b"\x3f", Error::Head);
-    has_fault(&rt, alloc, b"\xdf", Error::Head);
-    has_fault(&rt, alloc, b"\xfc", Error::Head);
-    has_fault(&rt, alloc, b"\xff", Error::Head);
-    has_fault(&rt, alloc, b"\x81\x1c", Error::Head);
-    Ok(())
-}
-
-#[test]
-fn breaks_that_end_nothing_are_faults(rt: HostRuntime) -> Result<(), Fail> {
-    let alloc = rt.alloc();
-    has_fault(&rt, alloc, b"\xc1\xff", Error::Head);
-    has_fault(&rt, alloc, b"\xa1\x01\xff", Error::Head);
-    has_fault(&rt, alloc, b"\xbf\x01\xff", Error::Head);
-    has_fault(&rt, alloc, b"\xbf\x01\x02\x03\xff", Error::Head);
-    has_fault(&rt, alloc, b"\x9f\x82\x01\xff\xff", Error::Head);
-    Ok(())
-}
-
-#[test]
-fn chunks_of_another_kind_are_faults(rt: HostRuntime) -> Result<(), Fail> {
-    let alloc = rt.alloc();
-    has_fault(&rt, alloc, b"\x5f\x01", Error::Head);
-    has_fault(&rt, alloc, b"\x5f\x41\x01\x61\x61\xff", Error::Head);
-    has_fault(&rt, alloc, b"\x5f\x5f\xff\xff", Error::Head);
-    has_fault(&rt, alloc, b"\x5f\x5c", Error::Head);
-    has_fault(&rt, alloc, b"\x7f\x41\x00\xff", Error::Head);
-    // the first byte decides, before more of its head is there
-    has_fault(&rt, alloc, b"\x5f\x78", Error::Head);
-    Ok(())
-}
-
-#[test]
-fn texts_are_utf8_each_by_itself(rt: HostRuntime) -> Result<(), Fail> {
-    let alloc = rt.alloc();
-    has_fault(&rt, alloc, b"\x61\xff", Error::Utf8);
-    has_fault(&rt, alloc, b"\x62\xc3\x28", Error::Utf8);
-    has_fault(&rt, alloc, b"\x7f\x61\xc3\x61\xa9\xff", Error::Utf8);
-    // a surrogate, which is no character
-    has_fault(&rt, alloc, b"\x63\xed\xa0\x80", Error::Utf8);
-    let (item, used) = parse_bytes_partial(alloc, b"\x62\xc3\xa9")?.ok_or("nothing read")?;
-    assert_eq!(rt; used, 3);
-    let DataItem::TextString(text) = item else {
-        return Err(Fail::from("no text"));
-    };
-    assert_eq!(rt; text.content.as_str(), "é");
-    Ok(())
-}
-
-#[test]
-fn the_first_fault_counts(rt: HostRuntime) -> Result<(), Fail> {
-    let alloc = rt.alloc();
-    // in the first member, and a cut behind it
-    has_fault(&rt, alloc, b"\x82\x61\xff", Error::Utf8);
-    // a cut in the first member, and what would be a fault never comes
-    is_cut(&rt, alloc, b"\x82\x62\xff")?;
-    // a fault in the second member
-    has_fault(&rt, alloc, b"\x83\x01\x1c\x61", Error::Head);
+fn faults_are_found_whatever_follows(rt: HostRuntime) -> Result<(), Fail> {
+    for (digits, fault) in FAULTS {
+        check_fault(&rt, rt.alloc(), digits, *fault)?;
+    }
     Ok(())
 }

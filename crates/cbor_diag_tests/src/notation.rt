@@ -1,11 +1,10 @@
 // Items read from diagnostic notation.
 
-use crate::make::{bytes, empty_array, empty_map, float, integer, negative, tagged, text};
-use cbor_diag::{DataItem, Error, FloatWidth, IntegerWidth, Simple, parse_diag};
-use std::alloc::Global;
+use crate::calls::{digits_of, fields, item_told, read_diag};
+use cbor_diag::Error;
 use std::test::Fail;
 
-// Texts, and the item that each is, in hex.
+/// Texts, and the bytes of the item that each is, in hex.
 const READ: &[(&str, &str)] = &[
     ("/x/ 1 //", "01"),
     ("0x18", "1818"),
@@ -75,8 +74,8 @@ const READ: &[(&str, &str)] = &[
     ("float'3C00'", "f93c00"),
 ];
 
-// Texts that are no item.
-const REFUSED: &[&str] = &[
+/// Texts that are no item.
+const NO_ITEMS: &[&str] = &[
     "",
     "/x",
     "1_4",
@@ -128,166 +127,196 @@ const REFUSED: &[&str] = &[
     "nul",
 ];
 
+/// Texts that are refused for another reason.
+const REFUSED: &[(&str, Error)] = &[
+    ("300_0", Error::PastWidth),
+    ("-257_0", Error::PastWidth),
+    ("256_0(1)", Error::PastWidth),
+    ("\"a\" h'ff'", Error::Utf8),
+    ("[\"a\" h'c3' \"b\"]", Error::Utf8),
+];
+
+/// Texts, and the fields of the item that each is.
+const FIELDS: &[(&str, &str)] = &[
+    // of a number or a tag the width that it states, else none up to 23 and above that an open one
+    ("23", "Integer { value: 23, bitwidth: Zero }"),
+    ("24", "Integer { value: 24, bitwidth: Unknown }"),
+    ("1_0", "Integer { value: 1, bitwidth: Eight }"),
+    ("1_00", "Integer { value: 1, bitwidth: Eight }"),
+    ("1_2", "Integer { value: 1, bitwidth: ThirtyTwo }"),
+    ("1_3", "Integer { value: 1, bitwidth: SixtyFour }"),
+    ("24_0", "Integer { value: 24, bitwidth: Eight }"),
+    ("0x18", "Integer { value: 24, bitwidth: Unknown }"),
+    ("0o30", "Integer { value: 24, bitwidth: Unknown }"),
+    ("0b11_1", "Integer { value: 3, bitwidth: Sixteen }"),
+    ("/x/ 1 //", "Integer { value: 1, bitwidth: Zero }"),
+    ("-24", "Negative { value: 23, bitwidth: Zero }"),
+    ("-0x18", "Negative { value: 23, bitwidth: Zero }"),
+    ("-25", "Negative { value: 24, bitwidth: Unknown }"),
+    ("-256_0", "Negative { value: 255, bitwidth: Eight }"),
+    (
+        "23(0)",
+        "Tag { tag: Tag(23), bitwidth: Zero, value: Integer { value: 0, bitwidth: Zero } }",
+    ),
+    (
+        "24(0)",
+        "Tag { tag: Tag(24), bitwidth: Unknown, value: Integer { value: 0, bitwidth: Zero } }",
+    ),
+    (
+        "0_0(24)",
+        "Tag { tag: Tag(0), bitwidth: Eight, value: Integer { value: 24, bitwidth: Unknown } }",
+    ),
+    (
+        "32(\"https://example.com\")",
+        "Tag { tag: Tag(32), bitwidth: Unknown, \
+         value: TextString(TextString { content: \"https://example.com\", bitwidth: Unknown }) }",
+    ),
+    // of a string an open one, of chunks too
+    (
+        "h''",
+        "ByteString(ByteString { content: [], bitwidth: Unknown })",
+    ),
+    (
+        "<<1>>",
+        "ByteString(ByteString { content: [1], bitwidth: Unknown })",
+    ),
+    (
+        "<<1, >>",
+        "ByteString(ByteString { content: [1], bitwidth: Unknown })",
+    ),
+    (
+        "h'01 '",
+        "ByteString(ByteString { content: [1], bitwidth: Unknown })",
+    ),
+    (
+        "h'01' 'a'",
+        "ByteString(ByteString { content: [1, 97], bitwidth: Unknown })",
+    ),
+    (
+        "b64'AA//AA//'",
+        "ByteString(ByteString { content: [0, 15, 255, 0, 15, 255], bitwidth: Unknown })",
+    ),
+    (
+        "b32'MZXW6==='",
+        "ByteString(ByteString { content: [102, 111, 111], bitwidth: Unknown })",
+    ),
+    (
+        "h32'CPNMU==='",
+        "ByteString(ByteString { content: [102, 111, 111], bitwidth: Unknown })",
+    ),
+    (
+        "\"a\" h'62'",
+        "TextString(TextString { content: \"ab\", bitwidth: Unknown })",
+    ),
+    (
+        "(_ h'01' 'a')",
+        "IndefiniteByteString([ByteString { content: [1, 97], bitwidth: Unknown }])",
+    ),
+    (
+        "(_ \"ab\")",
+        "IndefiniteTextString([TextString { content: \"ab\", bitwidth: Unknown }])",
+    ),
+    (
+        "(_ \"a\" h'62')",
+        "IndefiniteTextString([TextString { content: \"ab\", bitwidth: Unknown }])",
+    ),
+    ("(_)", "IndefiniteByteString([])"),
+    ("(_ )", "IndefiniteByteString([])"),
+    ("''_", "IndefiniteByteString([])"),
+    ("/x/''_", "IndefiniteByteString([])"),
+    ("\"\"_", "IndefiniteTextString([])"),
+    ("\"\"_ ", "IndefiniteTextString([])"),
+    // of an array or a map an open one, unless its length is indefinite
+    ("[]", "Array { content: [], bitwidth: Some(Unknown) }"),
+    ("[, ]", "Array { content: [], bitwidth: Some(Unknown) }"),
+    (
+        "[1, ]",
+        "Array { content: [Integer { value: 1, bitwidth: Zero }], bitwidth: Some(Unknown) }",
+    ),
+    ("[_]", "Array { content: [], bitwidth: None }"),
+    ("{}", "Map { content: [], bitwidth: Some(Unknown) }"),
+    ("{_}", "Map { content: [], bitwidth: None }"),
+    // of a float that of its digits
+    ("float'3c00'", "Float { bits: 15360, bitwidth: Sixteen }"),
+    ("float'3C00'", "Float { bits: 15360, bitwidth: Sixteen }"),
+    (
+        "float'00003c00'",
+        "Float { bits: 15360, bitwidth: ThirtyTwo }",
+    ),
+    (
+        "float'0000000000003c00'",
+        "Float { bits: 15360, bitwidth: SixtyFour }",
+    ),
+    ("simple(20)", "Simple(Simple(20))"),
+    ("simple(255)", "Simple(Simple(255))"),
+    // a sequence on several lines
+    (
+        "63_0(<<
+    1,
+    1,
+    1,
+    1,
+    1,
+    1,
+    1,
+    1,
+    1,
+    1,
+    1,
+    1,
+    1,
+    1,
+    1,
+    1,
+    1,
+    1,
+    1,
+    1,
+    1,
+    1,
+    1,
+    1,
+    1,
+    1,
+    1,
+    1,
+    1,
+    1,
+>>)",
+        "Tag { tag: Tag(63), bitwidth: Eight, value: ByteString(ByteString { \
+         content: [1, 1, 1, 1, 1, 1, 1, 1, 1, 1, 1, 1, 1, 1, 1, 1, 1, 1, 1, 1, 1, 1, 1, 1, 1, 1, 1, 1, 1, 1], \
+         bitwidth: Unknown }) }",
+    ),
+];
+
 #[test]
-fn texts_are_items(rt: HostRuntime) -> Result<(), Fail> {
+fn texts_are_items_of_these_bytes(rt: HostRuntime) -> Result<(), Fail> {
     let alloc = rt.alloc();
-    for (text, hex) in READ {
-        let item = parse_diag(alloc, *text)?;
-        let expected = hex::decode(alloc, *hex)?;
-        assert_eq!(rt; item.to_bytes(alloc)?, expected, "{text}");
+    for (text, digits) in READ {
+        let found = digits_of(alloc, &item_told(alloc, text)?)?;
+        assert_eq!(rt; found.as_str(), *digits, "on {text}");
     }
     Ok(())
 }
 
 #[test]
-fn texts_are_no_items(rt: HostRuntime) -> Result<(), Fail> {
-    for text in REFUSED {
-        assert_eq!(rt;
-            parse_diag(rt.alloc(), *text).err(),
-            Some(Error::Notation),
-            "{text}"
-        );
-    }
-    Ok(())
-}
-
-#[test]
-fn refusals_have_their_reasons(rt: HostRuntime) -> Result<(), Fail> {
-    let rows = [
-        ("300_0", Error::PastWidth),
-        ("-257_0", Error::PastWidth),
-        ("256_0(1)", Error::PastWidth),
-        ("\"a\" h'ff'", Error::Utf8),
-        ("[\"a\" h'c3' \"b\"]", Error::Utf8),
-    ];
-    for (text, error) in rows {
-        assert_eq!(rt; parse_diag(rt.alloc(), text).err(), Some(error), "{text}");
-    }
-    Ok(())
-}
-
-// The width that a number or a tag states, else none up to 23 and above that an open one.
-#[test]
-fn widths_of_numbers(rt: HostRuntime) -> Result<(), Fail> {
+fn texts_are_items_of_these_fields(rt: HostRuntime) -> Result<(), Fail> {
     let alloc = rt.alloc();
-    let (open, zero) = (IntegerWidth::Unknown, IntegerWidth::Zero);
-    let eight = IntegerWidth::Eight;
-    let rows = [
-        ("23", integer(23, zero)),
-        ("24", integer(24, open)),
-        ("1_0", integer(1, eight)),
-        ("24_0", integer(24, eight)),
-        ("0x18", integer(24, open)),
-        ("0o30", integer(24, open)),
-        ("0b11_1", integer(3, IntegerWidth::Sixteen)),
-        ("-24", negative(23, zero)),
-        ("-0x18", negative(23, zero)),
-        ("-25", negative(24, open)),
-        ("-256_0", negative(255, eight)),
-        ("23(0)", tagged(alloc, 23, zero, integer(0, zero))?),
-        ("24(0)", tagged(alloc, 24, open, integer(0, zero))?),
-        ("0_0(24)", tagged(alloc, 0, eight, integer(24, open))?),
-    ];
-    for (notation, item) in rows {
-        assert_eq!(rt; parse_diag(alloc, notation)?, item, "{notation}");
+    for (text, shown) in FIELDS {
+        let item = fields(alloc, &item_told(alloc, text)?)?;
+        assert_eq!(rt; item.as_str(), *shown, "on {text}");
     }
     Ok(())
-}
-
-// An open one, of chunks too.
-#[test]
-fn widths_of_strings(rt: HostRuntime) -> Result<(), Fail> {
-    let alloc = rt.alloc();
-    let open = IntegerWidth::Unknown;
-    let none = DataItem::ByteString(bytes(alloc, b"", open)?);
-    let one = DataItem::ByteString(bytes(alloc, b"\x01", open)?);
-    let two = DataItem::ByteString(bytes(alloc, b"\x01a", open)?);
-    let joined = DataItem::TextString(text(alloc, "ab", open)?);
-    let uri = DataItem::TextString(text(alloc, "https://example.com", open)?);
-    let byte_chunks = vec![in alloc; bytes(alloc, b"\x01a", open)?]?;
-    let text_chunks = vec![in alloc; text(alloc, "ab", open)?]?;
-    let rows = [
-        ("h''", none),
-        ("<<1>>", one),
-        ("h'01' 'a'", two),
-        ("\"a\" h'62'", joined),
-        ("32(\"https://example.com\")", tagged(alloc, 32, open, uri)?),
-        ("(_ h'01' 'a')", DataItem::IndefiniteByteString(byte_chunks)),
-        ("(_ \"ab\")", DataItem::IndefiniteTextString(text_chunks)),
-        ("''_", DataItem::IndefiniteByteString(Vec::new(alloc))),
-        ("(_)", DataItem::IndefiniteByteString(Vec::new(alloc))),
-        ("\"\"_", DataItem::IndefiniteTextString(Vec::new(alloc))),
-    ];
-    for (notation, item) in rows {
-        assert_eq!(rt; parse_diag(alloc, notation)?, item, "{notation}");
-    }
-    Ok(())
-}
-
-// An open one of arrays and maps, unless their length is indefinite; of a float that of its digits.
-#[test]
-fn widths_of_other_items(rt: HostRuntime) -> Result<(), Fail> {
-    let alloc = rt.alloc();
-    let open = Some(IntegerWidth::Unknown);
-    let rows = [
-        ("[]", empty_array(alloc, open)),
-        ("[_]", empty_array(alloc, None)),
-        ("{}", empty_map(alloc, open)),
-        ("{_}", empty_map(alloc, None)),
-        ("float'3c00'", float(0x3c00, FloatWidth::Sixteen)),
-        ("float'00003c00'", float(0x3c00, FloatWidth::ThirtyTwo)),
-        (
-            "float'0000000000003c00'",
-            float(0x3c00, FloatWidth::SixtyFour),
-        ),
-        ("simple(20)", DataItem::Simple(Simple::FALSE)),
-    ];
-    for (notation, item) in rows {
-        assert_eq!(rt; parse_diag(alloc, notation)?, item, "{notation}");
-    }
-    Ok(())
-}
-
-// So many times the opening, the middle, and so many times the close.
-fn nested(
-    alloc: Global,
-    count: usize,
-    open: &str,
-    middle: &str,
-    close: &str,
-) -> Result<String, Fail> {
-    let mut text = String::new(alloc);
-    for _ in 0..count {
-        text.push_str(open)?;
-    }
-    text.push_str(middle)?;
-    for _ in 0..count {
-        text.push_str(close)?;
-    }
-    Ok(text)
 }
 
 #[test]
-fn levels_are_128(rt: HostRuntime) -> Result<(), Fail> {
-    let rows = [
-        (128, "[", "", "]", None),
-        (129, "[", "", "]", Some(Error::TooDeep)),
-        (128, "[", "1", "]", Some(Error::TooDeep)),
-        (127, "[", "1", "]", None),
-        (63, "24(<<", "1", ">>)", None),
-        (64, "24(<<", "1", ">>)", Some(Error::TooDeep)),
-        (64, "24(<<", "", ">>)", None),
-        (127, "[", "(_ h'01')", "]", None),
-        (127, "[", "(_<<1>>)", "]", Some(Error::TooDeep)),
-        (200_000, "[", "", "", Some(Error::TooDeep)),
-    ];
-    for (count, open, middle, close, error) in rows {
-        let text = nested(rt.alloc(), count, open, middle, close)?;
-        assert_eq!(rt;
-            parse_diag(rt.alloc(), &text).err(),
-            error,
-            "{count} {open}"
-        );
+fn what_is_no_notation_is_refused(rt: HostRuntime) {
+    for text in NO_ITEMS {
+        let item = read_diag(rt.alloc(), text);
+        assert_eq!(rt; item, Err(Error::Notation), "on {text}");
     }
-    Ok(())
+    for (text, refusal) in REFUSED {
+        let item = read_diag(rt.alloc(), text);
+        assert_eq!(rt; item, Err(*refusal), "on {text}");
+    }
 }

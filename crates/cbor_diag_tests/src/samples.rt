@@ -169,12 +169,12 @@ d8 45      # typed array of u16, little endian, tag(69)
     },
 ];
 
-/// The bytes of 64 tags 24, each in the bytes of the one before it, and in the innermost a 1.
-pub(crate) fn deep_bytes(alloc: Global) -> Result<Vec<u8>, AllocError> {
+/// The bytes of as many tags 24, each in the bytes of the one before it, and in the innermost a 1.
+pub(crate) fn embedded_bytes(alloc: Global, count: usize) -> Result<Vec<u8>, AllocError> {
     let mut bytes = Vec::from_slice(alloc, b"\x01")?;
-    for _ in 0..64 {
+    for _ in 0..count {
         let mut outer = Vec::from_slice(alloc, b"\xd8\x18")?;
-        // the greatest has 245 bytes
+        // that in 64 tags has 245 bytes
         let len = bytes.len().min(255) as u8;
         if len < 24 {
             outer.push(0x40 + len)?;
@@ -187,15 +187,12 @@ pub(crate) fn deep_bytes(alloc: Global) -> Result<Vec<u8>, AllocError> {
     Ok(bytes)
 }
 
-/// Their text: of 64 levels of embedding the innermost has no room for an item, and shows its bytes.
-pub(crate) fn deep_text(alloc: Global) -> Result<String, AllocError> {
-    let mut text = String::new(alloc);
-    for _ in 0..63 {
-        text.push_str("24_0(<<")?;
-    }
-    text.push_str("24_0(h'01')")?;
-    for _ in 0..63 {
-        text.push_str(">>)")?;
-    }
+/// Their text. There is room for 63 levels of embedding: the innermost of 64 tags shows its bytes.
+pub(crate) fn embedded_text(alloc: Global, count: usize) -> Result<String, AllocError> {
+    let shown = count.min(63);
+    let innermost = if count == shown { "1" } else { "24_0(h'01')" };
+    let mut text = "24_0(<<".repeat(alloc, shown)?;
+    text.push_str(innermost)?;
+    text.push_str(">>)".repeat(alloc, shown)?.as_str())?;
     Ok(text)
 }

@@ -1,11 +1,12 @@
 // Carried texts that try to break a line of the dump, or to begin a comment, in every place where a dump
 // shows a text.
 
-use crate::dumped::{check_lines, dump_of};
-use cbor_diag::parse_diag;
+use crate::dumped::{check_lines, dump_told};
+use std::alloc::Global;
+use std::process::Abort;
 use std::test::Fail;
 
-const CARRIED: [&str; 11] = [
+const CARRIED: &[&str] = &[
     "#",
     "\n",
     "\r",
@@ -19,8 +20,8 @@ const CARRIED: [&str; 11] = [
     "a:#\n\r\u{85}\u{2028}#",
 ];
 
-/// What stands before and after a text in notation, and how many lines the dump has.
-const PLACES: [(&str, &str, usize); 36] = [
+/// What is before and after a text in notation, and how many lines the dump has.
+const PLACES: &[(&str, &str, usize)] = &[
     ("\"", "\"", 2),
     ("[\"", "\"]", 3),
     ("{\"", "\": 1}", 4),
@@ -71,38 +72,41 @@ const PLACES: [(&str, &str, usize); 36] = [
     ("63(<<\"", "\">> h'ff')", 8),
 ];
 
-#[test]
-fn carried_texts_stay_in_their_lines(rt: HostRuntime) -> Result<(), Fail> {
-    let alloc = rt.alloc();
-    for (before, after, count) in PLACES {
-        for carried in CARRIED {
-            let notation = format!(in alloc; "{before}{carried}{after}")?;
-            let dump = dump_of(&rt, alloc, &parse_diag(alloc, notation.as_str())?)?;
-            check_lines(&rt, dump.as_str(), count);
-        }
+/// Base 64 and bytes that are shown in lines of their own, in notation, and how many lines the dump has.
+const BYTES: &[(&str, usize)] = &[
+    // the last of the carried texts
+    ("33(\"YTojCg3CheKAqCM\")", 5),
+    ("34(\"YTojCg3CheKAqCM=\")", 5),
+    // sixteen line feeds, and `#`, line feeds and carriage returns
+    ("34(\"CgoKCgoKCgoKCgoKCgoKCg==\")", 5),
+    ("37(h'0a0a0a0a0a0a0a0a0a0a0a0a0a0a0a0a')", 7),
+    ("37(h'230a0d230a0d230a0d230a0d230a0d23')", 7),
+    ("260(h'230a0d23')", 4),
+    ("260(h'230a0d230a0d')", 4),
+    ("64(h'230a0d')", 5),
+];
+
+fn check_carried(
+    rt: &impl Abort,
+    alloc: Global,
+    (before, after, count): (&str, &str, usize),
+) -> Result<(), Fail> {
+    for carried in CARRIED {
+        let notation = format!(in alloc; "{before}{carried}{after}")?;
+        let dump = dump_told(rt, alloc, notation.as_str())?;
+        check_lines(rt, dump.as_str(), count);
     }
     Ok(())
 }
 
-// What base 64 and a UUID hold are bytes that are shown in lines of their own.
 #[test]
-fn carried_bytes_stay_in_their_lines(rt: HostRuntime) -> Result<(), Fail> {
-    let alloc = rt.alloc();
-    let rows = [
-        // the last of the carried texts
-        ("33(\"YTojCg3CheKAqCM\")", 5),
-        ("34(\"YTojCg3CheKAqCM=\")", 5),
-        // sixteen line feeds, and `#`, line feeds and carriage returns
-        ("34(\"CgoKCgoKCgoKCgoKCgoKCg==\")", 5),
-        ("37(h'0a0a0a0a0a0a0a0a0a0a0a0a0a0a0a0a')", 7),
-        ("37(h'230a0d230a0d230a0d230a0d230a0d23')", 7),
-        ("260(h'230a0d23')", 4),
-        ("260(h'230a0d230a0d')", 4),
-        ("64(h'230a0d')", 5),
-    ];
-    for (notation, count) in rows {
-        let dump = dump_of(&rt, alloc, &parse_diag(alloc, notation)?)?;
-        check_lines(&rt, dump.as_str(), count);
+fn carried_texts_and_bytes_stay_in_their_lines(rt: HostRuntime) -> Result<(), Fail> {
+    for place in PLACES {
+        check_carried(&rt, rt.alloc(), *place)?;
+    }
+    for (notation, count) in BYTES {
+        let dump = dump_told(&rt, rt.alloc(), notation)?;
+        check_lines(&rt, dump.as_str(), *count);
     }
     Ok(())
 }
