@@ -1,8 +1,7 @@
 // Items that bytes are read as. Examples of RFC 7049 appendix A say so beside them.
 
-use crate::calls::{fields, item_of};
+use crate::calls::{View, check, of_bytes};
 use crate::ends::check_ends;
-use std::test::Fail;
 
 /// Bytes in hex, and the fields of the item that they are.
 const ITEMS: &[(&str, &str)] = &[
@@ -78,7 +77,10 @@ const ITEMS: &[(&str, &str)] = &[
     ),
     // RFC 7049 appendix A: 1.0, 100000.0, 1.1 and simple(255)
     ("f93c00", "Float { bits: 15360, bitwidth: Sixteen }"),
-    ("fa47c35000", "Float { bits: 1203982336, bitwidth: ThirtyTwo }"),
+    (
+        "fa47c35000",
+        "Float { bits: 1203982336, bitwidth: ThirtyTwo }",
+    ),
     (
         "fb3ff199999999999a",
         "Float { bits: 4607632778762754458, bitwidth: SixtyFour }",
@@ -91,12 +93,14 @@ const ITEMS: &[(&str, &str)] = &[
 ];
 
 #[test]
-fn bytes_are_items_of_these_fields(rt: HostRuntime) -> Result<(), Fail> {
-    let alloc = rt.alloc();
+fn bytes_are_items_of_these_fields(rt: HostRuntime) {
     for (digits, shown) in ITEMS {
-        let item = fields(alloc, &item_of(alloc, digits)?)?;
-        assert_eq!(rt; item.as_str(), *shown, "on {digits}");
-        check_ends(&rt, alloc, digits)?;
+        check(
+            &rt,
+            of_bytes(rt.alloc(), View::Fields, digits),
+            shown,
+            digits,
+        );
+        check_ends(&rt, rt.alloc(), digits);
     }
-    Ok(())
 }

@@ -1,60 +1,49 @@
-// The calls of `cbor_diag` without their clauses: a test that made a call itself would bring all that is
-// proved of it into its own proof. A printer is called for items that are well formed, and else is a failure.
+// The calls of `cbor_diag` without their clauses, as texts that tests compare: a test that made a call itself would
+// bring all that is proved of it into its own proof, and one that had an item would have to prove that it is dropped.
+// The error is that of refused memory alone.
 
 use cbor_diag::{
-    DataItem, Error, Turns, parse_bytes, parse_bytes_counted, parse_bytes_partial, parse_diag,
-    parse_hex,
+    DataItem, Error, Result, Turns, parse_bytes, parse_bytes_counted, parse_bytes_partial,
+    parse_diag, parse_hex,
 };
 use std::alloc::Global;
-use std::test::Fail;
+use std::process::Abort;
 
-/// What bytes begin with, as `parse_bytes_partial` answers it.
-pub(crate) type Front = Result<Option<(DataItem, usize)>, Error>;
-
-pub(crate) fn read(alloc: Global, bytes: &[u8]) -> Result<DataItem, Error> {
-    parse_bytes(alloc, bytes)
+/// What a test looks at of an item.
+#[derive(Clone, Copy)]
+pub(crate) enum View {
+    /// Its fields, widths among them, as `Debug` shows them.
+    Fields,
+    /// The fields of a clone.
+    Clone,
+    /// The bytes of `to_bytes`, in hex.
+    Bytes,
+    /// The dump.
+    Dump,
+    /// The compact text.
+    Compact,
+    /// The pretty text.
+    Pretty,
 }
 
-pub(crate) fn read_front(alloc: Global, bytes: &[u8]) -> Front {
-    parse_bytes_partial(alloc, bytes)
-}
-
-/// The same, with how many turns it took.
-pub(crate) fn read_counted(alloc: Global, bytes: &[u8]) -> (Front, u128) {
-    let mut turns = Turns::new();
-    let front = parse_bytes_counted(alloc, bytes, &mut turns);
-    (front, turns.count())
-}
-
-pub(crate) fn read_hex(alloc: Global, text: &str) -> Result<DataItem, Error> {
-    parse_hex(alloc, text)
-}
-
-pub(crate) fn read_diag(alloc: Global, text: &str) -> Result<DataItem, Error> {
-    parse_diag(alloc, text)
-}
-
-/// The bytes that hex digits are.
-pub(crate) fn bytes_of(alloc: Global, digits: &str) -> Result<Vec<u8>, Fail> {
-    match hex::decode(alloc, digits) {
-        Ok(bytes) => Ok(bytes),
-        Err(error) => Err(Fail::new(format_args!("{digits:?} is no hex: {error:?}"))),
+/// Two texts are the same.
+pub(crate) fn check(rt: &impl Abort, found: Result<String>, expected: &str, on: &str) {
+    match found {
+        Ok(found) => assert_eq!(rt; found.as_str(), expected, "on {on}"),
+        Err(error) => panic!(rt; "{error:?} on {on}"),
     }
 }
 
-/// The item that hex digits are.
-pub(crate) fn item_of(alloc: Global, digits: &str) -> Result<DataItem, Fail> {
-    match parse_hex(alloc, digits) {
-        Ok(item) => Ok(item),
-        Err(error) => Err(Fail::new(format_args!("{digits:?} is no item: {error:?}"))),
-    }
-}
-
-/// The item that a text in notation is.
-pub(crate) fn item_told(alloc: Global, text: &str) -> Result<DataItem, Fail> {
-    match parse_diag(alloc, text) {
-        Ok(item) => Ok(item),
-        Err(error) => Err(Fail::new(format_args!("{text:?} is no item: {error:?}"))),
+/// The same of two that are made.
+pub(crate) fn check_same(
+    rt: &impl Abort,
+    found: Result<String>,
+    expected: Result<String>,
+    on: &str,
+) {
+    match expected {
+        Ok(expected) => check(rt, found, expected.as_str(), on),
+        Err(error) => panic!(rt; "{error:?} on {on}"),
     }
 }
 
@@ -63,52 +52,143 @@ pub(crate) fn fits(item: &DataItem) -> bool {
     item.is_well_formed()
 }
 
-fn not_well_formed(item: &DataItem) -> Fail {
-    Fail::new(format_args!("not well formed: {item:?}"))
+pub(crate) fn fields(alloc: Global, item: &DataItem) -> Result<String> {
+    Ok(format!(in alloc; "{item:?}")?)
 }
 
-/// The bytes of an item, in hex.
-pub(crate) fn digits_of(alloc: Global, item: &DataItem) -> Result<String, Fail> {
+fn cloned(alloc: Global, item: &DataItem) -> Result<String> {
+    fields(alloc, &item.clone(alloc)?)
+}
+
+fn not_well_formed(alloc: Global, item: &DataItem) -> Result<String> {
+    Ok(format!(in alloc; "not well formed: {item:?}")?)
+}
+
+fn written(alloc: Global, item: &DataItem) -> Result<String> {
     if !item.is_well_formed() {
-        return Err(not_well_formed(item));
+        return not_well_formed(alloc, item);
     }
     Ok(hex::encode(alloc, &item.to_bytes(alloc)?)?)
 }
 
-pub(crate) fn dump(alloc: Global, item: &DataItem) -> Result<String, Fail> {
+fn dump(alloc: Global, item: &DataItem) -> Result<String> {
     if !item.is_well_formed() {
-        return Err(not_well_formed(item));
+        return not_well_formed(alloc, item);
     }
-    Ok(item.to_hex(alloc)?)
+    item.to_hex(alloc)
 }
 
-pub(crate) fn compact(alloc: Global, item: &DataItem) -> Result<String, Fail> {
+fn compact(alloc: Global, item: &DataItem) -> Result<String> {
     if !item.is_well_formed() {
-        return Err(not_well_formed(item));
+        return not_well_formed(alloc, item);
     }
-    Ok(item.to_diag(alloc)?)
+    item.to_diag(alloc)
 }
 
-pub(crate) fn pretty(alloc: Global, item: &DataItem) -> Result<String, Fail> {
+fn pretty(alloc: Global, item: &DataItem) -> Result<String> {
     if !item.is_well_formed() {
-        return Err(not_well_formed(item));
+        return not_well_formed(alloc, item);
     }
-    Ok(item.to_diag_pretty(alloc)?)
+    item.to_diag_pretty(alloc)
 }
 
-/// An item with its fields, widths among them, as `Debug` shows it.
-pub(crate) fn fields(alloc: Global, item: &DataItem) -> Result<String, Fail> {
-    Ok(format!(in alloc; "{item:?}")?)
+/// What is seen of an item.
+pub(crate) fn seen(alloc: Global, view: View, item: &DataItem) -> Result<String> {
+    match view {
+        View::Fields => fields(alloc, item),
+        View::Clone => cloned(alloc, item),
+        View::Bytes => written(alloc, item),
+        View::Dump => dump(alloc, item),
+        View::Compact => compact(alloc, item),
+        View::Pretty => pretty(alloc, item),
+    }
 }
 
-/// A text, so many times another, and a text.
-pub(crate) fn repeated(
+/// What is seen of an item; or the name of the error, where there is none.
+pub(crate) fn seen_or_error(alloc: Global, view: View, item: Result<DataItem>) -> Result<String> {
+    match item {
+        Ok(item) => seen(alloc, view, &item),
+        Err(error) => Ok(format!(in alloc; "{error:?}")?),
+    }
+}
+
+/// What is seen of the item that hex with comments is.
+pub(crate) fn of_hex(alloc: Global, view: View, text: &str) -> Result<String> {
+    seen_or_error(alloc, view, parse_hex(alloc, text))
+}
+
+/// What is seen of the item that a text in notation is.
+pub(crate) fn of_diag(alloc: Global, view: View, text: &str) -> Result<String> {
+    seen_or_error(alloc, view, parse_diag(alloc, text))
+}
+
+/// The bytes that hex digits are.
+pub(crate) fn bytes_of(alloc: Global, digits: &str) -> Result<Vec<u8>> {
+    match hex::decode(alloc, digits) {
+        Ok(bytes) => Ok(bytes),
+        Err(hex::FromHexError::OutOfMemory) => Err(Error::Memory),
+        Err(_) => Err(Error::BadHex),
+    }
+}
+
+/// What is seen of the item that bytes in hex digits are.
+pub(crate) fn of_bytes(alloc: Global, view: View, digits: &str) -> Result<String> {
+    let bytes = bytes_of(alloc, digits)?;
+    seen_or_error(alloc, view, parse_bytes(alloc, &bytes))
+}
+
+pub(crate) fn read(alloc: Global, bytes: &[u8]) -> Result<DataItem> {
+    parse_bytes(alloc, bytes)
+}
+
+pub(crate) fn read_front(alloc: Global, bytes: &[u8]) -> Result<Option<(DataItem, usize)>> {
+    parse_bytes_partial(alloc, bytes)
+}
+
+/// The item that hex with comments is.
+pub(crate) fn item_of(alloc: Global, text: &str) -> Result<DataItem> {
+    parse_hex(alloc, text)
+}
+
+/// The item that a text in notation is.
+pub(crate) fn item_told(alloc: Global, text: &str) -> Result<DataItem> {
+    parse_diag(alloc, text)
+}
+
+/// How many bytes the item takes that bytes begin with, and its fields; that they are cut; or the name of the error.
+fn front_shown(alloc: Global, front: Result<Option<(DataItem, usize)>>) -> Result<String> {
+    match front {
+        Ok(Some((item, used))) => Ok(format!(in alloc; "{used}: {item:?}")?),
+        Ok(None) => Ok(String::from_str(alloc, "cut")?),
+        Err(error) => Ok(format!(in alloc; "{error:?}")?),
+    }
+}
+
+/// What `parse_bytes_partial` answers of bytes in hex digits.
+pub(crate) fn front_of(alloc: Global, digits: &str) -> Result<String> {
+    let bytes = bytes_of(alloc, digits)?;
+    front_shown(alloc, parse_bytes_partial(alloc, &bytes))
+}
+
+/// What `parse_bytes_counted` answers of bytes in hex digits, after the number of turns.
+pub(crate) fn turns_of(alloc: Global, digits: &str) -> Result<String> {
+    let bytes = bytes_of(alloc, digits)?;
+    let mut turns = Turns::new();
+    let front = parse_bytes_counted(alloc, &bytes, &mut turns);
+    let shown = front_shown(alloc, front)?;
+    Ok(format!(in alloc; "{} turns, {}", turns.count(), shown.as_str())?)
+}
+
+/// As many times a text, one more, and as many times another.
+pub(crate) fn nested(
     alloc: Global,
-    before: &str,
-    part: &str,
+    opening: &str,
     count: usize,
-    after: &str,
-) -> Result<String, Fail> {
-    let parts = part.repeat(alloc, count)?;
-    Ok(format!(in alloc; "{before}{parts}{after}")?)
+    middle: &str,
+    close: &str,
+) -> Result<String> {
+    let mut text = opening.repeat(alloc, count)?;
+    text.push_str(middle)?;
+    text.push_str(close.repeat(alloc, count)?.as_str())?;
+    Ok(text)
 }

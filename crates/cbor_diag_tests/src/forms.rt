@@ -1,11 +1,10 @@
 // Items in diagnostic notation (docs/NOTATION.md), and the normal form that their texts are read back as.
 
-use crate::calls::{compact, digits_of, dump, fields, item_of, item_told, pretty};
+use crate::calls::{View, check, check_same, of_bytes, of_diag, of_hex};
 use crate::ends::check_ends;
-use cbor_diag::DataItem;
+use cbor_diag::Result;
 use std::alloc::Global;
 use std::process::Abort;
-use std::test::Fail;
 
 /// Items in hex that have one text, compact and pretty, and the bytes of their normal form: lengths are as short as
 /// they can be, also in bytes that are shown as items.
@@ -153,12 +152,27 @@ const TWO_TEXTS: &[(&str, &str, &str, &str)] = &[
     ("9f0102ff", "[_1,2]", "[_ 1, 2]", "9f0102ff"),
     ("9f9fffff", "[_[_]]", "[_ [_ ]]", "9f9fffff"),
     ("9f980101ff", "[_[1]]", "[_ [1]]", "9f8101ff"),
-    ("a1018202a103f6", "{1:[2,{3:null}]}", "{1: [2, {3: null}]}", "a1018202a103f6"),
+    (
+        "a1018202a103f6",
+        "{1:[2,{3:null}]}",
+        "{1: [2, {3: null}]}",
+        "a1018202a103f6",
+    ),
     ("a101820203", "{1:[2,3]}", "{1: [2, 3]}", "a101820203"),
     ("b900010102", "{1:2}", "{1: 2}", "a10102"),
     ("bf0102ff", "{_1:2}", "{_ 1: 2}", "bf0102ff"),
-    ("bf01020304ff", "{_1:2,3:4}", "{_ 1: 2, 3: 4}", "bf01020304ff"),
-    ("bf01820203ff", "{_1:[2,3]}", "{_ 1: [2, 3]}", "bf01820203ff"),
+    (
+        "bf01020304ff",
+        "{_1:2,3:4}",
+        "{_ 1: 2, 3: 4}",
+        "bf01020304ff",
+    ),
+    (
+        "bf01820203ff",
+        "{_1:[2,3]}",
+        "{_ 1: [2, 3]}",
+        "bf01820203ff",
+    ),
     (
         "bf0178016102780162ff",
         "{_1:\"a\",2:\"b\"}",
@@ -178,7 +192,12 @@ const TWO_TEXTS: &[(&str, &str, &str, &str)] = &[
         "(_ h'01', h'02')",
         "5f41014102ff",
     ),
-    ("7f616160ff", "(_\"a\",\"\")", "(_ \"a\", \"\")", "7f616160ff"),
+    (
+        "7f616160ff",
+        "(_\"a\",\"\")",
+        "(_ \"a\", \"\")",
+        "7f616160ff",
+    ),
     (
         "7f7801616162ff",
         "(_\"a\",\"b\")",
@@ -230,7 +249,12 @@ const TWO_TEXTS: &[(&str, &str, &str, &str)] = &[
         "[24_0, 24_0(<<[1, 2]>>)]",
         "821818d81843820102",
     ),
-    ("d83f41ff", "63_0(<<>>h'ff')", "63_0(<<>> h'ff')", "d83f41ff"),
+    (
+        "d83f41ff",
+        "63_0(<<>>h'ff')",
+        "63_0(<<>> h'ff')",
+        "d83f41ff",
+    ),
     (
         "d83f4201ff",
         "63_0(<<1>>h'ff')",
@@ -277,68 +301,55 @@ const TWO_TEXTS: &[(&str, &str, &str, &str)] = &[
 ];
 
 /// A text is read as an item of these bytes, which has both texts again.
-fn check_told(
-    rt: &impl Abort,
-    alloc: Global,
-    text: &str,
-    [one, other]: [&str; 2],
-    normal: &str,
-) -> Result<(), Fail> {
-    let told = item_told(alloc, text)?;
-    assert_eq!(rt; digits_of(alloc, &told)?.as_str(), normal, "of {text}");
-    assert_eq!(rt; compact(alloc, &told)?.as_str(), one, "of {text}");
-    assert_eq!(rt; pretty(alloc, &told)?.as_str(), other, "of {text}");
-    Ok(())
+fn check_told(rt: &impl Abort, alloc: Global, text: &str, [one, other]: [&str; 2], normal: &str) {
+    check(rt, of_diag(alloc, View::Bytes, text), normal, text);
+    check(rt, of_diag(alloc, View::Compact, text), one, text);
+    check(rt, of_diag(alloc, View::Pretty, text), other, text);
 }
 
-/// An item has these texts, compact and pretty, and both are read back as the normal form of these bytes.
+/// The fields of the item that a dump or the bytes of an item in hex are read back as.
+pub(crate) fn read_back(alloc: Global, view: View, digits: &str) -> Result<String> {
+    of_hex(alloc, View::Fields, of_bytes(alloc, view, digits)?.as_str())
+}
+
+/// An item in hex ends where it has to, and has these texts, compact and pretty, which are read back as the normal form
+/// of these bytes.
 pub(crate) fn check_texts(
     rt: &impl Abort,
     alloc: Global,
-    item: &DataItem,
-    texts: [&str; 2],
+    digits: &str,
+    [one, other]: [&str; 2],
     normal: &str,
-) -> Result<(), Fail> {
-    let [one, other] = texts;
-    assert_eq!(rt; compact(alloc, item)?.as_str(), one, "of {item:?}");
-    assert_eq!(rt; pretty(alloc, item)?.as_str(), other, "of {item:?}");
-    check_told(rt, alloc, one, texts, normal)?;
-    check_told(rt, alloc, other, texts, normal)
+) {
+    check_ends(rt, alloc, digits);
+    check(rt, of_bytes(alloc, View::Compact, digits), one, digits);
+    check(rt, of_bytes(alloc, View::Pretty, digits), other, digits);
+    for text in [one, other] {
+        check_told(rt, alloc, text, [one, other], normal);
+    }
 }
 
-/// The same of an item in hex, which ends where it has to and is what its dump and its bytes are read back as.
+/// The same of one whose dump and bytes are read back as the item.
 pub(crate) fn check_forms(
     rt: &impl Abort,
     alloc: Global,
     digits: &str,
     texts: [&str; 2],
     normal: &str,
-) -> Result<(), Fail> {
-    check_ends(rt, alloc, digits)?;
-    let item = item_of(alloc, digits)?;
-    check_texts(rt, alloc, &item, texts, normal)?;
-    let shown = fields(alloc, &item)?;
-    let hex = dump(alloc, &item)?;
-    let again = fields(alloc, &item_of(alloc, hex.as_str())?)?;
-    assert_eq!(rt; again.as_str(), shown.as_str(), "of the dump of {digits}");
-    let hex = digits_of(alloc, &item)?;
-    let again = fields(alloc, &item_of(alloc, hex.as_str())?)?;
-    assert_eq!(rt; again.as_str(), shown.as_str(), "of the bytes of {digits}");
-    Ok(())
+) {
+    check_texts(rt, alloc, digits, texts, normal);
+    for view in [View::Bytes, View::Dump] {
+        let fields = of_bytes(alloc, View::Fields, digits);
+        check_same(rt, read_back(alloc, view, digits), fields, digits);
+    }
 }
 
 #[test]
-fn items_have_one_text_that_is_their_normal_form(rt: HostRuntime) -> Result<(), Fail> {
+fn items_have_texts_that_are_their_normal_form(rt: HostRuntime) {
     for (digits, text, normal) in ONE_TEXT {
-        check_forms(&rt, rt.alloc(), digits, [*text, *text], normal)?;
+        check_forms(&rt, rt.alloc(), digits, [*text, *text], normal);
     }
-    Ok(())
-}
-
-#[test]
-fn items_have_two_texts_that_are_their_normal_form(rt: HostRuntime) -> Result<(), Fail> {
     for (digits, one, other, normal) in TWO_TEXTS {
-        check_forms(&rt, rt.alloc(), digits, [*one, *other], normal)?;
+        check_forms(&rt, rt.alloc(), digits, [*one, *other], normal);
     }
-    Ok(())
 }

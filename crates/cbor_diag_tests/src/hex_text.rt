@@ -1,11 +1,9 @@
 // Items read from hex with comments.
 
-use crate::calls::{fields, item_of, read_hex};
-use cbor_diag::Error;
-use std::test::Fail;
+use crate::calls::{View, check, of_hex};
 
-/// Hex with comments, and the fields of the item that it is.
-const ITEMS: &[(&str, &str)] = &[
+/// Hex with comments, and the fields of the item that it is, or the name of the error.
+const TEXTS: &[(&str, &str)] = &[
     (
         r#"d8 20                                        # uri, tag(32)
    73                                        #   text(19)
@@ -33,39 +31,27 @@ const ITEMS: &[(&str, &str)] = &[
         "# one\n0 # half\r\n1",
         "Integer { value: 1, bitwidth: Zero }",
     ),
-];
-
-const REFUSED: &[(&str, Error)] = &[
-    ("0", Error::OddHex),
-    ("0\t", Error::BadHex),
-    ("0g", Error::BadHex),
-    ("é", Error::BadHex),
+    // what is no hex of an item
+    ("0", "OddHex"),
+    ("0\t", "BadHex"),
+    ("0g", "BadHex"),
+    ("é", "BadHex"),
     // odd comes before what is no digit
-    ("0gg", Error::OddHex),
+    ("0gg", "OddHex"),
     // without a line feed after it a carriage return is kept
-    ("01\r", Error::OddHex),
-    ("0\r", Error::BadHex),
-    ("", Error::CutShort),
-    ("# 01", Error::CutShort),
-    ("18", Error::CutShort),
-    ("01 02", Error::Remaining),
-    ("1c", Error::Head),
-    ("61ff", Error::Utf8),
+    ("01\r", "OddHex"),
+    ("0\r", "BadHex"),
+    ("", "CutShort"),
+    ("# 01", "CutShort"),
+    ("18", "CutShort"),
+    ("01 02", "Remaining"),
+    ("1c", "Head"),
+    ("61ff", "Utf8"),
 ];
 
 #[test]
-fn hex_with_comments_is_items_of_these_fields(rt: HostRuntime) -> Result<(), Fail> {
-    let alloc = rt.alloc();
-    for (text, shown) in ITEMS {
-        let item = fields(alloc, &item_of(alloc, text)?)?;
-        assert_eq!(rt; item.as_str(), *shown, "on {text:?}");
-    }
-    Ok(())
-}
-
-#[test]
-fn what_is_no_hex_of_an_item_is_refused(rt: HostRuntime) {
-    for (text, refusal) in REFUSED {
-        assert_eq!(rt; read_hex(rt.alloc(), text), Err(*refusal), "on {text:?}");
+fn hex_with_comments_is_an_item_or_refused(rt: HostRuntime) {
+    for (text, shown) in TEXTS {
+        check(&rt, of_hex(rt.alloc(), View::Fields, text), shown, text);
     }
 }

@@ -1,11 +1,11 @@
 // Which items are well formed, copies of items, and which items are equal.
 
-use crate::calls::{fields, fits, item_of, item_told};
+use crate::calls::{View, check, check_same, fits, item_of, item_told, seen};
 use crate::make::{
     array_of, arrays_around_empty, bytes, float, integer, items_of, map_of, negative, pairs_of,
     tagged, text,
 };
-use cbor_diag::{DataItem, FloatWidth, IntegerWidth};
+use cbor_diag::{DataItem, FloatWidth, IntegerWidth, Result};
 use std::alloc::Global;
 use std::process::Abort;
 use std::test::Fail;
@@ -184,8 +184,168 @@ const OPEN: &[&str] = &[
     "{24_0: 24}",
 ];
 
-/// All of these, and those that no input is read as.
-fn distinct_items(alloc: Global) -> Result<Vec<DataItem>, Fail> {
+/// What holds a number.
+#[derive(Clone, Copy)]
+enum Holder {
+    Integer,
+    Negative,
+    Tag,
+}
+
+fn number(alloc: Global, kind: Holder, value: u64, width: IntegerWidth) -> Result<DataItem> {
+    match kind {
+        Holder::Integer => Ok(integer(value, width)),
+        Holder::Negative => Ok(negative(value, width)),
+        Holder::Tag => tagged(alloc, value, width, integer(0, IntegerWidth::Zero)),
+    }
+}
+
+/// What has a length or a count.
+#[derive(Clone, Copy)]
+enum Counted {
+    Bytes,
+    Text,
+    ByteChunk,
+    TextChunk,
+    Array,
+    Map,
+}
+
+fn sized(alloc: Global, kind: Counted, length: usize, width: IntegerWidth) -> Result<DataItem> {
+    let letters = "a".repeat(alloc, length)?;
+    let content = letters.as_bytes();
+    Ok(match kind {
+        Counted::Bytes => DataItem::ByteString(bytes(alloc, content, width)?),
+        Counted::Text => DataItem::TextString(text(alloc, letters.as_str(), width)?),
+        Counted::ByteChunk => {
+            let chunk = bytes(alloc, content, width)?;
+            DataItem::IndefiniteByteString(vec![in alloc; chunk]?)
+        }
+        Counted::TextChunk => {
+            let chunk = text(alloc, letters.as_str(), width)?;
+            DataItem::IndefiniteTextString(vec![in alloc; chunk]?)
+        }
+        Counted::Array => items_of(alloc, length, Some(width))?,
+        Counted::Map => pairs_of(alloc, length, Some(width))?,
+    })
+}
+
+/// What an item is in.
+#[derive(Clone, Copy)]
+enum Place {
+    Outermost,
+    Member,
+    Key,
+    Value,
+    Tagged,
+}
+
+const PLACES: [Place; 5] = [
+    Place::Outermost,
+    Place::Member,
+    Place::Key,
+    Place::Value,
+    Place::Tagged,
+];
+
+fn placed(alloc: Global, place: Place, item: Result<DataItem>) -> Result<DataItem> {
+    let (item, zero) = (item?, integer(0, IntegerWidth::Zero));
+    match place {
+        Place::Outermost => Ok(item),
+        Place::Member => array_of(alloc, item),
+        Place::Key => map_of(alloc, item, zero),
+        Place::Value => map_of(alloc, zero, item),
+        Place::Tagged => tagged(alloc, 0, IntegerWidth::Zero, item),
+    }
+}
+
+/// An item is well formed or not.
+fn check_fits(rt: &impl Abort, item: Result<DataItem>, expected: bool) {
+    match item {
+        Ok(item) => assert_eq!(rt; fits(&item), expected, "of {item:?}"),
+        Err(error) => panic!(rt; "{error:?}"),
+    }
+}
+
+#[test]
+fn numbers_and_floats_are_well_formed_where_they_fit(rt: HostRuntime) {
+    let alloc = rt.alloc();
+    for place in PLACES {
+        for (value, width, expected) in NUMBERS {
+            for kind in [Holder::Integer, Holder::Negative, Holder::Tag] {
+                let item = number(alloc, kind, *value, *width);
+                check_fits(&rt, placed(alloc, place, item), *expected);
+            }
+        }
+        for (bits, width, expected) in FLOATS {
+            let item = Ok(float(*bits, *width));
+            check_fits(&rt, placed(alloc, place, item), *expected);
+        }
+    }
+}
+
+#[test]
+fn lengths_are_well_formed_where_they_fit(rt: HostRuntime) {
+    let alloc = rt.alloc();
+    for (length, width, expected) in LENGTHS {
+        for kind in [
+            Counted::Bytes,
+            Counted::Text,
+            Counted::ByteChunk,
+            Counted::TextChunk,
+            Counted::Array,
+            Counted::Map,
+        ] {
+            for place in PLACES {
+                let item = sized(alloc, kind, *length, *width);
+                check_fits(&rt, placed(alloc, place, item), *expected);
+            }
+        }
+    }
+}
+
+/// Eight letters of three bytes each, since a length counts bytes.
+fn letters(alloc: Global, width: IntegerWidth) -> Result<DataItem> {
+    Ok(DataItem::TextString(text(alloc, "水水水水水水水水", width)?))
+}
+
+/// An empty array in as many arrays, below a tag.
+fn tagged_arrays(alloc: Global, count: u8) -> Result<DataItem> {
+    tagged(
+        alloc,
+        0,
+        IntegerWidth::Zero,
+        arrays_around_empty(alloc, count)?,
+    )
+}
+
+#[test]
+fn items_are_well_formed_up_to_128_levels(rt: HostRuntime) {
+    let alloc = rt.alloc();
+    check_fits(&rt, letters(alloc, IntegerWidth::Zero), false);
+    check_fits(&rt, letters(alloc, IntegerWidth::Eight), true);
+    check_fits(&rt, arrays_around_empty(alloc, 127), true);
+    check_fits(&rt, arrays_around_empty(alloc, 128), false);
+    // a tag takes a level, too
+    check_fits(&rt, tagged_arrays(alloc, 126), true);
+    check_fits(&rt, tagged_arrays(alloc, 127), false);
+}
+
+/// Items that no input is read as.
+fn unread(alloc: Global) -> Result<[DataItem; 6]> {
+    let five = integer(5, IntegerWidth::Zero);
+    Ok([
+        integer(5, IntegerWidth::Unknown),
+        negative(5, IntegerWidth::Unknown),
+        float(5, FloatWidth::Unknown),
+        tagged(alloc, 0, IntegerWidth::Unknown, five)?,
+        integer(300, IntegerWidth::Eight),
+        arrays_around_empty(alloc, 200)?,
+    ])
+}
+
+/// All items of the tables, and those.
+fn distinct_items(alloc: Global) -> Result<Vec<DataItem>> {
     let mut items = Vec::new(alloc);
     for digits in DISTINCT {
         items.push(item_of(alloc, digits)?)?;
@@ -193,117 +353,59 @@ fn distinct_items(alloc: Global) -> Result<Vec<DataItem>, Fail> {
     for text in OPEN {
         items.push(item_told(alloc, text)?)?;
     }
-    items.push(integer(5, IntegerWidth::Unknown))?;
-    items.push(negative(5, IntegerWidth::Unknown))?;
-    items.push(float(5, FloatWidth::Unknown))?;
-    let five = integer(5, IntegerWidth::Zero);
-    items.push(tagged(alloc, 0, IntegerWidth::Unknown, five)?)?;
-    items.push(integer(300, IntegerWidth::Eight))?;
-    items.push(arrays_around_empty(alloc, 200)?)?;
+    for item in unread(alloc)? {
+        items.push(item)?;
+    }
     Ok(items)
 }
 
-/// An item is well formed or not, and so are a map, an array and a tag around it.
-fn check_fits(rt: &impl Abort, alloc: Global, item: DataItem, expected: bool) -> Result<(), Fail> {
-    assert_eq!(rt; fits(&item), expected, "of {item:?}");
-    let key = map_of(alloc, item, integer(0, IntegerWidth::Zero))?;
-    assert_eq!(rt; fits(&key), expected, "of {key:?}");
-    let value = map_of(alloc, integer(0, IntegerWidth::Zero), key)?;
-    assert_eq!(rt; fits(&value), expected, "of {value:?}");
-    let array = array_of(alloc, value)?;
-    assert_eq!(rt; fits(&array), expected, "of {array:?}");
-    let tag = tagged(alloc, 0, IntegerWidth::Zero, array)?;
-    assert_eq!(rt; fits(&tag), expected, "of {tag:?}");
-    Ok(())
-}
-
-#[test]
-fn numbers_and_floats_are_well_formed_where_they_fit(rt: HostRuntime) -> Result<(), Fail> {
-    let alloc = rt.alloc();
-    for (value, width, expected) in NUMBERS {
-        check_fits(&rt, alloc, integer(*value, *width), *expected)?;
-        check_fits(&rt, alloc, negative(*value, *width), *expected)?;
-        let zero = integer(0, IntegerWidth::Zero);
-        check_fits(&rt, alloc, tagged(alloc, *value, *width, zero)?, *expected)?;
-    }
-    for (bits, width, expected) in FLOATS {
-        check_fits(&rt, alloc, float(*bits, *width), *expected)?;
-    }
-    Ok(())
-}
-
-/// Strings and containers of a length are well formed or not.
-fn check_length(
-    rt: &impl Abort,
-    alloc: Global,
-    length: usize,
-    width: IntegerWidth,
-    expected: bool,
-) -> Result<(), Fail> {
-    let letters = "a".repeat(alloc, length)?;
-    let string = bytes(alloc, letters.as_bytes(), width)?;
-    check_fits(rt, alloc, DataItem::ByteString(string), expected)?;
-    let string = text(alloc, letters.as_str(), width)?;
-    check_fits(rt, alloc, DataItem::TextString(string), expected)?;
-    let chunks = vec![in alloc; bytes(alloc, letters.as_bytes(), width)?]?;
-    check_fits(rt, alloc, DataItem::IndefiniteByteString(chunks), expected)?;
-    let chunks = vec![in alloc; text(alloc, letters.as_str(), width)?]?;
-    check_fits(rt, alloc, DataItem::IndefiniteTextString(chunks), expected)?;
-    check_fits(rt, alloc, items_of(alloc, length, Some(width))?, expected)?;
-    check_fits(rt, alloc, pairs_of(alloc, length, Some(width))?, expected)
-}
-
-#[test]
-fn lengths_are_well_formed_where_they_fit(rt: HostRuntime) -> Result<(), Fail> {
-    let alloc = rt.alloc();
-    for (length, width, expected) in LENGTHS {
-        check_length(&rt, alloc, *length, *width, *expected)?;
-    }
-    // a length counts bytes: eight letters of three bytes each
-    let string = text(alloc, "水水水水水水水水", IntegerWidth::Zero)?;
-    check_fits(&rt, alloc, DataItem::TextString(string), false)
-}
-
-#[test]
-fn items_are_well_formed_up_to_128_levels(rt: HostRuntime) -> Result<(), Fail> {
-    let alloc = rt.alloc();
-    let deepest = arrays_around_empty(alloc, 127)?;
-    assert!(rt; fits(&deepest));
-    // a tag takes a level, too
-    let tag = tagged(alloc, 24, IntegerWidth::Eight, deepest)?;
-    assert!(rt; !fits(&tag));
-    assert!(rt; !fits(&arrays_around_empty(alloc, 128)?));
-    Ok(())
-}
-
-#[test]
-fn items_are_equal_to_themselves_alone(rt: HostRuntime) -> Result<(), Fail> {
-    let (items, again) = (distinct_items(rt.alloc())?, distinct_items(rt.alloc())?);
-    for (place, item) in items.iter().enumerate() {
-        for (other_place, other) in again.iter().enumerate() {
-            if place == other_place {
-                assert_eq!(rt; item, other);
-            } else {
-                assert_ne!(rt; item, other);
-            }
+/// An item is equal to that of the same place alone.
+fn check_equal(rt: &impl Abort, item: &DataItem, place: usize, others: &Vec<DataItem>) {
+    for (other_place, other) in others.iter().enumerate() {
+        if place == other_place {
+            assert_eq!(rt; item, other);
+        } else {
+            assert_ne!(rt; item, other);
         }
+    }
+}
+
+#[test]
+fn items_are_equal_to_themselves_alone(rt: HostRuntime) -> std::result::Result<(), Fail> {
+    let (items, others) = (distinct_items(rt.alloc())?, distinct_items(rt.alloc())?);
+    for (place, item) in items.iter().enumerate() {
+        check_equal(&rt, item, place, &others);
     }
     Ok(())
 }
 
 // A copy is compared by its fields, also where it is not well formed.
 #[test]
-fn copies_have_the_same_fields(rt: HostRuntime) -> Result<(), Fail> {
+fn copies_have_the_same_fields(rt: HostRuntime) -> std::result::Result<(), Fail> {
     let alloc = rt.alloc();
     for item in &distinct_items(alloc)? {
-        let copy = fields(alloc, &item.clone(alloc)?)?;
-        assert_eq!(rt; copy, fields(alloc, item)?);
+        let fields = seen(alloc, View::Fields, item);
+        check_same(&rt, seen(alloc, View::Clone, item), fields, "a copy");
     }
-    let string = bytes(alloc, &[1, 2, 3], IntegerWidth::Sixteen)?.clone(alloc)?;
-    assert_eq!(rt; string.content.as_slice(), [1, 2, 3].as_slice());
-    assert_eq!(rt; string.bitwidth, IntegerWidth::Sixteen);
-    let string = text(alloc, "水", IntegerWidth::Unknown)?.clone(alloc)?;
-    assert_eq!(rt; string.content.as_str(), "水");
-    assert_eq!(rt; string.bitwidth, IntegerWidth::Unknown);
     Ok(())
+}
+
+fn cloned_bytes(alloc: Global) -> Result<String> {
+    let string = bytes(alloc, &[1, 2, 3], IntegerWidth::Sixteen)?;
+    let string = string.clone(alloc)?;
+    Ok(format!(in alloc; "{string:?}")?)
+}
+
+fn cloned_text(alloc: Global) -> Result<String> {
+    let string = text(alloc, "水", IntegerWidth::Unknown)?;
+    let string = string.clone(alloc)?;
+    Ok(format!(in alloc; "{string:?}")?)
+}
+
+#[test]
+fn copies_of_strings_have_the_same_fields(rt: HostRuntime) {
+    let fields = "ByteString { content: [1, 2, 3], bitwidth: Sixteen }";
+    check(&rt, cloned_bytes(rt.alloc()), fields, "bytes");
+    let fields = "TextString { content: \"水\", bitwidth: Unknown }";
+    check(&rt, cloned_text(rt.alloc()), fields, "a text");
 }

@@ -30,6 +30,8 @@ mod readme;
 #[cfg(test)]
 mod refusals;
 #[cfg(test)]
+mod refused_memory;
+#[cfg(test)]
 mod samples;
 #[cfg(test)]
 mod standard;

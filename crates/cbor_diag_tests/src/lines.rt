@@ -1,10 +1,10 @@
 // Pretty texts over several lines (docs/NOTATION.md), and which items have them.
 
-use crate::calls::{item_of, item_told, pretty, repeated};
+use crate::calls::{View, check, check_same, of_bytes, of_diag};
 use crate::forms::check_forms;
+use cbor_diag::Result;
 use std::alloc::Global;
 use std::process::Abort;
-use std::test::Fail;
 
 /// Items in hex, with their compact and pretty texts. All are their own normal form.
 const ITEMS: &[(&str, &str, &str)] = &[
@@ -235,14 +235,7 @@ const LONGEST: &[(&str, &str, &str, usize, &str, &str)] = &[
     ("{_ \"", "\": 1}", "a", 48, "{_\n    \"", "\": 1,\n}"),
     ("(_ \"", "\")", "a", 51, "(_\n    \"", "\",\n)"),
     ("(_ h'", "')", "61", 24, "(_\n    h'", "',\n)"),
-    (
-        "63_0(<<\"",
-        "\">>)",
-        "a",
-        51,
-        "63_0(<<\n    \"",
-        "\",\n>>)",
-    ),
+    ("63_0(<<\"", "\">>)", "a", 51, "63_0(<<\n    \"", "\",\n>>)"),
 ];
 
 /// Items in hex, their pretty texts, and how many letters the longest text has that is on one line with them in an
@@ -268,63 +261,76 @@ const MEMBERS: &[(&str, &str, usize)] = &[
 ];
 
 #[test]
-fn long_items_have_a_line_for_each_member(rt: HostRuntime) -> Result<(), Fail> {
+fn long_items_have_a_line_for_each_member(rt: HostRuntime) {
     for (digits, one, other) in ITEMS {
-        check_forms(&rt, rt.alloc(), digits, [*one, *other], digits)?;
+        check_forms(&rt, rt.alloc(), digits, [*one, *other], digits);
     }
-    Ok(())
+}
+
+/// The pretty text of the item that a text is.
+fn again(alloc: Global, text: &Result<String>) -> Result<String> {
+    match text {
+        Ok(text) => of_diag(alloc, View::Pretty, text.as_str()),
+        Err(error) => Err(*error),
+    }
 }
 
 /// A text is the pretty text of the item that it is.
-fn check_pretty(rt: &impl Abort, alloc: Global, text: &str) -> Result<(), Fail> {
-    let again = pretty(alloc, &item_told(alloc, text)?)?;
-    assert_eq!(rt; again.as_str(), text);
-    Ok(())
+fn check_pretty(rt: &impl Abort, alloc: Global, text: Result<String>, on: &str) {
+    check_same(rt, again(alloc, &text), text, on);
+}
+
+/// A text, as many times a letter, and a text.
+fn around(alloc: Global, before: &str, letter: &str, count: usize, after: &str) -> Result<String> {
+    let letters = letter.repeat(alloc, count)?;
+    Ok(format!(in alloc; "{before}{letters}{after}")?)
 }
 
 #[test]
-fn containers_are_one_line_below_an_estimate_of_60(rt: HostRuntime) -> Result<(), Fail> {
+fn containers_are_one_line_below_an_estimate_of_60(rt: HostRuntime) {
     let alloc = rt.alloc();
     for (before, after, letter, count, above, below) in LONGEST {
-        let text = repeated(alloc, before, letter, *count, after)?;
-        check_pretty(&rt, alloc, text.as_str())?;
-        let text = repeated(alloc, above, letter, count.saturating_add(1), below)?;
-        check_pretty(&rt, alloc, text.as_str())?;
+        let text = around(alloc, before, letter, *count, after);
+        check_pretty(&rt, alloc, text, before);
+        let text = around(alloc, above, letter, count.saturating_add(1), below);
+        check_pretty(&rt, alloc, text, above);
     }
-    Ok(())
 }
 
-/// An array of an item in hex and a text of letters has this pretty text.
-fn check_array(
-    rt: &impl Abort,
-    alloc: Global,
-    member: &str,
-    count: usize,
-    expected: &str,
-) -> Result<(), Fail> {
-    let before = format!(in alloc; "82{member}78{count:02x}")?;
-    let digits = repeated(alloc, before.as_str(), "61", count, "")?;
-    let text = pretty(alloc, &item_of(alloc, digits.as_str())?)?;
-    assert_eq!(rt; text.as_str(), expected, "of {}", digits.as_str());
-    Ok(())
+/// The pretty text of an array of an item in hex and a text of letters.
+fn array_of(alloc: Global, member: &str, count: usize) -> Result<String> {
+    let letters = "61".repeat(alloc, count)?;
+    let digits = format!(in alloc; "82{member}78{count:02x}{letters}")?;
+    of_bytes(alloc, View::Pretty, digits.as_str())
 }
 
 #[test]
-fn members_count_in_the_estimate(rt: HostRuntime) -> Result<(), Fail> {
+fn members_count_in_the_estimate(rt: HostRuntime) {
     let alloc = rt.alloc();
     for (member, text, count) in MEMBERS {
-        let letters = "a".repeat(alloc, *count)?;
-        let line = format!(in alloc; "[{text}, \"{letters}\"]")?;
-        check_array(&rt, alloc, member, *count, line.as_str())?;
-        let lines = format!(in alloc; "[\n    {text},\n    \"{letters}a\",\n]")?;
-        check_array(&rt, alloc, member, count.saturating_add(1), lines.as_str())?;
+        let line = array_line(alloc, text, *count);
+        check_same(&rt, array_of(alloc, member, *count), line, member);
+        let longer = count.saturating_add(1);
+        let lines = array_lines(alloc, text, longer);
+        check_same(&rt, array_of(alloc, member, longer), lines, member);
     }
-    Ok(())
+}
+
+/// An array of a member and a text of letters, on one line.
+fn array_line(alloc: Global, member: &str, count: usize) -> Result<String> {
+    let letters = "a".repeat(alloc, count)?;
+    Ok(format!(in alloc; "[{member}, \"{letters}\"]")?)
+}
+
+/// The same on lines.
+fn array_lines(alloc: Global, member: &str, count: usize) -> Result<String> {
+    let letters = "a".repeat(alloc, count)?;
+    Ok(format!(in alloc; "[\n    {member},\n    \"{letters}\",\n]")?)
 }
 
 /// A text of 60 letters in as many arrays, each on lines of its own.
-fn in_arrays(alloc: Global, count: usize) -> Result<String, Fail> {
-    let mut text = repeated(alloc, "\"", "a", 60, "\"")?;
+fn in_arrays(alloc: Global, count: usize) -> Result<String> {
+    let mut text = around(alloc, "\"", "a", 60, "\"")?;
     for level in (0..count).rev() {
         let outer = "    ".repeat(alloc, level)?;
         text = format!(in alloc; "[\n{outer}    {text},\n{outer}]")?;
@@ -334,10 +340,8 @@ fn in_arrays(alloc: Global, count: usize) -> Result<String, Fail> {
 
 // A line has four blanks for each container around it, however many they are.
 #[test]
-fn lines_are_indented_by_their_depth(rt: HostRuntime) -> Result<(), Fail> {
+fn lines_are_indented_by_their_depth(rt: HostRuntime) {
     for count in 1..=40 {
-        let text = in_arrays(rt.alloc(), count)?;
-        check_pretty(&rt, rt.alloc(), text.as_str())?;
+        check_pretty(&rt, rt.alloc(), in_arrays(rt.alloc(), count), "arrays");
     }
-    Ok(())
 }

@@ -1,10 +1,8 @@
 // What is cut, and what no item begins with.
 
-use crate::calls::{bytes_of, read, read_front};
+use crate::calls::{View, check, front_of, of_bytes, read, read_front};
+use crate::ends::front_followed;
 use cbor_diag::Error;
-use std::alloc::Global;
-use std::process::Abort;
-use std::test::Fail;
 
 /// Bytes that end before their item does, in hex.
 const CUT: &[&str] = &[
@@ -37,84 +35,82 @@ const CLAIMED: [&[u8]; 3] = [
     b"\x5a\x40\x00\x00\x00\x01",
 ];
 
-/// Bytes that no item begins with, in hex, and why.
-const FAULTS: &[(&str, Error)] = &[
+/// Bytes that no item begins with, in hex, and the name of the error.
+const FAULTS: &[(&str, &str)] = &[
     // heads that mean nothing
-    ("1c", Error::Head),
-    ("1f", Error::Head),
-    ("3f", Error::Head),
-    ("df", Error::Head),
-    ("fc", Error::Head),
-    ("ff", Error::Head),
-    ("811c", Error::Head),
+    ("1c", "Head"),
+    ("1f", "Head"),
+    ("3f", "Head"),
+    ("df", "Head"),
+    ("fc", "Head"),
+    ("ff", "Head"),
+    ("811c", "Head"),
     // breaks that end nothing
-    ("c1ff", Error::Head),
-    ("a101ff", Error::Head),
-    ("bf01ff", Error::Head),
-    ("bf010203ff", Error::Head),
-    ("9f8201ff", Error::Head),
-    ("9f8201ffff", Error::Head),
+    ("c1ff", "Head"),
+    ("a101ff", "Head"),
+    ("bf01ff", "Head"),
+    ("bf010203ff", "Head"),
+    ("9f8201ff", "Head"),
+    ("9f8201ffff", "Head"),
     // chunks of another kind
-    ("5f01", Error::Head),
-    ("5f41016161ff", Error::Head),
-    ("5f5fffff", Error::Head),
-    ("5f5c", Error::Head),
-    ("7f41", Error::Head),
-    ("7f4100ff", Error::Head),
+    ("5f01", "Head"),
+    ("5f41016161ff", "Head"),
+    ("5f5fffff", "Head"),
+    ("5f5c", "Head"),
+    ("7f41", "Head"),
+    ("7f4100ff", "Head"),
     // the first byte decides, before more of its head is there
-    ("5f78", Error::Head),
+    ("5f78", "Head"),
     // texts are UTF-8, each by itself
-    ("61ff", Error::Utf8),
-    ("62c328", Error::Utf8),
-    ("7f61c3", Error::Utf8),
-    ("7f61c361a9ff", Error::Utf8),
+    ("61ff", "Utf8"),
+    ("62c328", "Utf8"),
+    ("7f61c3", "Utf8"),
+    ("7f61c361a9ff", "Utf8"),
     // a surrogate, which is no character
-    ("63eda080", Error::Utf8),
+    ("63eda080", "Utf8"),
     // a fault in the first member, and a cut after it
-    ("8261ff", Error::Utf8),
+    ("8261ff", "Utf8"),
     // a fault in the second member
-    ("83011c61", Error::Head),
+    ("83011c61", "Head"),
 ];
 
-/// Bytes end before their item does.
-fn check_cut(rt: &impl Abort, alloc: Global, bytes: &[u8]) {
-    assert_eq!(rt; read_front(alloc, bytes), Ok(None), "on {bytes:?}");
-    let whole = read(alloc, bytes);
-    assert_eq!(rt; whole, Err(Error::CutShort), "on {bytes:?}");
-}
-
-/// No item begins with these bytes, whatever follows them.
-fn check_fault(rt: &impl Abort, alloc: Global, digits: &str, fault: Error) -> Result<(), Fail> {
-    for more in ["", "00", "ff"] {
-        let longer = format!(in alloc; "{digits}{more}")?;
-        let bytes = bytes_of(alloc, longer.as_str())?;
-        let front = read_front(alloc, &bytes);
-        assert_eq!(rt; front, Err(fault), "on {digits}{more}");
-        assert_eq!(rt; read(alloc, &bytes), Err(fault), "on {digits}{more}");
-    }
-    Ok(())
-}
-
 #[test]
-fn inputs_that_end_too_soon_are_cut(rt: HostRuntime) -> Result<(), Fail> {
+fn inputs_that_end_too_soon_are_cut(rt: HostRuntime) {
     for digits in CUT {
-        check_cut(&rt, rt.alloc(), &bytes_of(rt.alloc(), digits)?);
+        check(&rt, front_of(rt.alloc(), digits), "cut", digits);
+        check(
+            &rt,
+            of_bytes(rt.alloc(), View::Fields, digits),
+            "CutShort",
+            digits,
+        );
     }
-    Ok(())
 }
 
 // `compare/failing_calls` sees that no request for memory is made here.
 #[test]
 fn a_claimed_length_takes_no_memory(rt: HostRuntime) {
     for bytes in CLAIMED {
-        check_cut(&rt, rt.alloc(), bytes);
+        assert_eq!(rt; read_front(rt.alloc(), bytes), Ok(None), "on {bytes:?}");
+        assert_eq!(rt;
+            read(rt.alloc(), bytes),
+            Err(Error::CutShort),
+            "on {bytes:?}"
+        );
     }
 }
 
 #[test]
-fn faults_are_found_whatever_follows(rt: HostRuntime) -> Result<(), Fail> {
+fn faults_are_found_whatever_follows(rt: HostRuntime) {
     for (digits, fault) in FAULTS {
-        check_fault(&rt, rt.alloc(), digits, *fault)?;
+        check(
+            &rt,
+            of_bytes(rt.alloc(), View::Fields, digits),
+            fault,
+            digits,
+        );
+        for more in ["", "00", "ff"] {
+            check(&rt, front_followed(rt.alloc(), digits, more), fault, digits);
+        }
     }
-    Ok(())
 }

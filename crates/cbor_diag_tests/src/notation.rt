@@ -1,8 +1,6 @@
 // Items read from diagnostic notation.
 
-use crate::calls::{digits_of, fields, item_told, read_diag};
-use cbor_diag::Error;
-use std::test::Fail;
+use crate::calls::{View, check, of_diag};
 
 /// Texts, and the bytes of the item that each is, in hex.
 const READ: &[(&str, &str)] = &[
@@ -127,13 +125,13 @@ const NO_ITEMS: &[&str] = &[
     "nul",
 ];
 
-/// Texts that are refused for another reason.
-const REFUSED: &[(&str, Error)] = &[
-    ("300_0", Error::PastWidth),
-    ("-257_0", Error::PastWidth),
-    ("256_0(1)", Error::PastWidth),
-    ("\"a\" h'ff'", Error::Utf8),
-    ("[\"a\" h'c3' \"b\"]", Error::Utf8),
+/// Texts that are refused for another reason, and the name of the error.
+const REFUSED: &[(&str, &str)] = &[
+    ("300_0", "PastWidth"),
+    ("-257_0", "PastWidth"),
+    ("256_0(1)", "PastWidth"),
+    ("\"a\" h'ff'", "Utf8"),
+    ("[\"a\" h'c3' \"b\"]", "Utf8"),
 ];
 
 /// Texts, and the fields of the item that each is.
@@ -290,33 +288,30 @@ const FIELDS: &[(&str, &str)] = &[
 ];
 
 #[test]
-fn texts_are_items_of_these_bytes(rt: HostRuntime) -> Result<(), Fail> {
-    let alloc = rt.alloc();
+fn texts_are_items_of_these_bytes(rt: HostRuntime) {
     for (text, digits) in READ {
-        let found = digits_of(alloc, &item_told(alloc, text)?)?;
-        assert_eq!(rt; found.as_str(), *digits, "on {text}");
+        check(&rt, of_diag(rt.alloc(), View::Bytes, text), digits, text);
     }
-    Ok(())
 }
 
 #[test]
-fn texts_are_items_of_these_fields(rt: HostRuntime) -> Result<(), Fail> {
-    let alloc = rt.alloc();
+fn texts_are_items_of_these_fields(rt: HostRuntime) {
     for (text, shown) in FIELDS {
-        let item = fields(alloc, &item_told(alloc, text)?)?;
-        assert_eq!(rt; item.as_str(), *shown, "on {text}");
+        check(&rt, of_diag(rt.alloc(), View::Fields, text), shown, text);
     }
-    Ok(())
 }
 
 #[test]
 fn what_is_no_notation_is_refused(rt: HostRuntime) {
     for text in NO_ITEMS {
-        let item = read_diag(rt.alloc(), text);
-        assert_eq!(rt; item, Err(Error::Notation), "on {text}");
+        check(
+            &rt,
+            of_diag(rt.alloc(), View::Fields, text),
+            "Notation",
+            text,
+        );
     }
-    for (text, refusal) in REFUSED {
-        let item = read_diag(rt.alloc(), text);
-        assert_eq!(rt; item, Err(*refusal), "on {text}");
+    for (text, error) in REFUSED {
+        check(&rt, of_diag(rt.alloc(), View::Fields, text), error, text);
     }
 }

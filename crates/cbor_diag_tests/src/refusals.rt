@@ -1,48 +1,52 @@
 // What refusals say, and their numbers.
 
-use cbor_diag::Error;
-use std::test::Fail;
+use crate::calls::check;
+use cbor_diag::{Error, Result};
+use std::alloc::Global;
 
-#[test]
-fn refusals_have_texts_and_numbers(rt: HostRuntime) -> Result<(), Fail> {
-    let all = [
-        (1, Error::Memory, "out of memory"),
-        (2, Error::CutShort, "the item is cut short"),
-        (3, Error::Head, "no item can have this head"),
-        (4, Error::Utf8, "a text is not UTF-8"),
-        (5, Error::TooDeep, "nested deeper than 128 levels"),
-        (6, Error::Remaining, "bytes remain after the item"),
-        (7, Error::OddHex, "an odd number of hex digits"),
-        (8, Error::BadHex, "not a hex digit"),
-        (9, Error::Notation, "not diagnostic notation"),
-        (10, Error::PastWidth, "a number does not fit its width"),
-    ];
-    for (number, error, text) in all {
-        assert_eq!(rt; error.number(), number);
-        assert_eq!(rt; error.text(), text);
-        assert_eq!(rt; error.to_string(rt.alloc())?.as_str(), text);
-    }
-    Ok(())
+/// Refusals with their numbers, their texts and their names, which are all that they carry.
+const REFUSALS: &[(Error, u8, &str, &str)] = &[
+    (Error::Memory, 1, "out of memory", "Memory"),
+    (Error::CutShort, 2, "the item is cut short", "CutShort"),
+    (Error::Head, 3, "no item can have this head", "Head"),
+    (Error::Utf8, 4, "a text is not UTF-8", "Utf8"),
+    (
+        Error::TooDeep,
+        5,
+        "nested deeper than 128 levels",
+        "TooDeep",
+    ),
+    (
+        Error::Remaining,
+        6,
+        "bytes remain after the item",
+        "Remaining",
+    ),
+    (Error::OddHex, 7, "an odd number of hex digits", "OddHex"),
+    (Error::BadHex, 8, "not a hex digit", "BadHex"),
+    (Error::Notation, 9, "not diagnostic notation", "Notation"),
+    (
+        Error::PastWidth,
+        10,
+        "a number does not fit its width",
+        "PastWidth",
+    ),
+];
+
+fn displayed(alloc: Global, error: Error) -> Result<String> {
+    Ok(error.to_string(alloc)?)
 }
 
-// The name alone, since a refusal carries nothing.
+fn named(alloc: Global, error: Error) -> Result<String> {
+    Ok(format!(in alloc; "{error:?}")?)
+}
+
 #[test]
-fn refusals_have_debug_texts(rt: HostRuntime) -> Result<(), Fail> {
-    let all = [
-        (Error::Memory, "Memory"),
-        (Error::CutShort, "CutShort"),
-        (Error::Head, "Head"),
-        (Error::Utf8, "Utf8"),
-        (Error::TooDeep, "TooDeep"),
-        (Error::Remaining, "Remaining"),
-        (Error::OddHex, "OddHex"),
-        (Error::BadHex, "BadHex"),
-        (Error::Notation, "Notation"),
-        (Error::PastWidth, "PastWidth"),
-    ];
-    for (error, text) in all {
-        let debug = format!(in rt.alloc(); "{error:?}")?;
-        assert_eq!(rt; debug.as_str(), text);
+fn refusals_have_numbers_texts_and_names(rt: HostRuntime) {
+    for (error, number, text, name) in REFUSALS {
+        assert_eq!(rt; error.number(), *number, "of {name}");
+        assert_eq!(rt; error.text(), *text, "of {name}");
+        check(&rt, displayed(rt.alloc(), *error), text, name);
+        check(&rt, named(rt.alloc(), *error), name, name);
     }
-    Ok(())
 }

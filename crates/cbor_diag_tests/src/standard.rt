@@ -1,8 +1,7 @@
 // Items that are written as they were read, among them the encoded examples of RFC 7049, appendix A.
 
-use crate::calls::{digits_of, item_of};
+use crate::calls::{View, check, of_bytes};
 use crate::ends::check_ends;
-use std::test::Fail;
 
 /// Items in hex.
 const ITEMS: &[&str] = &[
@@ -115,22 +114,22 @@ const SPELLED_AGAIN: &[(&str, &str)] = &[
 ];
 
 #[test]
-fn items_are_written_as_they_were_read(rt: HostRuntime) -> Result<(), Fail> {
-    let alloc = rt.alloc();
+fn items_are_written_as_they_were_read(rt: HostRuntime) {
     for digits in ITEMS {
-        let written = digits_of(alloc, &item_of(alloc, digits)?)?;
-        assert_eq!(rt; written.as_str(), *digits);
-        check_ends(&rt, alloc, digits)?;
+        check(
+            &rt,
+            of_bytes(rt.alloc(), View::Bytes, digits),
+            digits,
+            digits,
+        );
+        check_ends(&rt, rt.alloc(), digits);
     }
-    Ok(())
-}
-
-#[test]
-fn simple_values_below_24_are_written_in_one_byte(rt: HostRuntime) -> Result<(), Fail> {
-    let alloc = rt.alloc();
     for (digits, expected) in SPELLED_AGAIN {
-        let written = digits_of(alloc, &item_of(alloc, digits)?)?;
-        assert_eq!(rt; written.as_str(), *expected, "on {digits}");
+        check(
+            &rt,
+            of_bytes(rt.alloc(), View::Bytes, digits),
+            expected,
+            digits,
+        );
     }
-    Ok(())
 }

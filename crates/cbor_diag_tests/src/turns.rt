@@ -1,67 +1,72 @@
 // How many turns inputs take: a head, with the content of a string, a chunk, a break and the end of a full
 // container are one each.
 
-use crate::calls::{bytes_of, read_counted, repeated};
-use cbor_diag::{Error, Turns, parse_bytes_counted};
+use crate::calls::{check, nested, turns_of};
+use cbor_diag::{Turns, parse_bytes_counted};
 use std::alloc::Global;
-use std::process::Abort;
 use std::test::Fail;
 
-/// Bytes in hex, how many of them are the item that they begin with, none where they are cut, or what is refused, and
-/// the turns.
-const INPUTS: &[(&str, Result<Option<usize>, Error>, u128)] = &[
-    ("01", Ok(Some(1)), 1),
-    ("80", Ok(Some(1)), 2),
+/// Bytes in hex, their turns, how many of them are the item that they begin with, and its fields.
+const INPUTS: &[(&str, &str)] = &[
+    ("01", "1 turns, 1: Integer { value: 1, bitwidth: Zero }"),
+    (
+        "80",
+        "2 turns, 1: Array { content: [], bitwidth: Some(Zero) }",
+    ),
     (
         "d8207368747470733a2f2f6578616d706c652e636f6d",
-        Ok(Some(22)),
-        3,
+        "3 turns, 22: Tag { tag: Tag(32), bitwidth: Eight, \
+         value: TextString(TextString { content: \"https://example.com\", bitwidth: Zero }) }",
     ),
-    ("5f41014102ff", Ok(Some(6)), 4),
-    ("83010203", Ok(Some(4)), 5),
-    ("83010203ff", Ok(Some(4)), 5),
-    ("bf01820203ff", Ok(Some(6)), 7),
+    (
+        "5f41014102ff",
+        "4 turns, 6: IndefiniteByteString([ByteString { content: [1], bitwidth: Zero }, \
+         ByteString { content: [2], bitwidth: Zero }])",
+    ),
+    (
+        "83010203",
+        "5 turns, 4: Array { content: [Integer { value: 1, bitwidth: Zero }, \
+         Integer { value: 2, bitwidth: Zero }, Integer { value: 3, bitwidth: Zero }], bitwidth: Some(Zero) }",
+    ),
+    // what follows takes none
+    (
+        "8101ff",
+        "3 turns, 2: Array { content: [Integer { value: 1, bitwidth: Zero }], bitwidth: Some(Zero) }",
+    ),
+    (
+        "bf01820203ff",
+        "7 turns, 6: Map { content: [(Integer { value: 1, bitwidth: Zero }, \
+         Array { content: [Integer { value: 2, bitwidth: Zero }, Integer { value: 3, bitwidth: Zero }], \
+         bitwidth: Some(Zero) })], bitwidth: None }",
+    ),
     // of a cut and a fault the turns before them, and one
-    ("", Ok(None), 1),
-    ("828101", Ok(None), 5),
-    ("5f410141", Ok(None), 3),
-    ("8201ff", Err(Error::Head), 3),
-    ("bf01ff", Err(Error::Head), 3),
+    ("", "1 turns, cut"),
+    ("828101", "5 turns, cut"),
+    ("5f410141", "3 turns, cut"),
+    ("8201ff", "3 turns, Head"),
+    ("bf01ff", "3 turns, Head"),
 ];
 
-fn check_turns(
-    rt: &impl Abort,
-    alloc: Global,
-    digits: &str,
-    expected: Result<Option<usize>, Error>,
-    turns: u128,
-) -> Result<(), Fail> {
-    let (front, taken) = read_counted(alloc, &bytes_of(alloc, digits)?);
-    let used = match front {
-        Ok(Some((_, used))) => Ok(Some(used)),
-        Ok(None) => Ok(None),
-        Err(fault) => Err(fault),
-    };
-    assert_eq!(rt; used, expected, "on {digits}");
-    assert_eq!(rt; taken, turns, "on {digits}");
-    Ok(())
+/// The turns of a 1 in as many arrays, up to its fields.
+fn turns_of_arrays(alloc: Global, count: usize) -> cbor_diag::Result<String> {
+    let digits = nested(alloc, "81", count, "01", "")?;
+    let turns = turns_of(alloc, digits.as_str())?;
+    let turns = turns
+        .as_str()
+        .split_once(": ")
+        .map_or(turns.as_str(), |(turns, _)| turns);
+    Ok(String::from_str(alloc, turns)?)
 }
 
 #[test]
-fn inputs_take_their_turns(rt: HostRuntime) -> Result<(), Fail> {
-    for (digits, used, turns) in INPUTS {
-        check_turns(&rt, rt.alloc(), digits, *used, *turns)?;
+fn inputs_take_their_turns(rt: HostRuntime) {
+    for (digits, expected) in INPUTS {
+        check(&rt, turns_of(rt.alloc(), digits), expected, digits);
     }
-    Ok(())
-}
-
-#[test]
-fn deep_arrays_take_two_turns_each(rt: HostRuntime) -> Result<(), Fail> {
-    let alloc = rt.alloc();
-    let digits = repeated(alloc, "", "81", 127, "01")?;
-    check_turns(&rt, alloc, digits.as_str(), Ok(Some(128)), 255)?;
-    let digits = repeated(alloc, "", "81", 128, "01")?;
-    check_turns(&rt, alloc, digits.as_str(), Err(Error::TooDeep), 129)
+    let found = turns_of_arrays(rt.alloc(), 127);
+    check(&rt, found, "255 turns, 128", "127 arrays");
+    let found = turns_of_arrays(rt.alloc(), 128);
+    check(&rt, found, "129 turns, TooDeep", "128 arrays");
 }
 
 #[test]
@@ -69,9 +74,7 @@ fn turns_of_several_calls_add_up(rt: HostRuntime) -> Result<(), Fail> {
     let mut turns = Turns::new();
     for count in [3, 6, 9] {
         assert!(rt; turns.count() < 1 << 64);
-        let front = parse_bytes_counted(rt.alloc(), b"\x81\x01", &mut turns)?;
-        let used = front.map(|(_, used)| used);
-        assert_eq!(rt; used, Some(2));
+        parse_bytes_counted(rt.alloc(), b"\x81\x01", &mut turns)?;
         assert_eq!(rt; turns.count(), count);
     }
     Ok(())

@@ -1,15 +1,12 @@
 // What is written of items with open widths, what is appended, and escapes.
 
-use crate::calls::{compact, digits_of, fields, item_of, item_told};
-use crate::forms::check_texts;
+use crate::calls::{View, check, check_same, of_diag, seen_or_error};
 use crate::make::{float, integer, negative, tagged, text};
-use cbor_diag::{DataItem, FloatWidth, IntegerWidth};
+use cbor_diag::{DataItem, FloatWidth, IntegerWidth, Result, parse_bytes};
 use std::alloc::Global;
-use std::process::Abort;
-use std::test::Fail;
 
 /// Which number of an item has an open width.
-#[derive(Clone, Copy, PartialEq, Eq, Debug)]
+#[derive(Clone, Copy)]
 enum Open {
     Integer,
     Negative,
@@ -120,83 +117,104 @@ const OPEN: &[(Open, u64, &str, &str, &str)] = &[
     ),
 ];
 
-fn open_item(alloc: Global, kind: Open, value: u64) -> Result<DataItem, Fail> {
+fn open_item(alloc: Global, kind: Open, value: u64) -> Result<DataItem> {
     let open = IntegerWidth::Unknown;
-    Ok(match kind {
-        Open::Integer => integer(value, open),
-        Open::Negative => negative(value, open),
-        Open::Float => float(value, FloatWidth::Unknown),
-        Open::Tag => tagged(alloc, value, open, integer(1, open))?,
-    })
-}
-
-#[test]
-fn open_widths_are_written_as_the_shortest(rt: HostRuntime) -> Result<(), Fail> {
-    let alloc = rt.alloc();
-    for (kind, value, digits, text, shown) in OPEN {
-        let item = open_item(alloc, *kind, *value)?;
-        let written = digits_of(alloc, &item)?;
-        assert_eq!(rt; written.as_str(), *digits, "of {item:?}");
-        check_texts(&rt, alloc, &item, [*text, *text], digits)?;
-        let told = fields(alloc, &item_told(alloc, text)?)?;
-        assert_eq!(rt; told.as_str(), *shown, "of {item:?}");
+    match kind {
+        Open::Integer => Ok(integer(value, open)),
+        Open::Negative => Ok(negative(value, open)),
+        Open::Float => Ok(float(value, FloatWidth::Unknown)),
+        Open::Tag => tagged(alloc, value, open, integer(1, open)),
     }
-    Ok(())
+}
+
+fn of_open(alloc: Global, view: View, kind: Open, value: u64) -> Result<String> {
+    seen_or_error(alloc, view, open_item(alloc, kind, value))
 }
 
 #[test]
-fn bytes_are_appended(rt: HostRuntime) -> Result<(), Fail> {
+fn open_widths_are_written_as_the_shortest(rt: HostRuntime) {
     let alloc = rt.alloc();
-    let mut bytes = Vec::from_slice(alloc, b"\xff\x00")?;
-    for digits in ["83010203", "6161"] {
-        let item = item_of(alloc, digits)?;
-        assert!(rt; item.is_well_formed());
-        item.push_bytes(&mut bytes)?;
+    for (kind, value, digits, text, fields) in OPEN {
+        check(
+            &rt,
+            of_open(alloc, View::Bytes, *kind, *value),
+            digits,
+            text,
+        );
+        for view in [View::Compact, View::Pretty] {
+            check(&rt, of_open(alloc, view, *kind, *value), text, text);
+        }
+        check(&rt, of_diag(alloc, View::Bytes, text), digits, text);
+        check(&rt, of_diag(alloc, View::Fields, text), fields, text);
     }
-    let digits = hex::encode(alloc, &bytes)?;
-    assert_eq!(rt; digits.as_str(), "ff00830102036161");
-    Ok(())
+}
+
+/// Bytes, and those of an item after them, in hex.
+fn bytes_after(alloc: Global, before: &[u8], item: &[u8]) -> Result<String> {
+    let mut bytes = Vec::from_slice(alloc, before)?;
+    parse_bytes(alloc, item)?.push_bytes(&mut bytes)?;
+    Ok(hex::encode(alloc, &bytes)?)
+}
+
+/// A text, and the compact text of an item after it.
+fn compact_after(alloc: Global, before: &str, item: &[u8]) -> Result<String> {
+    let mut text = String::from_str(alloc, before)?;
+    parse_bytes(alloc, item)?.push_diag(alloc, &mut text)?;
+    Ok(text)
+}
+
+/// The same of the pretty text.
+fn pretty_after(alloc: Global, before: &str, item: &[u8]) -> Result<String> {
+    let mut text = String::from_str(alloc, before)?;
+    parse_bytes(alloc, item)?.push_diag_pretty(alloc, &mut text)?;
+    Ok(text)
 }
 
 #[test]
-fn texts_are_appended(rt: HostRuntime) -> Result<(), Fail> {
-    let alloc = rt.alloc();
-    let item = item_of(alloc, "a101820203")?;
-    assert!(rt; item.is_well_formed());
-    let mut text = String::from_str(alloc, "one: ")?;
-    item.push_diag(alloc, &mut text)?;
-    text.push_str(", two: ")?;
-    item.push_diag_pretty(alloc, &mut text)?;
-    assert_eq!(rt; text.as_str(), "one: {1:[2,3]}, two: {1: [2, 3]}");
-    Ok(())
+fn bytes_and_texts_are_appended(rt: HostRuntime) {
+    let (alloc, item) = (rt.alloc(), b"\xa1\x01\x82\x02\x03");
+    let bytes = bytes_after(alloc, b"\xff\x00", item);
+    check(&rt, bytes, "ff00a101820203", "push_bytes");
+    let text = compact_after(alloc, "one: ", item);
+    check(&rt, text, "one: {1:[2,3]}", "push_diag");
+    let text = pretty_after(alloc, "two: ", item);
+    check(&rt, text, "two: {1: [2, 3]}", "push_diag_pretty");
 }
 
-/// A text of letters has this one among them, at a place, and once more at its end.
-fn check_escaped(
-    rt: &impl Abort,
+/// A text of letters with a special one among them, at a place, and once more at its end, both after a mark.
+fn with_special(
     alloc: Global,
     len: usize,
     place: usize,
     special: &str,
-) -> Result<(), Fail> {
+    mark: &str,
+) -> Result<String> {
     let before = "a".repeat(alloc, place)?;
     let after = "é".repeat(alloc, len.saturating_sub(place))?;
-    let content = format!(in alloc; "{before}{special}{after}{special}")?;
-    let expected = format!(in alloc; "\"{before}\\{special}{after}\\{special}\"")?;
-    let string = text(alloc, content.as_str(), IntegerWidth::Unknown)?;
-    let found = compact(alloc, &DataItem::TextString(string))?;
-    assert_eq!(rt; found.as_str(), expected.as_str());
-    Ok(())
+    Ok(format!(in alloc; "{before}{mark}{special}{after}{mark}{special}")?)
+}
+
+/// The compact text of a text.
+fn quoted(alloc: Global, content: Result<String>) -> Result<String> {
+    let item = DataItem::TextString(text(alloc, content?.as_str(), IntegerWidth::Unknown)?);
+    seen_or_error(alloc, View::Compact, Ok(item))
+}
+
+fn in_quotes(alloc: Global, content: Result<String>) -> Result<String> {
+    Ok(format!(in alloc; "\"{}\"", content?.as_str())?)
 }
 
 // A text is looked at in pieces: so a quote or a backslash is at each place of texts of up to 70 letters.
 #[test]
-fn quotes_and_backslashes_are_escaped_anywhere_in_a_text(rt: HostRuntime) -> Result<(), Fail> {
+fn quotes_and_backslashes_are_escaped_anywhere_in_a_text(rt: HostRuntime) {
+    let alloc = rt.alloc();
     for len in 0..70usize {
         for place in 0..=len {
-            check_escaped(&rt, rt.alloc(), len, place, "\"")?;
-            check_escaped(&rt, rt.alloc(), len, place, "\\")?;
+            for special in ["\"", "\\"] {
+                let found = quoted(alloc, with_special(alloc, len, place, special, ""));
+                let expected = with_special(alloc, len, place, special, "\\");
+                check_same(&rt, found, in_quotes(alloc, expected), special);
+            }
         }
     }
-    Ok(())
 }

@@ -1,9 +1,9 @@
 // Notes of a dump on IPv4 and IPv6 addresses, prefixes and interfaces (RFC 9164).
 
-use crate::dumped::{check_dumps, check_end, check_lines, check_notes, dump_told, notes_in};
+use crate::calls::{check_end, check_end_made, dump_tagged, dump_told};
+use crate::dumped::{check_dumps, check_lines, check_notes, notes_in};
+use cbor_diag::Result;
 use std::alloc::Global;
-use std::process::Abort;
-use std::test::Fail;
 
 /// Items in hex, and their dumps.
 const DUMPS: &[(&str, &str)] = &[
@@ -330,57 +330,43 @@ const ZONES: &[(&str, &str)] = &[
 ];
 
 #[test]
-fn addresses_have_dumps(rt: HostRuntime) -> Result<(), Fail> {
-    check_dumps(&rt, rt.alloc(), DUMPS)
-}
-
-#[test]
-fn addresses_have_notes(rt: HostRuntime) -> Result<(), Fail> {
+fn addresses_have_dumps_and_notes(rt: HostRuntime) {
+    check_dumps(&rt, rt.alloc(), DUMPS);
     for rows in [IPV4, IPV4_INTERFACES, IPV6, IPV6_INTERFACES] {
-        check_notes(&rt, rt.alloc(), rows)?;
+        check_notes(&rt, rt.alloc(), rows);
     }
-    Ok(())
-}
-
-fn check_no_address(rt: &impl Abort, alloc: Global, tag: &str, value: &str) -> Result<(), Fail> {
-    let notation = format!(in alloc; "{tag}({value})")?;
-    let dump = dump_told(rt, alloc, notation.as_str())?;
-    let notes = notes_in(alloc, dump.as_str())?;
-    check_end(rt, notes.as_str(), "invalid type for network address");
-    Ok(())
 }
 
 #[test]
-fn what_is_no_address_has_a_note(rt: HostRuntime) -> Result<(), Fail> {
+fn what_is_no_address_has_a_note(rt: HostRuntime) {
     for value in NO_ADDRESSES {
-        check_no_address(&rt, rt.alloc(), "52", value)?;
-        check_no_address(&rt, rt.alloc(), "54", value)?;
+        for tag in [52, 54] {
+            let notes = notes_in(rt.alloc(), dump_tagged(rt.alloc(), tag, value));
+            check_end(&rt, notes, "invalid type for network address", value);
+        }
     }
-    Ok(())
 }
 
-fn check_zone(
-    rt: &impl Abort,
-    alloc: Global,
-    (before, shown): (&str, &str),
-    (zone, escaped): (&str, &str),
-) -> Result<(), Fail> {
-    let notation = format!(in alloc; "{before}{zone}])")?;
-    let dump = dump_told(rt, alloc, notation.as_str())?;
-    // the tag, the array, two lines of bytes, null, two of text, the note
-    check_lines(rt, dump.as_str(), 8);
-    let end = format!(in alloc; " #   {shown}{escaped})\n")?;
-    check_end(rt, dump.as_str(), end.as_str());
-    Ok(())
+/// The dump of an address with a zone.
+fn dump_with_zone(alloc: Global, before: &str, zone: &str) -> Result<String> {
+    dump_told(alloc, format!(in alloc; "{before}{zone}])")?.as_str())
+}
+
+/// The last line of that.
+fn zone_note(alloc: Global, shown: &str, escaped: &str) -> Result<String> {
+    Ok(format!(in alloc; " #   {shown}{escaped})\n")?)
 }
 
 // A zone is carried as it is, and shown so that it stays in its line.
 #[test]
-fn zones_are_escaped(rt: HostRuntime) -> Result<(), Fail> {
-    for family in FAMILIES {
-        for zone in ZONES {
-            check_zone(&rt, rt.alloc(), *family, *zone)?;
+fn zones_are_escaped(rt: HostRuntime) {
+    let alloc = rt.alloc();
+    for (before, shown) in FAMILIES {
+        for (zone, escaped) in ZONES {
+            // the tag, the array, two lines of bytes, null, two of text, the note
+            check_lines(&rt, dump_with_zone(alloc, before, zone), 8, zone);
+            let dump = dump_with_zone(alloc, before, zone);
+            check_end_made(&rt, dump, zone_note(alloc, shown, escaped), zone);
         }
     }
-    Ok(())
 }

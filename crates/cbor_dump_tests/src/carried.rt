@@ -1,10 +1,10 @@
 // Carried texts that try to break a line of the dump, or to begin a comment, in every place where a dump
 // shows a text.
 
-use crate::dumped::{check_lines, dump_told};
+use crate::calls::dump_told;
+use crate::dumped::check_lines;
+use cbor_diag::Result;
 use std::alloc::Global;
-use std::process::Abort;
-use std::test::Fail;
 
 const CARRIED: &[&str] = &[
     "#",
@@ -86,27 +86,24 @@ const BYTES: &[(&str, usize)] = &[
     ("64(h'230a0d')", 5),
 ];
 
-fn check_carried(
-    rt: &impl Abort,
-    alloc: Global,
-    (before, after, count): (&str, &str, usize),
-) -> Result<(), Fail> {
-    for carried in CARRIED {
-        let notation = format!(in alloc; "{before}{carried}{after}")?;
-        let dump = dump_told(rt, alloc, notation.as_str())?;
-        check_lines(rt, dump.as_str(), count);
-    }
-    Ok(())
+/// The dump of an item in notation that carries a text.
+fn dump_carrying(alloc: Global, before: &str, carried: &str, after: &str) -> Result<String> {
+    dump_told(
+        alloc,
+        format!(in alloc; "{before}{carried}{after}")?.as_str(),
+    )
 }
 
 #[test]
-fn carried_texts_and_bytes_stay_in_their_lines(rt: HostRuntime) -> Result<(), Fail> {
-    for place in PLACES {
-        check_carried(&rt, rt.alloc(), *place)?;
+fn carried_texts_and_bytes_stay_in_their_lines(rt: HostRuntime) {
+    let alloc = rt.alloc();
+    for (before, after, count) in PLACES {
+        for carried in CARRIED {
+            let dump = dump_carrying(alloc, before, carried, after);
+            check_lines(&rt, dump, *count, before);
+        }
     }
     for (notation, count) in BYTES {
-        let dump = dump_told(&rt, rt.alloc(), notation)?;
-        check_lines(&rt, dump.as_str(), *count);
+        check_lines(&rt, dump_told(alloc, notation), *count, notation);
     }
-    Ok(())
 }

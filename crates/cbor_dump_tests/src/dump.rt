@@ -1,13 +1,11 @@
 // Dumps. Those that are written out are made by hand from the rules of docs/DUMP.md, or are in the documentation of
 // the Rust crate; all are read back.
 
-use crate::calls::item_of;
-use crate::dumped::{check_dumps, check_lines, dump_of, dump_told};
+use crate::calls::{check, check_end, dump_told, dumped, dumped_or_error};
+use crate::dumped::{check_dumps, check_lines};
 use crate::make::{bytes, tagged, text};
-use cbor_diag::{DataItem, IntegerWidth};
+use cbor_diag::{DataItem, IntegerWidth, Result};
 use std::alloc::Global;
-use std::process::Abort;
-use std::test::Fail;
 
 /// Strings in hex, and their dumps.
 const STRINGS: &[(&str, &str)] = &[
@@ -143,7 +141,7 @@ const TAGS: &[(&str, &str)] = &[
     ),
     (
         "db ffffffffffffffff 00",
-        "db ffffffffffffffff # tag(18446744073709551615)\n   00                #   unsigned(0)\n",
+        "db ffffffffffffffff # tag(18446744073709551615)\n   00               #   unsigned(0)\n",
     ),
 ];
 
@@ -224,97 +222,140 @@ const OPEN: &[(u64, &str, &str, &str)] = &[
 ];
 
 #[test]
-fn items_have_dumps(rt: HostRuntime) -> Result<(), Fail> {
+fn items_have_dumps(rt: HostRuntime) {
     for rows in [STRINGS, NUMBERS, SIMPLE, CONTAINERS, ENCODINGS, TAGS] {
-        check_dumps(&rt, rt.alloc(), rows)?;
+        check_dumps(&rt, rt.alloc(), rows);
     }
-    Ok(())
+}
+
+/// The first line of a dump.
+fn first_line(alloc: Global, dump: Result<String>) -> Result<String> {
+    let dump = dump?;
+    let line = dump.as_str().lines().next().unwrap_or("");
+    Ok(String::from_str(alloc, line)?)
+}
+
+/// The dump of what an opening, as many times a part, and a close are in notation.
+fn dump_repeated(
+    alloc: Global,
+    before: &str,
+    part: &str,
+    count: usize,
+    after: &str,
+) -> Result<String> {
+    let parts = part.repeat(alloc, count)?;
+    dump_told(alloc, format!(in alloc; "{before}{parts}{after}")?.as_str())
 }
 
 #[test]
-fn lengths_and_counts_are_not_grouped(rt: HostRuntime) -> Result<(), Fail> {
+fn lengths_and_counts_are_not_grouped(rt: HostRuntime) {
     let alloc = rt.alloc();
     for (before, part, count, after, line) in FIRST_LINES {
-        let parts = part.repeat(alloc, *count)?;
-        let notation = format!(in alloc; "{before}{parts}{after}")?;
-        let dump = dump_told(&rt, alloc, notation.as_str())?;
-        let first = dump.as_str().lines().next();
-        assert_eq!(rt; first, Some(*line), "of {count} times {part}");
+        let dump = dump_repeated(alloc, before, part, *count, after);
+        check(&rt, first_line(alloc, dump), line, part);
     }
-    Ok(())
 }
 
-fn check_open(
-    rt: &impl Abort,
-    alloc: Global,
-    (value, unsigned, negative, head): (u64, &str, &str, &str),
-) -> Result<(), Fail> {
+/// What has a number of an open width.
+#[derive(Clone, Copy)]
+enum Open {
+    Integer,
+    Negative,
+    /// The tag of a 0.
+    Tag,
+}
+
+fn dump_open(alloc: Global, kind: Open, value: u64) -> Result<String> {
     let bitwidth = IntegerWidth::Unknown;
-    let item = DataItem::Integer { value, bitwidth };
-    assert_eq!(rt; dump_of(rt, alloc, &item)?.as_str(), unsigned);
-    let tag = dump_of(rt, alloc, &tagged(alloc, value, item)?)?;
-    let digits = tag.as_str().split_once(" # ").map(|(digits, _)| digits.trim_ascii_end());
-    assert_eq!(rt; digits, Some(head), "of {}", tag.as_str());
-    let item = DataItem::Negative { value, bitwidth };
-    assert_eq!(rt; dump_of(rt, alloc, &item)?.as_str(), negative);
-    Ok(())
+    let item = match kind {
+        Open::Integer => Ok(DataItem::Integer { value, bitwidth }),
+        Open::Negative => Ok(DataItem::Negative { value, bitwidth }),
+        Open::Tag => tagged(alloc, value, DataItem::Integer { value: 0, bitwidth }),
+    };
+    dumped_or_error(alloc, item)
+}
+
+/// The digits of the first line of a dump.
+fn first_digits(alloc: Global, dump: Result<String>) -> Result<String> {
+    let dump = dump?;
+    let digits = dump
+        .as_str()
+        .split_once('#')
+        .map_or("", |(digits, _)| digits);
+    Ok(String::from_str(alloc, digits.trim_ascii_end())?)
 }
 
 #[test]
-fn open_widths_are_shown_as_the_shortest(rt: HostRuntime) -> Result<(), Fail> {
-    for row in OPEN {
-        check_open(&rt, rt.alloc(), *row)?;
-    }
-    Ok(())
-}
-
-#[test]
-fn byte_strings_of_some_lengths_are_read_back(rt: HostRuntime) -> Result<(), Fail> {
+fn open_widths_are_shown_as_the_shortest(rt: HostRuntime) {
     let alloc = rt.alloc();
+    for (value, unsigned, negative, head) in OPEN {
+        check(
+            &rt,
+            dump_open(alloc, Open::Integer, *value),
+            unsigned,
+            unsigned,
+        );
+        check(
+            &rt,
+            dump_open(alloc, Open::Negative, *value),
+            negative,
+            negative,
+        );
+        let digits = first_digits(alloc, dump_open(alloc, Open::Tag, *value));
+        check(&rt, digits, head, "a tag");
+    }
+}
+
+/// The dump of bytes below a tag, of as many line feeds.
+fn dump_of_bytes(alloc: Global, tag: u64, length: usize) -> Result<String> {
+    let content = "\n".repeat(alloc, length)?;
+    let item = tagged(alloc, tag, bytes(alloc, content.as_bytes())?)?;
+    dumped(alloc, &item)
+}
+
+// That the digits are the item's bytes is tested where a dump is made.
+#[test]
+fn byte_strings_of_some_lengths_are_read_back(rt: HostRuntime) {
     for length in [0usize, 1, 15, 16, 17, 31, 32, 33, 255, 256] {
-        let content = vec![in alloc; 0x0au8; length]?;
         for tag in [2, 21, 22, 23, 37, 52, 54, 260] {
-            dump_of(&rt, alloc, &tagged(alloc, tag, bytes(alloc, &content)?)?)?;
+            let dump = dump_of_bytes(rt.alloc(), tag, length);
+            check_end(&rt, dump, "\n", "bytes");
         }
     }
-    Ok(())
 }
 
-/// A text of as many bytes, of `a` but for one character at a place, which may make it longer.
-fn with_character(
-    alloc: Global,
-    length: usize,
-    place: usize,
-    character: char,
-) -> Result<String, Fail> {
-    let mut text = String::new(alloc);
+/// The dump of a text of as many bytes, of `a` but for one character at a place, which may make it longer.
+fn dump_of_text(alloc: Global, length: usize, place: usize, character: char) -> Result<String> {
+    let mut content = String::new(alloc);
     for at in 0..length {
-        text.push(if at == place { character } else { 'a' })?;
+        content.push(if at == place { character } else { 'a' })?;
     }
-    Ok(text)
+    dumped(alloc, &text(alloc, content.as_str())?)
 }
 
 #[test]
-fn texts_of_all_lengths_near_the_cut_are_read_back(rt: HostRuntime) -> Result<(), Fail> {
-    let alloc = rt.alloc();
+fn texts_of_all_lengths_near_the_cut_are_read_back(rt: HostRuntime) {
     for length in 22..=50 {
         for place in 0..length {
             for character in ['\n', 'é', '\u{2028}', '𐅑'] {
-                let content = with_character(alloc, length, place, character)?;
-                dump_of(&rt, alloc, &text(alloc, content.as_str())?)?;
+                let dump = dump_of_text(rt.alloc(), length, place, character);
+                check_end(&rt, dump, "\"\n", "a text");
             }
         }
     }
-    Ok(())
+}
+
+/// The dump of a string in 127 arrays.
+fn dump_of_deepest(alloc: Global) -> Result<String> {
+    let (opening, close) = ("[".repeat(alloc, 127)?, "]".repeat(alloc, 127)?);
+    dump_told(
+        alloc,
+        format!(in alloc; "{opening}(_h'01'){close}")?.as_str(),
+    )
 }
 
 #[test]
-fn the_deepest_item_is_read_back(rt: HostRuntime) -> Result<(), Fail> {
-    let alloc = rt.alloc();
-    let arrays = "81".repeat(alloc, 127)?;
-    let digits = format!(in alloc; "{arrays}5f4101ff")?;
-    let dump = dump_of(&rt, alloc, &item_of(alloc, digits.as_str())?)?;
+fn the_deepest_item_is_read_back(rt: HostRuntime) {
     // 127 arrays, the string, its chunk in two lines, the break
-    check_lines(&rt, dump.as_str(), 131);
-    Ok(())
+    check_lines(&rt, dump_of_deepest(rt.alloc()), 131, "127 arrays");
 }

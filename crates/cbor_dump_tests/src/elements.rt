@@ -1,9 +1,7 @@
 // The elements of typed arrays in a dump (RFC 8746), and what is said of bytes that are no whole elements.
 
-use crate::dumped::{check_dumps, check_end, check_ends, check_lines, check_notes, dump_told};
-use std::alloc::Global;
-use std::process::Abort;
-use std::test::Fail;
+use crate::calls::{check, check_end, dump_tagged, dump_told};
+use crate::dumped::{check_dumps, check_ends, check_lines, notes_in};
 
 /// Items in hex, and their dumps.
 const DUMPS: &[(&str, &str)] = &[
@@ -195,7 +193,7 @@ const ENDS: &[(&str, &str)] = &[
 ];
 
 /// The tags of typed arrays.
-const TAGS: &[u8] = &[
+const TAGS: &[u64] = &[
     64, 65, 66, 67, 68, 69, 70, 71, 72, 73, 74, 75, 77, 78, 79, 80, 81, 82, 83, 84, 85, 86, 87,
 ];
 
@@ -210,43 +208,37 @@ const NO_BYTES: &[&str] = &[
 ];
 
 #[test]
-fn typed_arrays_have_dumps(rt: HostRuntime) -> Result<(), Fail> {
-    check_dumps(&rt, rt.alloc(), DUMPS)
+fn typed_arrays_have_a_line_for_each_element(rt: HostRuntime) {
+    check_dumps(&rt, rt.alloc(), DUMPS);
+    check_ends(&rt, rt.alloc(), ELEMENTS);
+    check_ends(&rt, rt.alloc(), ENDS);
 }
 
 #[test]
-fn elements_have_lines(rt: HostRuntime) -> Result<(), Fail> {
-    check_ends(&rt, rt.alloc(), ELEMENTS)?;
-    check_ends(&rt, rt.alloc(), ENDS)
-}
-
-#[test]
-fn bytes_that_are_no_whole_elements_have_a_note(rt: HostRuntime) -> Result<(), Fail> {
+fn bytes_that_are_no_whole_elements_have_a_note(rt: HostRuntime) {
     for notation in PARTS {
-        let row = (*notation, "invalid data length for typed array");
-        check_notes(&rt, rt.alloc(), &[row])?;
+        let notes = notes_in(rt.alloc(), dump_told(rt.alloc(), notation));
+        check(&rt, notes, "invalid data length for typed array", notation);
     }
-    Ok(())
-}
-
-/// A typed array without elements has a line for its tag and one for its head. Values that are no bytes have a note.
-fn check_tag(rt: &impl Abort, alloc: Global, tag: u8) -> Result<(), Fail> {
-    let notation = format!(in alloc; "{tag}(h'')")?;
-    let dump = dump_told(rt, alloc, notation.as_str())?;
-    check_lines(rt, dump.as_str(), 2);
-    check_end(rt, dump.as_str(), "\n   40 #   bytes(0)\n");
-    for value in NO_BYTES {
-        let notation = format!(in alloc; "{tag}({value})")?;
-        let row = (notation.as_str(), "invalid type for typed array");
-        check_notes(rt, alloc, &[row])?;
-    }
-    Ok(())
 }
 
 #[test]
-fn empty_typed_arrays_have_no_lines_and_other_values_a_note(rt: HostRuntime) -> Result<(), Fail> {
+fn empty_typed_arrays_have_two_lines(rt: HostRuntime) {
+    let alloc = rt.alloc();
     for tag in TAGS {
-        check_tag(&rt, rt.alloc(), *tag)?;
+        check_lines(&rt, dump_tagged(alloc, *tag, "h''"), 2, "h''");
+        let dump = dump_tagged(alloc, *tag, "h''");
+        check_end(&rt, dump, "\n   40 #   bytes(0)\n", "h''");
     }
-    Ok(())
+}
+
+#[test]
+fn what_is_no_bytes_has_a_note(rt: HostRuntime) {
+    let alloc = rt.alloc();
+    for tag in TAGS {
+        for value in NO_BYTES {
+            let notes = notes_in(alloc, dump_tagged(alloc, *tag, value));
+            check(&rt, notes, "invalid type for typed array", value);
+        }
+    }
 }

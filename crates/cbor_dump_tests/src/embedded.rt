@@ -1,12 +1,11 @@
 // Dumps of embedded items and of sequences, which are comments in a dump (RFC 7049, section 2.4.4.1, and RFC 8742).
 
-use crate::calls::{item_of, written};
-use crate::dumped::{check_dumps, check_end, check_notes, dump_of};
+use crate::calls::{check, dumped_or_error, end_like, written};
+use crate::dumped::{check_dumps, check_notes};
 use crate::make::{array_of, bytes, tagged};
-use cbor_diag::{DataItem, IntegerWidth};
+use cbor_diag::{DataItem, IntegerWidth, Result, parse_hex};
 use std::alloc::Global;
 use std::process::Abort;
-use std::test::Fail;
 
 /// Items in hex, and their dumps.
 const DUMPS: &[(&str, &str)] = &[
@@ -304,84 +303,76 @@ failed to parse remaining encoded cbor sequence
 /// In how many tags a 1 is embedded, in how many arrays that is, how many of the items are too deep to be read, and the
 /// end of the dump. Each embedded item is two levels below the tag that it is embedded in: the 63rd at level 127.
 const NESTED: &[(usize, usize, usize, &str)] = &[
-    (1, 0, 0, " #   encoded cbor data item\n         #     01 # unsigned(1)\n"),
+    (
+        1,
+        0,
+        0,
+        " #   encoded cbor data item\n         #     01 # unsigned(1)\n",
+    ),
     (63, 0, 0, " #     01 # unsigned(1)\n"),
     (63, 1, 0, " #     01 # unsigned(1)\n"),
     (63, 2, 1, " #     nested deeper than 128 levels\n"),
-    (64, 0, 1, " #     nested deeper than 128 levels\n"),
 ];
 
-/// In how many arrays an item in hex is, and its note and the line below that.
-const DEEP: &[(usize, &str, &str, &str)] = &[
+/// In how many arrays an item in hex is, and the note of the last two lines.
+const DEEP: &[(usize, &str, &str)] = &[
     // read from level 128
     (
         125,
         "d8184101",
-        "encoded cbor data item",
-        "01 # unsigned(1)",
+        "encoded cbor data item\n01 # unsigned(1)\n",
     ),
-    (125, "d8184180", "encoded cbor data item", "80 # array(0)"),
+    (125, "d8184180", "encoded cbor data item\n80 # array(0)\n"),
     (
         125,
         "d818428101",
-        "failed to parse encoded cbor data item",
-        "nested deeper than 128 levels",
+        "failed to parse encoded cbor data item\nnested deeper than 128 levels\n",
     ),
     (
         125,
         "d83f43018101",
-        "failed to parse remaining encoded cbor sequence",
-        "nested deeper than 128 levels",
+        "failed to parse remaining encoded cbor sequence\nnested deeper than 128 levels\n",
     ),
-    // from level 129, where nothing can stand
+    // from level 129, where nothing can be
     (
         126,
         "d8184101",
-        "failed to parse encoded cbor data item",
-        "nested deeper than 128 levels",
+        "failed to parse encoded cbor data item\nnested deeper than 128 levels\n",
     ),
     (
         126,
         "d81841ff",
-        "failed to parse encoded cbor data item",
-        "nested deeper than 128 levels",
+        "failed to parse encoded cbor data item\nnested deeper than 128 levels\n",
     ),
     (
         126,
         "d81840",
-        "failed to parse encoded cbor data item",
-        "the item is cut short",
+        "failed to parse encoded cbor data item\nthe item is cut short\n",
     ),
     (
         126,
         "d83f4101",
-        "failed to parse remaining encoded cbor sequence",
-        "nested deeper than 128 levels",
+        "failed to parse remaining encoded cbor sequence\nnested deeper than 128 levels\n",
     ),
 ];
 
 /// The innermost dump of a 1 that is embedded in 64 tags.
-const INNERMOST: [&str; 5] = [
-    "d8 18    # encoded cbor data item, tag(24)",
-    "   41    #   bytes(1)",
-    "      01 #     \"\\x01\"",
-    "         #   failed to parse encoded cbor data item",
-    "         #     nested deeper than 128 levels",
-];
+const INNERMOST: &str = r#"d8 18    # encoded cbor data item, tag(24)
+   41    #   bytes(1)
+      01 #     "\x01"
+         #   failed to parse encoded cbor data item
+         #     nested deeper than 128 levels
+"#;
 
 #[test]
-fn embedded_items_and_sequences_have_dumps(rt: HostRuntime) -> Result<(), Fail> {
-    check_dumps(&rt, rt.alloc(), DUMPS)
-}
-
-#[test]
-fn embedded_items_and_sequences_have_notes(rt: HostRuntime) -> Result<(), Fail> {
-    check_notes(&rt, rt.alloc(), ITEMS)?;
-    check_notes(&rt, rt.alloc(), SEQUENCES)
+fn embedded_items_and_sequences_have_dumps_and_notes(rt: HostRuntime) {
+    check_dumps(&rt, rt.alloc(), DUMPS);
+    check_notes(&rt, rt.alloc(), ITEMS);
+    check_notes(&rt, rt.alloc(), SEQUENCES);
 }
 
 /// The number 1 as an embedded item, in as many tags.
-fn embedded(alloc: Global, count: usize) -> Result<DataItem, Fail> {
+fn embedded(alloc: Global, count: usize) -> Result<DataItem> {
     let (value, bitwidth) = (1, IntegerWidth::Zero);
     let mut item = DataItem::Integer { value, bitwidth };
     for _ in 0..count {
@@ -392,69 +383,85 @@ fn embedded(alloc: Global, count: usize) -> Result<DataItem, Fail> {
 }
 
 /// An item in as many arrays.
-fn in_arrays(alloc: Global, count: usize, item: DataItem) -> Result<DataItem, Fail> {
-    let mut item = item;
+fn in_arrays(alloc: Global, count: usize, item: Result<DataItem>) -> Result<DataItem> {
+    let mut item = item?;
     for _ in 0..count {
         item = array_of(alloc, item)?;
     }
     Ok(item)
 }
 
-fn check_nested(
-    rt: &impl Abort,
-    alloc: Global,
-    (tags, arrays, unread, end): (usize, usize, usize, &str),
-) -> Result<(), Fail> {
-    let item = in_arrays(alloc, arrays, embedded(alloc, tags)?)?;
-    let dump = dump_of(rt, alloc, &item)?;
-    check_end(rt, dump.as_str(), end);
-    for note in ["failed to parse", "nested deeper"] {
-        let found = dump.as_str().matches(note).count();
-        assert_eq!(rt; found, unread, "{note} of {tags} tags in {arrays} arrays");
+/// The dump of a 1 that is embedded in as many tags, in as many arrays.
+fn dump_nested(alloc: Global, tags: usize, arrays: usize) -> Result<String> {
+    dumped_or_error(alloc, in_arrays(alloc, arrays, embedded(alloc, tags)))
+}
+
+/// A dump ends so, and says as often that an item is too deep, and of no other that it is none.
+fn check_nested(rt: &impl Abort, dump: Result<String>, unread: usize, end: &str) {
+    match dump {
+        Ok(dump) => {
+            assert_eq!(rt; end_like(dump.as_str(), end), end);
+            let found = dump.as_str().matches("failed to parse").count();
+            assert_eq!(rt; found, unread, "before {end}");
+            let found = dump.as_str().matches("nested deeper").count();
+            assert_eq!(rt; found, unread, "before {end}");
+        }
+        Err(error) => panic!(rt; "{error:?} on {end}"),
     }
-    Ok(())
 }
 
 #[test]
-fn items_are_embedded_up_to_128_levels(rt: HostRuntime) -> Result<(), Fail> {
-    for row in NESTED {
-        check_nested(&rt, rt.alloc(), *row)?;
+fn items_are_embedded_up_to_128_levels(rt: HostRuntime) {
+    for (tags, arrays, unread, end) in NESTED {
+        check_nested(&rt, dump_nested(rt.alloc(), *tags, *arrays), *unread, end);
     }
-    Ok(())
 }
 
-// Before each of its lines are the same columns of the dumps that it is in.
-#[test]
-fn the_innermost_of_64_dumps_is_whole(rt: HostRuntime) -> Result<(), Fail> {
-    let alloc = rt.alloc();
-    let dump = dump_of(&rt, alloc, &embedded(alloc, 64)?)?;
-    let mut columns = None;
-    for (line, expected) in dump.as_str().lines().rev().zip(INNERMOST.iter().rev()) {
-        let before = line.strip_suffix(*expected);
-        assert!(rt; before.is_some(), "{line:?} does not end so: {expected:?}");
-        assert_eq!(rt; before, columns.unwrap_or(before), "of {line:?}");
-        columns = Some(before);
+/// What is after the columns that the last five lines of a dump have alike.
+fn innermost(alloc: Global, dump: &Result<String>) -> Result<String> {
+    let mut inner = String::new(alloc);
+    let Ok(dump) = dump else {
+        return Ok(inner);
+    };
+    let first = dump.as_str().lines().rev().nth(4).unwrap_or("");
+    let columns = first.rfind("d8 18").unwrap_or(0);
+    let (before, _) = first.split_at(columns);
+    let count = dump.as_str().lines().count();
+    for line in dump.as_str().lines().skip(count.saturating_sub(5)) {
+        inner.push_str(line.strip_prefix(before).unwrap_or(line))?;
+        inner.push('\n')?;
     }
-    Ok(())
-}
-
-fn check_deep(
-    rt: &impl Abort,
-    alloc: Global,
-    (arrays, digits, note, below): (usize, &str, &str, &str),
-) -> Result<(), Fail> {
-    let item = in_arrays(alloc, arrays, item_of(alloc, digits)?)?;
-    let dump = dump_of(rt, alloc, &item)?;
-    let mut lines = dump.as_str().lines().rev();
-    check_end(rt, lines.next().unwrap_or(""), below);
-    check_end(rt, lines.next().unwrap_or(""), note);
-    Ok(())
+    Ok(inner)
 }
 
 #[test]
-fn items_are_embedded_at_any_level(rt: HostRuntime) -> Result<(), Fail> {
-    for row in DEEP {
-        check_deep(&rt, rt.alloc(), *row)?;
+fn the_innermost_of_64_dumps_is_whole(rt: HostRuntime) {
+    let dump = dump_nested(rt.alloc(), 64, 0);
+    check(&rt, innermost(rt.alloc(), &dump), INNERMOST, "64 tags");
+    check_nested(&rt, dump, 1, " #     nested deeper than 128 levels\n");
+}
+
+/// The dump of an item in hex, in as many arrays.
+fn dump_in_arrays(alloc: Global, arrays: usize, digits: &str) -> Result<String> {
+    dumped_or_error(alloc, in_arrays(alloc, arrays, parse_hex(alloc, digits)))
+}
+
+/// The last lines of a dump, a note and what is below it, from the 128th level on.
+fn last_lines(alloc: Global, dump: Result<String>) -> Result<String> {
+    let (dump, mut last) = (dump?, String::new(alloc));
+    let count = dump.as_str().lines().count();
+    for line in dump.as_str().lines().skip(count.saturating_sub(2)) {
+        let comment = line.split_once('#').map_or("", |(_, comment)| comment);
+        last.push_str(comment.trim_ascii_start())?;
+        last.push('\n')?;
     }
-    Ok(())
+    Ok(last)
+}
+
+#[test]
+fn items_are_embedded_at_any_level(rt: HostRuntime) {
+    for (arrays, digits, expected) in DEEP {
+        let dump = dump_in_arrays(rt.alloc(), *arrays, digits);
+        check(&rt, last_lines(rt.alloc(), dump), expected, digits);
+    }
 }

@@ -1,7 +1,9 @@
 // Shared values and references to them in a dump: they are counted from 0 in the order of their tags.
 
-use crate::dumped::{check_dumps, check_end, check_notes, dump_told};
-use std::test::Fail;
+use crate::calls::{check_end, dump_told};
+use crate::dumped::{check_dumps, check_notes};
+use cbor_diag::Result;
+use std::alloc::Global;
 
 /// Items in hex, and their dumps.
 const DUMPS: &[(&str, &str)] = &[
@@ -170,25 +172,21 @@ encoded cbor data item
 ];
 
 #[test]
-fn shared_values_have_dumps(rt: HostRuntime) -> Result<(), Fail> {
-    check_dumps(&rt, rt.alloc(), DUMPS)
-}
-
-#[test]
-fn shared_values_and_references_have_notes(rt: HostRuntime) -> Result<(), Fail> {
+fn shared_values_and_references_have_dumps_and_notes(rt: HostRuntime) {
+    check_dumps(&rt, rt.alloc(), DUMPS);
     for rows in [SHARED, REFERENCES, EMBEDDED] {
-        check_notes(&rt, rt.alloc(), rows)?;
+        check_notes(&rt, rt.alloc(), rows);
     }
-    Ok(())
 }
 
-// 1001 shared values, and a reference to the last of them.
-#[test]
-fn great_numbers_are_grouped(rt: HostRuntime) -> Result<(), Fail> {
-    let alloc = rt.alloc();
+/// The dump of 1001 shared values, and a reference to the last of them.
+fn dump_of_many(alloc: Global) -> Result<String> {
     let values = "28(0), ".repeat(alloc, 1001)?;
-    let notation = format!(in alloc; "[{values}29(1000)]")?;
-    let dump = dump_told(&rt, alloc, notation.as_str())?;
+    dump_told(alloc, format!(in alloc; "[{values}29(1000)]")?.as_str())
+}
+
+#[test]
+fn great_numbers_are_grouped(rt: HostRuntime) {
     let end = "
    d8 1c      #   shareable value, tag(28)
       00      #     unsigned(0)
@@ -197,6 +195,5 @@ fn great_numbers_are_grouped(rt: HostRuntime) -> Result<(), Fail> {
       19 03e8 #     unsigned(1,000)
               #     reference-to(1,000)
 ";
-    check_end(&rt, dump.as_str(), end);
-    Ok(())
+    check_end(&rt, dump_of_many(rt.alloc()), end, "1002 members");
 }
