@@ -1,5 +1,5 @@
 /* Refuses memory to a program that it is loaded into: the request with the number FAIL_AT, counted from 1,
-   and with FAIL_ON those that follow. A byte on descriptor 3 says that a request was refused. */
+   and with FAIL_ON those that follow. A mark on descriptor 3 says that a request was refused. */
 #define _GNU_SOURCE
 #include <errno.h>
 #include <stddef.h>
@@ -23,7 +23,7 @@ static int refused(void)
     number++;
     if (at == 0 || number < at || (number > at && !on))
         return 0;
-    if (write(3, "x", 1) != 1)
+    if (write(3, "!", 1) != 1)
         _exit(99);
     errno = ENOMEM;
     return 1;

@@ -15,8 +15,14 @@ def library_in(folder):
     return library
 
 
-def run(program, words, content=b"", number=0, on=False, library=None):
-    """Status, output, errors, and whether a request was refused: the one of this number, and those after it."""
+MARK = b"!"  # what the library writes where it refuses a request
+
+
+def run(program, words, content=b"", number=0, on=False, library=None, marked=False):
+    """Status, output, errors, and whether a request was refused: the one of this number, and those after it.
+
+    Where the output is to be marked, each mark is in it, where the program was with its own output.
+    """
     environment = {"FAIL_AT": str(number)} if number else {}
     if on:
         environment["FAIL_ON"] = "1"
@@ -25,12 +31,13 @@ def run(program, words, content=b"", number=0, on=False, library=None):
     files = [tempfile.TemporaryFile(buffering=0) for _ in range(4)]
     files[0].write(content)
     files[0].seek(0)
-    actions = [(os.POSIX_SPAWN_DUP2, file.fileno(), place) for place, file in enumerate(files)]
+    targets = files[:3] + [files[1] if marked else files[3]]
+    actions = [(os.POSIX_SPAWN_DUP2, file.fileno(), place) for place, file in enumerate(targets)]
     process = os.posix_spawn(program, [program, *words], environment, file_actions=actions)
     _, ended = os.waitpid(process, 0)
     for file in files[1:]:
         file.seek(0)
-    answer = os.waitstatus_to_exitcode(ended), files[1].read(), files[2].read(), files[3].read() != b""
+    output, error, marks = (file.read() for file in files[1:])
     for file in files:
         file.close()
-    return answer
+    return os.waitstatus_to_exitcode(ended), output, error, MARK in (output if marked else marks)

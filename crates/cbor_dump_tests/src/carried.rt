@@ -1,11 +1,12 @@
 // Carried texts that try to break a line of the dump, or to begin a comment, in every place where a dump
 // shows a text.
 
-use crate::dumped::{check_lines, dump_of};
-use cbor_diag::parse_diag;
-use std::test::Fail;
+use crate::calls::dump_told;
+use crate::dumped::check_lines;
+use cbor_diag::Result;
+use std::alloc::Global;
 
-const CARRIED: [&str; 11] = [
+const CARRIED: &[&str] = &[
     "#",
     "\n",
     "\r",
@@ -19,8 +20,8 @@ const CARRIED: [&str; 11] = [
     "a:#\n\r\u{85}\u{2028}#",
 ];
 
-/// What stands before and after a text in notation, and how many lines the dump has.
-const PLACES: [(&str, &str, usize); 36] = [
+/// What is before and after a text in notation, and how many lines the dump has.
+const PLACES: &[(&str, &str, usize)] = &[
     ("\"", "\"", 2),
     ("[\"", "\"]", 3),
     ("{\"", "\": 1}", 4),
@@ -71,38 +72,38 @@ const PLACES: [(&str, &str, usize); 36] = [
     ("63(<<\"", "\">> h'ff')", 8),
 ];
 
+/// Base 64 and bytes that are shown in lines of their own, in notation, and how many lines the dump has.
+const BYTES: &[(&str, usize)] = &[
+    // the last of the carried texts
+    ("33(\"YTojCg3CheKAqCM\")", 5),
+    ("34(\"YTojCg3CheKAqCM=\")", 5),
+    // sixteen line feeds, and `#`, line feeds and carriage returns
+    ("34(\"CgoKCgoKCgoKCgoKCgoKCg==\")", 5),
+    ("37(h'0a0a0a0a0a0a0a0a0a0a0a0a0a0a0a0a')", 7),
+    ("37(h'230a0d230a0d230a0d230a0d230a0d23')", 7),
+    ("260(h'230a0d23')", 4),
+    ("260(h'230a0d230a0d')", 4),
+    ("64(h'230a0d')", 5),
+];
+
+/// The dump of an item in notation that carries a text.
+fn dump_carrying(alloc: Global, before: &str, carried: &str, after: &str) -> Result<String> {
+    dump_told(
+        alloc,
+        format!(in alloc; "{before}{carried}{after}")?.as_str(),
+    )
+}
+
 #[test]
-fn carried_texts_stay_in_their_lines(rt: HostRuntime) -> Result<(), Fail> {
+fn carried_texts_and_bytes_stay_in_their_lines(rt: HostRuntime) {
     let alloc = rt.alloc();
     for (before, after, count) in PLACES {
         for carried in CARRIED {
-            let notation = format!(in alloc; "{before}{carried}{after}")?;
-            let dump = dump_of(&rt, alloc, &parse_diag(alloc, notation.as_str())?)?;
-            check_lines(&rt, dump.as_str(), count);
+            let dump = dump_carrying(alloc, before, carried, after);
+            check_lines(&rt, dump, *count, before);
         }
     }
-    Ok(())
-}
-
-// What base 64 and a UUID hold are bytes that are shown in lines of their own.
-#[test]
-fn carried_bytes_stay_in_their_lines(rt: HostRuntime) -> Result<(), Fail> {
-    let alloc = rt.alloc();
-    let rows = [
-        // the last of the carried texts
-        ("33(\"YTojCg3CheKAqCM\")", 5),
-        ("34(\"YTojCg3CheKAqCM=\")", 5),
-        // sixteen line feeds, and `#`, line feeds and carriage returns
-        ("34(\"CgoKCgoKCgoKCgoKCgoKCg==\")", 5),
-        ("37(h'0a0a0a0a0a0a0a0a0a0a0a0a0a0a0a0a')", 7),
-        ("37(h'230a0d230a0d230a0d230a0d230a0d23')", 7),
-        ("260(h'230a0d23')", 4),
-        ("260(h'230a0d230a0d')", 4),
-        ("64(h'230a0d')", 5),
-    ];
-    for (notation, count) in rows {
-        let dump = dump_of(&rt, alloc, &parse_diag(alloc, notation)?)?;
-        check_lines(&rt, dump.as_str(), count);
+    for (notation, count) in BYTES {
+        check_lines(&rt, dump_told(alloc, notation), *count, notation);
     }
-    Ok(())
 }

@@ -4,6 +4,8 @@
 #[cfg(test)]
 mod addresses;
 #[cfg(test)]
+mod calls;
+#[cfg(test)]
 mod carried;
 #[cfg(test)]
 mod dump;

@@ -4,23 +4,27 @@
 #[cfg(test)]
 mod bytes;
 #[cfg(test)]
+mod calls;
+#[cfg(test)]
+mod ends;
+#[cfg(test)]
+mod forms;
+#[cfg(test)]
 mod hex_text;
 #[cfg(test)]
 mod hostile;
 #[cfg(test)]
 mod items;
 #[cfg(test)]
+mod levels;
+#[cfg(test)]
+mod lines;
+#[cfg(test)]
 mod make;
 #[cfg(test)]
 mod malformed;
 #[cfg(test)]
 mod notation;
-#[cfg(test)]
-mod notation_lines;
-#[cfg(test)]
-mod notation_written;
-#[cfg(test)]
-mod printed;
 #[cfg(test)]
 mod readme;
 #[cfg(test)]

@@ -1,21 +1,23 @@
 // Items with their bytes, dumps and texts, for tests that make every call of each. The dumps and texts were
 // made by hand from the rules of docs/, and agree with the reading of compare/.
 
-use std::alloc::{AllocError, Global};
+use crate::calls::nested;
+use cbor_diag::Result;
+use std::alloc::Global;
 
-/// What an item is in each form, and the bytes of its normal form.
+/// An item in hex, what it is in each form, and its normal form in hex.
 #[derive(Clone, Copy)]
 pub(crate) struct Sample<'a> {
-    pub(crate) bytes: &'a [u8],
+    pub(crate) digits: &'a str,
     pub(crate) dump: &'a str,
     pub(crate) diag: &'a str,
     pub(crate) pretty: &'a str,
-    pub(crate) normal: &'a [u8],
+    pub(crate) normal: &'a str,
 }
 
 pub(crate) const SAMPLES: [Sample<'static>; 11] = [
     Sample {
-        bytes: b"\xd8\x20\x73https://example.com",
+        digits: "d8207368747470733a2f2f6578616d706c652e636f6d",
         dump: r#"d8 20                                        # uri, tag(32)
    73                                        #   text(19)
       68747470733a2f2f6578616d706c652e636f6d #     "https://example.com"
@@ -23,11 +25,11 @@ pub(crate) const SAMPLES: [Sample<'static>; 11] = [
 "#,
         diag: r#"32_0("https://example.com")"#,
         pretty: r#"32_0("https://example.com")"#,
-        normal: b"\xd8\x20\x73https://example.com",
+        normal: "d8207368747470733a2f2f6578616d706c652e636f6d",
     },
     // an item in an item, with a head and a simple value that are longer than they need to be
     Sample {
-        bytes: b"\xd8\x18\x46\xd8\x18\x58\x02\xf8\x14",
+        digits: "d81846d8185802f814",
         dump: r#"d8 18              # encoded cbor data item, tag(24)
    46              #   bytes(6)
       d8185802f814 #     "\xd8\x18X\x02\xf8\x14"
@@ -40,10 +42,10 @@ pub(crate) const SAMPLES: [Sample<'static>; 11] = [
 "#,
         diag: "24_0(<<24_0(<<false>>)>>)",
         pretty: "24_0(<<24_0(<<false>>)>>)",
-        normal: b"\xd8\x18\x44\xd8\x18\x41\xf4",
+        normal: "d81844d81841f4",
     },
     Sample {
-        bytes: b"\xd6\x43\xff\xff\xff",
+        digits: "d643ffffff",
         dump: "\
 d6           # suggested base64 encoding, tag(22)
    43        #   bytes(3)
@@ -51,11 +53,11 @@ d6           # suggested base64 encoding, tag(22)
 ",
         diag: "22(b64'////')",
         pretty: "22(b64'////')",
-        normal: b"\xd6\x43\xff\xff\xff",
+        normal: "d643ffffff",
     },
     // an address with a zone
     Sample {
-        bytes: b"\xd8\x34\x83\x44\xc0\x00\x02\x01\xf6\x63a\nb",
+        digits: "d8348344c0000201f663610a62",
         dump: r#"d8 34             # ipv4 address and/or prefix, tag(52)
    83             #   array(3)
       44          #     bytes(4)
@@ -67,10 +69,10 @@ d6           # suggested base64 encoding, tag(22)
 "#,
         diag: "52_0([h'c0000201',null,\"a\nb\"])",
         pretty: "52_0([h'c0000201', null, \"a\nb\"])",
-        normal: b"\xd8\x34\x83\x44\xc0\x00\x02\x01\xf6\x63a\nb",
+        normal: "d8348344c0000201f663610a62",
     },
     Sample {
-        bytes: b"\xd8\x18\x41\x01",
+        digits: "d8184101",
         dump: r#"d8 18    # encoded cbor data item, tag(24)
    41    #   bytes(1)
       01 #     "\x01"
@@ -79,10 +81,10 @@ d6           # suggested base64 encoding, tag(22)
 "#,
         diag: "24_0(<<1>>)",
         pretty: "24_0(<<1>>)",
-        normal: b"\xd8\x18\x41\x01",
+        normal: "d8184101",
     },
     Sample {
-        bytes: b"\xc1\x1a\x51\x4b\x67\xb0",
+        digits: "c11a514b67b0",
         dump: "\
 c1             # epoch datetime value, tag(1)
    1a 514b67b0 #   unsigned(1,363,896,240)
@@ -90,10 +92,10 @@ c1             # epoch datetime value, tag(1)
 ",
         diag: "1(1363896240_2)",
         pretty: "1(1363896240_2)",
-        normal: b"\xc1\x1a\x51\x4b\x67\xb0",
+        normal: "c11a514b67b0",
     },
     Sample {
-        bytes: b"\xd8\x64\x19\x0f\x9a",
+        digits: "d864190f9a",
         dump: "\
 d8 64      # epoch date value, tag(100)
    19 0f9a #   unsigned(3,994)
@@ -101,11 +103,11 @@ d8 64      # epoch date value, tag(100)
 ",
         diag: "100_0(3994_1)",
         pretty: "100_0(3994_1)",
-        normal: b"\xd8\x64\x19\x0f\x9a",
+        normal: "d864190f9a",
     },
     // a shared value, and a reference to it inside
     Sample {
-        bytes: b"\xd8\x1c\x81\xd8\x1d\x00",
+        digits: "d81c81d81d00",
         dump: "\
 d8 1c       # shareable value, tag(28)
    81       #   array(1)
@@ -116,10 +118,10 @@ d8 1c       # shareable value, tag(28)
 ",
         diag: "28_0([29_0(0)])",
         pretty: "28_0([29_0(0)])",
-        normal: b"\xd8\x1c\x81\xd8\x1d\x00",
+        normal: "d81c81d81d00",
     },
     Sample {
-        bytes: b"\xd8\x45\x44\x01\x00\x00\x10",
+        digits: "d8454401000010",
         dump: "\
 d8 45      # typed array of u16, little endian, tag(69)
    44      #   bytes(4)
@@ -128,10 +130,10 @@ d8 45      # typed array of u16, little endian, tag(69)
 ",
         diag: "69_0(h'01000010')",
         pretty: "69_0(h'01000010')",
-        normal: b"\xd8\x45\x44\x01\x00\x00\x10",
+        normal: "d8454401000010",
     },
     Sample {
-        bytes: b"\xd8\x22\x64aGk=",
+        digits: "d8226461476b3d",
         dump: r#"d8 22          # base64 encoded text, tag(34)
    64          #   text(4)
       61476b3d #     "aGk="
@@ -140,11 +142,11 @@ d8 45      # typed array of u16, little endian, tag(69)
 "#,
         diag: r#"34_0("aGk=")"#,
         pretty: r#"34_0("aGk=")"#,
-        normal: b"\xd8\x22\x64aGk=",
+        normal: "d8226461476b3d",
     },
     // four items, each embedded in the next
     Sample {
-        bytes: b"\xd8\x18\x4a\xd8\x18\x47\xd8\x18\x44\xd8\x18\x41\x01",
+        digits: "d8184ad81847d81844d8184101",
         dump: r#"d8 18                      # encoded cbor data item, tag(24)
    4a                      #   bytes(10)
       d81847d81844d8184101 #     "\xd8\x18G\xd8\x18D\xd8\x18A\x01"
@@ -165,37 +167,27 @@ d8 45      # typed array of u16, little endian, tag(69)
 "#,
         diag: "24_0(<<24_0(<<24_0(<<24_0(<<1>>)>>)>>)>>)",
         pretty: "24_0(<<24_0(<<24_0(<<24_0(<<1>>)>>)>>)>>)",
-        normal: b"\xd8\x18\x4a\xd8\x18\x47\xd8\x18\x44\xd8\x18\x41\x01",
+        normal: "d8184ad81847d81844d8184101",
     },
 ];
 
-/// The bytes of 64 tags 24, each in the bytes of the one before it, and in the innermost a 1.
-pub(crate) fn deep_bytes(alloc: Global) -> Result<Vec<u8>, AllocError> {
-    let mut bytes = Vec::from_slice(alloc, b"\x01")?;
-    for _ in 0..64 {
-        let mut outer = Vec::from_slice(alloc, b"\xd8\x18")?;
-        // the greatest has 245 bytes
-        let len = bytes.len().min(255) as u8;
-        if len < 24 {
-            outer.push(0x40 + len)?;
+/// The bytes of as many tags 24, each in the bytes of the one before it, and in the innermost a 1, in hex.
+pub(crate) fn embedded_digits(alloc: Global, count: usize) -> Result<String> {
+    let mut digits = String::from_str(alloc, "01")?;
+    for _ in 0..count {
+        let len = digits.len() / 2;
+        digits = if len < 24 {
+            format!(in alloc; "d818{:02x}{digits}", len + 0x40)?
         } else {
-            outer.extend_from_slice(&[0x58, len])?;
-        }
-        outer.extend_from_slice(&bytes)?;
-        bytes = outer;
+            format!(in alloc; "d81858{len:02x}{digits}")?
+        };
     }
-    Ok(bytes)
+    Ok(digits)
 }
 
-/// Their text: of 64 levels of embedding the innermost has no room for an item, and shows its bytes.
-pub(crate) fn deep_text(alloc: Global) -> Result<String, AllocError> {
-    let mut text = String::new(alloc);
-    for _ in 0..63 {
-        text.push_str("24_0(<<")?;
-    }
-    text.push_str("24_0(h'01')")?;
-    for _ in 0..63 {
-        text.push_str(">>)")?;
-    }
-    Ok(text)
+/// Their text. There is room for 63 levels of embedding: the innermost of 64 tags shows its bytes.
+pub(crate) fn embedded_text(alloc: Global, count: usize) -> Result<String> {
+    let shown = count.min(63);
+    let innermost = if count == shown { "1" } else { "24_0(h'01')" };
+    nested(alloc, "24_0(<<", shown, innermost, ">>)")
 }

@@ -25,14 +25,31 @@ pub(crate) fn text(alloc: Global, content: &str, bitwidth: IntegerWidth) -> Resu
     Ok(TextString { content, bitwidth })
 }
 
-pub(crate) fn empty_array(alloc: Global, bitwidth: Option<IntegerWidth>) -> DataItem {
-    let content = Vec::new(alloc);
-    DataItem::Array { content, bitwidth }
+/// An array of as many zeros.
+pub(crate) fn items_of(
+    alloc: Global,
+    count: usize,
+    bitwidth: Option<IntegerWidth>,
+) -> Result<DataItem> {
+    let mut content = Vec::new(alloc);
+    for _ in 0..count {
+        content.push(integer(0, IntegerWidth::Zero))?;
+    }
+    Ok(DataItem::Array { content, bitwidth })
 }
 
-pub(crate) fn empty_map(alloc: Global, bitwidth: Option<IntegerWidth>) -> DataItem {
-    let content = Vec::new(alloc);
-    DataItem::Map { content, bitwidth }
+/// A map of as many zeros to zeros.
+pub(crate) fn pairs_of(
+    alloc: Global,
+    count: usize,
+    bitwidth: Option<IntegerWidth>,
+) -> Result<DataItem> {
+    let mut content = Vec::new(alloc);
+    for _ in 0..count {
+        let key = integer(0, IntegerWidth::Zero);
+        content.push((key, integer(0, IntegerWidth::Zero)))?;
+    }
+    Ok(DataItem::Map { content, bitwidth })
 }
 
 pub(crate) fn array_of(alloc: Global, item: DataItem) -> Result<DataItem> {
@@ -62,9 +79,9 @@ pub(crate) fn tagged(
     })
 }
 
-// An empty array in that many arrays.
+/// An empty array in that many arrays.
 pub(crate) fn arrays_around_empty(alloc: Global, count: u8) -> Result<DataItem> {
-    let mut item = empty_array(alloc, Some(IntegerWidth::Zero));
+    let mut item = items_of(alloc, 0, Some(IntegerWidth::Zero))?;
     for _ in 0..count {
         item = array_of(alloc, item)?;
     }

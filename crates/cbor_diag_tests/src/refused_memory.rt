@@ -1,0 +1,220 @@
+// Calls where memory is found, and where it is refused.
+
+use crate::samples::{SAMPLES, Sample, embedded_digits, embedded_text};
+use cbor_diag::{
+    ByteString, DataItem, Error, IntegerWidth, Result, TextString, Turns, parse_bytes,
+    parse_bytes_counted, parse_bytes_partial, parse_diag, parse_hex,
+};
+use std::alloc::Global;
+use std::io::Print;
+use std::process::Abort;
+use std::test::Fail;
+
+#[derive(Clone, Copy, PartialEq, Eq, Debug)]
+enum Call {
+    ParseBytes,
+    ParseBytesPartial,
+    ParseBytesCounted,
+    ParseHex,
+    ParseDiag,
+    ToBytes,
+    PushBytes,
+    ToHex,
+    ToDiag,
+    PushDiag,
+    ToDiagPretty,
+    PushDiagPretty,
+    Clone,
+    CloneByteString,
+    CloneTextString,
+}
+
+/// The call that makes most is the first, so that it can be left out.
+const CALLS: &[Call] = &[
+    Call::ToHex,
+    Call::ParseBytes,
+    Call::ParseBytesPartial,
+    Call::ParseBytesCounted,
+    Call::ParseHex,
+    Call::ParseDiag,
+    Call::ToBytes,
+    Call::PushBytes,
+    Call::ToDiag,
+    Call::PushDiag,
+    Call::ToDiagPretty,
+    Call::PushDiagPretty,
+    Call::Clone,
+    Call::CloneByteString,
+    Call::CloneTextString,
+];
+
+/// The bytes that an item is written as, in hex.
+fn digits_of(alloc: Global, item: &DataItem) -> Result<String> {
+    if !item.is_well_formed() {
+        return Ok(String::from_str(alloc, "not well formed")?);
+    }
+    Ok(hex::encode(alloc, &item.to_bytes(alloc)?)?)
+}
+
+/// The item that bytes begin with, in hex, with how many of them it is.
+fn front_shown(alloc: Global, front: Option<(DataItem, usize)>, len: usize) -> Result<String> {
+    match front {
+        Some((item, used)) if used == len => digits_of(alloc, &item),
+        Some((_, used)) => Ok(format!(in alloc; "{used} of {len} bytes")?),
+        None => Ok(String::from_str(alloc, "cut")?),
+    }
+}
+
+/// What a reader answers of a sample: the bytes of the item, in hex.
+fn read(alloc: Global, call: Call, sample: &Sample) -> Result<String> {
+    let Ok(bytes) = hex::decode(alloc, sample.digits) else {
+        return Err(Error::Memory);
+    };
+    match call {
+        Call::ParseBytesPartial => {
+            front_shown(alloc, parse_bytes_partial(alloc, &bytes)?, bytes.len())
+        }
+        Call::ParseBytesCounted => {
+            let mut turns = Turns::new();
+            let front = parse_bytes_counted(alloc, &bytes, &mut turns)?;
+            front_shown(alloc, front, bytes.len())
+        }
+        Call::ParseHex => digits_of(alloc, &parse_hex(alloc, sample.dump)?),
+        Call::ParseDiag => digits_of(alloc, &parse_diag(alloc, sample.diag)?),
+        _ => digits_of(alloc, &parse_bytes(alloc, &bytes)?),
+    }
+}
+
+/// What a printer answers of a sample.
+fn print(alloc: Global, call: Call, sample: &Sample) -> Result<String> {
+    let item = parse_hex(alloc, sample.digits)?;
+    let mut text = String::new(alloc);
+    match call {
+        Call::ToBytes => return digits_of(alloc, &item),
+        Call::ToHex => return item.to_hex(alloc),
+        Call::ToDiag => return item.to_diag(alloc),
+        Call::ToDiagPretty => return item.to_diag_pretty(alloc),
+        Call::PushDiag => item.push_diag(alloc, &mut text)?,
+        Call::PushDiagPretty => item.push_diag_pretty(alloc, &mut text)?,
+        _ => {
+            let mut bytes = Vec::new(alloc);
+            item.push_bytes(&mut bytes)?;
+            return Ok(hex::encode(alloc, &bytes)?);
+        }
+    }
+    Ok(text)
+}
+
+/// What a clone is, of the item of a sample or of a string with the digits of a sample.
+fn copy(alloc: Global, call: Call, sample: &Sample) -> Result<String> {
+    let bitwidth = IntegerWidth::Unknown;
+    match call {
+        Call::CloneByteString => {
+            let content = Vec::from_slice(alloc, sample.digits.as_bytes())?;
+            let string = ByteString { content, bitwidth }.clone(alloc)?;
+            match String::from_utf8(string.content) {
+                Ok(text) => Ok(text),
+                Err(_) => Ok(String::from_str(alloc, "not UTF-8")?),
+            }
+        }
+        Call::CloneTextString => {
+            let content = String::from_str(alloc, sample.digits)?;
+            Ok(TextString { content, bitwidth }.clone(alloc)?.content)
+        }
+        _ => digits_of(alloc, &parse_hex(alloc, sample.digits)?.clone(alloc)?),
+    }
+}
+
+fn answer(alloc: Global, call: Call, sample: &Sample) -> Result<String> {
+    match call {
+        Call::ParseBytes
+        | Call::ParseBytesPartial
+        | Call::ParseBytesCounted
+        | Call::ParseHex
+        | Call::ParseDiag => read(alloc, call, sample),
+        Call::Clone | Call::CloneByteString | Call::CloneTextString => copy(alloc, call, sample),
+        _ => print(alloc, call, sample),
+    }
+}
+
+/// What a call has to answer.
+fn expected<'a>(call: Call, sample: &Sample<'a>) -> &'a str {
+    match call {
+        Call::ParseDiag => sample.normal,
+        Call::ToHex => sample.dump,
+        Call::ToDiag | Call::PushDiag => sample.diag,
+        Call::ToDiagPretty | Call::PushDiagPretty => sample.pretty,
+        _ => sample.digits,
+    }
+}
+
+/// Whether a call answers, which is then what it has to. Where it does not, memory was refused.
+fn is_answered(rt: &impl Abort, alloc: Global, call: Call, sample: &Sample) -> bool {
+    match answer(alloc, call, sample) {
+        Ok(found) => {
+            let expected = expected(call, sample);
+            assert_eq!(rt; found.as_str(), expected, "{call:?} of {}", sample.digits);
+            true
+        }
+        Err(error) => {
+            assert_eq!(rt; error, Error::Memory, "{call:?} of {}", sample.digits);
+            false
+        }
+    }
+}
+
+// A reader or a writer that always answers `Memory` meets its contract, so no proof finds it.
+#[test]
+fn calls_answer_where_memory_is_found(rt: HostRuntime) {
+    for sample in &SAMPLES {
+        for call in CALLS {
+            let is_answered = is_answered(&rt, rt.alloc(), *call, sample);
+            assert!(rt; is_answered, "{call:?} of {}: out of memory", sample.digits);
+        }
+    }
+}
+
+/// Makes each call of a sample twice, and prints what it answers.
+fn print_calls(
+    rt: &(impl Abort + Print),
+    alloc: Global,
+    calls: &[Call],
+    sample: &Sample,
+) -> std::result::Result<(), Fail> {
+    for call in calls {
+        for _ in 0..2 {
+            let is_answered = is_answered(rt, alloc, *call, sample);
+            let answer = if is_answered { "ok" } else { "memory" };
+            println!(rt; "{call:?} of {}: {answer}", sample.digits)?;
+        }
+    }
+    Ok(())
+}
+
+// `compare/failing_calls` runs this while it refuses requests for memory, and reads the lines: a call that a request was
+// refused in has to print `memory`, and any other `ok`. Where nothing is refused, as in the gate, this shows no more than
+// the test above. The dump of the deepest item is left out: it has 800 kilobytes.
+#[test]
+fn calls_answer_or_memory_is_refused(rt: HostRuntime) -> std::result::Result<(), Fail> {
+    for sample in &SAMPLES {
+        print_calls(&rt, rt.alloc(), CALLS, sample)?;
+    }
+    let (digits, text) = (
+        embedded_digits(rt.alloc(), 64),
+        embedded_text(rt.alloc(), 64),
+    );
+    match (digits, text) {
+        (Ok(digits), Ok(text)) => {
+            let (digits, diag) = (digits.as_str(), text.as_str());
+            let sample = Sample {
+                digits,
+                dump: digits,
+                diag,
+                pretty: diag,
+                normal: digits,
+            };
+            print_calls(&rt, rt.alloc(), CALLS.get(1..).unwrap_or(CALLS), &sample)
+        }
+        _ => Ok(println!(rt; "the deepest item: memory")?),
+    }
+}
