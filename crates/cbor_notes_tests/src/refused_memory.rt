@@ -80,10 +80,7 @@ base64(+B1Prn3sEdCnZQCgyR5r9g)
     (Call::Ipv4, "192.0.2.1"),
     (Call::Ipv6, "::ffff:192.0.2.1"),
     (Call::Mac, "00:00:5e:00:53:01"),
-    (
-        Call::Merge,
-        "f4 # false, simple(20)\n   #   note\n",
-    ),
+    (Call::Merge, "f4 # false, simple(20)\n   #   note\n"),
     (Call::PushElementText, "before unsigned(1,000)"),
     (Call::PushQuotedBytes, "before \"\\x00A\\\"\""),
     (Call::PushEscapedText, "before \\u{0}\\u{85}"),
@@ -167,9 +164,7 @@ fn noted(alloc: Global, call: Call) -> Result<String, AllocError> {
         Call::EpochOfDatetime => {
             found_text(alloc, epoch_of_datetime(alloc, "1985-04-12T23:20:50.52Z")?)
         }
-        Call::ElementText => {
-            found_text(alloc, element_text(alloc, 66, b"\x00\x00\x03\xe8")?)
-        }
+        Call::ElementText => { found_text(alloc, element_text(alloc, 66, b"\x00\x00\x03\xe8")?) }
         Call::UrlVerdict => {
             let verdict = url_verdict(alloc, "https://[2001:db8::1]:8080/a%20b?c#d")?;
             format!(in alloc; "{verdict}")
