@@ -256,6 +256,7 @@ fn answer(rt: &impl Abort, alloc: Global, call: Call) -> Result<String, AllocErr
     }
 }
 
+// A call that always answers out of memory meets its contract, so no proof finds it.
 #[test]
 fn calls_answer_where_memory_is_found(rt: HostRuntime) -> Result<(), Fail> {
     for (call, want) in ROWS {
@@ -265,19 +266,19 @@ fn calls_answer_where_memory_is_found(rt: HostRuntime) -> Result<(), Fail> {
     Ok(())
 }
 
-// compare/failing_calls runs this with requests for memory refused, and reads the lines: a call that a
-// request was refused to has to print `memory`, and where memory is found again `ok` right after it. Where
-// nothing is refused, as in the gate, it shows no more than the test above.
+// `compare/failing_calls` runs this while it refuses requests for memory, and reads the lines: a call that a
+// request was refused in has to print `memory`, and any other `ok`. Where nothing is refused, as in the
+// gate, this shows no more than the test above.
 #[test]
-fn a_call_answers_or_memory_is_refused(rt: HostRuntime) -> Result<(), Fail> {
+fn calls_answer_or_memory_is_refused(rt: HostRuntime) -> Result<(), Fail> {
     for (call, want) in ROWS {
         for _ in 0..2 {
             match answer(&rt, rt.alloc(), call) {
                 Ok(got) => {
                     assert_eq!(rt; got.as_str(), want, "{call:?}");
-                    println!(rt; "{call:?} ok")?;
+                    println!(rt; "{call:?}: ok")?;
                 }
-                Err(AllocError) => println!(rt; "{call:?} memory")?,
+                Err(AllocError) => println!(rt; "{call:?}: memory")?,
             }
         }
     }
