@@ -6,7 +6,7 @@ use std::alloc::{AllocError, Global};
 use std::test::Fail;
 
 /// The bytes 0 to 255 in base 32.
-const ALL_BASE32: &[u8] = b"\
+const ALL_BASE32: &str = "\
     AAAQEAYEAUDAOCAJBIFQYDIOB4IBCEQTCQKRMFYYDENBWHA5DYPSAIJCEMSCKJRH\
     FAUSUKZMFUXC6MBRGIZTINJWG44DSOR3HQ6T4P2AIFBEGRCFIZDUQSKKJNGE2TSP\
     KBIVEU2UKVLFOWCZLJNVYXK6L5QGCYTDMRSWMZ3INFVGW3DNNZXXA4LSON2HK5TX\
@@ -17,7 +17,7 @@ const ALL_BASE32: &[u8] = b"\
     ";
 
 /// The same in the extended hex alphabet.
-const ALL_BASE32HEX: &[u8] = b"\
+const ALL_BASE32HEX: &str = "\
     000G40O40K30E209185GO38E1S8124GJ2GAHC5OO34D1M70T3OFI08924CI2A9H7\
     50KIKAPC5KN2UC1H68PJ8D9M6SS3IEHR7GUJSFQ085146H258P3KGIAA9D64QJIF\
     A18L4KQKALB5EM2PB9DLONAUBTG62OJ3CHIMCPR8D5L6MR3DDPNN0SBIEDQ7ATJN\
@@ -28,7 +28,7 @@ const ALL_BASE32HEX: &[u8] = b"\
     ";
 
 /// The same in the standard base 64.
-const ALL_BASE64: &[u8] = b"\
+const ALL_BASE64: &str = "\
     AAECAwQFBgcICQoLDA0ODxAREhMUFRYXGBkaGxwdHh8gISIjJCUmJygpKissLS4v\
     MDEyMzQ1Njc4OTo7PD0+P0BBQkNERUZHSElKS0xNTk9QUVJTVFVWV1hZWltcXV5f\
     YGFiY2RlZmdoaWprbG1ub3BxcnN0dXZ3eHl6e3x9fn+AgYKDhIWGh4iJiouMjY6P\
@@ -38,7 +38,7 @@ const ALL_BASE64: &[u8] = b"\
     ";
 
 /// The same in the base 64 that is safe in URLs.
-const ALL_BASE64URL: &[u8] = b"\
+const ALL_BASE64URL: &str = "\
     AAECAwQFBgcICQoLDA0ODxAREhMUFRYXGBkaGxwdHh8gISIjJCUmJygpKissLS4v\
     MDEyMzQ1Njc4OTo7PD0-P0BBQkNERUZHSElKS0xNTk9QUVJTVFVWV1hZWltcXV5f\
     YGFiY2RlZmdoaWprbG1ub3BxcnN0dXZ3eHl6e3x9fn-AgYKDhIWGh4iJiouMjY6P\
@@ -48,302 +48,294 @@ const ALL_BASE64URL: &[u8] = b"\
     ";
 
 /// The bytes 0 to 255.
-fn all_bytes(alloc: Global) -> Result<Vec<u8>, AllocError> {
-    let mut bytes = Vec::with_capacity(alloc, 256)?;
-    for byte in 0..=255u8 {
-        bytes.push(byte)?;
-    }
-    Ok(bytes)
+const ALL_BYTES: [u8; 256] = [
+    0x00, 0x01, 0x02, 0x03, 0x04, 0x05, 0x06, 0x07, 0x08, 0x09, 0x0a, 0x0b, 0x0c, 0x0d, 0x0e, 0x0f,
+    0x10, 0x11, 0x12, 0x13, 0x14, 0x15, 0x16, 0x17, 0x18, 0x19, 0x1a, 0x1b, 0x1c, 0x1d, 0x1e, 0x1f,
+    0x20, 0x21, 0x22, 0x23, 0x24, 0x25, 0x26, 0x27, 0x28, 0x29, 0x2a, 0x2b, 0x2c, 0x2d, 0x2e, 0x2f,
+    0x30, 0x31, 0x32, 0x33, 0x34, 0x35, 0x36, 0x37, 0x38, 0x39, 0x3a, 0x3b, 0x3c, 0x3d, 0x3e, 0x3f,
+    0x40, 0x41, 0x42, 0x43, 0x44, 0x45, 0x46, 0x47, 0x48, 0x49, 0x4a, 0x4b, 0x4c, 0x4d, 0x4e, 0x4f,
+    0x50, 0x51, 0x52, 0x53, 0x54, 0x55, 0x56, 0x57, 0x58, 0x59, 0x5a, 0x5b, 0x5c, 0x5d, 0x5e, 0x5f,
+    0x60, 0x61, 0x62, 0x63, 0x64, 0x65, 0x66, 0x67, 0x68, 0x69, 0x6a, 0x6b, 0x6c, 0x6d, 0x6e, 0x6f,
+    0x70, 0x71, 0x72, 0x73, 0x74, 0x75, 0x76, 0x77, 0x78, 0x79, 0x7a, 0x7b, 0x7c, 0x7d, 0x7e, 0x7f,
+    0x80, 0x81, 0x82, 0x83, 0x84, 0x85, 0x86, 0x87, 0x88, 0x89, 0x8a, 0x8b, 0x8c, 0x8d, 0x8e, 0x8f,
+    0x90, 0x91, 0x92, 0x93, 0x94, 0x95, 0x96, 0x97, 0x98, 0x99, 0x9a, 0x9b, 0x9c, 0x9d, 0x9e, 0x9f,
+    0xa0, 0xa1, 0xa2, 0xa3, 0xa4, 0xa5, 0xa6, 0xa7, 0xa8, 0xa9, 0xaa, 0xab, 0xac, 0xad, 0xae, 0xaf,
+    0xb0, 0xb1, 0xb2, 0xb3, 0xb4, 0xb5, 0xb6, 0xb7, 0xb8, 0xb9, 0xba, 0xbb, 0xbc, 0xbd, 0xbe, 0xbf,
+    0xc0, 0xc1, 0xc2, 0xc3, 0xc4, 0xc5, 0xc6, 0xc7, 0xc8, 0xc9, 0xca, 0xcb, 0xcc, 0xcd, 0xce, 0xcf,
+    0xd0, 0xd1, 0xd2, 0xd3, 0xd4, 0xd5, 0xd6, 0xd7, 0xd8, 0xd9, 0xda, 0xdb, 0xdc, 0xdd, 0xde, 0xdf,
+    0xe0, 0xe1, 0xe2, 0xe3, 0xe4, 0xe5, 0xe6, 0xe7, 0xe8, 0xe9, 0xea, 0xeb, 0xec, 0xed, 0xee, 0xef,
+    0xf0, 0xf1, 0xf2, 0xf3, 0xf4, 0xf5, 0xf6, 0xf7, 0xf8, 0xf9, 0xfa, 0xfb, 0xfc, 0xfd, 0xfe, 0xff,
+];
+
+#[derive(Clone, Copy, Debug)]
+enum Decoder {
+    Base32,
+    Base32Hex,
+    Base64,
 }
 
-/// Whether these bytes were found.
-fn is_found(found: &Option<Vec<u8>>, bytes: &[u8]) -> bool {
+use Decoder::{Base32, Base32Hex, Base64};
+
+/// Digits, and the bytes that they encode.
+const DECODED: [(Decoder, &str, &[u8]); 33] = [
+    (Base32, "", b""),
+    (Base32, "MY======", b"f"),
+    (Base32, "MZXQ====", b"fo"),
+    (Base32, "MZXW6===", b"foo"),
+    (Base32, "MZXW6YQ=", b"foob"),
+    (Base32, "MZXW6YTB", b"fooba"),
+    (Base32, "MZXW6YTBOI======", b"foobar"),
+    (Base32Hex, "", b""),
+    (Base32Hex, "CO======", b"f"),
+    (Base32Hex, "CPNG====", b"fo"),
+    (Base32Hex, "CPNMU===", b"foo"),
+    (Base32Hex, "CPNMUOG=", b"foob"),
+    (Base32Hex, "CPNMUOJ1", b"fooba"),
+    (Base32Hex, "CPNMUOJ1E8======", b"foobar"),
+    // the standard base 64
+    (Base64, "", b""),
+    (Base64, "Zg==", b"f"),
+    (Base64, "Zm8=", b"fo"),
+    (Base64, "Zm9v", b"foo"),
+    (Base64, "Zm9vYg==", b"foob"),
+    (Base64, "Zm9vYmE=", b"fooba"),
+    (Base64, "Zm9vYmFy", b"foobar"),
+    // the base 64 that is safe in URLs
+    (Base64, "Zg", b"f"),
+    (Base64, "Zm8", b"fo"),
+    (Base64, "Zm9vYg", b"foob"),
+    (Base64, "Zm9vYmE", b"fooba"),
+    // either of them
+    (Base64, "+/8=", b"\xfb\xff"),
+    (Base64, "-_8", b"\xfb\xff"),
+    (Base64, "++//", b"\xfb\xef\xff"),
+    (Base64, "--__", b"\xfb\xef\xff"),
+    (Base32, ALL_BASE32, &ALL_BYTES),
+    (Base32Hex, ALL_BASE32HEX, &ALL_BYTES),
+    (Base64, ALL_BASE64, &ALL_BYTES),
+    (Base64, ALL_BASE64URL, &ALL_BYTES),
+];
+
+/// Digits that encode no bytes.
+const REFUSED: [(Decoder, &str); 61] = [
+    // bits that no byte uses are set in the last digit
+    (Base32, "MZ======"),
+    (Base32, "MZXR===="),
+    (Base32, "MZXW7==="),
+    (Base32, "MZXW6YR="),
+    (Base32, "MZXW6YTBOJ======"),
+    // wrong padding
+    (Base32, "MY"),
+    (Base32, "MY====="),
+    (Base32, "MY======="),
+    (Base32, "M======="),
+    (Base32, "MYA====="),
+    (Base32, "MZXW6Y=="),
+    (Base32, "========"),
+    (Base32, "=Y======"),
+    (Base32, "MY====A="),
+    (Base32, "MZXW6YTB========"),
+    (Base32, "MY======MZXW6YTB"),
+    // other characters
+    (Base32, "my======"),
+    (Base32, "MZXW6YT1"),
+    (Base32, "MZXW6YT8"),
+    (Base32, "MZXW6YT0"),
+    (Base32, "MZXW YTB"),
+    (Base32, "MZXW6YTB\n"),
+    (Base32, "MZXW6YT@"),
+    (Base32, "MZXW6YT["),
+    // the same
+    (Base32Hex, "CP======"),
+    (Base32Hex, "CPNH===="),
+    (Base32Hex, "CPNMV==="),
+    (Base32Hex, "CPNMUOH="),
+    (Base32Hex, "CO"),
+    (Base32Hex, "C======="),
+    (Base32Hex, "CPN====="),
+    (Base32Hex, "CPNMUO=="),
+    (Base32Hex, "========"),
+    (Base32Hex, "CO======CPNMUOJ1"),
+    (Base32Hex, "co======"),
+    (Base32Hex, "CPNMUOJW"),
+    (Base32Hex, "CPNMUOJZ"),
+    (Base32Hex, "CPNMUOJ/"),
+    (Base32Hex, "CPNMUOJ:"),
+    // neither of the two encodings
+    (Base64, "Zh=="),
+    (Base64, "Zh"),
+    (Base64, "Zm9="),
+    (Base64, "Zm9"),
+    (Base64, "+/8"),
+    (Base64, "-_8="),
+    (Base64, "+-8="),
+    (Base64, "+_8"),
+    (Base64, "-/8"),
+    (Base64, "Z"),
+    (Base64, "Z==="),
+    (Base64, "Zg="),
+    (Base64, "Zg==="),
+    (Base64, "Zm9v="),
+    (Base64, "===="),
+    (Base64, "="),
+    (Base64, "Zg==Zg=="),
+    (Base64, "Z=g="),
+    (Base64, "Zg== "),
+    (Base64, " Zg="),
+    (Base64, "Zm9v\n"),
+    (Base64, "Zm9!"),
+];
+
+/// Bytes that are no digits, nor UTF-8.
+const NO_DIGITS: [(Decoder, &[u8]); 2] = [(Base32, b"MZXW6YT\xc2"), (Base64, b"Zm9\xc2")];
+
+/// What digits decode to, in hex, and `none` where they encode nothing.
+fn decoded(alloc: Global, decoder: Decoder, digits: &[u8]) -> Result<String, AllocError> {
+    let found = match decoder {
+        Base32 => base32_decode(alloc, digits)?,
+        Base32Hex => base32hex_decode(alloc, digits)?,
+        Base64 => base64_any_decode(alloc, digits)?,
+    };
     match found {
-        Some(answer) => answer.as_slice() == bytes,
-        None => false,
+        Some(bytes) => hex::encode(alloc, &bytes),
+        None => String::from_str(alloc, "none"),
     }
 }
 
 #[test]
-fn base32_vectors(rt: HostRuntime) -> Result<(), Fail> {
-    let alloc = rt.alloc();
-    assert!(rt; is_found(&base32_decode(alloc, b"")?, b""));
-    assert!(rt; is_found(&base32_decode(alloc, b"MY======")?, b"f"));
-    assert!(rt; is_found(&base32_decode(alloc, b"MZXQ====")?, b"fo"));
-    assert!(rt; is_found(&base32_decode(alloc, b"MZXW6===")?, b"foo"));
-    assert!(rt; is_found(&base32_decode(alloc, b"MZXW6YQ=")?, b"foob"));
-    assert!(rt; is_found(&base32_decode(alloc, b"MZXW6YTB")?, b"fooba"));
-    assert!(rt; is_found(&base32_decode(alloc, b"MZXW6YTBOI======")?, b"foobar"));
-    Ok(())
-}
-
-#[test]
-fn base32hex_vectors(rt: HostRuntime) -> Result<(), Fail> {
-    let alloc = rt.alloc();
-    assert!(rt; is_found(&base32hex_decode(alloc, b"")?, b""));
-    assert!(rt; is_found(&base32hex_decode(alloc, b"CO======")?, b"f"));
-    assert!(rt; is_found(&base32hex_decode(alloc, b"CPNG====")?, b"fo"));
-    assert!(rt; is_found(&base32hex_decode(alloc, b"CPNMU===")?, b"foo"));
-    assert!(rt; is_found(&base32hex_decode(alloc, b"CPNMUOG=")?, b"foob"));
-    assert!(rt; is_found(&base32hex_decode(alloc, b"CPNMUOJ1")?, b"fooba"));
-    assert!(rt; is_found(&base32hex_decode(alloc, b"CPNMUOJ1E8======")?, b"foobar"));
-    Ok(())
-}
-
-#[test]
-fn standard_base64_vectors(rt: HostRuntime) -> Result<(), Fail> {
-    let alloc = rt.alloc();
-    assert!(rt; is_found(&base64_any_decode(alloc, b"")?, b""));
-    assert!(rt; is_found(&base64_any_decode(alloc, b"Zg==")?, b"f"));
-    assert!(rt; is_found(&base64_any_decode(alloc, b"Zm8=")?, b"fo"));
-    assert!(rt; is_found(&base64_any_decode(alloc, b"Zm9v")?, b"foo"));
-    assert!(rt; is_found(&base64_any_decode(alloc, b"Zm9vYg==")?, b"foob"));
-    assert!(rt; is_found(&base64_any_decode(alloc, b"Zm9vYmE=")?, b"fooba"));
-    assert!(rt; is_found(&base64_any_decode(alloc, b"Zm9vYmFy")?, b"foobar"));
-    Ok(())
-}
-
-#[test]
-fn base64url_vectors(rt: HostRuntime) -> Result<(), Fail> {
-    let alloc = rt.alloc();
-    assert!(rt; is_found(&base64_any_decode(alloc, b"")?, b""));
-    assert!(rt; is_found(&base64_any_decode(alloc, b"Zg")?, b"f"));
-    assert!(rt; is_found(&base64_any_decode(alloc, b"Zm8")?, b"fo"));
-    assert!(rt; is_found(&base64_any_decode(alloc, b"Zm9v")?, b"foo"));
-    assert!(rt; is_found(&base64_any_decode(alloc, b"Zm9vYg")?, b"foob"));
-    assert!(rt; is_found(&base64_any_decode(alloc, b"Zm9vYmE")?, b"fooba"));
-    assert!(rt; is_found(&base64_any_decode(alloc, b"Zm9vYmFy")?, b"foobar"));
-    Ok(())
-}
-
-#[test]
-fn all_bytes_are_decoded(rt: HostRuntime) -> Result<(), Fail> {
-    let alloc = rt.alloc();
-    let bytes = all_bytes(alloc)?;
-    assert!(rt; is_found(&base32_decode(alloc, ALL_BASE32)?, &bytes));
-    assert!(rt; is_found(&base32hex_decode(alloc, ALL_BASE32HEX)?, &bytes));
-    assert!(rt; is_found(&base64_any_decode(alloc, ALL_BASE64)?, &bytes));
-    assert!(rt; is_found(&base64_any_decode(alloc, ALL_BASE64URL)?, &bytes));
-    Ok(())
-}
-
-// The last digit has bits that no byte uses.
-#[test]
-fn base32_unused_bits_are_zero(rt: HostRuntime) -> Result<(), Fail> {
-    let alloc = rt.alloc();
-    assert!(rt; base32_decode(alloc, b"MZ======")?.is_none());
-    assert!(rt; base32_decode(alloc, b"MZXR====")?.is_none());
-    assert!(rt; base32_decode(alloc, b"MZXW7===")?.is_none());
-    assert!(rt; base32_decode(alloc, b"MZXW6YR=")?.is_none());
-    assert!(rt; base32_decode(alloc, b"MZXW6YTBOJ======")?.is_none());
-    Ok(())
-}
-
-#[test]
-fn base32_padding_is_checked(rt: HostRuntime) -> Result<(), Fail> {
-    let alloc = rt.alloc();
-    assert!(rt; base32_decode(alloc, b"MY")?.is_none());
-    assert!(rt; base32_decode(alloc, b"MY=====")?.is_none());
-    assert!(rt; base32_decode(alloc, b"MY=======")?.is_none());
-    assert!(rt; base32_decode(alloc, b"M=======")?.is_none());
-    assert!(rt; base32_decode(alloc, b"MYA=====")?.is_none());
-    assert!(rt; base32_decode(alloc, b"MZXW6Y==")?.is_none());
-    assert!(rt; base32_decode(alloc, b"========")?.is_none());
-    assert!(rt; base32_decode(alloc, b"=Y======")?.is_none());
-    assert!(rt; base32_decode(alloc, b"MY====A=")?.is_none());
-    assert!(rt; base32_decode(alloc, b"MZXW6YTB========")?.is_none());
-    assert!(rt; base32_decode(alloc, b"MY======MZXW6YTB")?.is_none());
-    Ok(())
-}
-
-#[test]
-fn base32_has_no_other_characters(rt: HostRuntime) -> Result<(), Fail> {
-    let alloc = rt.alloc();
-    assert!(rt; base32_decode(alloc, b"my======")?.is_none());
-    assert!(rt; base32_decode(alloc, b"MZXW6YT1")?.is_none());
-    assert!(rt; base32_decode(alloc, b"MZXW6YT8")?.is_none());
-    assert!(rt; base32_decode(alloc, b"MZXW6YT0")?.is_none());
-    assert!(rt; base32_decode(alloc, b"MZXW YTB")?.is_none());
-    assert!(rt; base32_decode(alloc, b"MZXW6YTB\n")?.is_none());
-    assert!(rt; base32_decode(alloc, b"MZXW6YT\xc2")?.is_none());
-    assert!(rt; base32_decode(alloc, b"MZXW6YT@")?.is_none());
-    assert!(rt; base32_decode(alloc, b"MZXW6YT[")?.is_none());
-    Ok(())
-}
-
-#[test]
-fn base32hex_is_checked(rt: HostRuntime) -> Result<(), Fail> {
-    let alloc = rt.alloc();
-    for text in [
-        "CP======",
-        "CPNH====",
-        "CPNMV===",
-        "CPNMUOH=",
-        "CO",
-        "C=======",
-        "CPN=====",
-        "CPNMUO==",
-        "========",
-        "CO======CPNMUOJ1",
-        "co======",
-        "CPNMUOJW",
-        "CPNMUOJZ",
-        "CPNMUOJ/",
-        "CPNMUOJ:",
-    ] {
-        assert!(rt; base32hex_decode(alloc, text.as_bytes())?.is_none());
+fn digits_are_decoded(rt: HostRuntime) -> Result<(), Fail> {
+    for (decoder, digits, bytes) in DECODED {
+        let got = decoded(rt.alloc(), decoder, digits.as_bytes())?;
+        let want = hex::encode(rt.alloc(), bytes)?;
+        assert_eq!(rt; got.as_str(), want.as_str(), "{decoder:?} of {digits:?}");
     }
     Ok(())
 }
 
 #[test]
-fn either_base64_is_decoded(rt: HostRuntime) -> Result<(), Fail> {
-    let alloc = rt.alloc();
-    assert!(rt; is_found(&base64_any_decode(alloc, b"Zg==")?, &[0x66]));
-    assert!(rt; is_found(&base64_any_decode(alloc, b"Zg")?, &[0x66]));
-    assert!(rt; is_found(&base64_any_decode(alloc, b"+/8=")?, &[0xfb, 0xff]));
-    assert!(rt; is_found(&base64_any_decode(alloc, b"-_8")?, &[0xfb, 0xff]));
-    assert!(rt; is_found(&base64_any_decode(alloc, b"++//")?, &[0xfb, 0xef, 0xff]));
-    assert!(rt; is_found(&base64_any_decode(alloc, b"--__")?, &[0xfb, 0xef, 0xff]));
+fn other_digits_are_refused(rt: HostRuntime) -> Result<(), Fail> {
+    for (decoder, digits) in REFUSED {
+        let got = decoded(rt.alloc(), decoder, digits.as_bytes())?;
+        assert_eq!(rt; got.as_str(), "none", "{decoder:?} of {digits:?}");
+    }
+    for (decoder, digits) in NO_DIGITS {
+        let got = decoded(rt.alloc(), decoder, digits)?;
+        assert_eq!(rt; got.as_str(), "none", "{decoder:?} of {digits:?}");
+    }
     Ok(())
 }
 
-#[test]
-fn base64_of_neither_kind_is_refused(rt: HostRuntime) -> Result<(), Fail> {
-    let alloc = rt.alloc();
-    for text in [
-        "Zh==", "Zh", "Zm9=", "Zm9", "+/8", "-_8=", "+-8=", "+_8", "-/8", "Z", "Z===", "Zg=",
-        "Zg===", "Zm9v=", "====", "=", "Zg==Zg==", "Z=g=", "Zg== ", " Zg=", "Zm9v\n", "Zm9!",
-    ] {
-        assert!(rt; base64_any_decode(alloc, text.as_bytes())?.is_none());
-    }
-    assert!(rt; base64_any_decode(alloc, b"Zm9\xc2")?.is_none());
-    Ok(())
-}
+/// Texts, whether they are in the encoding for URLs, and the lines of what they encode, each with a line
+/// feed, or `none` where they encode nothing.
+const LINES: [(&str, bool, &str); 14] = [
+    (
+        "AAAAAAAAAAAAAAAAAAAAAAA=",
+        false,
+        r#"00000000000000000000000000000000 # "\x00\x00\x00\x00\x00\x00\x00\x00\x00\x00\x00\x00\x00\x00\x00\x00"
+00                               # "\x00"
+"#,
+    ),
+    (
+        "VGhlIHF1aWNrIGJyb3duIGZveCBqdW1wcyBvdmVyIDEzIGxhenkgZG9ncy4=",
+        false,
+        r#"54686520717569636b2062726f776e20 # "The quick brown "
+666f78206a756d7073206f7665722031 # "fox jumps over 1"
+33206c617a7920646f67732e         # "3 lazy dogs."
+"#,
+    ),
+    // one line is as wide as its digits
+    (
+        "SGVsbG8sIHdvcmxkIQ",
+        true,
+        "48656c6c6f2c20776f726c6421 # \"Hello, world!\"\n",
+    ),
+    ("-_8", true, "fbff # \"\\xfb\\xff\"\n"),
+    ("+/8=", false, "fbff # \"\\xfb\\xff\"\n"),
+    // nothing decoded has no lines
+    ("", true, ""),
+    ("", false, ""),
+    ("Zg==", true, "none"),
+    ("Zg", false, "none"),
+    ("+/8=", true, "none"),
+    ("-_8", false, "none"),
+    ("Zh==", false, "none"),
+    ("Zh", true, "none"),
+    ("é", true, "none"),
+];
 
-/// Whether the lines are these.
-fn are_lines(found: &Option<Vec<String>>, lines: &[&str]) -> bool {
-    match found {
-        Some(answer) => {
-            answer.len() == lines.len()
-                && answer
-                    .iter()
-                    .zip(lines)
-                    .all(|(line, wanted)| line.as_str() == *wanted)
-        }
-        None => false,
+/// The lines of what a text encodes, as `LINES` has them.
+fn lines_of(alloc: Global, text: &str, url: bool) -> Result<String, AllocError> {
+    let Some(lines) = base64_lines(alloc, text, url)? else {
+        return String::from_str(alloc, "none");
+    };
+    let mut joined = String::new(alloc);
+    for line in &lines {
+        joined.push_str(line.as_str())?;
+        joined.push('\n')?;
     }
+    Ok(joined)
 }
 
 #[test]
 fn decoded_bytes_stand_in_lines_of_sixteen(rt: HostRuntime) -> Result<(), Fail> {
-    let alloc = rt.alloc();
-    let zeros = base64_lines(alloc, "AAAAAAAAAAAAAAAAAAAAAAA=", false)?;
-    let first =
-        "00000000000000000000000000000000 # \"\\x00\\x00\\x00\\x00\\x00\\x00\\x00\\x00\\x00\\x00\\x00\\x00\\x00\\x00\\x00\\x00\"";
-    let second = "00                               # \"\\x00\"";
-    assert!(rt; are_lines(&zeros, &[first, second]));
-    let fox = "VGhlIHF1aWNrIGJyb3duIGZveCBqdW1wcyBvdmVyIDEzIGxhenkgZG9ncy4=";
-    let lines = [
-        "54686520717569636b2062726f776e20 # \"The quick brown \"",
-        "666f78206a756d7073206f7665722031 # \"fox jumps over 1\"",
-        "33206c617a7920646f67732e         # \"3 lazy dogs.\"",
-    ];
-    assert!(rt; are_lines(&base64_lines(alloc, fox, false)?, &lines));
+    for (text, url, want) in LINES {
+        let got = lines_of(rt.alloc(), text, url)?;
+        assert_eq!(rt; got.as_str(), want, "{text:?}, for URLs: {url}");
+    }
     Ok(())
 }
 
-#[test]
-fn one_line_is_as_wide_as_its_digits(rt: HostRuntime) -> Result<(), Fail> {
-    let alloc = rt.alloc();
-    let hello = base64_lines(alloc, "SGVsbG8sIHdvcmxkIQ", true)?;
-    assert!(rt; are_lines(&hello, &["48656c6c6f2c20776f726c6421 # \"Hello, world!\""]));
-    assert!(rt;
-        are_lines(
-            &base64_lines(alloc, "-_8", true)?,
-            &["fbff # \"\\xfb\\xff\""]
-        )
-    );
-    assert!(rt;
-        are_lines(
-            &base64_lines(alloc, "+/8=", false)?,
-            &["fbff # \"\\xfb\\xff\""]
-        )
-    );
-    Ok(())
-}
+/// Some of the sixteen lines of all bytes.
+const LINES_OF_ALL: [(usize, &str); 3] = [
+    (
+        0,
+        r#"000102030405060708090a0b0c0d0e0f # "\x00\x01\x02\x03\x04\x05\x06\x07\x08\t\n\x0b\x0c\r\x0e\x0f""#,
+    ),
+    (
+        2,
+        r##"202122232425262728292a2b2c2d2e2f # " !\"#$%&\'()*+,-./""##,
+    ),
+    (
+        5,
+        r#"505152535455565758595a5b5c5d5e5f # "PQRSTUVWXYZ[\\]^_""#,
+    ),
+];
 
-#[test]
-fn nothing_decoded_has_no_lines(rt: HostRuntime) -> Result<(), Fail> {
-    let alloc = rt.alloc();
-    assert!(rt; are_lines(&base64_lines(alloc, "", true)?, &[]));
-    assert!(rt; are_lines(&base64_lines(alloc, "", false)?, &[]));
-    Ok(())
-}
-
-#[test]
-fn lines_are_of_the_encoding_that_was_asked(rt: HostRuntime) -> Result<(), Fail> {
-    let alloc = rt.alloc();
-    assert!(rt; base64_lines(alloc, "Zg==", true)?.is_none());
-    assert!(rt; base64_lines(alloc, "Zg", false)?.is_none());
-    assert!(rt; base64_lines(alloc, "+/8=", true)?.is_none());
-    assert!(rt; base64_lines(alloc, "-_8", false)?.is_none());
-    assert!(rt; base64_lines(alloc, "Zh==", false)?.is_none());
-    assert!(rt; base64_lines(alloc, "Zh", true)?.is_none());
-    assert!(rt; base64_lines(alloc, "é", true)?.is_none());
-    Ok(())
-}
-
-// The lines of all bytes, three of them written out.
 #[test]
 fn all_bytes_have_sixteen_lines(rt: HostRuntime) -> Result<(), Fail> {
-    let text = str::from_utf8(ALL_BASE64).ok().ok_or("not a text")?;
-    let lines = base64_lines(rt.alloc(), text, false)?.ok_or("not decoded")?;
-    assert_eq!(rt; lines.len(), 16);
-    let first =
-        r#"000102030405060708090a0b0c0d0e0f # "\x00\x01\x02\x03\x04\x05\x06\x07\x08\t\n\x0b\x0c\r\x0e\x0f""#;
-    assert_eq!(rt; lines[0].as_str(), first);
-    let signs = r##"202122232425262728292a2b2c2d2e2f # " !\"#$%&\'()*+,-./""##;
-    assert_eq!(rt; lines[2].as_str(), signs);
-    let letters = r#"505152535455565758595a5b5c5d5e5f # "PQRSTUVWXYZ[\\]^_""#;
-    assert_eq!(rt; lines[5].as_str(), letters);
+    let lines = lines_of(rt.alloc(), ALL_BASE64, false)?;
+    assert_eq!(rt; lines.as_str().lines().count(), 16);
+    for (place, want) in LINES_OF_ALL {
+        let got = lines.as_str().lines().nth(place);
+        assert_eq!(rt; got, Some(want), "line {place}");
+    }
     Ok(())
+}
+
+/// Sixteen bytes in hex, and in base 58.
+const BASE58: [(&str, &str); 8] = [
+    ("00000000000000000000000000000000", "1111111111111111"),
+    ("00000000000000000000000000000001", "1111111111111112"),
+    ("0000000000000000000000000000003a", "11111111111111121"),
+    ("ffffffffffffffffffffffffffffffff", "YcVfxkQb6JRzqk5kF2tNLv"),
+    ("000102030405060708090a0b0c0d0e0f", "12drXXUifSrRnXLGbXg8E"),
+    ("00000000000000000100000000000000", "11111111Ahg1opVcGX"),
+    ("80000000000000000000000000000000", "GokLUsho3eiVvNYNd1wgfy"),
+    // the name space of domain names in RFC 4122, appendix C
+    ("6ba7b8109dad11d180b400c04fd430c8", "EJ34kCVxxF9jHMKD4EgrAK"),
+];
+
+/// Bytes that are given in hex, in base 58.
+fn base58_of(alloc: Global, digits: &str) -> Result<String, Fail> {
+    let mut bytes = [0; 16];
+    hex::decode_to_slice(digits, &mut bytes)?;
+    Ok(base58(alloc, &bytes)?)
 }
 
 #[test]
 fn base58_of_sixteen_bytes(rt: HostRuntime) -> Result<(), Fail> {
-    let alloc = rt.alloc();
-    assert_eq!(rt; base58(alloc, &[0; 16])?.as_str(), "1111111111111111");
-    let one = base58(alloc, &[0, 0, 0, 0, 0, 0, 0, 0, 0, 0, 0, 0, 0, 0, 0, 1])?;
-    assert_eq!(rt; one.as_str(), "1111111111111112");
-    let two_digits = base58(alloc, &[0, 0, 0, 0, 0, 0, 0, 0, 0, 0, 0, 0, 0, 0, 0, 0x3a])?;
-    assert_eq!(rt; two_digits.as_str(), "11111111111111121");
-    assert_eq!(rt;
-        base58(alloc, &[0xff; 16])?.as_str(),
-        "YcVfxkQb6JRzqk5kF2tNLv"
-    );
-    let rising = base58(
-        alloc,
-        &[0, 1, 2, 3, 4, 5, 6, 7, 8, 9, 10, 11, 12, 13, 14, 15],
-    )?;
-    assert_eq!(rt; rising.as_str(), "12drXXUifSrRnXLGbXg8E");
-    let middle = base58(alloc, &[0, 0, 0, 0, 0, 0, 0, 0, 1, 0, 0, 0, 0, 0, 0, 0])?;
-    assert_eq!(rt; middle.as_str(), "11111111Ahg1opVcGX");
-    let top = base58(alloc, &[0x80, 0, 0, 0, 0, 0, 0, 0, 0, 0, 0, 0, 0, 0, 0, 0])?;
-    assert_eq!(rt; top.as_str(), "GokLUsho3eiVvNYNd1wgfy");
-    Ok(())
-}
-
-// The name space of domain names in RFC 4122, appendix C.
-#[test]
-fn base58_of_a_uuid(rt: HostRuntime) -> Result<(), Fail> {
-    let bytes = [
-        0x6b, 0xa7, 0xb8, 0x10, 0x9d, 0xad, 0x11, 0xd1, 0x80, 0xb4, 0x00, 0xc0, 0x4f, 0xd4, 0x30,
-        0xc8,
-    ];
-    assert_eq!(rt;
-        base58(rt.alloc(), &bytes)?.as_str(),
-        "EJ34kCVxxF9jHMKD4EgrAK"
-    );
+    for (bytes, want) in BASE58 {
+        assert_eq!(rt; base58_of(rt.alloc(), bytes)?.as_str(), want, "on {bytes}");
+    }
     Ok(())
 }

@@ -3,6 +3,7 @@
 
 use cbor_notes::{Line, merge, put_line};
 use std::alloc::{AllocError, Global};
+use std::process::Abort;
 use std::test::Fail;
 
 /// A line without sublines.
@@ -23,47 +24,63 @@ fn uri(alloc: Global) -> Result<Line, AllocError> {
     Ok(tag)
 }
 
+/// The text of a tree that fits.
+fn merged(rt: &impl Abort, alloc: Global, line: &Line) -> Result<String, AllocError> {
+    assert!(rt; line.fits(), "the tree does not fit");
+    merge(alloc, line)
+}
+
 #[test]
 fn comments_stand_in_one_column(rt: HostRuntime) -> Result<(), Fail> {
-    let alloc = rt.alloc();
-    let tag = uri(alloc)?;
-    assert!(rt; tag.fits());
-    let text = merge(alloc, &tag)?;
-    let expected = "\
+    let text = merged(&rt, rt.alloc(), &uri(rt.alloc())?)?;
+    let want = "\
 d8 20                                        # uri, tag(32)
    73                                        #   text(19)
       68747470733a2f2f6578616d706c652e636f6d #     \"https://example.com\"
                                              #   valid URL
 ";
-    assert_eq!(rt; text.as_str(), expected);
+    assert_eq!(rt; text.as_str(), want);
     Ok(())
 }
+
+/// The hex and the comment of lines without sublines, and their texts.
+const ALONE: [(&str, &str, &str); 2] = [
+    ("01", "unsigned(1)", "01 # unsigned(1)\n"),
+    ("", "é", " # é\n"),
+];
 
 #[test]
 fn lines_without_digits_and_none_deeper(rt: HostRuntime) -> Result<(), Fail> {
-    let alloc = rt.alloc();
-    let one = line(alloc, "01", "unsigned(1)")?;
-    assert!(rt; one.fits());
-    assert_eq!(rt; merge(alloc, &one)?.as_str(), "01 # unsigned(1)\n");
-    let note = line(alloc, "", "é")?;
-    assert!(rt; note.fits());
-    assert_eq!(rt; merge(alloc, &note)?.as_str(), " # é\n");
+    for (hex, comment, want) in ALONE {
+        let line = line(rt.alloc(), hex, comment)?;
+        let got = merged(&rt, rt.alloc(), &line)?;
+        assert_eq!(rt; got.as_str(), want, "on {hex:?} and {comment:?}");
+    }
     Ok(())
 }
 
+/// Hex, and whether a line with it fits, alone and below another line.
+const HEX: [(&str, bool); 3] = [
+    (
+        "0123456789abcdef0123456789abcdef0123456789abcdef0123456789abcdef",
+        true,
+    ),
+    (
+        "0123456789abcdef0123456789abcdef0123456789abcdef0123456789abcdef0",
+        false,
+    ),
+    ("é", false),
+];
+
 #[test]
 fn long_and_foreign_digits_do_not_fit(rt: HostRuntime) -> Result<(), Fail> {
-    let alloc = rt.alloc();
-    let digits = "0123456789abcdef0123456789abcdef0123456789abcdef0123456789abcdef";
-    let longest = line(alloc, digits, "")?;
-    assert!(rt; longest.fits());
-    let mut longer = String::from_str(alloc, digits)?;
-    longer.push('0')?;
-    assert!(rt; !Line::new(alloc, longer, String::new(alloc)).fits());
-    assert!(rt; !line(alloc, "é", "")?.fits());
-    let mut above = line(alloc, "", "")?;
-    above.sublines.push(line(alloc, "é", "")?)?;
-    assert!(rt; !above.fits());
+    for (hex, want) in HEX {
+        let alone = line(rt.alloc(), hex, "")?;
+        assert_eq!(rt; alone.fits(), want, "on {hex:?}");
+        let mut above = line(rt.alloc(), "", "")?;
+        above.sublines.push(alone)?;
+        assert_eq!(rt; above.fits(), want, "on {hex:?} below another line");
+    }
     Ok(())
 }
 
@@ -80,35 +97,55 @@ fn levels(alloc: Global, count: usize) -> Result<Line, AllocError> {
 
 #[test]
 fn trees_of_140_levels_fit(rt: HostRuntime) -> Result<(), Fail> {
-    let alloc = rt.alloc();
-    let deepest = levels(alloc, 140)?;
-    assert!(rt; deepest.fits());
-    let text = merge(alloc, &deepest)?;
+    let text = merged(&rt, rt.alloc(), &levels(rt.alloc(), 140)?)?;
     // The width is 3 * 139 + 2, and the n-th line is two blanks longer than the one before it.
     assert_eq!(rt; text.len(), 140 * (419 + 4) + 139 * 140);
-    assert!(rt; !levels(alloc, 141)?.fits());
+    assert_eq!(rt; levels(rt.alloc(), 141)?.fits(), false, "141 levels");
     Ok(())
+}
+
+/// Widths, depths, hex and comments, and the lines that are appended.
+const APPENDED: [(usize, usize, &str, &str, &str); 3] = [
+    (5, 1, "0a", "\"\\n\"", "   0a #   \"\\n\"\n"),
+    (5, 0, "", "note", "      # note\n"),
+    (8, 1, "0a", "wider", "   0a    #   wider\n"),
+];
+
+/// Appends a line that fits.
+fn append(
+    rt: &impl Abort,
+    text: &mut String,
+    width: usize,
+    depth: usize,
+    hex: &str,
+    comment: &str,
+) -> Result<(), AllocError> {
+    assert!(rt; depth <= 140 && width <= 484, "too deep or too wide");
+    assert!(rt; hex.is_ascii() && hex.len() <= 64, "too long, or not ASCII");
+    assert!(rt;
+        hex.is_empty() || 3 * depth + hex.len() <= width,
+        "past the width"
+    );
+    put_line(text, width, depth, hex, comment)
 }
 
 #[test]
 fn a_line_is_appended(rt: HostRuntime) -> Result<(), Fail> {
-    let alloc = rt.alloc();
-    let mut text = String::from_str(alloc, "61    # text(1)\n")?;
-    put_line(&mut text, 5, 1, "0a", "\"\\n\"")?;
-    put_line(&mut text, 5, 0, "", "note")?;
-    put_line(&mut text, 8, 1, "0a", "wider")?;
-    let expected = "61    # text(1)\n   0a #   \"\\n\"\n      # note\n   0a    #   wider\n";
-    assert_eq!(rt; text.as_str(), expected);
+    let mut text = String::from_str(rt.alloc(), "61    # text(1)\n")?;
+    let mut want = String::from_str(rt.alloc(), "61    # text(1)\n")?;
+    for (width, depth, hex, comment, line) in APPENDED {
+        append(&rt, &mut text, width, depth, hex, comment)?;
+        want.push_str(line)?;
+        assert_eq!(rt; text.as_str(), want.as_str(), "on {hex:?} and {comment:?}");
+    }
     Ok(())
 }
 
 #[test]
 fn the_widest_line_is_appended(rt: HostRuntime) -> Result<(), Fail> {
-    let alloc = rt.alloc();
-    let mut text = String::new(alloc);
-    put_line(&mut text, 484, 140, "0a", "")?;
+    let mut text = String::new(rt.alloc());
+    append(&rt, &mut text, 484, 140, "0a", "")?;
     assert_eq!(rt; text.len(), 484 + 3 + 280 + 1);
-    assert!(rt; text.as_str().starts_with("   "));
     assert_eq!(rt; text.as_str().trim_start().len(), 64 + 3 + 280 + 1);
     Ok(())
 }

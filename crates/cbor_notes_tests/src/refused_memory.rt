@@ -80,10 +80,7 @@ base64(+B1Prn3sEdCnZQCgyR5r9g)
     (Call::Ipv4, "192.0.2.1"),
     (Call::Ipv6, "::ffff:192.0.2.1"),
     (Call::Mac, "00:00:5e:00:53:01"),
-    (
-        Call::Merge,
-        "f4 # false, simple(20)\n   #   note\n",
-    ),
+    (Call::Merge, "f4 # false, simple(20)\n   #   note\n"),
     (Call::PushElementText, "before unsigned(1,000)"),
     (Call::PushQuotedBytes, "before \"\\x00A\\\"\""),
     (Call::PushEscapedText, "before \\u{0}\\u{85}"),
@@ -167,9 +164,7 @@ fn noted(alloc: Global, call: Call) -> Result<String, AllocError> {
         Call::EpochOfDatetime => {
             found_text(alloc, epoch_of_datetime(alloc, "1985-04-12T23:20:50.52Z")?)
         }
-        Call::ElementText => {
-            found_text(alloc, element_text(alloc, 66, b"\x00\x00\x03\xe8")?)
-        }
+        Call::ElementText => { found_text(alloc, element_text(alloc, 66, b"\x00\x00\x03\xe8")?) }
         Call::UrlVerdict => {
             let verdict = url_verdict(alloc, "https://[2001:db8::1]:8080/a%20b?c#d")?;
             format!(in alloc; "{verdict}")
@@ -261,6 +256,7 @@ fn answer(rt: &impl Abort, alloc: Global, call: Call) -> Result<String, AllocErr
     }
 }
 
+// A call that always answers out of memory meets its contract, so no proof finds it.
 #[test]
 fn calls_answer_where_memory_is_found(rt: HostRuntime) -> Result<(), Fail> {
     for (call, want) in ROWS {
@@ -270,19 +266,19 @@ fn calls_answer_where_memory_is_found(rt: HostRuntime) -> Result<(), Fail> {
     Ok(())
 }
 
-// compare/failing_calls runs this with requests for memory refused, and reads the lines: a call that a
-// request was refused to has to print `memory`, and where memory is found again `ok` right after it. Where
-// nothing is refused, as in the gate, it shows no more than the test above.
+// `compare/failing_calls` runs this while it refuses requests for memory, and reads the lines: a call that a
+// request was refused in has to print `memory`, and any other `ok`. Where nothing is refused, as in the
+// gate, this shows no more than the test above.
 #[test]
-fn a_call_answers_or_memory_is_refused(rt: HostRuntime) -> Result<(), Fail> {
+fn calls_answer_or_memory_is_refused(rt: HostRuntime) -> Result<(), Fail> {
     for (call, want) in ROWS {
         for _ in 0..2 {
             match answer(&rt, rt.alloc(), call) {
                 Ok(got) => {
                     assert_eq!(rt; got.as_str(), want, "{call:?}");
-                    println!(rt; "{call:?} ok")?;
+                    println!(rt; "{call:?}: ok")?;
                 }
-                Err(AllocError) => println!(rt; "{call:?} memory")?,
+                Err(AllocError) => println!(rt; "{call:?}: memory")?,
             }
         }
     }

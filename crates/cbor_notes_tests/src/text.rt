@@ -6,71 +6,153 @@ use cbor_notes::{escaped_text, grouped, ipv4_text, ipv6_text, mac_text, quoted_b
 use std::alloc::{AllocError, Global};
 use std::test::Fail;
 
-#[test]
-fn numbers_are_grouped_by_three(rt: HostRuntime) -> Result<(), Fail> {
-    let alloc = rt.alloc();
-    assert_eq!(rt; grouped(alloc, 0, false)?.as_str(), "0");
-    assert_eq!(rt; grouped(alloc, 999, false)?.as_str(), "999");
-    assert_eq!(rt; grouped(alloc, 1000, false)?.as_str(), "1,000");
-    assert_eq!(rt; grouped(alloc, 1000, true)?.as_str(), "-1,000");
-    assert_eq!(rt; grouped(alloc, 1_234_567, true)?.as_str(), "-1,234,567");
-    assert_eq!(rt; grouped(alloc, 12_345_678, false)?.as_str(), "12,345,678");
-    Ok(())
+/// Numbers, whether they are negative, and their texts.
+const GROUPED: [(u128, bool, &str); 9] = [
+    (0, false, "0"),
+    (999, false, "999"),
+    (1000, false, "1,000"),
+    (1000, true, "-1,000"),
+    (1_234_567, true, "-1,234,567"),
+    (12_345_678, false, "12,345,678"),
+    // the greatest and the least integer of CBOR
+    (
+        18_446_744_073_709_551_615,
+        false,
+        "18,446,744,073,709,551,615",
+    ),
+    (
+        18_446_744_073_709_551_616,
+        true,
+        "-18,446,744,073,709,551,616",
+    ),
+    (
+        u128::MAX,
+        false,
+        "340,282,366,920,938,463,463,374,607,431,768,211,455",
+    ),
+];
+
+fn in_groups(alloc: Global, number: u128, negative: bool) -> Result<String, AllocError> {
+    grouped(alloc, number, negative)
 }
 
 #[test]
-fn the_greatest_numbers_are_grouped(rt: HostRuntime) -> Result<(), Fail> {
-    let alloc = rt.alloc();
-    let greatest_integer = grouped(alloc, 18_446_744_073_709_551_615, false)?;
-    assert_eq!(rt; greatest_integer.as_str(), "18,446,744,073,709,551,615");
-    let least_integer = grouped(alloc, 18_446_744_073_709_551_616, true)?;
-    assert_eq!(rt; least_integer.as_str(), "-18,446,744,073,709,551,616");
-    let greatest = grouped(alloc, u128::MAX, false)?;
-    let text = "340,282,366,920,938,463,463,374,607,431,768,211,455";
-    assert_eq!(rt; greatest.as_str(), text);
+fn numbers_are_grouped_by_three(rt: HostRuntime) -> Result<(), Fail> {
+    for (number, negative, want) in GROUPED {
+        let got = in_groups(rt.alloc(), number, negative)?;
+        assert_eq!(rt; got.as_str(), want, "on {number}, negative: {negative}");
+    }
     Ok(())
+}
+
+/// Bytes, and their text between quotes.
+const QUOTED: [(&[u8], &str); 3] = [
+    (&[], "\"\""),
+    (
+        &[0x00, 0x41, 0x22, 0x27, 0x5c, 0x0a, 0x7f],
+        "\"\\x00A\\\"\\'\\\\\\n\\x7f\"",
+    ),
+    (
+        &[0x09, 0x0d, 0x1f, 0x20, 0x7e, 0x80, 0xff],
+        "\"\\t\\r\\x1f ~\\x80\\xff\"",
+    ),
+];
+
+fn in_quotes(alloc: Global, bytes: &[u8]) -> Result<String, AllocError> {
+    quoted_bytes(alloc, bytes)
 }
 
 #[test]
 fn bytes_are_quoted(rt: HostRuntime) -> Result<(), Fail> {
-    let alloc = rt.alloc();
-    assert_eq!(rt; quoted_bytes(alloc, &[])?.as_str(), "\"\"");
-    let bytes = [0x00, 0x41, 0x22, 0x27, 0x5c, 0x0a, 0x7f];
-    let quoted = quoted_bytes(alloc, &bytes)?;
-    assert_eq!(rt; quoted.as_str(), "\"\\x00A\\\"\\'\\\\\\n\\x7f\"");
-    let ends = quoted_bytes(alloc, &[0x09, 0x0d, 0x1f, 0x20, 0x7e, 0x80, 0xff])?;
-    assert_eq!(rt; ends.as_str(), "\"\\t\\r\\x1f ~\\x80\\xff\"");
+    for (bytes, want) in QUOTED {
+        let got = in_quotes(rt.alloc(), bytes)?;
+        assert_eq!(rt; got.as_str(), want, "on {bytes:?}");
+    }
     Ok(())
+}
+
+/// Texts, and the same with characters escaped.
+const ESCAPED: [(&str, &str); 4] = [
+    ("", ""),
+    ("\0\u{85}é\u{2028}", "\\u{0}\\u{85}é\u{2028}"),
+    ("a\"b'c\\d\te\rf\ng", "a\\\"b'c\\\\d\\te\\rf\\ng"),
+    (
+        "\u{1f} ~\u{7f}\u{9f}\u{a0}𐅑",
+        "\\u{1f} ~\\u{7f}\\u{9f}\u{a0}𐅑",
+    ),
+];
+
+fn escaped(alloc: Global, text: &str) -> Result<String, AllocError> {
+    escaped_text(alloc, text)
 }
 
 #[test]
 fn text_is_escaped(rt: HostRuntime) -> Result<(), Fail> {
-    let alloc = rt.alloc();
-    assert_eq!(rt; escaped_text(alloc, "")?.as_str(), "");
-    let escaped = escaped_text(alloc, "\0\u{85}é\u{2028}")?;
-    assert_eq!(rt; escaped.as_str(), "\\u{0}\\u{85}é\u{2028}");
-    let quotes = escaped_text(alloc, "a\"b'c\\d\te\rf\ng")?;
-    assert_eq!(rt; quotes.as_str(), "a\\\"b'c\\\\d\\te\\rf\\ng");
-    let ends = escaped_text(alloc, "\u{1f} ~\u{7f}\u{9f}\u{a0}𐅑")?;
-    assert_eq!(rt; ends.as_str(), "\\u{1f} ~\\u{7f}\\u{9f}\u{a0}𐅑");
+    for (text, want) in ESCAPED {
+        let got = escaped(rt.alloc(), text)?;
+        assert_eq!(rt; got.as_str(), want, "on {text:?}");
+    }
     Ok(())
 }
 
 // The first of each is set aside for documentation, by RFC 5737 and RFC 7042.
+const IPV4: [([u8; 4], &str); 2] = [
+    ([192, 0, 2, 1], "192.0.2.1"),
+    ([0, 10, 100, 255], "0.10.100.255"),
+];
+
+const MAC: [([u8; 6], &str); 2] = [
+    ([0x00, 0x00, 0x5e, 0x00, 0x53, 0x01], "00:00:5e:00:53:01"),
+    ([0xab, 0xcd, 0xef, 0x0a, 0xf0, 0xff], "ab:cd:ef:0a:f0:ff"),
+];
+
+fn ipv4_of(alloc: Global, octets: &[u8; 4]) -> Result<String, AllocError> {
+    ipv4_text(alloc, octets)
+}
+
+fn mac_of(alloc: Global, octets: &[u8; 6]) -> Result<String, AllocError> {
+    mac_text(alloc, octets)
+}
+
 #[test]
 fn ipv4_and_mac_addresses(rt: HostRuntime) -> Result<(), Fail> {
-    let alloc = rt.alloc();
-    assert_eq!(rt; ipv4_text(alloc, &[192, 0, 2, 1])?.as_str(), "192.0.2.1");
-    assert_eq!(rt;
-        ipv4_text(alloc, &[0, 10, 100, 255])?.as_str(),
-        "0.10.100.255"
-    );
-    let unicast = mac_text(alloc, &[0x00, 0x00, 0x5e, 0x00, 0x53, 0x01])?;
-    assert_eq!(rt; unicast.as_str(), "00:00:5e:00:53:01");
-    let letters = mac_text(alloc, &[0xab, 0xcd, 0xef, 0x0a, 0xf0, 0xff])?;
-    assert_eq!(rt; letters.as_str(), "ab:cd:ef:0a:f0:ff");
+    for (octets, want) in IPV4 {
+        let got = ipv4_of(rt.alloc(), &octets)?;
+        assert_eq!(rt; got.as_str(), want, "on {octets:?}");
+    }
+    for (octets, want) in MAC {
+        let got = mac_of(rt.alloc(), &octets)?;
+        assert_eq!(rt; got.as_str(), want, "on {octets:?}");
+    }
     Ok(())
 }
+
+/// The eight groups of IPv6 addresses, and their texts.
+const IPV6: [([u16; 8], &str); 16] = [
+    ([0, 0, 0, 0, 0, 0, 0, 0], "::"),
+    ([0, 0, 0, 0, 0, 0, 0, 1], "::1"),
+    ([0x2001, 0xdb8, 0, 0, 0, 0, 0, 1], "2001:db8::1"),
+    ([0x2001, 0xdb8, 0, 0, 0, 0, 0, 0], "2001:db8::"),
+    ([0x2001, 0xdb8, 0, 0, 1, 0, 0, 1], "2001:db8::1:0:0:1"),
+    ([0x2001, 0xdb8, 0, 1, 0, 0, 0, 1], "2001:db8:0:1::1"),
+    // the recommended forms of RFC 5952, sections 4.1 to 4.3
+    ([0x2001, 0x0db8, 0, 0, 0, 0, 0, 0x0001], "2001:db8::1"),
+    ([0x2001, 0xdb8, 0, 0, 0, 0, 2, 1], "2001:db8::2:1"),
+    ([0x2001, 0xdb8, 0, 1, 1, 1, 1, 1], "2001:db8:0:1:1:1:1:1"),
+    ([0x2001, 0, 0, 1, 0, 0, 0, 1], "2001:0:0:1::1"),
+    (
+        [
+            0x2001, 0xdb8, 0xaaaa, 0xbbbb, 0xcccc, 0xdddd, 0xeeee, 0xaaaa,
+        ],
+        "2001:db8:aaaa:bbbb:cccc:dddd:eeee:aaaa",
+    ),
+    // only `::ffff:0:0/96` is written with an IPv4 address
+    ([0, 0, 0, 0, 0, 0xffff, 0xc000, 0x0201], "::ffff:192.0.2.1"),
+    ([0, 0, 0, 0, 0, 0xffff, 0, 0], "::ffff:0.0.0.0"),
+    ([0, 0, 0, 0, 0, 0, 0xc000, 0x0201], "::c000:201"),
+    ([0, 0, 0, 0, 0xffff, 0, 0xc000, 0x0201], "::ffff:0:c000:201"),
+    ([1, 0, 0, 0, 0, 0xffff, 0xc000, 0x0201], "1::ffff:c000:201"),
+];
 
 /// The IPv6 text of eight groups.
 fn ipv6_of(alloc: Global, groups: &[u16; 8]) -> Result<String, AllocError> {
@@ -84,67 +166,66 @@ fn ipv6_of(alloc: Global, groups: &[u16; 8]) -> Result<String, AllocError> {
 }
 
 #[test]
-fn ipv6_runs_of_zeros(rt: HostRuntime) -> Result<(), Fail> {
-    let alloc = rt.alloc();
-    let unspecified = ipv6_of(alloc, &[0; 8])?;
-    assert_eq!(rt; unspecified.as_str(), "::");
-    let loopback = ipv6_of(alloc, &[0, 0, 0, 0, 0, 0, 0, 1])?;
-    assert_eq!(rt; loopback.as_str(), "::1");
-    let documentation = ipv6_of(alloc, &[0x2001, 0xdb8, 0, 0, 0, 0, 0, 1])?;
-    assert_eq!(rt; documentation.as_str(), "2001:db8::1");
-    let network = ipv6_of(alloc, &[0x2001, 0xdb8, 0, 0, 0, 0, 0, 0])?;
-    assert_eq!(rt; network.as_str(), "2001:db8::");
-    let first = ipv6_of(alloc, &[0x2001, 0xdb8, 0, 0, 1, 0, 0, 1])?;
-    assert_eq!(rt; first.as_str(), "2001:db8::1:0:0:1");
-    let longest = ipv6_of(alloc, &[0x2001, 0xdb8, 0, 1, 0, 0, 0, 1])?;
-    assert_eq!(rt; longest.as_str(), "2001:db8:0:1::1");
+fn ipv6_addresses(rt: HostRuntime) -> Result<(), Fail> {
+    for (groups, want) in IPV6 {
+        let got = ipv6_of(rt.alloc(), &groups)?;
+        assert_eq!(rt; got.as_str(), want, "on {groups:?}");
+    }
     Ok(())
 }
 
-// The recommended forms of RFC 5952, sections 4.1 to 4.3.
-#[test]
-fn ipv6_recommended_forms(rt: HostRuntime) -> Result<(), Fail> {
-    let alloc = rt.alloc();
-    let leading_zeros = ipv6_of(alloc, &[0x2001, 0x0db8, 0, 0, 0, 0, 0, 0x0001])?;
-    assert_eq!(rt; leading_zeros.as_str(), "2001:db8::1");
-    let shortened = ipv6_of(alloc, &[0x2001, 0xdb8, 0, 0, 0, 0, 2, 1])?;
-    assert_eq!(rt; shortened.as_str(), "2001:db8::2:1");
-    let one_group = ipv6_of(alloc, &[0x2001, 0xdb8, 0, 1, 1, 1, 1, 1])?;
-    assert_eq!(rt; one_group.as_str(), "2001:db8:0:1:1:1:1:1");
-    let longest = ipv6_of(alloc, &[0x2001, 0, 0, 1, 0, 0, 0, 1])?;
-    assert_eq!(rt; longest.as_str(), "2001:0:0:1::1");
-    let groups = [
-        0x2001, 0xdb8, 0xaaaa, 0xbbbb, 0xcccc, 0xdddd, 0xeeee, 0xaaaa,
-    ];
-    let lower_case = ipv6_of(alloc, &groups)?;
-    assert_eq!(rt;
-        lower_case.as_str(),
-        "2001:db8:aaaa:bbbb:cccc:dddd:eeee:aaaa"
-    );
-    Ok(())
-}
+/// UUIDs in hex, and their four texts, a line each.
+const UUIDS: [(&str, &str); 5] = [
+    (
+        "00000000000000000000000000000000",
+        "uuid(variant(NCS), version(0, Nil))
+base16(00000000-0000-0000-0000-000000000000)
+base58(1111111111111111)
+base64(AAAAAAAAAAAAAAAAAAAAAA)
+",
+    ),
+    (
+        "00000000000000000000000000000001",
+        "uuid(variant(NCS), version(0, Unknown))
+base16(00000000-0000-0000-0000-000000000001)
+base58(1111111111111112)
+base64(AAAAAAAAAAAAAAAAAAAAAQ)
+",
+    ),
+    (
+        "ffffffffffffffffffffffffffffffff",
+        "uuid(variant(Future), version(15, Max))
+base16(ffffffff-ffff-ffff-ffff-ffffffffffff)
+base58(YcVfxkQb6JRzqk5kF2tNLv)
+base64(/////////////////////w)
+",
+    ),
+    // the example of RFC 4122, section 3
+    (
+        "f81d4fae7dec11d0a76500a0c91e6bf6",
+        "uuid(variant(RFC4122), version(1, Mac))
+base16(f81d4fae-7dec-11d0-a765-00a0c91e6bf6)
+base58(Xe22UfxT3rxcKJEAfL5373)
+base64(+B1Prn3sEdCnZQCgyR5r9g)
+",
+    ),
+    // the name space for domain names of RFC 4122, appendix C
+    (
+        "6ba7b8109dad11d180b400c04fd430c8",
+        "uuid(variant(RFC4122), version(1, Mac))
+base16(6ba7b810-9dad-11d1-80b4-00c04fd430c8)
+base58(EJ34kCVxxF9jHMKD4EgrAK)
+base64(a6e4EJ2tEdGAtADAT9QwyA)
+",
+    ),
+];
 
-// Only `::ffff:0:0/96` is written with an IPv4 address.
-#[test]
-fn ipv6_with_an_ipv4_address(rt: HostRuntime) -> Result<(), Fail> {
-    let alloc = rt.alloc();
-    let mapped = ipv6_of(alloc, &[0, 0, 0, 0, 0, 0xffff, 0xc000, 0x0201])?;
-    assert_eq!(rt; mapped.as_str(), "::ffff:192.0.2.1");
-    let mapped_zero = ipv6_of(alloc, &[0, 0, 0, 0, 0, 0xffff, 0, 0])?;
-    assert_eq!(rt; mapped_zero.as_str(), "::ffff:0.0.0.0");
-    let compatible = ipv6_of(alloc, &[0, 0, 0, 0, 0, 0, 0xc000, 0x0201])?;
-    assert_eq!(rt; compatible.as_str(), "::c000:201");
-    let translated = ipv6_of(alloc, &[0, 0, 0, 0, 0xffff, 0, 0xc000, 0x0201])?;
-    assert_eq!(rt; translated.as_str(), "::ffff:0:c000:201");
-    let other = ipv6_of(alloc, &[1, 0, 0, 0, 0, 0xffff, 0xc000, 0x0201])?;
-    assert_eq!(rt; other.as_str(), "1::ffff:c000:201");
-    Ok(())
-}
-
-/// The four texts of a UUID, a line each.
-fn lines_of(alloc: Global, bytes: &[u8; 16]) -> Result<String, AllocError> {
+/// The four texts of a UUID that is given in hex, a line each.
+fn uuid_texts(alloc: Global, digits: &str) -> Result<String, Fail> {
+    let mut bytes = [0; 16];
+    hex::decode_to_slice(digits, &mut bytes)?;
     let mut lines = String::new(alloc);
-    for line in uuid_lines(alloc, bytes)? {
+    for line in uuid_lines(alloc, &bytes)? {
         lines.push_str(line.as_str())?;
         lines.push('\n')?;
     }
@@ -152,108 +233,54 @@ fn lines_of(alloc: Global, bytes: &[u8; 16]) -> Result<String, AllocError> {
 }
 
 #[test]
-fn uuids_of_zeros_and_ones(rt: HostRuntime) -> Result<(), Fail> {
-    let alloc = rt.alloc();
-    let nil = "uuid(variant(NCS), version(0, Nil))
-base16(00000000-0000-0000-0000-000000000000)
-base58(1111111111111111)
-base64(AAAAAAAAAAAAAAAAAAAAAA)
-";
-    assert_eq!(rt; lines_of(alloc, &[0; 16])?.as_str(), nil);
-    let one = "uuid(variant(NCS), version(0, Unknown))
-base16(00000000-0000-0000-0000-000000000001)
-base58(1111111111111112)
-base64(AAAAAAAAAAAAAAAAAAAAAQ)
-";
-    let mut bytes = [0; 16];
-    bytes[15] = 1;
-    assert_eq!(rt; lines_of(alloc, &bytes)?.as_str(), one);
-    let max = "uuid(variant(Future), version(15, Max))
-base16(ffffffff-ffff-ffff-ffff-ffffffffffff)
-base58(YcVfxkQb6JRzqk5kF2tNLv)
-base64(/////////////////////w)
-";
-    assert_eq!(rt; lines_of(alloc, &[0xff; 16])?.as_str(), max);
+fn uuids(rt: HostRuntime) -> Result<(), Fail> {
+    for (digits, want) in UUIDS {
+        let got = uuid_texts(rt.alloc(), digits)?;
+        assert_eq!(rt; got.as_str(), want, "on {digits}");
+    }
     Ok(())
 }
 
-// The example of RFC 4122, section 3, and the namespace for domain names of its appendix C.
-#[test]
-fn uuids_of_the_standard(rt: HostRuntime) -> Result<(), Fail> {
-    let alloc = rt.alloc();
-    let example = [
-        0xf8, 0x1d, 0x4f, 0xae, 0x7d, 0xec, 0x11, 0xd0, 0xa7, 0x65, 0x00, 0xa0, 0xc9, 0x1e, 0x6b,
-        0xf6,
-    ];
-    let example_lines = "uuid(variant(RFC4122), version(1, Mac))
-base16(f81d4fae-7dec-11d0-a765-00a0c91e6bf6)
-base58(Xe22UfxT3rxcKJEAfL5373)
-base64(+B1Prn3sEdCnZQCgyR5r9g)
-";
-    assert_eq!(rt; lines_of(alloc, &example)?.as_str(), example_lines);
-    let domain_names = [
-        0x6b, 0xa7, 0xb8, 0x10, 0x9d, 0xad, 0x11, 0xd1, 0x80, 0xb4, 0x00, 0xc0, 0x4f, 0xd4, 0x30,
-        0xc8,
-    ];
-    let domain_names_lines = "uuid(variant(RFC4122), version(1, Mac))
-base16(6ba7b810-9dad-11d1-80b4-00c04fd430c8)
-base58(EJ34kCVxxF9jHMKD4EgrAK)
-base64(a6e4EJ2tEdGAtADAT9QwyA)
-";
-    assert_eq!(rt;
-        lines_of(alloc, &domain_names)?.as_str(),
-        domain_names_lines
-    );
-    Ok(())
-}
+/// The bytes 6 and 8 of UUIDs whose other bytes are zero, and what the first text says of them: the
+/// variant by the top bits of byte 8, and the version by the upper half of byte 6.
+const FIELDS: [(u8, u8, &str); 18] = [
+    (0x40, 0x7f, "uuid(variant(NCS), version(4, Random))"),
+    (0x40, 0x80, "uuid(variant(RFC4122), version(4, Random))"),
+    (0x40, 0xbf, "uuid(variant(RFC4122), version(4, Random))"),
+    (0x40, 0xc0, "uuid(variant(Microsoft), version(4, Random))"),
+    (0x40, 0xdf, "uuid(variant(Microsoft), version(4, Random))"),
+    (0x40, 0xe0, "uuid(variant(Future), version(4, Random))"),
+    (0x0f, 0x80, "uuid(variant(RFC4122), version(0, Unknown))"),
+    (0x10, 0x80, "uuid(variant(RFC4122), version(1, Mac))"),
+    (0x20, 0x80, "uuid(variant(RFC4122), version(2, Dce))"),
+    (0x30, 0x80, "uuid(variant(RFC4122), version(3, Md5))"),
+    (0x4f, 0x80, "uuid(variant(RFC4122), version(4, Random))"),
+    (0x50, 0x80, "uuid(variant(RFC4122), version(5, Sha1))"),
+    (0x60, 0x80, "uuid(variant(RFC4122), version(6, SortMac))"),
+    (0x70, 0x80, "uuid(variant(RFC4122), version(7, SortRand))"),
+    (0x80, 0x80, "uuid(variant(RFC4122), version(8, Custom))"),
+    (0x90, 0x80, "uuid(variant(RFC4122), version(9, Unknown))"),
+    (0xe0, 0x80, "uuid(variant(RFC4122), version(14, Unknown))"),
+    (0xff, 0x80, "uuid(variant(RFC4122), version(15, Unknown))"),
+];
 
-/// Whether the first text of the UUID whose bytes 6 and 8 are these, and whose other bytes are zero,
-/// is `uuid(variant(..), version(..))` of that variant and version.
-fn has_fields(
-    alloc: Global,
-    byte6: u8,
-    byte8: u8,
-    variant: &str,
-    version: &str,
-) -> Result<bool, AllocError> {
+/// The first text of the UUID whose bytes 6 and 8 are these, and whose other bytes are zero.
+fn uuid_fields(alloc: Global, byte6: u8, byte8: u8) -> Result<String, AllocError> {
     let mut bytes = [0; 16];
     bytes[6] = byte6;
     bytes[8] = byte8;
-    let expected = format!(in alloc; "uuid(variant({variant}), version({version}))")?;
     let lines = uuid_lines(alloc, &bytes)?;
-    Ok(
-        lines
-            .first()
-            .is_some_and(|line| line.as_str() == expected.as_str()),
-    )
+    match lines.first() {
+        Some(line) => String::from_str(alloc, line.as_str()),
+        None => String::from_str(alloc, "no text"),
+    }
 }
 
 #[test]
-fn variants_by_the_top_bits_of_byte_8(rt: HostRuntime) -> Result<(), Fail> {
-    let alloc = rt.alloc();
-    assert!(rt; has_fields(alloc, 0x40, 0x7f, "NCS", "4, Random")?);
-    assert!(rt; has_fields(alloc, 0x40, 0x80, "RFC4122", "4, Random")?);
-    assert!(rt; has_fields(alloc, 0x40, 0xbf, "RFC4122", "4, Random")?);
-    assert!(rt; has_fields(alloc, 0x40, 0xc0, "Microsoft", "4, Random")?);
-    assert!(rt; has_fields(alloc, 0x40, 0xdf, "Microsoft", "4, Random")?);
-    assert!(rt; has_fields(alloc, 0x40, 0xe0, "Future", "4, Random")?);
-    Ok(())
-}
-
-#[test]
-fn versions_by_the_upper_half_of_byte_6(rt: HostRuntime) -> Result<(), Fail> {
-    let alloc = rt.alloc();
-    assert!(rt; has_fields(alloc, 0x0f, 0x80, "RFC4122", "0, Unknown")?);
-    assert!(rt; has_fields(alloc, 0x10, 0x80, "RFC4122", "1, Mac")?);
-    assert!(rt; has_fields(alloc, 0x20, 0x80, "RFC4122", "2, Dce")?);
-    assert!(rt; has_fields(alloc, 0x30, 0x80, "RFC4122", "3, Md5")?);
-    assert!(rt; has_fields(alloc, 0x4f, 0x80, "RFC4122", "4, Random")?);
-    assert!(rt; has_fields(alloc, 0x50, 0x80, "RFC4122", "5, Sha1")?);
-    assert!(rt; has_fields(alloc, 0x60, 0x80, "RFC4122", "6, SortMac")?);
-    assert!(rt; has_fields(alloc, 0x70, 0x80, "RFC4122", "7, SortRand")?);
-    assert!(rt; has_fields(alloc, 0x80, 0x80, "RFC4122", "8, Custom")?);
-    assert!(rt; has_fields(alloc, 0x90, 0x80, "RFC4122", "9, Unknown")?);
-    assert!(rt; has_fields(alloc, 0xe0, 0x80, "RFC4122", "14, Unknown")?);
-    assert!(rt; has_fields(alloc, 0xff, 0x80, "RFC4122", "15, Unknown")?);
+fn variants_and_versions(rt: HostRuntime) -> Result<(), Fail> {
+    for (byte6, byte8, want) in FIELDS {
+        let got = uuid_fields(rt.alloc(), byte6, byte8)?;
+        assert_eq!(rt; got.as_str(), want, "on {byte6:#x} and {byte8:#x}");
+    }
     Ok(())
 }
