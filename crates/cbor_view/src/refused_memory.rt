@@ -109,19 +109,19 @@ fn after_outputs<'a>(bytes: &'a [u8], outputs: &[&[u8]]) -> (usize, &'a [u8]) {
 /// the output of some first items, each whole. Says whether memory was refused.
 fn check(rt: &impl Abort, alloc: Global, case: &Case, number: usize) -> Result<bool, AllocError> {
     let (written, end) = outcome(alloc, case)?;
-    let refused = end == Err(ViewError::Item(Error::Memory));
-    let outputs = match case.from {
-        Some(_) if refused => &[],
-        _ => case.outputs,
+    let (count, rest) = after_outputs(&written, case.outputs);
+    let left = rest.len();
+    assert_eq!(rt; left, 0, "case {number} wrote {written:?}");
+    let wanted = match end {
+        Err(ViewError::Item(Error::Memory)) if case.from.is_some() => 0,
+        Err(ViewError::Item(Error::Memory)) => count,
+        _ => case.outputs.len(),
     };
-    let (count, rest) = after_outputs(&written, outputs);
-    assert_eq!(rt; rest, b"".as_slice(), "case {number} wrote {written:?}");
-    if !refused {
-        assert_eq!(rt;
-            (end, count),
-            (Ok(()), case.outputs.len()),
-            "case {number} wrote {written:?}"
-        );
+    assert_eq!(rt; count, wanted, "case {number} wrote {written:?}");
+    let refused = end.is_err();
+    if refused {
+        let memory = Err(ViewError::Item(Error::Memory));
+        assert_eq!(rt; end, memory, "case {number} wrote {written:?}");
     }
     Ok(refused)
 }

@@ -16,15 +16,15 @@ use cbor_diag::{Error, parse_bytes_partial};
 use std::alloc::Global;
 use std::io::{Read, Write};
 
-/// Outputs are gathered up to this length or just past it, and then written by one call.
+/// Outputs are gathered until they are at least this long, and then written.
 const BLOCK: usize = 64 * 1024;
 
 /// Reads the input to its end, converts one item after the other, from its front, and writes the outputs,
 /// in order and in blocks. Any call that fails ends the run, an interrupted one too.
 ///
 /// If what follows the items is no item, the run ends with `ViewError::Item` and why: `CutShort` if it is
-/// cut, else its fault. The output of all items before it is written first. So it is if memory runs out at
-/// an item. If that write fails, the run ends with `ViewError::Write`.
+/// cut, else its fault. If memory runs out at an item, it ends with `Memory`. In both cases the output of
+/// all items before is written first, and if that write fails, the run ends with `ViewError::Write`.
 pub fn run_seq<R: Read, W: Write>(
     alloc: Global,
     to: To,

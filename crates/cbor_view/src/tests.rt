@@ -218,10 +218,8 @@ fn refuses_notation_that_is_too_deep(rt: HostRuntime) -> Result<(), Fail> {
     let mut input = vec![in rt.alloc(); b'['; 200_000]?;
     input.resize(400_000, b']')?;
     let (output, text) = outcome(rt.alloc(), "diag", "bytes", &input);
-    assert_eq!(rt;
-        (output.as_slice(), text),
-        (b"".as_slice(), "nested deeper than 128 levels")
-    );
+    assert_eq!(rt; text, "nested deeper than 128 levels");
+    assert_eq!(rt; output.len(), 0);
     Ok(())
 }
 
@@ -230,7 +228,8 @@ fn converts_what_takes_many_reads(rt: HostRuntime) -> Result<(), Fail> {
     let mut input = b"\x5a\x00\x03\x0d\x40".to_vec(rt.alloc())?;
     input.resize(5 + 200_000, 7)?;
     let (output, text) = outcome(rt.alloc(), "bytes", "bytes", &input);
-    assert_eq!(rt; (first_difference(&output, &input), text), (None, ""));
+    assert_eq!(rt; text, "");
+    assert_eq!(rt; first_difference(&output, &input), None);
     Ok(())
 }
 

@@ -89,8 +89,9 @@ fn writes_all_items_before_a_fault_in_any_block(rt: HostRuntime) -> Result<(), F
             ] {
                 let wanted = repeated(rt.alloc(), piece, count)?;
                 let (output, text) = outcome(rt.alloc(), "seq", to, &input);
+                let differs = first_difference(&output, &wanted);
                 assert_eq!(rt;
-                    (first_difference(&output, &wanted), text),
+                    (differs, text),
                     (None, wanted_text),
                     "{to}, {count} items and {behind:?}"
                 );
