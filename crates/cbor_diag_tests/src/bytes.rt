@@ -1,7 +1,7 @@
 // Items that bytes are read as. Examples of RFC 7049 appendix A say so beside them.
 
-use crate::calls::{View, check, of_bytes};
-use crate::ends::check_ends;
+use crate::calls::{Input, View, check_table};
+use crate::ends::check_all_ends;
 
 /// Bytes in hex, and the fields of the item that they are.
 const ITEMS: &[(&str, &str)] = &[
@@ -50,13 +50,16 @@ const ITEMS: &[(&str, &str)] = &[
     // RFC 7049 appendix A: [1, 2, 3] and {1: 2, 3: 4}
     (
         "83010203",
-        "Array { content: [Integer { value: 1, bitwidth: Zero }, Integer { value: 2, bitwidth: Zero }, \
+        "Array { content: [Integer { value: 1, bitwidth: Zero }, Integer { value: 2, bitwidth: \
+         Zero }, \
          Integer { value: 3, bitwidth: Zero }], bitwidth: Some(Zero) }",
     ),
     (
         "a201020304",
-        "Map { content: [(Integer { value: 1, bitwidth: Zero }, Integer { value: 2, bitwidth: Zero }), \
-         (Integer { value: 3, bitwidth: Zero }, Integer { value: 4, bitwidth: Zero })], bitwidth: Some(Zero) }",
+        "Map { content: [(Integer { value: 1, bitwidth: Zero }, Integer { value: 2, bitwidth: Zero \
+         }), \
+         (Integer { value: 3, bitwidth: Zero }, Integer { value: 4, bitwidth: Zero })], bitwidth: \
+         Some(Zero) }",
     ),
     ("80", "Array { content: [], bitwidth: Some(Zero) }"),
     ("9800", "Array { content: [], bitwidth: Some(Eight) }"),
@@ -67,7 +70,8 @@ const ITEMS: &[(&str, &str)] = &[
     ),
     (
         "bf0102ff",
-        "Map { content: [(Integer { value: 1, bitwidth: Zero }, Integer { value: 2, bitwidth: Zero })], \
+        "Map { content: [(Integer { value: 1, bitwidth: Zero }, Integer { value: 2, bitwidth: Zero \
+         })], \
          bitwidth: None }",
     ),
     (
@@ -94,13 +98,6 @@ const ITEMS: &[(&str, &str)] = &[
 
 #[test]
 fn bytes_are_items_of_these_fields(rt: HostRuntime) {
-    for (digits, shown) in ITEMS {
-        check(
-            &rt,
-            of_bytes(rt.alloc(), View::Fields, digits),
-            shown,
-            digits,
-        );
-        check_ends(&rt, rt.alloc(), digits);
-    }
+    check_table(&rt, rt.alloc(), Input::Bytes, View::Fields, ITEMS);
+    check_all_ends(&rt, rt.alloc(), ITEMS);
 }

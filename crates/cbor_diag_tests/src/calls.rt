@@ -1,6 +1,6 @@
-// The calls of `cbor_diag` without their clauses, as texts that tests compare: a test that made a call itself would
-// bring all that is proved of it into its own proof, and one that had an item would have to prove that it is dropped.
-// The error is that of refused memory alone.
+// The calls of `cbor_diag` without their clauses, as texts that tests compare: a test that made a
+// call itself would bring all that is proved of it into its own proof, and one that had an item
+// would have to prove that it is dropped. The error is that of refused memory alone.
 
 use cbor_diag::{
     DataItem, Error, Result, Turns, parse_bytes, parse_bytes_counted, parse_bytes_partial,
@@ -155,7 +155,8 @@ pub(crate) fn item_told(alloc: Global, text: &str) -> Result<DataItem> {
     parse_diag(alloc, text)
 }
 
-/// How many bytes the item takes that bytes begin with, and its fields; that they are cut; or the name of the error.
+/// How many bytes the item takes that bytes begin with, and its fields; that they are cut; or the
+/// name of the error.
 fn front_shown(alloc: Global, front: Result<Option<(DataItem, usize)>>) -> Result<String> {
     match front {
         Ok(Some((item, used))) => Ok(format!(in alloc; "{used}: {item:?}")?),
@@ -177,6 +178,46 @@ pub(crate) fn turns_of(alloc: Global, digits: &str) -> Result<String> {
     let front = parse_bytes_counted(alloc, &bytes, &mut turns);
     let shown = front_shown(alloc, front)?;
     Ok(format!(in alloc; "{} turns, {}", turns.count(), shown.as_str())?)
+}
+
+/// How an input is read.
+#[derive(Clone, Copy)]
+pub(crate) enum Input {
+    /// Bytes in hex digits, by `parse_bytes`.
+    Bytes,
+    /// Bytes in hex digits, by `parse_bytes_partial`, and how many of them the item takes before
+    /// its fields.
+    Front,
+    /// The same by `parse_bytes_counted`, after the number of turns.
+    Turns,
+    /// Hex with comments.
+    Hex,
+    /// Notation.
+    Diag,
+}
+
+/// What is seen of the item that an input is.
+pub(crate) fn found(alloc: Global, input: Input, view: View, text: &str) -> Result<String> {
+    match input {
+        Input::Bytes => of_bytes(alloc, view, text),
+        Input::Front => front_of(alloc, text),
+        Input::Turns => turns_of(alloc, text),
+        Input::Hex => of_hex(alloc, view, text),
+        Input::Diag => of_diag(alloc, view, text),
+    }
+}
+
+/// Of each input this is seen.
+pub(crate) fn check_table(
+    rt: &impl Abort,
+    alloc: Global,
+    input: Input,
+    view: View,
+    rows: &[(&str, &str)],
+) {
+    for (text, expected) in rows {
+        check(rt, found(alloc, input, view, text), expected, text);
+    }
 }
 
 /// As many times a text, one more, and as many times another.

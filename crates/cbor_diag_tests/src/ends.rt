@@ -6,7 +6,7 @@ use std::alloc::Global;
 use std::process::Abort;
 
 /// What `parse_bytes_partial` answers where a byte in hex digits follows.
-pub(crate) fn front_followed(alloc: Global, digits: &str, more: &str) -> Result<String> {
+fn front_followed(alloc: Global, digits: &str, more: &str) -> Result<String> {
     front_of(alloc, format!(in alloc; "{digits}{more}")?.as_str())
 }
 
@@ -16,8 +16,8 @@ fn whole(alloc: Global, digits: &str) -> Result<String> {
     Ok(format!(in alloc; "{}: {}", digits.len() / 2, shown.as_str())?)
 }
 
-/// Hex digits are the bytes of one item. Each proper front of them is cut; with a byte after them the front is the
-/// same item of as many bytes.
+/// Hex digits are the bytes of one item. Each proper front of them is cut; with a byte after them
+/// the front is the same item of as many bytes.
 pub(crate) fn check_ends(rt: &impl Abort, alloc: Global, digits: &str) {
     for end in 0..digits.len() / 2 {
         let front = digits.get(..2 * end).unwrap_or("");
@@ -30,5 +30,21 @@ pub(crate) fn check_ends(rt: &impl Abort, alloc: Global, digits: &str) {
             whole(alloc, digits),
             digits,
         );
+    }
+}
+
+/// Each first text is the bytes of one item in hex, which ends where it has to.
+pub(crate) fn check_all_ends(rt: &impl Abort, alloc: Global, rows: &[(&str, &str)]) {
+    for (digits, _) in rows {
+        check_ends(rt, alloc, digits);
+    }
+}
+
+/// Each input is refused for this reason, with a byte after it or not.
+pub(crate) fn check_faults(rt: &impl Abort, alloc: Global, rows: &[(&str, &str)]) {
+    for (digits, fault) in rows {
+        for more in ["", "00", "ff"] {
+            check(rt, front_followed(alloc, digits, more), fault, digits);
+        }
     }
 }

@@ -1,4 +1,5 @@
-// Items in diagnostic notation (docs/NOTATION.md), and the normal form that their texts are read back as.
+// Items in diagnostic notation (docs/NOTATION.md), and the normal form that their texts are read
+// back as.
 
 use crate::calls::{View, check, check_same, of_bytes, of_diag, of_hex};
 use crate::ends::check_ends;
@@ -6,8 +7,8 @@ use cbor_diag::Result;
 use std::alloc::Global;
 use std::process::Abort;
 
-/// Items in hex that have one text, compact and pretty, and the bytes of their normal form: lengths are as short as
-/// they can be, also in bytes that are shown as items.
+/// Items in hex that have one text, compact and pretty, and the bytes of their normal form: lengths
+/// are as short as they can be, also in bytes that are shown as items.
 const ONE_TEXT: &[(&str, &str, &str)] = &[
     // each width of a number is told
     ("17", "23", "17"),
@@ -312,8 +313,8 @@ pub(crate) fn read_back(alloc: Global, view: View, digits: &str) -> Result<Strin
     of_hex(alloc, View::Fields, of_bytes(alloc, view, digits)?.as_str())
 }
 
-/// An item in hex ends where it has to, and has these texts, compact and pretty, which are read back as the normal form
-/// of these bytes.
+/// An item in hex ends where it has to, and has these texts, compact and pretty, which are read
+/// back as the normal form of these bytes.
 pub(crate) fn check_texts(
     rt: &impl Abort,
     alloc: Global,

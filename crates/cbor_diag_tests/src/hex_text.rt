@@ -1,6 +1,6 @@
 // Items read from hex with comments.
 
-use crate::calls::{View, check, of_hex};
+use crate::calls::{Input, View, check_table};
 
 /// Hex with comments, and the fields of the item that it is, or the name of the error.
 const TEXTS: &[(&str, &str)] = &[
@@ -51,7 +51,5 @@ const TEXTS: &[(&str, &str)] = &[
 
 #[test]
 fn hex_with_comments_is_an_item_or_refused(rt: HostRuntime) {
-    for (text, shown) in TEXTS {
-        check(&rt, of_hex(rt.alloc(), View::Fields, text), shown, text);
-    }
+    check_table(&rt, rt.alloc(), Input::Hex, View::Fields, TEXTS);
 }

@@ -1,5 +1,5 @@
-// What holds of every input: both readers say the same of it, and what is written of its item leads back to the item.
-// Shown of all inputs of up to two bytes.
+// What holds of every input: both readers say the same of it, and what is written of its item leads
+// back to the item. Shown of all inputs of up to two bytes.
 
 use crate::calls::{View, check_same, of_bytes, of_diag, read, read_front};
 use crate::ends::check_ends;
@@ -28,8 +28,8 @@ fn told(alloc: Global, view: View, text: View, digits: &str) -> Result<String> {
     of_diag(alloc, view, of_bytes(alloc, text, digits)?.as_str())
 }
 
-/// An item is what its bytes and its dump are read back as. Both texts are read back as one item that has the same
-/// texts.
+/// An item is what its bytes and its dump are read back as. Both texts are read back as one item
+/// that has the same texts.
 fn check_written(rt: &impl Abort, alloc: Global, digits: &str) {
     for view in [View::Bytes, View::Dump] {
         let fields = of_bytes(alloc, View::Fields, digits);

@@ -49,7 +49,8 @@ const LENGTHS: &[(usize, IntegerWidth, bool)] = &[
     (65536, IntegerWidth::Unknown, true),
 ];
 
-/// Items in hex. No two of them are equal: they differ in their kind, in a value, in a width or in a part.
+/// Items in hex. No two of them are equal: they differ in their kind, in a value, in a width or in
+/// a part.
 const DISTINCT: &[&str] = &[
     // numbers, floats and simple values
     "05",

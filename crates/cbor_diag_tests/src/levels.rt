@@ -8,8 +8,8 @@ use cbor_diag::Result;
 use std::alloc::Global;
 use std::process::Abort;
 
-/// As many times an opening, what is in the middle, and as many times a close, in hex: items that are as deep as they
-/// may be, or large.
+/// As many times an opening, what is in the middle, and as many times a close, in hex: items that
+/// are as deep as they may be, or large.
 const ITEMS: &[(&str, usize, &str, &str)] = &[
     ("c0", 127, "60", ""),
     ("81", 127, "01", ""),
@@ -22,7 +22,8 @@ const ITEMS: &[(&str, usize, &str, &str)] = &[
     ("81", 127, "5f4101ff", ""),
 ];
 
-/// The same, what `parse_bytes_partial` answers of them, and the name of the error of `parse_bytes`.
+/// The same, what `parse_bytes_partial` answers of them, and the name of the error of
+/// `parse_bytes`.
 const NO_ITEMS: &[(&str, usize, &str, &str, &str)] = &[
     ("c0", 128, "", "cut", "CutShort"),
     ("81", 128, "", "cut", "CutShort"),
@@ -56,7 +57,8 @@ const TOO_DEEP: &[(&str, usize, &str, &str)] = &[
     ("[", 200_000, "", "]"),
 ];
 
-/// Hex digits that are as many times an opening, a middle and a close are one item, which ends where it has to.
+/// Hex digits that are as many times an opening, a middle and a close are one item, which ends
+/// where it has to.
 fn check_deep(rt: &impl Abort, alloc: Global, digits: Result<String>, on: &str) {
     match digits {
         Ok(digits) => check_ends(rt, alloc, digits.as_str()),
@@ -118,7 +120,8 @@ fn texts_may_be_128_levels_deep(rt: HostRuntime) {
     }
 }
 
-/// An item in hex ends where it has to, has this text, compact and pretty, and is its own normal form.
+/// An item in hex ends where it has to, has this text, compact and pretty, and is its own normal
+/// form.
 fn check_embedded(
     rt: &impl Abort,
     alloc: Global,

@@ -226,8 +226,9 @@ const ITEMS: &[(&str, &str, &str)] = &[
     ),
 ];
 
-/// Around the letters of a text: one line, and the same on lines. The text of as many letters is the longest that
-/// is on one line, which is then estimated 59; bytes count two each, so that the estimate of some is 58.
+/// Around the letters of a text: one line, and the same on lines. The text of as many letters is
+/// the longest that is on one line, which is then estimated 59; bytes count two each, so that the
+/// estimate of some is 58.
 const LONGEST: &[(&str, &str, &str, usize, &str, &str)] = &[
     ("[\"", "\"]", "a", 51, "[\n    \"", "\",\n]"),
     ("[_ \"", "\"]", "a", 51, "[_\n    \"", "\",\n]"),
@@ -238,8 +239,8 @@ const LONGEST: &[(&str, &str, &str, usize, &str, &str)] = &[
     ("63_0(<<\"", "\">>)", "a", 51, "63_0(<<\n    \"", "\",\n>>)"),
 ];
 
-/// Items in hex, their pretty texts, and how many letters the longest text has that is on one line with them in an
-/// array: what is left of the estimate 59 tells what the item counts.
+/// Items in hex, their pretty texts, and how many letters the longest text has that is on one line
+/// with them in an array: what is left of the estimate 59 tells what the item counts.
 const MEMBERS: &[(&str, &str, usize)] = &[
     ("01", "1", 46),
     ("1864", "100_0", 44),

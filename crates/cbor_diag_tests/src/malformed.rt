@@ -1,31 +1,31 @@
 // What is cut, and what no item begins with.
 
-use crate::calls::{View, check, front_of, of_bytes, read, read_front};
-use crate::ends::front_followed;
+use crate::calls::{Input, View, check, check_table, of_bytes, read, read_front};
+use crate::ends::check_faults;
 use cbor_diag::Error;
 
-/// Bytes that end before their item does, in hex.
-const CUT: &[&str] = &[
-    "",
-    "18",
-    "d8207368747470733a2f2f6578616d706c652e636f",
-    "a101",
-    "8201",
-    "828101",
-    "5f58",
-    "5f410141",
-    "f8",
-    "fb00",
-    "62c3",
+/// Bytes that end before their item does, in hex, and what `parse_bytes_partial` answers.
+const CUT: &[(&str, &str)] = &[
+    ("", "cut"),
+    ("18", "cut"),
+    ("d8207368747470733a2f2f6578616d706c652e636f", "cut"),
+    ("a101", "cut"),
+    ("8201", "cut"),
+    ("828101", "cut"),
+    ("5f58", "cut"),
+    ("5f410141", "cut"),
+    ("f8", "cut"),
+    ("fb00", "cut"),
+    ("62c3", "cut"),
     // too few bytes are a cut, whatever they are
-    "63ff",
-    "7f62ff",
+    ("63ff", "cut"),
+    ("7f62ff", "cut"),
     // a cut in the first member, and what would be a fault never comes
-    "8262ff",
+    ("8262ff", "cut"),
     // a claimed count is not believed
-    "9bffffffffffffffff",
-    "bbffffffffffffffff",
-    "9affffffff01",
+    ("9bffffffffffffffff", "cut"),
+    ("bbffffffffffffffff", "cut"),
+    ("9affffffff01", "cut"),
 ];
 
 /// Strings that claim more bytes than there are.
@@ -76,8 +76,8 @@ const FAULTS: &[(&str, &str)] = &[
 
 #[test]
 fn inputs_that_end_too_soon_are_cut(rt: HostRuntime) {
-    for digits in CUT {
-        check(&rt, front_of(rt.alloc(), digits), "cut", digits);
+    check_table(&rt, rt.alloc(), Input::Front, View::Fields, CUT);
+    for (digits, _) in CUT {
         check(
             &rt,
             of_bytes(rt.alloc(), View::Fields, digits),
@@ -102,15 +102,6 @@ fn a_claimed_length_takes_no_memory(rt: HostRuntime) {
 
 #[test]
 fn faults_are_found_whatever_follows(rt: HostRuntime) {
-    for (digits, fault) in FAULTS {
-        check(
-            &rt,
-            of_bytes(rt.alloc(), View::Fields, digits),
-            fault,
-            digits,
-        );
-        for more in ["", "00", "ff"] {
-            check(&rt, front_followed(rt.alloc(), digits, more), fault, digits);
-        }
-    }
+    check_table(&rt, rt.alloc(), Input::Bytes, View::Fields, FAULTS);
+    check_faults(&rt, rt.alloc(), FAULTS);
 }

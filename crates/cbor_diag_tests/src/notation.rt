@@ -1,6 +1,6 @@
 // Items read from diagnostic notation.
 
-use crate::calls::{View, check, of_diag};
+use crate::calls::{Input, View, check_table};
 
 /// Texts, and the bytes of the item that each is, in hex.
 const READ: &[(&str, &str)] = &[
@@ -72,61 +72,58 @@ const READ: &[(&str, &str)] = &[
     ("float'3C00'", "f93c00"),
 ];
 
-/// Texts that are no item.
-const NO_ITEMS: &[&str] = &[
-    "",
-    "/x",
-    "1_4",
-    "1.5",
-    "-0",
-    "- 1",
-    "-/x/1",
-    "0x",
-    "18446744073709551616",
-    "-18446744073709551617",
-    "32 (\"x\")",
-    "32(\"x\"",
-    "h' '",
-    "h'0'",
-    "b32' '",
-    "b32'MZXW7==='",
-    "b64' '",
-    "b64'AA='",
-    "'\\n'",
-    "\"\\n\"",
-    "h'61' \"b\"",
-    "[\"a,\"b\"]",
-    "[\"a\\n\",1]",
-    "[\"a]",
-    "[h'0',1]",
-    "[,]",
-    "[1,]",
-    "[1,/x/ ]",
-    "[1, /x/]",
-    "[,1]",
-    "[1 2]",
-    "{1}",
-    "{1:2,}",
-    "(_ \"a\", h'62')",
-    "\"\" _",
-    "\"a\" \"\"_",
-    "h''_",
-    "<<>>_",
-    "(_''_)",
-    "( _)",
-    "[ _ 1]",
-    "<<1> >",
-    "simple(256)",
-    "simple( 1)",
-    "simple(0x1)",
-    "simple()",
-    "float'3c0'",
-    "1 2",
-    "nul",
-];
-
-/// Texts that are refused for another reason, and the name of the error.
+/// Texts that are no item, and the name of the error.
 const REFUSED: &[(&str, &str)] = &[
+    ("", "Notation"),
+    ("/x", "Notation"),
+    ("1_4", "Notation"),
+    ("1.5", "Notation"),
+    ("-0", "Notation"),
+    ("- 1", "Notation"),
+    ("-/x/1", "Notation"),
+    ("0x", "Notation"),
+    ("18446744073709551616", "Notation"),
+    ("-18446744073709551617", "Notation"),
+    ("32 (\"x\")", "Notation"),
+    ("32(\"x\"", "Notation"),
+    ("h' '", "Notation"),
+    ("h'0'", "Notation"),
+    ("b32' '", "Notation"),
+    ("b32'MZXW7==='", "Notation"),
+    ("b64' '", "Notation"),
+    ("b64'AA='", "Notation"),
+    ("'\\n'", "Notation"),
+    ("\"\\n\"", "Notation"),
+    ("h'61' \"b\"", "Notation"),
+    ("[\"a,\"b\"]", "Notation"),
+    ("[\"a\\n\",1]", "Notation"),
+    ("[\"a]", "Notation"),
+    ("[h'0',1]", "Notation"),
+    ("[,]", "Notation"),
+    ("[1,]", "Notation"),
+    ("[1,/x/ ]", "Notation"),
+    ("[1, /x/]", "Notation"),
+    ("[,1]", "Notation"),
+    ("[1 2]", "Notation"),
+    ("{1}", "Notation"),
+    ("{1:2,}", "Notation"),
+    ("(_ \"a\", h'62')", "Notation"),
+    ("\"\" _", "Notation"),
+    ("\"a\" \"\"_", "Notation"),
+    ("h''_", "Notation"),
+    ("<<>>_", "Notation"),
+    ("(_''_)", "Notation"),
+    ("( _)", "Notation"),
+    ("[ _ 1]", "Notation"),
+    ("<<1> >", "Notation"),
+    ("simple(256)", "Notation"),
+    ("simple( 1)", "Notation"),
+    ("simple(0x1)", "Notation"),
+    ("simple()", "Notation"),
+    ("float'3c0'", "Notation"),
+    ("1 2", "Notation"),
+    ("nul", "Notation"),
+    // other errors
     ("300_0", "PastWidth"),
     ("-257_0", "PastWidth"),
     ("256_0(1)", "PastWidth"),
@@ -282,36 +279,23 @@ const FIELDS: &[(&str, &str)] = &[
     1,
 >>)",
         "Tag { tag: Tag(63), bitwidth: Eight, value: ByteString(ByteString { \
-         content: [1, 1, 1, 1, 1, 1, 1, 1, 1, 1, 1, 1, 1, 1, 1, 1, 1, 1, 1, 1, 1, 1, 1, 1, 1, 1, 1, 1, 1, 1], \
+         content: [1, 1, 1, 1, 1, 1, 1, 1, 1, 1, 1, 1, 1, 1, 1, 1, 1, 1, 1, 1, 1, 1, 1, 1, 1, 1, \
+         1, 1, 1, 1], \
          bitwidth: Unknown }) }",
     ),
 ];
 
 #[test]
 fn texts_are_items_of_these_bytes(rt: HostRuntime) {
-    for (text, digits) in READ {
-        check(&rt, of_diag(rt.alloc(), View::Bytes, text), digits, text);
-    }
+    check_table(&rt, rt.alloc(), Input::Diag, View::Bytes, READ);
 }
 
 #[test]
 fn texts_are_items_of_these_fields(rt: HostRuntime) {
-    for (text, shown) in FIELDS {
-        check(&rt, of_diag(rt.alloc(), View::Fields, text), shown, text);
-    }
+    check_table(&rt, rt.alloc(), Input::Diag, View::Fields, FIELDS);
 }
 
 #[test]
 fn what_is_no_notation_is_refused(rt: HostRuntime) {
-    for text in NO_ITEMS {
-        check(
-            &rt,
-            of_diag(rt.alloc(), View::Fields, text),
-            "Notation",
-            text,
-        );
-    }
-    for (text, error) in REFUSED {
-        check(&rt, of_diag(rt.alloc(), View::Fields, text), error, text);
-    }
+    check_table(&rt, rt.alloc(), Input::Diag, View::Fields, REFUSED);
 }

@@ -10,7 +10,7 @@ use std::io::Print;
 use std::process::Abort;
 use std::test::Fail;
 
-#[derive(Clone, Copy, PartialEq, Eq, Debug)]
+#[derive(Clone, Copy, Debug)]
 enum Call {
     ParseBytes,
     ParseBytesPartial,
@@ -191,11 +191,12 @@ fn print_calls(
     Ok(())
 }
 
-// `compare/failing_calls` runs this while it refuses requests for memory, and reads the lines: a call that a request was
-// refused in has to print `memory`, and any other `ok`. Where nothing is refused, as in the gate, this shows no more than
-// the test above. The dump of the deepest item is left out: it has 800 kilobytes.
+// `compare/failing_calls` runs this while it refuses requests for memory, and reads the lines: a
+// call that a request was refused in has to print `memory`, and any other `ok`. Where nothing is
+// refused, as in the gate, this shows no more than the test above. The dump of the deepest item is
+// left out: it has 800 kilobytes.
 #[test]
-fn calls_answer_or_memory_is_refused(rt: HostRuntime) -> std::result::Result<(), Fail> {
+fn a_call_answers_or_memory_is_refused(rt: HostRuntime) -> std::result::Result<(), Fail> {
     for sample in &SAMPLES {
         print_calls(&rt, rt.alloc(), CALLS, sample)?;
     }

@@ -1,5 +1,5 @@
-// Items with their bytes, dumps and texts, for tests that make every call of each. The dumps and texts were
-// made by hand from the rules of docs/, and agree with the reading of compare/.
+// Items with their bytes, dumps and texts, for tests that make every call of each. The dumps and
+// texts were made by hand from the rules of docs/, and agree with the reading of compare/.
 
 use crate::calls::nested;
 use cbor_diag::Result;
@@ -171,7 +171,8 @@ d8 45      # typed array of u16, little endian, tag(69)
     },
 ];
 
-/// The bytes of as many tags 24, each in the bytes of the one before it, and in the innermost a 1, in hex.
+/// The bytes of as many tags 24, each in the bytes of the one before it, and in the innermost a 1,
+/// in hex.
 pub(crate) fn embedded_digits(alloc: Global, count: usize) -> Result<String> {
     let mut digits = String::from_str(alloc, "01")?;
     for _ in 0..count {

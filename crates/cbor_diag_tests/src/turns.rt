@@ -1,7 +1,7 @@
-// How many turns inputs take: a head, with the content of a string, a chunk, a break and the end of a full
-// container are one each.
+// How many turns inputs take: a head, with the content of a string, a chunk, a break and the end of
+// a full container are one each.
 
-use crate::calls::{check, nested, turns_of};
+use crate::calls::{Input, View, check, check_table, nested, turns_of};
 use cbor_diag::{Turns, parse_bytes_counted};
 use std::alloc::Global;
 use std::test::Fail;
@@ -26,17 +26,20 @@ const INPUTS: &[(&str, &str)] = &[
     (
         "83010203",
         "5 turns, 4: Array { content: [Integer { value: 1, bitwidth: Zero }, \
-         Integer { value: 2, bitwidth: Zero }, Integer { value: 3, bitwidth: Zero }], bitwidth: Some(Zero) }",
+         Integer { value: 2, bitwidth: Zero }, Integer { value: 3, bitwidth: Zero }], bitwidth: \
+         Some(Zero) }",
     ),
     // what follows takes none
     (
         "8101ff",
-        "3 turns, 2: Array { content: [Integer { value: 1, bitwidth: Zero }], bitwidth: Some(Zero) }",
+        "3 turns, 2: Array { content: [Integer { value: 1, bitwidth: Zero }], bitwidth: Some(Zero) \
+         }",
     ),
     (
         "bf01820203ff",
         "7 turns, 6: Map { content: [(Integer { value: 1, bitwidth: Zero }, \
-         Array { content: [Integer { value: 2, bitwidth: Zero }, Integer { value: 3, bitwidth: Zero }], \
+         Array { content: [Integer { value: 2, bitwidth: Zero }, Integer { value: 3, bitwidth: \
+         Zero }], \
          bitwidth: Some(Zero) })], bitwidth: None }",
     ),
     // of a cut and a fault the turns before them, and one
@@ -60,9 +63,7 @@ fn turns_of_arrays(alloc: Global, count: usize) -> cbor_diag::Result<String> {
 
 #[test]
 fn inputs_take_their_turns(rt: HostRuntime) {
-    for (digits, expected) in INPUTS {
-        check(&rt, turns_of(rt.alloc(), digits), expected, digits);
-    }
+    check_table(&rt, rt.alloc(), Input::Turns, View::Fields, INPUTS);
     let found = turns_of_arrays(rt.alloc(), 127);
     check(&rt, found, "255 turns, 128", "127 arrays");
     let found = turns_of_arrays(rt.alloc(), 128);

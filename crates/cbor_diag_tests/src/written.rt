@@ -15,7 +15,8 @@ enum Open {
     Tag,
 }
 
-/// Numbers of an open width, the bytes and the text of the item, and the fields of what the text is read back as.
+/// Numbers of an open width, the bytes and the text of the item, and the fields of what the text is
+/// read back as.
 const OPEN: &[(Open, u64, &str, &str, &str)] = &[
     (
         Open::Integer,
@@ -181,7 +182,8 @@ fn bytes_and_texts_are_appended(rt: HostRuntime) {
     check(&rt, text, "two: {1: [2, 3]}", "push_diag_pretty");
 }
 
-/// A text of letters with a special one among them, at a place, and once more at its end, both after a mark.
+/// A text of letters with a special one among them, at a place, and once more at its end, both
+/// after a mark.
 fn with_special(
     alloc: Global,
     len: usize,
@@ -204,7 +206,8 @@ fn in_quotes(alloc: Global, content: Result<String>) -> Result<String> {
     Ok(format!(in alloc; "\"{}\"", content?.as_str())?)
 }
 
-// A text is looked at in pieces: so a quote or a backslash is at each place of texts of up to 70 letters.
+// A text is looked at in pieces: so a quote or a backslash is at each place of texts of up to 70
+// letters.
 #[test]
 fn quotes_and_backslashes_are_escaped_anywhere_in_a_text(rt: HostRuntime) {
     let alloc = rt.alloc();

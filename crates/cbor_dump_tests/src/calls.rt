@@ -1,6 +1,6 @@
-// Dumps as texts that tests compare, from calls of `cbor_diag` without their clauses: a test that made a call itself
-// would bring all that is proved of it into its own proof, and one that had an item would have to prove that it is
-// dropped. The error is that of refused memory alone.
+// Dumps as texts that tests compare, from calls of `cbor_diag` without their clauses: a test that
+// made a call itself would bring all that is proved of it into its own proof, and one that had an
+// item would have to prove that it is dropped. The error is that of refused memory alone.
 
 use cbor_diag::{DataItem, Result, parse_diag, parse_hex};
 use std::alloc::Global;

@@ -1,5 +1,5 @@
-// Carried texts that try to break a line of the dump, or to begin a comment, in every place where a dump
-// shows a text.
+// Carried texts that try to break a line of the dump, or to begin a comment, in every place where a
+// dump shows a text.
 
 use crate::calls::dump_told;
 use crate::dumped::check_lines;
@@ -72,7 +72,8 @@ const PLACES: &[(&str, &str, usize)] = &[
     ("63(<<\"", "\">> h'ff')", 8),
 ];
 
-/// Base 64 and bytes that are shown in lines of their own, in notation, and how many lines the dump has.
+/// Base 64 and bytes that are shown in lines of their own, in notation, and how many lines the dump
+/// has.
 const BYTES: &[(&str, usize)] = &[
     // the last of the carried texts
     ("33(\"YTojCg3CheKAqCM\")", 5),

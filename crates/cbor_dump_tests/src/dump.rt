@@ -1,5 +1,5 @@
-// Dumps. Those that are written out are made by hand from the rules of docs/DUMP.md, or are in the documentation of
-// the Rust crate; all are read back.
+// Dumps. Those that are written out are made by hand from the rules of docs/DUMP.md, or are in the
+// documentation of the Rust crate; all are read back.
 
 use crate::calls::{check, check_end, dump_told, dumped, dumped_or_error};
 use crate::dumped::{check_dumps, check_lines};
@@ -145,8 +145,8 @@ const TAGS: &[(&str, &str)] = &[
     ),
 ];
 
-/// An opening, as many times a part, and a close, in notation, and the first line of the dump. Lengths and counts are
-/// not grouped.
+/// An opening, as many times a part, and a close, in notation, and the first line of the dump.
+/// Lengths and counts are not grouped.
 const FIRST_LINES: &[(&str, &str, usize, &str, &str)] = &[
     (
         "h'",
@@ -167,7 +167,8 @@ const FIRST_LINES: &[(&str, &str, usize, &str, &str)] = &[
     ("[", "0, ", 254, "0]", "98 ff # array(255)"),
 ];
 
-/// Values, the dumps of an integer and of a negative one of that value, and the digits of a tag's head, of open widths.
+/// Values, the dumps of an integer and of a negative one of that value, and the digits of a tag's
+/// head, of open widths.
 const OPEN: &[(u64, &str, &str, &str)] = &[
     (0, "00 # unsigned(0)\n", "20 # negative(-1)\n", "c0"),
     (23, "17 # unsigned(23)\n", "37 # negative(-24)\n", "d7"),
@@ -324,7 +325,8 @@ fn byte_strings_of_some_lengths_are_read_back(rt: HostRuntime) {
     }
 }
 
-/// The dump of a text of as many bytes, of `a` but for one character at a place, which may make it longer.
+/// The dump of a text of as many bytes, of `a` but for one character at a place, which may make it
+/// longer.
 fn dump_of_text(alloc: Global, length: usize, place: usize, character: char) -> Result<String> {
     let mut content = String::new(alloc);
     for at in 0..length {

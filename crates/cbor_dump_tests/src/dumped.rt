@@ -1,4 +1,5 @@
-// Tables of items that tests write as hex digits or in notation, their dumps, and the notes in these.
+// Tables of items that tests write as hex digits or in notation, their dumps, and the notes in
+// these.
 
 use crate::calls::{check, check_end, dump_of, dump_told};
 use cbor_diag::Result;
@@ -19,8 +20,8 @@ pub(crate) fn check_ends(rt: &impl Abort, alloc: Global, rows: &[(&str, &str)]) 
     }
 }
 
-/// What the lines without digits say, with a line feed between them: the notes, and the `""` of empty
-/// strings. What is one deeper than the outermost item is not indented.
+/// What the lines without digits say, with a line feed between them: the notes, and the `""` of
+/// empty strings. What is one deeper than the outermost item is not indented.
 pub(crate) fn notes_in(alloc: Global, dump: Result<String>) -> Result<String> {
     let (dump, mut notes) = (dump?, String::new(alloc));
     for line in dump.as_str().lines() {

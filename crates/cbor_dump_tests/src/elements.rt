@@ -1,4 +1,5 @@
-// The elements of typed arrays in a dump (RFC 8746), and what is said of bytes that are no whole elements.
+// The elements of typed arrays in a dump (RFC 8746), and what is said of bytes that are no whole
+// elements.
 
 use crate::calls::{check, check_end, dump_tagged, dump_told};
 use crate::dumped::{check_dumps, check_ends, check_lines, notes_in};

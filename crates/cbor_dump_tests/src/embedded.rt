@@ -1,4 +1,5 @@
-// Dumps of embedded items and of sequences, which are comments in a dump (RFC 7049, section 2.4.4.1, and RFC 8742).
+// Dumps of embedded items and of sequences, which are comments in a dump (RFC 7049, section
+// 2.4.4.1, and RFC 8742).
 
 use crate::calls::{check, dumped_or_error, end_like, written};
 use crate::dumped::{check_dumps, check_notes};
@@ -300,8 +301,9 @@ failed to parse remaining encoded cbor sequence
     ("63([1])", "invalid type for encoded cbor sequence"),
 ];
 
-/// In how many tags a 1 is embedded, in how many arrays that is, how many of the items are too deep to be read, and the
-/// end of the dump. Each embedded item is two levels below the tag that it is embedded in: the 63rd at level 127.
+/// In how many tags a 1 is embedded, in how many arrays that is, how many of the items are too deep
+/// to be read, and the end of the dump. Each embedded item is two levels below the tag that it is
+/// embedded in: the 63rd at level 127.
 const NESTED: &[(usize, usize, usize, &str)] = &[
     (
         1,
@@ -425,7 +427,7 @@ fn innermost(alloc: Global, dump: &Result<String>) -> Result<String> {
     };
     let first = dump.as_str().lines().rev().nth(4).unwrap_or("");
     let columns = first.rfind("d8 18").unwrap_or(0);
-    let (before, _) = first.split_at(columns);
+    let before = first.get(..columns).unwrap_or("");
     let count = dump.as_str().lines().count();
     for line in dump.as_str().lines().skip(count.saturating_sub(5)) {
         inner.push_str(line.strip_prefix(before).unwrap_or(line))?;

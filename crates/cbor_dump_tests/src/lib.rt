@@ -1,4 +1,5 @@
-//! Tests alone, of the dumps that `cbor_diag` prints: examples of the standards and of docs/DUMP.md.
+//! Tests alone, of the dumps that `cbor_diag` prints: examples of the standards and of
+//! docs/DUMP.md.
 #![tactic(auto)]
 
 #[cfg(test)]

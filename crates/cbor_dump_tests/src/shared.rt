@@ -1,4 +1,5 @@
-// Shared values and references to them in a dump: they are counted from 0 in the order of their tags.
+// Shared values and references to them in a dump: they are counted from 0 in the order of their
+// tags.
 
 use crate::calls::{check_end, dump_told};
 use crate::dumped::{check_dumps, check_notes};
@@ -127,7 +128,8 @@ const REFERENCES: &[(&str, &str)] = &[
     ),
 ];
 
-/// Embedded dumps, which count from 0 and know nothing of what is around them. That is counted on after them.
+/// Embedded dumps, which count from 0 and know nothing of what is around them. That is counted on
+/// after them.
 const EMBEDDED: &[(&str, &str)] = &[
     (
         "[28(1), 24(<<28(29(0))>>), 28(2), 29(1)]",
