@@ -279,11 +279,10 @@ fn dump_open(alloc: Global, kind: Open, value: u64) -> Result<String> {
 /// The digits of the first line of a dump.
 fn first_digits(alloc: Global, dump: Result<String>) -> Result<String> {
     let dump = dump?;
-    let digits = dump
-        .as_str()
-        .split_once('#')
-        .map_or("", |(digits, _)| digits);
-    Ok(String::from_str(alloc, digits.trim_ascii_end())?)
+    match dump.as_str().split_once('#') {
+        Some((digits, _)) => Ok(String::from_str(alloc, digits.trim_ascii_end())?),
+        None => Ok(String::new(alloc)),
+    }
 }
 
 #[test]

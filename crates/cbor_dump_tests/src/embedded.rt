@@ -453,9 +453,10 @@ fn last_lines(alloc: Global, dump: Result<String>) -> Result<String> {
     let (dump, mut last) = (dump?, String::new(alloc));
     let count = dump.as_str().lines().count();
     for line in dump.as_str().lines().skip(count.saturating_sub(2)) {
-        let comment = line.split_once('#').map_or("", |(_, comment)| comment);
-        last.push_str(comment.trim_ascii_start())?;
-        last.push('\n')?;
+        if let Some((_, comment)) = line.split_once('#') {
+            last.push_str(comment.trim_ascii_start())?;
+            last.push('\n')?;
+        }
     }
     Ok(last)
 }
