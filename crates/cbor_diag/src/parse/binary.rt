@@ -6,6 +6,7 @@
 //! believed: memory is taken for the bytes and members that are there, and for a few members at once.
 mod head;
 mod open;
+mod skip;
 mod stack;
 mod strings;
 
@@ -29,6 +30,8 @@ use open::Open;
 use stack::Stack;
 use std::alloc::Global;
 use strings::{byte_chunks_at, bytes_at, text_at, text_chunks_at};
+
+pub use skip::{Extent, extent};
 
 /// Why no item can stand below the deepest level: there are bytes for one, or there are none.
 fn no_level_left(bytes: &[u8]) -> Error
