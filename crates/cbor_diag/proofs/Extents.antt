@@ -84,12 +84,15 @@ fault_extent b e after fits s =
     let faulty : Fault 1 shown e = fault_takes 1 128 shown e refl fits_shown s.other (rest_err (item_at 128 shown) e s.fails) in
     let before : take (length s.before) b ≡ s.before = ap (take (length s.before)) s.parts ∙ front_is (length s.before) s.before (s.last ∷ s.behind) refl in
     let fits_before : IsBytes s.before = subst IsBytes before (IsBytes-take (length s.before) b fits) in
-    let cut_before : Cut 1 s.before = cut_takes 1 128 s.before refl fits_before (rest_err (item_at 128 s.before) refusal.CutShort s.cut) in
-    (omega arith, subst (λ (x : List ℕ). Fault 1 x e) (sym front) faulty, λ n lt.
-    let le : n ≤ length s.before = omega (arith, length-append s.before (s.last ∷ [])) in
-    let same : take n b ≡ take n s.before = ap (take n) s.parts ∙ take-append-le n s.before (s.last ∷ s.behind) le in
-    let parts : s.before ≡ take n s.before ++ drop n s.before = sym (take-append-drop n s.before) in
-    subst (Cut 1) (sym same) (cut_front (take n s.before) (drop n s.before) (IsBytes-take n s.before fits_before) (subst (Cut 1) parts cut_before)))
+    let cut_before : Cut 1 s.before = cut_takes 1 128 s.before refl fits_before (rest_err (item_at 128 s.before) refusal.CutShort s.cut) in (
+      omega arith,
+      subst (λ (x : List ℕ). Fault 1 x e) (sym front) faulty,
+      λ n lt.
+          let le : n ≤ length s.before = omega (arith, length-append s.before (s.last ∷ [])) in
+          let same : take n b ≡ take n s.before = ap (take n) s.parts ∙ take-append-le n s.before (s.last ∷ s.behind) le in
+          let parts : s.before ≡ take n s.before ++ drop n s.before = sym (take-append-drop n s.before) in
+          subst (Cut 1) (sym same) (cut_front (take n s.before) (drop n s.before) (IsBytes-take n s.before fits_before) (subst (Cut 1) parts cut_before)),
+    )
 
 -- ---- the clauses
 
@@ -157,7 +160,10 @@ pub fault_stays : (b : List ℕ) (x : Extent) → IsExtent b x → IfFault x (λ
 fault_stays b (extent.Item n) h = tt
 fault_stays b extent.Cut h = tt
 fault_stays b (extent.Fault e end) h = λ more.
-    let le : end ≤ length b = h.0 in
-    (omega (arith, length-append b more), subst (λ (y : List ℕ). Fault 1 y e) (sym (take-append-le end b more le)) h.1, λ n lt.
-    let shorter : n ≤ length b = omega arith in
-    subst (Cut 1) (sym (take-append-le n b more shorter)) (h.2 n lt))
+    let le : end ≤ length b = h.0 in (
+      omega (arith, length-append b more),
+      subst (λ (y : List ℕ). Fault 1 y e) (sym (take-append-le end b more le)) h.1,
+      λ n lt.
+          let shorter : n ≤ length b = omega arith in
+          subst (Cut 1) (sym (take-append-le n b more shorter)) (h.2 n lt),
+    )

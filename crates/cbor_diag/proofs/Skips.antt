@@ -1,7 +1,7 @@
 -- Steps of skipping, and what they skip: contents, chunks and heads.
-use Rattle.std.proofs.Common.{◌≡◌, ◌≢◌, ℕ, zero, suc, ◌+◌, ◌-◌, ◌/◌, ◌%◌, ◌<◌, ◌≤◌, List, [], ◌∷◌, ◌++◌, length, take, drop, Option, Some, None, Ok, Err, ◌⊎◌, inl, inr, refl, sym, ap, subst, ◌∙◌, append_assoc, arith}
+use Rattle.std.proofs.Common.{◌≡◌, ◌≢◌, ℕ, zero, suc, ◌+◌, ◌-◌, ◌/◌, ◌%◌, ◌<◌, ◌≤◌, List, [], ◌∷◌, ◌++◌, length, get_or, take, drop, Option, Some, None, Ok, Err, ◌⊎◌, inl, inr, refl, sym, ap, subst, ◌∙◌, append_assoc, arith}
 use Rattle.std.specs.Prelude.{IsUtf8}
-use Rattle.std.proofs.lemmas.List.{append-nil, length-append, length-take, take-append-drop}
+use Rattle.std.proofs.lemmas.List.{append-nil, length-append, length-take, take-append-drop, take_all}
 use Rattle.std.proofs.lemmas.Str.{IsUtf8-nil}
 use Rattle.cbor_diag.specs.declared.syntax.IntegerWidth.{IntegerWidth}
 use Rattle.cbor_diag.specs.declared.error.Error.{Error}
@@ -18,7 +18,7 @@ use Rattle.cbor_diag.specs.WellFormed.{deepest}
 use Rattle.cbor_diag.specs.Bytes.{StringKind, bytes_kind, text_kind, major_of, IsContent}
 use Rattle.cbor_diag.specs.Refused.{BadHead, no_info, no_length}
 use Rattle.cbor_diag.specs.Reading.{Read, ◌>>=◌, Fails, info_at, head_of, head_at, content_at, chunk_of, chunk_at, more_chunks, chunks_at, body_at, item_at}
-use Rattle.cbor_diag.specs.Skipping.{Skip, rest_of, here, Goes, Shows, StopsSo, skip_content, skip_chunks, skip_item, skip_body}
+use Rattle.cbor_diag.specs.Skipping.{Skip, rest_of, here, Goes, Shows, StopsSo, stop_of, skip_content, skip_chunks, skip_item, skip_body}
 use Rattle.cbor_diag.proofs.Heads.{IsBytes, IsBytes-rest, bind_ok, ok_is, cons_is, number_bytes, InfoIs, info_takes, info_again, head_takes}
 use Rattle.cbor_diag.proofs.Shorter.{Leaves, chunk_leaves}
 use Rattle.cbor_diag.proofs.Chunks.{content_again, chunk_ways}
@@ -124,7 +124,7 @@ content_goes kind n w b long holds =
       along = λ c. ap (λ k. skip_content kind k w (take n b ++ c)) count ∙ ap rest_of (content_again kind chunk c holds);
     }
 
-pub content_bad : (n : ℕ) (w : IntegerWidth) (b : List ℕ) → n ≤ length b → ¬ (IsUtf8 (take n b)) → Shows (skip_content text_kind n w) b refusal.Utf8 (length (drop n b))
+content_bad : (n : ℕ) (w : IntegerWidth) (b : List ℕ) → n ≤ length b → ¬ (IsUtf8 (take n b)) → Shows (skip_content text_kind n w) b refusal.Utf8 (length (drop n b))
 content_bad n w b long bad =
     elim (last_ways (take n b)) [
       | inl none ↦ absurd (bad (rw none IsUtf8-nil))
@@ -141,6 +141,10 @@ content_bad n w b long bad =
             other = λ e. absurd cc;
           }
     ]
+
+pub content_shows : (kind : StringKind) (n : ℕ) (w : IntegerWidth) (b : List ℕ) → n ≤ length b → ¬ (IsContent kind (take n b)) → Shows (skip_content kind n w) b refusal.Utf8 (length (drop n b))
+content_shows bytes_kind n w b long bad = absurd (bad tt)
+content_shows text_kind n w b long bad = content_bad n w b long bad
 
 -- ---- chunks
 
@@ -242,15 +246,20 @@ kind_shows kind first b no_break other =
     ])
 
 -- a refusal that is no want of memory is the one that reading gives
-pub fails_is : {X : Type 0} (e : Error) (read : Read X) → Fails e read → e ≢ refusal.Memory → read ≡ Err e
+fails_is : {X : Type 0} (e : Error) (read : Read X) → Fails e read → e ≢ refusal.Memory → read ≡ Err e
 fails_is refusal.Memory read h some = absurd (some refl)
 fails_is e read h some = h
+
+-- a stop is a cut, or an error
+stop_either : (from : List ℕ → Skip) (b : List ℕ) (e : Error) (after : ℕ) → (e ≡ refusal.CutShort → from b ≡ Err refusal.CutShort) → (e ≢ refusal.CutShort → Shows from b e after) → StopsSo from b (stop_of e after)
+stop_either from b refusal.CutShort after cut shows = cut refl
+stop_either from b e after cut shows = shows (λ same. absurd cc)
 
 bad_info_from : {bits : ℕ} {b : List ℕ} {e : Error} → InfoRefusal bits b e → e ≢ refusal.CutShort → InfoRefusal bits [] refusal.Head × (refusal.Head ≡ e)
 bad_info_from (cut_info k small is short) other = absurd (other refl)
 bad_info_from (bad_info least most) other = (bad_info least most, refl)
 
-pub info_shows : (kind : StringKind) (first : ℕ) (b : List ℕ) (e : Error) → first ≢ break_byte → first / 32 ≡ major_of kind → info_at (first % 32) b ≡ Err e → e ≢ refusal.CutShort → Shows (skip_chunks kind) (first ∷ b) e (length b)
+info_shows : (kind : StringKind) (first : ℕ) (b : List ℕ) (e : Error) → first ≢ break_byte → first / 32 ≡ major_of kind → info_at (first % 32) b ≡ Err e → e ≢ refusal.CutShort → Shows (skip_chunks kind) (first ∷ b) e (length b)
 info_shows kind first b e no_break major h other =
     let bad = bad_info_from (info_refused (first % 32) b e (omega arith) h) other in
     subst (λ d. Shows (skip_chunks kind) (first ∷ b) d (length b)) bad.1 (chunk_shows kind first b (chunk_reads kind first [] (Err refusal.Head) no_break major (info_refuses (first % 32) [] refusal.Head bad.0)))
@@ -260,8 +269,13 @@ indefinite_shows kind first b rest fits no_break major e =
     let is = info_takes (first % 32) b rest info.Indefinite fits e in
     chunk_shows kind first b (chunk_reads kind first [] (Ok (info.Indefinite, [])) no_break major (info_opens (first % 32) [] is.0))
 
-pub info_cut : (kind : StringKind) (first : ℕ) (b : List ℕ) → first ≢ break_byte → first / 32 ≡ major_of kind → info_at (first % 32) b ≡ Err refusal.CutShort → skip_chunks kind (first ∷ b) ≡ Err refusal.CutShort
+info_cut : (kind : StringKind) (first : ℕ) (b : List ℕ) → first ≢ break_byte → first / 32 ≡ major_of kind → info_at (first % 32) b ≡ Err refusal.CutShort → skip_chunks kind (first ∷ b) ≡ Err refusal.CutShort
 info_cut kind first b no_break major e = chunks_next kind (first ∷ b) ∙ ap (chunks_after kind) (chunk_reads kind first b (Err refusal.CutShort) no_break major e)
+
+pub info_stops : (kind : StringKind) (first : ℕ) (b : List ℕ) (e : Error) → first ≢ break_byte → first / 32 ≡ major_of kind → Fails e (info_at (first % 32) b) → e ≢ refusal.Memory → StopsSo (skip_chunks kind) (first ∷ b) (stop_of e (length b))
+info_stops kind first b e no_break major h some =
+    let is = fails_is e (info_at (first % 32) b) h some in
+    stop_either (skip_chunks kind) (first ∷ b) e (length b) (λ cut. info_cut kind first b no_break major (is ∙ ap (λ d. Err d) cut)) (info_shows kind first b e no_break major is)
 
 pub no_chunks : (kind : StringKind) → skip_chunks kind [] ≡ Err refusal.CutShort
 unfolding chunks_at
@@ -282,9 +296,12 @@ head_over h first b rest fits e =
     let made = ok_is (o.0, a.0.1) (h, rest) o.2 in
     let h-is : o.0 ≡ h = ap (λ (p : ItemHead × List ℕ). p.0) made in
     let rest-is : a.0.1 ≡ rest = ap (λ (p : ItemHead × List ℕ). p.1) made in
-    let f = info_over (first % 32) a.0.0 b a.0.1 (info_takes (first % 32) b a.0.1 a.0.0 (IsBytes-rest first b fits) a.1) in
-    (f.0, f.1 ∙ ap (λ (z : List ℕ). f.0 ++ z) rest-is, λ c.
-    ap (λ r. r >>= λ i. head_of (first / 32) i.0 >>= λ h. Ok (h, i.1)) (f.2 c) ∙ (ap (λ r. r >>= λ h. Ok (h, c)) o.1 ∙ ap (λ x. Ok (x, c)) h-is))
+    let f = info_over (first % 32) a.0.0 b a.0.1 (info_takes (first % 32) b a.0.1 a.0.0 (IsBytes-rest first b fits) a.1) in (
+      f.0,
+      f.1 ∙ ap (λ (z : List ℕ). f.0 ++ z) rest-is,
+      λ c.
+          ap (λ r. r >>= λ i. head_of (first / 32) i.0 >>= λ h. Ok (h, i.1)) (f.2 c) ∙ (ap (λ r. r >>= λ h. Ok (h, c)) o.1 ∙ ap (λ x. Ok (x, c)) h-is),
+    )
 
 pub head_goes : (left : ℕ) (h : ItemHead) (first : ℕ) (b rest : List ℕ) → 0 < left → IsBytes (first ∷ b) → head_at (first ∷ b) ≡ Ok (h, rest) → Goes (skip_item left) (skip_body (left - 1) h) (first ∷ b) rest
 unfolding item_at
@@ -312,7 +329,7 @@ bad_shows : (left first : ℕ) (b : List ℕ) → 0 < left → BadHead (first �
 bad_shows zero first b some bad = absurd (omega arith)
 bad_shows (suc left) first b some bad = shows_first (skip_item (suc left)) first b refusal.Head (ap rest_of (item_nothing (suc left))) (ap rest_of (bad_head_refuses left (first ∷ []) (bad_alone bad))) (λ same. absurd cc)
 
-pub head_shows : (left first : ℕ) (b : List ℕ) (e : Error) → 0 < left → IsBytes (first ∷ b) → head_at (first ∷ b) ≡ Err e → e ≢ refusal.CutShort → Shows (skip_item left) (first ∷ b) e (length b)
+head_shows : (left first : ℕ) (b : List ℕ) (e : Error) → 0 < left → IsBytes (first ∷ b) → head_at (first ∷ b) ≡ Err e → e ≢ refusal.CutShort → Shows (skip_item left) (first ∷ b) e (length b)
 head_shows left first b e some fits h other =
     let bad = bad_head_from (head_refused (first ∷ b) e fits h) other in
     subst (λ d. Shows (skip_item left) (first ∷ b) d (length b)) bad.1 (bad_shows left first b some bad.0)
@@ -323,10 +340,15 @@ break_shows left first b rest some fits e =
     let info : first % 32 ≡ 31 = rw is refl in
     bad_shows left first b some (no_length info (inr (rw is (omega arith))))
 
-pub head_short : (left : ℕ) (b : List ℕ) → 0 < left → head_at b ≡ Err refusal.CutShort → skip_item left b ≡ Err refusal.CutShort
+head_short : (left : ℕ) (b : List ℕ) → 0 < left → head_at b ≡ Err refusal.CutShort → skip_item left b ≡ Err refusal.CutShort
 unfolding item_at
 head_short zero b some e = absurd (omega arith)
 head_short (suc left) b some e = ap (λ r. rest_of (r >>= λ h. body_at (item_at left) h.0 h.1)) e
+
+pub head_stops : (left first : ℕ) (b : List ℕ) (e : Error) → 0 < left → IsBytes (first ∷ b) → Fails e (head_at (first ∷ b)) → e ≢ refusal.Memory → StopsSo (skip_item left) (first ∷ b) (stop_of e (length b))
+head_stops left first b e some fits h no_memory =
+    let is = fails_is e (head_at (first ∷ b)) h no_memory in
+    stop_either (skip_item left) (first ∷ b) e (length b) (λ cut. head_short left (first ∷ b) some (is ∙ ap (λ d. Err d) cut)) (head_shows left first b e some fits is)
 
 pub no_item : (left : ℕ) → skip_item left [] ≡ Err refusal.CutShort
 no_item left = ap rest_of (item_nothing left)
@@ -335,3 +357,24 @@ pub deep_shows : (left first : ℕ) (b : List ℕ) → left ≡ 0 → Shows (ski
 unfolding item_at
 deep_shows zero first b none = shows_first (skip_item 0) first b refusal.TooDeep refl refl (λ same. absurd cc)
 deep_shows (suc left) first b none = absurd (omega arith)
+
+-- ---- bytes that are not empty
+
+-- the first byte, and the bytes behind it
+abbrev pub behind_first : List ℕ → List ℕ
+behind_first b = take (length b - 1) (drop 1 b)
+
+pub first_is : (b : List ℕ) → 1 ≤ length b → b ≡ get_or b 0 0 ∷ behind_first b
+first_is [] some = absurd (omega arith)
+first_is (first ∷ b) some = ap (λ (x : List ℕ). first ∷ x) (sym (take_all (length (first ∷ b) - 1) b (omega arith)))
+
+-- a fact of such bytes, from that of their first byte and those behind it
+pub at_first : (Fact : List ℕ → Type 0) (b : List ℕ) → 1 ≤ length b → Fact (get_or b 0 0 ∷ behind_first b) → Fact b
+at_first Fact b some holds = subst Fact (sym (first_is b some)) holds
+
+pub fits_first : (b : List ℕ) → 1 ≤ length b → IsBytes b → IsBytes (get_or b 0 0 ∷ behind_first b)
+fits_first b some fits = subst IsBytes (first_is b some) fits
+
+pub empty_is : (b : List ℕ) → length b < 1 → b ≡ []
+empty_is [] none = refl
+empty_is (first ∷ b) none = absurd (omega arith)

@@ -74,6 +74,11 @@ abbrev pub StopsSo : (List ℕ → Skip) → List ℕ → Stop → Type 0
 StopsSo from b stops.Cut = from b ≡ Err CutShort
 StopsSo from b (stops.Fault error after) = Shows from b error after
 
+-- where reading refuses so
+abbrev pub stop_of : Error → ℕ → Stop
+stop_of CutShort after = stops.Cut
+stop_of error after = stops.Fault error after
+
 abbrev pub kind_of : Kind → StringKind
 kind_of kinds.Bytes = bytes_kind
 kind_of kinds.Text = text_kind

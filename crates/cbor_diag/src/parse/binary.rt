@@ -27,11 +27,10 @@ use crate::parse::turns::Turns;
 use crate::syntax::{DEEPEST, DataItem, Simple};
 use head::{ItemHead, head_at};
 use open::Open;
+pub use skip::{Extent, extent};
 use stack::Stack;
 use std::alloc::Global;
 use strings::{byte_chunks_at, bytes_at, text_at, text_chunks_at};
-
-pub use skip::{Extent, extent};
 
 /// Why no item can stand below the deepest level: there are bytes for one, or there are none.
 fn no_level_left(bytes: &[u8]) -> Error

@@ -14,15 +14,14 @@ ghost use Rattle.cbor_diag.specs.WellFormed.{deepest};
 ghost use Rattle.cbor_diag.specs.Bytes.{IsContent, major_of};
 ghost use Rattle.cbor_diag.specs.Facts.{BeginsWithItem, IsCut, HasFault};
 ghost use Rattle.cbor_diag.specs.Extent.{IfFault, IsExtent};
-ghost use Rattle.cbor_diag.specs.Skipping.{here, Goes, StopsSo, kind_of, skip_content, skip_chunks, after_chunk, skip_item, skip_body, opened, begun};
+ghost use Rattle.cbor_diag.specs.Skipping.{here, Goes, StopsSo, stop_of, kind_of, skip_content, skip_chunks, after_chunk, skip_item, skip_body, opened, begun};
 
 use super::head::{Info, ItemHead, head_at, info_at};
 use crate::error::Error;
 use crate::syntax::DEEPEST;
+pub use answer::Extent;
 use outer::Outer;
 use to_come::{Count, ToCome};
-
-pub use answer::Extent;
 
 /// Why no item is whole.
 #[derive(Clone, Copy)]
@@ -31,6 +30,18 @@ enum Stop {
     Cut,
     /// An error, and how many bytes follow the first ones that show it.
     Fault { error: Error, after: usize },
+}
+
+impl Stop {
+    /// Where reading refuses so, and so many bytes follow those that show it.
+    fn new(error: Error, after: usize) -> Stop
+        ensures { result ≡ stop_of error after }
+    {
+        match error {
+            Error::CutShort => Stop::Cut,
+            _ => Stop::Fault { error, after },
+        }
+    }
 }
 
 /// The two kinds of strings.
@@ -113,8 +124,7 @@ fn chunk_at(kind: Kind, bytes: &[u8]) -> Result<(Chunk, &[u8]), Stop>
                     Ok((Chunk::Content, rest))
                 }
                 Ok((Info::Indefinite, _)) => Err(Stop::Fault { error, after }),
-                Err(Error::CutShort) => Err(Stop::Cut),
-                Err(error) => Err(Stop::Fault { error, after }),
+                Err(error) => Err(Stop::new(error, after)),
             }
         }
     }
@@ -154,13 +164,14 @@ fn wanted_head_at(bytes: &[u8], levels: usize) -> Result<(ItemHead, &[u8]), Stop
         return Err(Stop::Fault { error, after });
     }
     match head_at(bytes) {
-        Ok((ItemHead::Break, _)) => {
-            let error = Error::Head;
-            Err(Stop::Fault { error, after })
-        }
-        Ok((head, rest)) => Ok((head, rest)),
-        Err(Error::CutShort) => Err(Stop::Cut),
-        Err(error) => Err(Stop::Fault { error, after }),
+        Ok((head, rest)) => match head {
+            ItemHead::Break => {
+                let error = Error::Head;
+                Err(Stop::Fault { error, after })
+            }
+            _ => Ok((head, rest)),
+        },
+        Err(error) => Err(Stop::new(error, after)),
     }
 }
 

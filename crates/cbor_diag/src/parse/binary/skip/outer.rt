@@ -17,14 +17,14 @@ pub(super) struct Outer {
 }
 
 impl Model for Outer {
-    ghost use Rattle.std.specs.Prelude.{◌≤◌, List, take};
+    ghost use Rattle.std.specs.Prelude.{◌≡◌, ◌≤◌, List, length, take};
     ghost use Rattle.cbor_diag.specs.declared.parse.binary.skip.to_come.ToCome.{ToCome};
 
     ghost Value = { List ToCome };
 
     ghost view = { λ s. take s.len s.«open» };
 
-    ghost invariant = { λ s. s.len ≤ 128 };
+    ghost invariant = { λ s. (s.len ≤ 128) × (length s.«open» ≡ 128) };
 }
 
 impl Outer {
