@@ -33,7 +33,7 @@ impl Outer {
         ensures { result ≡ [] }
     {
         Outer {
-            open: [ToCome::Items(Count::ToBreak); ROOM],
+            open: [ToCome::Items(Count::Definite(0)); ROOM],
             len: 0,
         }
     }
