@@ -184,3 +184,39 @@ fn samples_with_a_byte_changed(rt: HostRuntime) -> Result<(), Fail> {
     check_near(&rt, alloc, &deep_bytes(alloc)?)?;
     Ok(())
 }
+
+// ---- docs/BYTES.md
+
+/// The log behind its first record.
+fn after_record(log: &[u8]) -> Option<&[u8]> {
+    match extent(log) {
+        Extent::Item(len) => Some(&log[len..]),
+        _ => None,
+    }
+}
+
+/// An error, and the byte that a viewer points at.
+fn fault_at(bytes: &[u8]) -> Option<(Error, usize)> {
+    match extent(bytes) {
+        Extent::Fault { error, end } => Some((error, end - 1)),
+        _ => None,
+    }
+}
+
+#[test]
+fn a_log_is_skipped_record_by_record(rt: HostRuntime) -> Result<(), Fail> {
+    let log = b"\x82\x01\x02\xa1\x61k\x05\x19\x01";
+    let rest = after_record(log);
+    assert_eq!(rt; rest, Some(&log[3..]));
+    assert_eq!(rt; rest.and_then(after_record), Some(&log[7..]));
+    assert_eq!(rt; after_record(&log[7..]), None);
+    Ok(())
+}
+
+#[test]
+fn a_viewer_points_at_a_fault(rt: HostRuntime) -> Result<(), Fail> {
+    assert_eq!(rt; fault_at(b"\x82\x01\x1f\x00"), Some((Error::Head, 2)));
+    assert_eq!(rt; fault_at(b"\x63\xc3\xa9\xff\x00"), Some((Error::Utf8, 3)));
+    assert_eq!(rt; fault_at(b"\x82\x01"), None);
+    Ok(())
+}
