@@ -32,3 +32,5 @@ pub mod Pretty
 pub mod Normal
 pub mod Facts
 pub mod NotationRefused
+pub mod Extent
+pub mod Skipping

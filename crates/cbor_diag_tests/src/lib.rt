@@ -8,6 +8,8 @@ mod calls;
 #[cfg(test)]
 mod ends;
 #[cfg(test)]
+mod extent;
+#[cfg(test)]
 mod forms;
 #[cfg(test)]
 mod hex_text;
