@@ -1,7 +1,8 @@
 // `extent`: what it answers of examples worked out by hand, and that of all other inputs it answers what
 // `parse_bytes_partial` does, with the end of an error where fewer bytes are cut.
 
-use crate::samples::{SAMPLES, deep_bytes};
+use crate::calls::bytes_of;
+use crate::samples::SAMPLES;
 use cbor_diag::{Error, Extent, extent, parse_bytes_partial};
 use std::alloc::Global;
 use std::process::Abort;
@@ -179,9 +180,12 @@ fn samples_with_a_byte_changed(rt: HostRuntime) -> Result<(), Fail> {
         check_near(&rt, alloc, bytes)?;
     }
     for sample in &SAMPLES {
-        check_near(&rt, alloc, sample.bytes)?;
+        check_near(&rt, alloc, &bytes_of(alloc, sample.digits)?)?;
     }
-    check_near(&rt, alloc, &deep_bytes(alloc)?)?;
+    // As deep as items may be.
+    let mut deep = vec![in alloc; 0x81u8; 127]?;
+    deep.push(1)?;
+    check_near(&rt, alloc, &deep)?;
     Ok(())
 }
 
