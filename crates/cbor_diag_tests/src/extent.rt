@@ -22,7 +22,11 @@ const FAULTS: [(&[u8], Error, usize); 22] = [
     (b"\xbf\x01\xff\x00", Error::Head, 3),
     (b"\xbf\x00\x01\x02\xff", Error::Head, 5),
     (b"\x9f\x82\x01\xff\xff", Error::Head, 4),
-    (b"\xbb\xff\xff\xff\xff\xff\xff\xff\xff\x00\xff", Error::Head, 11),
+    (
+        b"\xbb\xff\xff\xff\xff\xff\xff\xff\xff\x00\xff",
+        Error::Head,
+        11,
+    ),
     // no chunk of that kind
     (b"\x5f\x41\x00\x01", Error::Head, 4),
     (b"\x5f\x41\x00\x61\x61", Error::Head, 4),
