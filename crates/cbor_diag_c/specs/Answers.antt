@@ -1,7 +1,7 @@
 -- What an export answers: a length, or minus the number of an error. And what its buffer holds then.
-use Rattle.std.specs.Prelude.{◌≡◌, ◌⊎◌, ⊤, ℕ, ◌+◌, ℤ, pos, negsuc, List, ◌++◌, length, take, drop, Ok, Err}
+use Rattle.std.specs.Prelude.{◌≡◌, ◌⊎◌, ⊤, ℕ, ◌+◌, ◌<◌, ℤ, pos, negsuc, List, ◌++◌, length, take, drop, Ok, Err, codes}
 use Rattle.cbor_diag.specs.declared.error.Error.{Error}
-use Rattle.cbor_diag.specs.Refusals.{number_of}
+use Rattle.cbor_diag.specs.Refusals.{text_of, number_of}
 use Rattle.cbor_diag_c.specs.Forms.{IsNoForm, IsConversion}
 
 -- a fact of the length that was answered
@@ -32,3 +32,14 @@ abbrev pub IsWhy : ℕ → ℕ → List ℕ → ℕ → Type 0
 IsWhy from to input n =
     ((e : Error) × (n ≡ number_of e) × IsConversion from to input (Err e))
     ⊎ ((n ≡ no_form) × (IsNoForm from ⊎ IsNoForm to))
+
+-- no error has this number
+abbrev pub IsNoError : ℕ → Type 0
+IsNoError n = (n ≡ 0) ⊎ (no_form < n)
+
+-- what the error of this number says
+abbrev pub IsTextOf : ℕ → List ℕ → Type 0
+IsTextOf n text =
+    ((e : Error) × (n ≡ number_of e) × (text ≡ text_of e))
+    ⊎ ((n ≡ no_form) × (text ≡ codes "no such form"))
+    ⊎ (IsNoError n × (text ≡ codes "no such error"))

@@ -5,3 +5,5 @@
 
 mod answer;
 mod conversion;
+mod error;
+mod version;
