@@ -24,7 +24,7 @@ fault_takes level left b e levels fits other h = fault_from (refused left level 
 
 -- ---- a fault is found
 
-bad_head_refuses : (left : ℕ) (b : List ℕ) → BadHead b → item_at (suc left) b ≡ Err refusal.Head
+pub bad_head_refuses : (left : ℕ) (b : List ℕ) → BadHead b → item_at (suc left) b ≡ Err refusal.Head
 unfolding item_at
 bad_head_refuses left b h =
     elim (head_bad b h) [

@@ -23,6 +23,9 @@ pub mod Three
 pub mod Fitting
 pub mod OnePiece
 pub mod Outcomes
+pub mod Skips
+pub mod SkippedParts
+pub mod Extents
 pub mod Readers
 pub mod Strict
 pub mod Resolved

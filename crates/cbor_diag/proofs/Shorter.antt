@@ -86,7 +86,7 @@ leaves_less : {X : Type 0} (n m : ℕ) (r : Read X) → n ≤ m → Leaves n r �
 leaves_less n m (Ok x) le h = omega arith
 leaves_less n m (Err e) le h = tt
 
-chunk_leaves : (kind : StringKind) (b : List ℕ) → Leaves (length b) (chunk_at kind b)
+pub chunk_leaves : (kind : StringKind) (b : List ℕ) → Leaves (length b) (chunk_at kind b)
 unfolding chunk_at
 chunk_leaves kind [] = tt
 chunk_leaves kind (first ∷ b) =

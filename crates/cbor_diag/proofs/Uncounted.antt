@@ -19,7 +19,7 @@ go_first : {A B : Type 0} (n : ℕ) (r : Read A) (f : A × List ℕ → Counted 
 go_first n (Ok x) f = refl
 go_first n (Err e) f = refl
 
-bind_same : {A B : Type 0} (r : Read A) (f g : A × List ℕ → Read B) → ((x : A × List ℕ) → r ≡ Ok x → f x ≡ g x) → (r >>= f) ≡ (r >>= g)
+pub bind_same : {A B : Type 0} (r : Read A) (f g : A × List ℕ → Read B) → ((x : A × List ℕ) → r ≡ Ok x → f x ≡ g x) → (r >>= f) ≡ (r >>= g)
 bind_same (Ok x) f g h = h x refl
 bind_same (Err e) f g h = refl
 

@@ -29,3 +29,5 @@ pub mod Pretty
 pub mod Normal
 pub mod Facts
 pub mod NotationRefused
+pub mod Extent
+pub mod Skipping

@@ -5,7 +5,7 @@ mod notation;
 mod turns;
 
 pub(crate) use binary::{front_at, whole_at};
-pub use binary::{parse_bytes, parse_bytes_counted, parse_bytes_partial};
+pub use binary::{Extent, extent, parse_bytes, parse_bytes_counted, parse_bytes_partial};
 pub use hex_text::parse_hex;
 pub use notation::parse_diag;
 pub use turns::Turns;

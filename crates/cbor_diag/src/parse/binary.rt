@@ -6,6 +6,7 @@
 //! believed: memory is taken for the bytes and members that are there, and for a few members at once.
 mod head;
 mod open;
+mod skip;
 mod stack;
 mod strings;
 
@@ -26,6 +27,7 @@ use crate::parse::turns::Turns;
 use crate::syntax::{DEEPEST, DataItem, Simple};
 use head::{ItemHead, head_at};
 use open::Open;
+pub use skip::{Extent, extent};
 use stack::Stack;
 use std::alloc::Global;
 use strings::{byte_chunks_at, bytes_at, text_at, text_chunks_at};

@@ -1,0 +1,20 @@
+use Rattle.std.proofs.Common.{arith}
+use Rattle.std.proofs.lemmas.Result.{err_from_is_err_and}
+use Rattle.cbor_diag.specs.declared.parse.binary.skip.Chunk.{Chunk}
+use Rattle.cbor_diag.specs.Skipping.{Goes, kind_of, skip_chunks, after_chunk}
+use Rattle.cbor_diag.proofs.Skips.{goes_then, stops_then}
+use Rattle.cbor_diag.proofs.parse.binary.skip.after_chunks.Goals as goal
+
+pub returns-in_err-chunk-clause-stops : goal.returns-in_err-chunk-clause-stops
+returns-in_err-chunk-clause-stops c =
+    let p = err_from_is_err_and c.from_residual.result c.from_residual.ensures.1 in
+    rw (p.1, p.2) (stops_then c.in_err-chunk.field-0.0 c.chunks.invariant.goes c.in_err-chunk.ensures.stops)
+
+pub returns-in-Break-clause-goes : goal.returns-in-Break-clause-goes
+returns-in-Break-clause-goes c = goes_then c.chunks.invariant.goes (rw c.in-Break.is at c.in_ok-chunk.ensures.goes)
+
+pub chunks-preserved : goal.chunks-preserved
+chunks-preserved c = record {
+  goes = goes_then c.chunks.invariant.goes (rw c.in-Content.is at c.in_ok-chunk.ensures.goes);
+  shorter = omega (arith, c.in_ok-chunk.ensures.shorter);
+}

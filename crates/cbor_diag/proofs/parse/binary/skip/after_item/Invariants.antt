@@ -1,0 +1,13 @@
+use Rattle.std.proofs.Common.{◌+◌, ◌*◌, length}
+use Rattle.cbor_diag.specs.WellFormed.{deepest}
+use Rattle.cbor_diag.specs.Skipping.{Goes, skip_item, skip_open}
+use Rattle.cbor_diag.proofs.parse.binary.skip.after_item.Given as goal
+
+-- A part takes bytes, and opens one container at most; else one is closed.
+abbrev pub decreases-turns : goal.decreases-turns
+decreases-turns l = 2 * length l.rest + length l.outer
+
+abbrev pub invariant-turns : goal.invariant-turns
+invariant-turns l = record {
+  goes : Goes (skip_item deepest) (skip_open l.outer l.top) l.bytes l.rest;
+}

@@ -1,0 +1,287 @@
+//! How some bytes begin, told without an item: a loop over heads and a stack of the containers that are
+//! open. Of each container it keeps how many parts are still to come, and strings are skipped.
+//!
+//! Each private function takes the bytes that are left and gives those after what it skips, or why it stops.
+mod answer;
+mod outer;
+mod to_come;
+
+ghost use Rattle.std.specs.Prelude.{◌≡◌, ◌≢◌, ℕ, ◌+◌, ◌-◌, ◌<◌, ◌≤◌, List, ◌++◌, length, take, ◌↔◌, IsTrue, IsSome, None, IfOk, IfErr};
+ghost use Rattle.cbor_diag.specs.declared.error.Error.{Error};
+ghost use Rattle.cbor_diag.specs.declared.syntax.IntegerWidth.{IntegerWidth};
+ghost use Rattle.cbor_diag.specs.Item.{Item};
+ghost use Rattle.cbor_diag.specs.WellFormed.{deepest};
+ghost use Rattle.cbor_diag.specs.Bytes.{IsContent, major_of};
+ghost use Rattle.cbor_diag.specs.Facts.{BeginsWithItem, IsCut, HasFault};
+ghost use Rattle.cbor_diag.specs.Extent.{IfFault, IsExtent};
+ghost use Rattle.cbor_diag.specs.Skipping.{here, Goes, StopsSo, stop_of, kind_of, skip_content, skip_chunks, after_chunk, skip_item, skip_body, opened, begun};
+
+use super::head::{Info, ItemHead, head_at, info_at};
+use crate::error::Error;
+use crate::syntax::DEEPEST;
+pub use answer::Extent;
+use outer::Outer;
+use to_come::{Count, ToCome};
+
+/// Texts of fewer bytes are tested faster by one byte after the other than by blocks.
+const SHORT: usize = 16;
+
+/// Why no item is whole.
+#[derive(Clone, Copy)]
+enum Stop {
+    /// The bytes end.
+    Cut,
+    /// An error, and how many bytes follow the first ones that show it.
+    Fault { error: Error, after: usize },
+}
+
+impl Stop {
+    /// Where reading refuses so, and so many bytes follow those that show it.
+    fn new(error: Error, after: usize) -> Stop
+        ensures { result ≡ stop_of error after }
+    {
+        match error {
+            Error::CutShort => Stop::Cut,
+            _ => Stop::Fault { error, after },
+        }
+    }
+}
+
+/// The two kinds of strings.
+#[derive(Clone, Copy)]
+enum Kind {
+    Bytes,
+    Text,
+}
+
+impl Kind {
+    /// The major type of its strings.
+    fn major(self) -> u8
+        ensures { result ≡ major_of (kind_of self) }
+    {
+        match self {
+            Kind::Bytes => 2,
+            Kind::Text => 3,
+        }
+    }
+
+    /// Whether a string of this kind may hold that.
+    fn may_hold(self, content: &[u8]) -> bool
+        ensures { IsTrue result ↔ IsContent (kind_of self) content.now }
+    {
+        match self {
+            Kind::Bytes => true,
+            Kind::Text if content.len() < SHORT => std::str::from_utf8(content).is_ok(),
+            Kind::Text => simdutf8::is_utf8(content),
+        }
+    }
+}
+
+/// What the next chunk of an indefinite string is.
+#[derive(Clone, Copy)]
+enum Chunk {
+    /// A string of definite length.
+    Content,
+    /// No chunk, but the break.
+    Break,
+}
+
+/// The bytes after a string of that length, whose head stands before.
+fn after_content(kind: Kind, count: u64, bytes: &[u8]) -> Result<&[u8], Stop>
+    ensures goes { (w : IntegerWidth) → IfOk result (λ rest.
+        Goes (skip_content (kind_of kind) count w) here bytes.now rest.now) }
+    ensures stops { (w : IntegerWidth) → IfErr result (λ stop.
+        StopsSo (skip_content (kind_of kind) count w) bytes.now stop) }
+    ensures shorter { IfOk result (λ rest. length rest.now ≤ length bytes.now) }
+{
+    if (bytes.len() as u64) < count {
+        return Err(Stop::Cut);
+    }
+    let (content, rest) = bytes.split_at(count as usize);
+    if kind.may_hold(content) {
+        return Ok(rest);
+    }
+    let after = rest.len();
+    let error = Error::Utf8;
+    Err(Stop::Fault { error, after })
+}
+
+/// The next chunk of an indefinite string, or its break, and the bytes after it.
+fn chunk_at(kind: Kind, bytes: &[u8]) -> Result<(Chunk, &[u8]), Stop>
+    ensures goes { IfOk result (λ x.
+        Goes (skip_chunks (kind_of kind)) (after_chunk (kind_of kind) x.0) bytes.now x.1.now) }
+    ensures stops { IfErr result (λ stop. StopsSo (skip_chunks (kind_of kind)) bytes.now stop) }
+    ensures shorter { IfOk result (λ x. length x.1.now < length bytes.now) }
+{
+    match bytes {
+        [] => Err(Stop::Cut),
+        [0xff, rest @ ..] => Ok((Chunk::Break, rest)),
+        [first, rest @ ..] => {
+            let after = rest.len();
+            let error = Error::Head;
+            if *first / 32 != kind.major() {
+                return Err(Stop::Fault { error, after });
+            }
+            match info_at(*first % 32, rest) {
+                Ok((Info::Number(count, _), rest)) => {
+                    let rest = after_content(kind, count, rest)?;
+                    Ok((Chunk::Content, rest))
+                }
+                Ok((Info::Indefinite, _)) => Err(Stop::Fault { error, after }),
+                Err(error) => Err(Stop::new(error, after)),
+            }
+        }
+    }
+}
+
+/// The bytes after the break of an indefinite string, whose opening byte stands before.
+fn after_chunks(kind: Kind, bytes: &[u8]) -> Result<&[u8], Stop>
+    ensures goes { IfOk result (λ rest. Goes (skip_chunks (kind_of kind)) here bytes.now rest.now) }
+    ensures stops { IfErr result (λ stop. StopsSo (skip_chunks (kind_of kind)) bytes.now stop) }
+    ensures shorter { IfOk result (λ rest. length rest.now ≤ length bytes.now) }
+{
+    let mut rest = bytes;
+    'chunks: loop {
+        let (chunk, after) = chunk_at(kind, rest)?;
+        match chunk {
+            Chunk::Break => return Ok(after),
+            Chunk::Content => rest = after,
+        }
+    }
+}
+
+/// The head of an item, with so many levels left for it, and the bytes after it. No item begins with a break.
+fn wanted_head_at(bytes: &[u8], levels: usize) -> Result<(ItemHead, &[u8]), Stop>
+    ensures goes { IfOk result (λ x.
+        Goes (skip_item levels) (skip_body (levels - 1) x.0) bytes.now x.1.now) }
+    ensures stops { IfErr result (λ stop. StopsSo (skip_item levels) bytes.now stop) }
+    ensures shorter { IfOk result (λ x. length x.1.now < length bytes.now) }
+    ensures level { IfOk result (λ x. 0 < levels) }
+    ensures no_break { IfOk result (λ x. x.0 ≢ ItemHead.Break) }
+{
+    let [_, behind @ ..] = bytes else {
+        return Err(Stop::Cut);
+    };
+    let after = behind.len();
+    if levels == 0 {
+        let error = Error::TooDeep;
+        return Err(Stop::Fault { error, after });
+    }
+    match head_at(bytes) {
+        Ok((head, rest)) => match head {
+            ItemHead::Break => {
+                let error = Error::Head;
+                Err(Stop::Fault { error, after })
+            }
+            _ => Ok((head, rest)),
+        },
+        Err(error) => Err(Stop::new(error, after)),
+    }
+}
+
+/// The bytes after an item that has no parts, whose head stands before.
+fn after_atom(head: ItemHead, bytes: &[u8]) -> Result<&[u8], Stop>
+    requires parts { opened head ≡ None }
+    requires no_break { head ≢ ItemHead.Break }
+    ensures goes { (left : ℕ) → IfOk result (λ rest. Goes (skip_body left head) here bytes.now rest.now) }
+    ensures stops { (left : ℕ) → IfErr result (λ stop. StopsSo (skip_body left head) bytes.now stop) }
+    ensures shorter { IfOk result (λ rest. length rest.now ≤ length bytes.now) }
+{
+    match head {
+        ItemHead::Bytes(count, _) => after_content(Kind::Bytes, count, bytes),
+        ItemHead::Text(count, _) => after_content(Kind::Text, count, bytes),
+        ItemHead::OpenBytes => after_chunks(Kind::Bytes, bytes),
+        ItemHead::OpenText => after_chunks(Kind::Text, bytes),
+        _ => Ok(bytes),
+    }
+}
+
+/// What an item has still to come, with so many levels left for it, and the bytes of that: where its head
+/// opens a container, all of that; else nothing.
+fn part_at(bytes: &[u8], levels: usize) -> Result<(Option<ToCome>, &[u8]), Stop>
+    ensures goes { IfOk result (λ x. Goes (skip_item levels) (begun (levels - 1) x.0) bytes.now x.1.now) }
+    ensures stops { IfErr result (λ stop. StopsSo (skip_item levels) bytes.now stop) }
+    ensures shorter { IfOk result (λ x. length x.1.now < length bytes.now) }
+    ensures level { IfOk result (λ x. 0 < levels) }
+{
+    let (head, rest) = wanted_head_at(bytes, levels)?;
+    if let Some(parts) = ToCome::new(head) {
+        return Ok((Some(parts), rest));
+    }
+    let rest = after_atom(head, rest)?;
+    Ok((None, rest))
+}
+
+/// The bytes after the item at the front.
+fn after_item(bytes: &[u8]) -> Result<&[u8], Stop>
+    ensures goes { IfOk result (λ rest. Goes (skip_item deepest) here bytes.now rest.now) }
+    ensures stops { IfErr result (λ stop. StopsSo (skip_item deepest) bytes.now stop) }
+{
+    let mut outer = Outer::new();
+    // Nothing is open yet, and one item is to come.
+    let mut top = ToCome::Items(Count::Definite(1));
+    let mut rest = bytes;
+    'turns: loop {
+        if let Some(after) = top.end_at(rest) {
+            rest = after;
+            let Some(open) = outer.pop() else {
+                return Ok(rest);
+            };
+            top = open;
+        } else {
+            let (parts, after) = part_at(rest, usize::from(DEEPEST) - outer.len())?;
+            rest = after;
+            top = top.after_part();
+            if let Some(parts) = parts {
+                outer.push(top);
+                top = parts;
+            }
+        }
+    }
+}
+
+/// How the bytes begin.
+fn begins(bytes: &[u8]) -> Extent
+    ensures { IsExtent bytes.now result }
+{
+    match after_item(bytes) {
+        Ok(rest) => Extent::Item(bytes.len() - rest.len()),
+        Err(Stop::Cut) => Extent::Cut,
+        Err(Stop::Fault { error, after }) => {
+            let end = bytes.len() - after;
+            Extent::Fault { error, end }
+        }
+    }
+}
+
+/// Tells how the bytes begin, by the rules of `parse_bytes_partial`, and takes no memory: with an item of so
+/// many bytes; cut, where they end before the item does and before any error; or with the first error from
+/// the left, which the first `end` bytes show and fewer do not. Of `Head` and `TooDeep` the last of these is
+/// the byte at fault; of `Utf8` they end with the text that is not UTF-8.
+pub fn extent(bytes: &[u8]) -> Extent
+    // An item of so many bytes, exactly where they spell one.
+    ensures item { (n : ℕ) → result ≡ Extent.Item n → (i : Item) × BeginsWithItem bytes.now i n }
+    ensures every_item { (i : Item) (n : ℕ) → BeginsWithItem bytes.now i n
+        → result ≡ Extent.Item n }
+
+    // Cut, exactly where the bytes are.
+    ensures cut { (result ≡ Extent.Cut) ↔ IsCut bytes.now }
+
+    // A fault, exactly where the bytes have it.
+    ensures fault { IfFault result (λ error end. HasFault bytes.now error) }
+    ensures every_fault { (error : Error) → HasFault bytes.now error
+        → (end : ℕ) × (result ≡ Extent.Fault error end) }
+
+    // The first `end` bytes have the fault, and fewer are cut.
+    ensures shown { IfFault result (λ error end.
+        (end ≤ length bytes.now) × HasFault (take end bytes.now) error) }
+    ensures fronts_cut { IfFault result (λ error end. (n : ℕ) → n < end → IsCut (take n bytes.now)) }
+
+    // Bytes that come later change no item, and no fault nor where it ends.
+    ensures item_stays { (n : ℕ) → result ≡ Extent.Item n
+        → (more : List ℕ) → (i : Item) × BeginsWithItem (bytes.now ++ more) i n }
+    ensures fault_stays { IfFault result (λ error end.
+        (more : List ℕ) → IsExtent (bytes.now ++ more) result) }
+{
+    begins(bytes)
+}

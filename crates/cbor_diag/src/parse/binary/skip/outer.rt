@@ -1,0 +1,69 @@
+//! The containers round the innermost one that is open, on a stack of fixed size.
+ghost use Rattle.std.specs.Prelude.{◌≡◌, ◌<◌, ◌≤◌, [], ◌∷◌, ◌++◌, length, IfSome, Some, None};
+ghost use Rattle.cbor_diag.specs.WellFormed.{deepest};
+
+use super::to_come::{Count, ToCome};
+use crate::syntax::DEEPEST;
+use std::marker::Model;
+
+/// How many containers may be open round another.
+const ROOM: usize = DEEPEST as usize;
+
+/// The containers round the innermost one that is open, the outermost first.
+#[derive(Drop)]
+pub(super) struct Outer {
+    open: [ToCome; ROOM],
+    len: usize,
+}
+
+impl Model for Outer {
+    ghost use Rattle.std.specs.Prelude.{◌≡◌, ◌≤◌, List, length, take};
+    ghost use Rattle.cbor_diag.specs.declared.parse.binary.skip.to_come.ToCome.{ToCome};
+
+    ghost Value = { List ToCome };
+
+    ghost view = { λ s. take s.len s.«open» };
+
+    ghost invariant = { λ s. (s.len ≤ 128) × (length s.«open» ≡ 128) };
+}
+
+impl Outer {
+    /// None is open.
+    pub(super) fn new() -> Outer
+        ensures { result ≡ [] }
+    {
+        Outer {
+            open: [ToCome::Items(Count::Definite(0)); ROOM],
+            len: 0,
+        }
+    }
+
+    /// How many are open.
+    pub(super) fn len(&self) -> usize
+        ensures count { result ≡ length self.now }
+        ensures room { result ≤ deepest }
+    {
+        self.len
+    }
+
+    /// Opens one more, the innermost of them.
+    pub(super) fn push(&mut self, parts: ToCome)
+        requires { length self.old < deepest }
+        ensures { self.new ≡ self.old ++ parts ∷ [] }
+    {
+        self.open[self.len] = parts;
+        self.len += 1;
+    }
+
+    /// Takes the innermost of them, where one is open.
+    pub(super) fn pop(&mut self) -> Option<ToCome>
+        ensures some { IfSome result (λ parts. self.old ≡ self.new ++ parts ∷ []) }
+        ensures none { result ≡ None → self.old ≡ [] }
+    {
+        if self.len == 0 {
+            return None;
+        }
+        self.len -= 1;
+        Some(self.open[self.len])
+    }
+}
