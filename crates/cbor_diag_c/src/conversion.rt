@@ -3,7 +3,7 @@ ghost use Rattle.std.specs.Prelude.{◌≡◌, ◌≢◌, ◌⊎◌, ◌<◌, ne
 ghost use Rattle.cbor_diag_c.specs.Forms.{form_number, read_as, IsNoForm};
 ghost use Rattle.cbor_diag_c.specs.Answers.{IfLength, IfError, no_form, IsWhole, IsWhy};
 
-use crate::answer::write;
+use crate::answer::{refused, write};
 use cbor_convert::{Source, To, convert};
 use std::alloc::Global;
 
@@ -60,6 +60,6 @@ pub extern "C" fn cbor_diag_convert(
     };
     match convert(alloc, read_as(from), to, input) {
         Ok(whole) => write(&whole, output),
-        Err(error) => -i64::from(error.number()),
+        Err(error) => refused(error),
     }
 }

@@ -6,4 +6,5 @@
 mod answer;
 mod conversion;
 mod error;
+mod extents;
 mod version;
