@@ -62,6 +62,7 @@ enum cbor_diag_error {
  */
 int64_t cbor_diag_convert(uint32_t from, uint32_t to, const uint8_t *input, size_t input_len, uint8_t *output,
                           size_t output_len);
+int64_t cbor_diag_extent(const uint8_t *input, size_t input_len, size_t *end);
 int64_t cbor_diag_error_text(uint32_t error, uint8_t *output, size_t output_len);
 uint32_t cbor_diag_version(void);
 
@@ -97,6 +98,28 @@ static inline int64_t cbor_diag_convert_checked(uint32_t from, uint32_t to, cons
     return cbor_diag_convert(from, to, in, input_len, out, output_len);
 }
 #define cbor_diag_convert cbor_diag_convert_checked
+
+/*
+ * Tells how bytes begin, without memory. For whoever reads items one after the other, as from a socket.
+ *
+ * Answers how many bytes the item at the front takes, which is at least 1; more bytes may follow it. Or answers
+ *
+ * - minus CBOR_DIAG_ERROR_CUT_SHORT, if the bytes end before their item does: with more bytes, call again;
+ * - minus CBOR_DIAG_ERROR_HEAD, _UTF8 or _TOO_DEEP, if no item begins so, whatever bytes follow.
+ *
+ * `*end` gets how many of the first bytes tell so: those of the item, all that are cut, or those that show the error,
+ * of which the last is the byte at fault or ends the text that is not UTF-8. `end` may be null.
+ */
+static inline int64_t cbor_diag_extent_checked(const void *input, size_t input_len, size_t *end)
+{
+    const uint8_t *in = input ? (const uint8_t *)input : cbor_diag_no_bytes();
+    size_t unused;
+    if (input_len > (size_t)PTRDIFF_MAX) {
+        return -CBOR_DIAG_ERROR_MEMORY; /* no object is that large */
+    }
+    return cbor_diag_extent(in, input_len, end ? end : &unused);
+}
+#define cbor_diag_extent cbor_diag_extent_checked
 
 /*
  * Writes what an error says into `text`, with a zero byte at its end, and returns `text`. `answer` is the negative

@@ -255,6 +255,62 @@ static void test_error_texts(void)
     }
 }
 
+/* ---- how bytes begin */
+
+static void test_extents(void)
+{
+    const struct {
+        struct text input;
+        int64_t answer;
+        size_t end;
+    } rows[] = {
+        {TEXT(""), -CBOR_DIAG_ERROR_CUT_SHORT, 0},
+        {TEXT("\x01"), 1, 1},
+        {TEXT("\x01\x02"), 1, 1},
+        {TEXT("\x82\x01\x02\x03"), 3, 3},
+        {TEXT("\x82\x01"), -CBOR_DIAG_ERROR_CUT_SHORT, 2},
+        {TEXT("\x82\x01\x1c\x00"), -CBOR_DIAG_ERROR_HEAD, 3},
+        {TEXT("\xff"), -CBOR_DIAG_ERROR_HEAD, 1},
+        {TEXT("\x81\x62\xff\x00\x00"), -CBOR_DIAG_ERROR_UTF8, 4},
+        {TEXT("\x62\xff"), -CBOR_DIAG_ERROR_CUT_SHORT, 2},
+        {TEXT("\x9f\x01\xff\xff"), 3, 3},
+    };
+    for (size_t i = 0; i < sizeof rows / sizeof *rows; i++) {
+        char name[40];
+        snprintf(name, sizeof name, "the extent of row %zu", i);
+        size_t length = rows[i].input.length, end = 99;
+        unsigned char *input = malloc(length);
+        memcpy(input, rows[i].input.bytes, length);
+        check_answer(name, rows[i].answer, cbor_diag_extent(input, length, &end));
+        check(end == rows[i].end, "%s: expected the end %zu, came %zu", name, rows[i].end, end);
+        check_answer(name, rows[i].answer, cbor_diag_extent(input, length, NULL));
+        free(input);
+    }
+    size_t end = 99;
+    check_answer("null input", -CBOR_DIAG_ERROR_CUT_SHORT, cbor_diag_extent(NULL, 0, &end));
+    check(end == 0, "null input: expected the end 0, came %zu", end);
+    check_answer("2^64 - 1 bytes", -CBOR_DIAG_ERROR_MEMORY, cbor_diag_extent("\x01", SIZE_MAX, NULL));
+}
+
+/* Arrays in arrays: at level 129 any byte is the byte at fault. And no memory is taken. */
+static void test_deep_extent(void)
+{
+    const size_t count = 200000;
+    unsigned char *openings = malloc(count);
+    size_t end;
+    memset(openings, 0x81, count);
+    allocations = 0;
+    counting = 1;
+    int64_t deep = cbor_diag_extent(openings, count, &end);
+    int64_t cut = cbor_diag_extent(openings, 128, NULL);
+    counting = 0;
+    check_answer("200000 arrays", -CBOR_DIAG_ERROR_TOO_DEEP, deep);
+    check(end == 129, "200000 arrays: expected the end 129, came %zu", end);
+    check_answer("128 arrays", -CBOR_DIAG_ERROR_CUT_SHORT, cut);
+    check(allocations == 0, "200000 arrays: expected no allocation, came %ld", allocations);
+    free(openings);
+}
+
 /* ---- arguments at their limits */
 
 static void test_limits(void)
@@ -432,6 +488,8 @@ int main(int argc, char **argv)
     test_all_pairs_in_every_room();
     test_errors();
     test_error_texts();
+    test_extents();
+    test_deep_extent();
     test_limits();
     test_memory();
     test_openings();

@@ -15,7 +15,7 @@ import ctypes
 import ctypes.util
 import enum
 import os
-from typing import Union
+from typing import Optional, Union
 
 __all__ = [
     "CborDiagError",
@@ -27,6 +27,7 @@ __all__ = [
     "convert",
     "diag_to_bytes",
     "diag_to_hex",
+    "extent",
     "hex_to_bytes",
     "hex_to_diag",
     "hex_to_diag_pretty",
@@ -77,14 +78,18 @@ class Error(enum.IntEnum):
 
 
 class CborDiagError(ValueError):
-    """The input is no item, or memory ran out. `error` says which error it is; the text is the library's."""
+    """The input is no item, or memory ran out. The text is the library's.
 
-    def __init__(self, error: Error) -> None:
+    `error` says which error it is. `end` says how many of the first bytes show it, if `extent` raised it.
+    """
+
+    def __init__(self, error: Error, end: Optional[int] = None) -> None:
         super().__init__(_error_text(error))
         self.error = error
+        self.end = end
 
-    def __reduce__(self) -> tuple[type[CborDiagError], tuple[Error]]:
-        return type(self), (self.error,)
+    def __reduce__(self) -> tuple[type[CborDiagError], tuple[Error, Optional[int]]]:
+        return type(self), (self.error, self.end)
 
 
 def _library_path() -> str:
@@ -110,6 +115,10 @@ _convert.argtypes = [
     ctypes.c_void_p,
     ctypes.c_size_t,
 ]
+
+_extent = _library.cbor_diag_extent
+_extent.restype = ctypes.c_int64
+_extent.argtypes = [ctypes.c_char_p, ctypes.c_size_t, ctypes.POINTER(ctypes.c_size_t)]
 
 _text = _library.cbor_diag_error_text
 _text.restype = ctypes.c_int64
@@ -152,6 +161,20 @@ def convert(source: Form, target: Form, data: Data) -> bytes:
             return ctypes.string_at(output, length)
         room = length
     raise AssertionError("the length of an output changed")
+
+
+def extent(data: Data) -> int:
+    """How many bytes the item at the front of `data` takes, which is at least 1; more may follow it.
+
+    Raises `CborDiagError` if there is none. The error is `CUT_SHORT` if the bytes end before their item does, and with
+    more bytes there may be one; with any other error no item begins so, whatever follows.
+    """
+    given = _as_bytes(data)
+    end = ctypes.c_size_t()
+    length = _extent(given, len(given), ctypes.byref(end))
+    if length < 0:
+        raise CborDiagError(Error(-length), end.value)
+    return length
 
 
 def bytes_to_hex(data: Data) -> str:

@@ -119,6 +119,28 @@ class Conversions(unittest.TestCase):
         self.assertEqual(wrong, [])
 
 
+class Extents(unittest.TestCase):
+    def test_items(self):
+        for data, length in ((b"\x01", 1), (b"\x01\x02", 1), (b"\x82\x01\x02\x03", 3), (b"\x9f\x01\xff\xff", 3)):
+            with self.subTest(data=data):
+                self.assertEqual(cbor_diag.extent(data), length)
+                self.assertEqual(cbor_diag.extent(memoryview(data)), length)
+
+    def test_errors(self):
+        for data, error, end in (
+            (b"", Error.CUT_SHORT, 0),
+            (b"\x82\x01", Error.CUT_SHORT, 2),
+            (b"\x82\x01\x1c\x00", Error.HEAD, 3),
+            (b"\x81\x62\xff\x00\x00", Error.UTF8, 4),
+            (b"\x81" * 200000, Error.TOO_DEEP, 129),
+        ):
+            with self.subTest(data=data[:20]):
+                with self.assertRaises(CborDiagError) as raised:
+                    cbor_diag.extent(data)
+                self.assertIs(raised.exception.error, error)
+                self.assertEqual(raised.exception.end, end)
+
+
 class Errors(unittest.TestCase):
     def test_each_error(self):
         for source, given, error in REFUSED:
@@ -127,6 +149,7 @@ class Errors(unittest.TestCase):
                     with self.assertRaises(CborDiagError) as raised:
                         cbor_diag.convert(source, target, given)
                     self.assertIs(raised.exception.error, error)
+                    self.assertIsNone(raised.exception.end)
 
     def test_no_form(self):
         for source, target in ((4, 0), (0, 4), (2**32 - 1, 0)):
@@ -140,8 +163,9 @@ class Errors(unittest.TestCase):
             self.assertEqual(str(CborDiagError(error)), text)
 
     def test_an_error_can_be_pickled(self):
-        error = pickle.loads(pickle.dumps(CborDiagError(Error.HEAD)))
+        error = pickle.loads(pickle.dumps(CborDiagError(Error.HEAD, 3)))
         self.assertIs(error.error, Error.HEAD)
+        self.assertEqual(error.end, 3)
         self.assertEqual(str(error), TEXTS[Error.HEAD])
 
 

@@ -41,6 +41,9 @@ mod library {
             output: *mut u8,
             output_len: usize,
         ) -> i64;
+        /// Answers how many bytes the item takes, or minus the number of an error, and writes to `end` how many first
+        /// bytes tell that.
+        pub fn cbor_diag_extent(input: *const u8, input_len: usize, end: *mut usize) -> i64;
         pub fn cbor_diag_error_text(error: u32, output: *mut u8, output_len: usize) -> i64;
         pub fn cbor_diag_version() -> u32;
     }
@@ -93,6 +96,34 @@ fn notation(from: Form, to: Form, input: &[u8]) -> Result<String> {
     let mut text = text(from, to, input)?;
     text.pop();
     Ok(text)
+}
+
+/// How some bytes begin.
+#[derive(Clone, Copy, PartialEq, Eq, Hash, Debug)]
+pub enum Extent {
+    /// With an item of this many bytes; more bytes may follow it.
+    Item(usize),
+    /// The bytes end before their item does: with more bytes there may be one.
+    Cut,
+    /// No item begins so, whatever bytes follow.
+    Fault {
+        /// Why there is no item.
+        error: Error,
+        /// How many of the first bytes show it.
+        end: usize,
+    },
+}
+
+/// Tells how some bytes begin, without memory.
+pub fn extent(bytes: &[u8]) -> Extent {
+    let mut end = 0;
+    // SAFETY: the pointers are those of the slice and of the variable, and so many bytes stand at the first.
+    let answer = unsafe { library::cbor_diag_extent(bytes.as_ptr(), bytes.len(), &mut end) };
+    match usize::try_from(answer).map_err(|_| Error::of(answer)) {
+        Ok(length) => Extent::Item(length),
+        Err(Error::CutShort) => Extent::Cut,
+        Err(error) => Extent::Fault { error, end },
+    }
 }
 
 /// The dump of an item: its bytes in hex, a line for each head, with comments.

@@ -1,6 +1,6 @@
 //! Expected values are worked out by hand from RFC 7049 and the documents in docs/.
 
-use cbor_diag::{convert, Error, Form};
+use cbor_diag::{convert, extent, Error, Extent, Form};
 use std::thread;
 
 const FORMS: [Form; 4] = [Form::Bytes, Form::Hex, Form::Diag, Form::Pretty];
@@ -76,6 +76,48 @@ fn each_error() {
                 "{begin:x?} from {from:?} to {to:?}"
             );
         }
+    }
+}
+
+#[test]
+fn extents() {
+    let openings = b"\x81".repeat(200000);
+    let rows: [(&[u8], Extent); 9] = [
+        (b"", Extent::Cut),
+        (b"\x01", Extent::Item(1)),
+        (b"\x01\x02", Extent::Item(1)),
+        (b"\x82\x01\x02\x03", Extent::Item(3)),
+        (b"\x82\x01", Extent::Cut),
+        (
+            b"\x82\x01\x1c\x00",
+            Extent::Fault {
+                error: Error::Head,
+                end: 3,
+            },
+        ),
+        (
+            b"\x81\x62\xff\x00\x00",
+            Extent::Fault {
+                error: Error::Utf8,
+                end: 4,
+            },
+        ),
+        (
+            &openings,
+            Extent::Fault {
+                error: Error::TooDeep,
+                end: 129,
+            },
+        ),
+        (b"\x9f\x01\xff\xff", Extent::Item(3)),
+    ];
+    for (bytes, expected) in rows {
+        assert_eq!(
+            extent(bytes),
+            expected,
+            "{:x?}",
+            &bytes[..bytes.len().min(20)]
+        );
     }
 }
 
