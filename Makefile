@@ -1,5 +1,5 @@
-# Builds, installs, checks and measures. Only `make`, `make demo`, `make quick` and `make test` need a Rattle kit
-# (`rt` on the path), and no more of it once dist/ is built.
+# Builds, installs, checks and measures. What builds or proves needs a Rattle kit (`rt` on the path); what is in dist/
+# needs none.
 
 VERSION = 0.1.0
 PREFIX = /usr/local
@@ -58,7 +58,7 @@ $(HEADER): bindings/c/cbor_diag.h
 
 $(PKGCONFIG): bindings/c/cbor_diag.pc.in Makefile
 	mkdir -p $(@D)
-	sed -e 's|@PREFIX@|$(PREFIX)|' -e 's|@VERSION@|$(VERSION)|' $< > $@
+	sed 's|@VERSION@|$(VERSION)|' $< > $@
 
 $(MANUAL): man/cbor_view.1
 	install -D -m 644 $< $@
@@ -69,9 +69,7 @@ install: all
 	install -D -m 755 $(SHARED) $(DESTDIR)$(PREFIX)/lib/libcbor_diag.so.0
 	ln -sf libcbor_diag.so.0 $(DESTDIR)$(PREFIX)/lib/libcbor_diag.so
 	install -D -m 644 $(HEADER) $(DESTDIR)$(PREFIX)/include/cbor_diag.h
-	mkdir -p $(DESTDIR)$(PREFIX)/lib/pkgconfig
-	sed -e 's|@PREFIX@|$(PREFIX)|' -e 's|@VERSION@|$(VERSION)|' bindings/c/cbor_diag.pc.in \
-	    > $(DESTDIR)$(PREFIX)/lib/pkgconfig/cbor_diag.pc
+	install -D -m 644 $(PKGCONFIG) $(DESTDIR)$(PREFIX)/lib/pkgconfig/cbor_diag.pc
 	install -D -m 644 $(MANUAL) $(DESTDIR)$(PREFIX)/share/man/man1/cbor_view.1
 
 # The first command of the README.
