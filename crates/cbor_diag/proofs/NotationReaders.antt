@@ -1,15 +1,16 @@
 -- From what the reader of notation gives to what its callers read.
-use Rattle.std.proofs.Common.{◌≡◌, ℕ, ◌≤◌, List, Result, Ok, Err, IfOk, ◌⊎◌, inl, inr, refl, sym, subst, ◌∙◌}
+use Rattle.std.proofs.Common.{◌≡◌, ℕ, List, Result, Ok, Err, IfOk, ◌⊎◌, inl, inr, refl, sym, subst, ◌∙◌}
 use Rattle.cbor_diag.specs.declared.error.Error.{Error}
 use Rattle.cbor_diag.specs.declared.error.Error.TheVariants as refusal
 use Rattle.cbor_diag.specs.declared.syntax.DataItem.{DataItem}
 use Rattle.cbor_diag.specs.Item.{Item}
 use Rattle.cbor_diag.specs.View.{view}
+use Rattle.cbor_diag.specs.WellFormed.{deepest}
 use Rattle.cbor_diag.specs.Answer.{GaveItem, RefusedSo}
 use Rattle.cbor_diag.specs.Reading.{Fails, Gives}
 use Rattle.cbor_diag.specs.Notation.{Reads}
 use Rattle.cbor_diag.specs.NotationReading.{notation_of}
-use Rattle.cbor_diag.specs.NotationRefused.{MayRefuse, IsAnswered, GaveOrTooDeep}
+use Rattle.cbor_diag.specs.NotationRefused.{IsNoNotation, IsAnswered, GaveOrTooDeep}
 use Rattle.cbor_diag.proofs.notation.Again.{notation_again}
 use Rattle.cbor_diag.proofs.notation.OneReading.{one_reading, read_or_too_deep}
 use Rattle.cbor_diag.proofs.sound.Items.{notation_sound}
@@ -49,32 +50,39 @@ module _ (limit : ℕ) (text : List ℕ) where
         | inr other ↦ absurd (no_both i e (notation_of limit text) (notation_again limit text i is) other)
       ]
 
-  pub text_refused : (r : Result DataItem Error) → Gives view r (notation_of limit text) → RefusedSo r (λ e. MayRefuse limit text e × ((i : Item) → ¬ (Reads limit text i)))
-  text_refused (Ok x) h = tt
-  text_refused (Err e) h =
-      elim (failed e (notation_of limit text) h) [
-        | inl memory ↦ λ ample. absurd (ample memory)
-        | inr is ↦ λ ample. (subst (IsAnswered limit text) is (notation_sound limit text), λ i read. no_both i e (notation_of limit text) (notation_again limit text i read) is)
-      ]
-
   pub only_item : (r : Result DataItem Error) → Gives view r (notation_of limit text) → IfOk r (λ x. (other : ℕ) (j : Item) → Reads other text j → j ≡ view x)
   only_item (Ok x) h = λ other j is. one_reading other limit text j (view x) is (subst (IsAnswered limit text) h (notation_sound limit text))
   only_item (Err e) h = tt
 
-  pub larger_limit : (r : Result DataItem Error) (larger : ℕ) (i : Item) → limit ≤ larger → Gives view r (notation_of limit text) → Reads larger text i → GaveOrTooDeep limit text r i
-  larger_limit (Ok x) larger i le h is =
-      elim (read_or_too_deep limit larger text i le is) [
+  pub larger_limit : (r : Result DataItem Error) (larger : ℕ) (i : Item) → Gives view r (notation_of limit text) → Reads larger text i → GaveOrTooDeep limit text r i
+  larger_limit (Ok x) larger i h is =
+      elim (read_or_too_deep limit larger text i is) [
         | inl deep ↦ absurd (no_both (view x) refusal.TooDeep (notation_of limit text) h deep)
         | inr found ↦ item_of (view x) i (notation_of limit text) h found
       ]
-  larger_limit (Err e) larger i le h is =
+  larger_limit (Err e) larger i h is =
       elim (failed e (notation_of limit text) h) [
         | inl memory ↦ inl memory
-        | inr other ↦ elim (read_or_too_deep limit larger text i le is) [
+        | inr other ↦ elim (read_or_too_deep limit larger text i is) [
           | inl deep ↦ inr (error_of e refusal.TooDeep (notation_of limit text) other deep, λ read. no_both i refusal.TooDeep (notation_of limit text) (notation_again limit text i read) deep)
           | inr found ↦ absurd (no_both i e (notation_of limit text) found other)
         ]
       ]
+
+pub text_refused : (text : List ℕ) (r : Result DataItem Error) → Gives view r (notation_of deepest text) → RefusedSo r (IsNoNotation text)
+text_refused text (Ok x) h = tt
+text_refused text (Err e) h =
+    elim (failed e (notation_of deepest text) h) [
+      | inl memory ↦ λ ample. absurd (ample memory)
+      | inr is ↦ λ ample. record {
+        says = subst (IsAnswered deepest text) is (notation_sound deepest text);
+        none = λ i read. no_both i e (notation_of deepest text) (notation_again deepest text i read) is;
+        deeper = λ limit i read. elim (read_or_too_deep deepest limit text i read) [
+          | inl deep ↦ error_of e refusal.TooDeep (notation_of deepest text) is deep
+          | inr found ↦ absurd (no_both i e (notation_of deepest text) found is)
+        ];
+      }
+    ]
 
 -- what reading gives a text is what the text is, and a text that it refuses is nothing
 pub is_read : (limit : ℕ) (text : List ℕ) (i : Item) → notation_of limit text ≡ Ok i → Reads limit text i

@@ -7,7 +7,7 @@ use Rattle.cbor_diag.specs.declared.syntax.DataItem.{DataItem}
 use Rattle.cbor_diag.specs.Item.{Item}
 use Rattle.cbor_diag.specs.View.{view}
 use Rattle.cbor_diag.specs.WellFormed.{deepest}
-use Rattle.cbor_diag.specs.Notation.{Reads, IsNotation}
+use Rattle.cbor_diag.specs.Notation.{Reads, ReadsUnder, IsNotation}
 
 -- `[`, `{`, `(` and `<`, behind which an item may stand deeper
 abbrev pub is_opening : ℕ → Bool
@@ -31,9 +31,12 @@ MayRefuse levels text refusal.Utf8 = HoldsByte 34 text
 MayRefuse levels text refusal.Notation = Unit {0}
 MayRefuse levels text _ = ⊥
 
--- why a text is no item that nests as deep as the deepest level: what the refusal says, and that it is none
-abbrev pub IsNoNotation : List ℕ → Error → Type 0
-IsNoNotation text e = MayRefuse deepest text e × ((i : Item) → ¬ (IsNotation text i))
+-- Why a text is no item that nests as deep as the deepest level: what the error says, that the text is
+-- none, and that under any other limit of levels it is none either, or the error is TooDeep.
+pub record IsNoNotation (text : List ℕ) (e : Error) : Type 0 where
+  pub says : MayRefuse deepest text e
+  pub none : (i : Item) → ¬ (IsNotation text i)
+  pub deeper : (limit : ℕ) (i : Item) → ReadsUnder limit text i → e ≡ refusal.TooDeep
 
 -- what a reader of a whole text answered holds of it, with so many levels
 abbrev pub IsAnswered : ℕ → List ℕ → Result Item Error → Type 0

@@ -1,5 +1,5 @@
 -- What is written of items one after the other.
-use Rattle.std.proofs.Common.{◌≡◌, ◌≢◌, ℕ, ◌+◌, List, [], ◌∷◌, ◌++◌, Option, Some, None, IfSome, Result, Ok, Err, inr, length, take, drop, refl, sym, subst, ◌∙◌, arith, append-nil, length-append, take-append-drop}
+use Rattle.std.proofs.Common.{◌≡◌, ◌≢◌, ℕ, ◌+◌, List, [], ◌∷◌, ◌++◌, Option, Some, None, IfSome, Result, Ok, Err, MatchBool, length, take, drop, refl, sym, ap, subst, ◌∙◌, arith, append-nil, length-append, take-append-drop}
 use Rattle.std.proofs.Math.Seq.{take-append-add}
 use Rattle.std.proofs.lemmas.Grind.{flat_map-append}
 use Rattle.std.specs.Bool.{OnTrue}
@@ -8,14 +8,14 @@ use Rattle.std.proofs.KnownBytes.{Appends-trans}
 use Rattle.cbor_diag.specs.declared.error.Error.{Error}
 use Rattle.cbor_diag.specs.declared.error.Error.TheVariants as refusal
 use Rattle.cbor_diag.specs.Item.{Item}
-use Rattle.cbor_diag.specs.Facts.{IsItem, HasFault}
+use Rattle.cbor_diag.specs.Facts.{IsItem}
 use Rattle.cbor_view.specs.declared.words.To.{To}
 use Rattle.cbor_view.specs.declared.counted.Counted.{Counted}
 use Rattle.cbor_view.specs.declared.error.ViewError.{ViewError}
 use Rattle.cbor_view.specs.declared.error.ViewError.TheVariants as view_error
 use Rattle.cbor_view.specs.Output.{output_of}
 use Rattle.cbor_view.specs.Running.{Gains, GainsPart, OnRefusal, is_write_error}
-use Rattle.cbor_view.specs.Sequence.{ItemsThen, IsOutputOfFirst, EndsTheItems}
+use Rattle.cbor_view.specs.Sequence.{ItemsThen, IsOutputOfFirst, EndsTheItems, IsOutputBefore}
 
 -- before any item
 pub none_written : (to : To) (b : List ℕ) → IsOutputOfFirst to b [] b
@@ -49,36 +49,41 @@ part_later contents old mid new out more first part = (
   subst (λ (x : List ℕ). Gains contents old new x) (sym (take-append-add out more part.0)) (Appends-trans _ _ _ out (take part.0 more) first part.2),
 )
 
--- an item's refusal, or why no item begins the bytes
-pub refusal_ends : (b : List ℕ) (r : Result ℕ ViewError) (e : Error) → (e ≢ refusal.Memory → HasFault b e) → IsErrAnd r (λ v. v ≡ view_error.Item e) → OnRefusal r (λ e. e ≢ refusal.Memory → EndsTheItems b e)
-refusal_ends b (Ok n) e h is = absurd is
-refusal_ends b (Err v) e h is =
-    let P : ViewError → Type 0 = λ x. (let r : Result ℕ ViewError = Err x in OnRefusal r (λ d. d ≢ refusal.Memory → EndsTheItems b d)) in
-    subst P (sym is) (λ ample. inr (h ample))
+-- ---- the end after a block
 
--- a write that failed is told as one
-pub on_write_error : (r : Result ℕ ViewError) (e : ViewError) (P : Type 0) → e ≡ view_error.Write → IsErrAnd r (λ v. v ≡ e) → P → OnTrue (is_write_error r) P
-on_write_error (Ok n) e P is same p = tt
-on_write_error (Err v) e P is same p =
-    let Q : ViewError → Type 0 = λ x. (let r : Result ℕ ViewError = Err x in OnTrue (is_write_error r) P) in
-    subst Q (sym (same ∙ is)) p
+-- what `?` hands on is the error that it was
+pub same_end : {X : Type 0} (s r : Result X ViewError) (e : ViewError) → IsErrAnd s (λ v. v ≡ e) → r ≡ Err e → s ≡ r
+same_end (Ok x) r e is was = absurd is
+same_end {X = X} (Err v) r e is was = let P : ViewError → Result X ViewError = λ d. Err d in ap P is ∙ sym was
 
-write_error_then : (e : ViewError) (P Q : Type 0) → (P → Q) → (let r : Result ℕ ViewError = Err e in OnTrue (is_write_error r) P) → (let r : Result ℕ ViewError = Err e in OnTrue (is_write_error r) Q)
-write_error_then (view_error.Item d) P Q then p = tt
-write_error_then view_error.Read P Q then p = tt
-write_error_then view_error.Write P Q then p = then p
+-- A block of output was written, or a beginning of it, behind what was written of the items before, and then
+-- the sequence ends.
+module _ {T : Type 0} (contents : T → Option (List ℕ)) (old mid new : Counted T) (to : To) (all out rest block after : List ℕ)
+    (first : IsOutputOfFirst to all out rest) (gained : Gains contents old mid out) (second : IsOutputOfFirst to rest block after) where
+  -- the block, or a beginning of it where a write failed
+  abbrev pub Took : {X : Type 0} → Result X ViewError → Type 0
+  Took r = MatchBool (is_write_error r) (GainsPart contents mid new block) (Gains contents mid new block)
 
--- a write that failed in what follows is told as one, too
-pub write_error_later : {X : Type 0} (s : Result X ViewError) (e : ViewError) (P Q : Type 0) → IsErrAnd s (λ v. v ≡ e) → (P → Q) → (let r : Result ℕ ViewError = Err e in OnTrue (is_write_error r) P) → OnTrue (is_write_error s) Q
-write_error_later (Ok x) e P Q same then p = tt
-write_error_later {X = X} (Err v) e P Q same then p =
-    let told = write_error_then e P Q then p in
-    let R : ViewError → Type 0 = λ x. (let r : Result ℕ ViewError = Err x in OnTrue (is_write_error r) Q) in
-    elim v as (λ x. x ≡ e → (let r : Result X ViewError = Err x in OnTrue (is_write_error r) Q)) [
-      | view_error.Item d ↦ λ is. tt
-      | view_error.Read ↦ λ is. tt
-      | view_error.Write ↦ λ is. subst R (sym is) told
-    ] same
+  pub end_item : {X : Type 0} (r : Result X ViewError) → Took r → OnRefusal r (λ e. e ≢ refusal.Memory → EndsTheItems after e)
+      → OnRefusal r (λ e. e ≢ refusal.Memory → (written : List ℕ) × IsOutputBefore to all e written × Gains contents old new written)
+  end_item (Ok x) took h = tt
+  end_item (Err (view_error.Item e)) took h = λ ample. (out ++ block, (after, more_written to all out rest block after first second, h ample), Appends-trans _ _ _ out block gained took)
+  end_item (Err view_error.Read) took h = tt
+  end_item (Err view_error.Write) took h = tt
+
+  pub end_memory : {X : Type 0} (r : Result X ViewError) → Took r
+      → OnRefusal r (λ e. e ≡ refusal.Memory → (written left : List ℕ) × IsOutputOfFirst to all written left × Gains contents old new written)
+  end_memory (Ok x) took = tt
+  end_memory (Err (view_error.Item e)) took = λ memory. (out ++ block, after, more_written to all out rest block after first second, Appends-trans _ _ _ out block gained took)
+  end_memory (Err view_error.Read) took = tt
+  end_memory (Err view_error.Write) took = tt
+
+  pub end_write : {X : Type 0} (r : Result X ViewError) → Took r
+      → OnTrue (is_write_error r) ((written left : List ℕ) × IsOutputOfFirst to all written left × GainsPart contents old new written)
+  end_write (Ok x) took = tt
+  end_write (Err (view_error.Item e)) took = tt
+  end_write (Err view_error.Read) took = tt
+  end_write (Err view_error.Write) took = (out ++ block, after, more_written to all out rest block after first second, part_later contents old mid new out block gained took)
 
 -- a reader had some bytes, whether it tells them or not
 pub had_some : (told : Option (List ℕ)) → (all : List ℕ) × IfSome told (λ bytes. bytes ≡ all)

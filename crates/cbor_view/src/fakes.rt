@@ -1,4 +1,6 @@
-//! An item in two forms, and readers and writers for tests, that fail and give or take one byte a call.
+//! An item in two forms, readers and writers for tests, which fail, give or take one byte a call, or note
+//! their calls, and what shows where outputs differ.
+use std::alloc::Global;
 use std::io;
 use std::io::{ErrorKind, Read, Write};
 
@@ -9,7 +11,7 @@ pub(crate) const ITEM: [u8; 22] = [
 ];
 
 /// The same item in hex with comments.
-pub(crate) const COMMENTED: &str = "\
+pub(crate) const COMMENTED: &[u8] = b"\
 d8 20                                        # uri, tag(32)
    73                                        #   text(19)
       68747470733a2f2f6578616d706c652e636f6d #     \"https://example.com\"
@@ -60,5 +62,76 @@ impl Write for Sipping {
 
     fn flush(&mut self) -> io::Result<()> {
         Ok(())
+    }
+}
+
+/// Cannot be flushed.
+#[derive(Drop)]
+pub(crate) struct Full;
+
+impl Write for Full {
+    fn write(&mut self, _buf: &[u8]) -> io::Result<usize> {
+        Ok(0)
+    }
+
+    fn flush(&mut self) -> io::Result<()> {
+        Err(io::Error::from(ErrorKind::StorageFull))
+    }
+}
+
+/// Keeps what each read or write was asked for, in their order, and counts the flushes.
+#[derive(Drop)]
+pub(crate) struct Noting {
+    pub(crate) asked: Vec<usize>,
+    pub(crate) written: Vec<u8>,
+    pub(crate) flushes: usize,
+}
+
+impl Noting {
+    pub(crate) fn new(alloc: Global) -> Noting {
+        Noting {
+            asked: Vec::new(alloc),
+            written: Vec::new(alloc),
+            flushes: 0,
+        }
+    }
+}
+
+impl Read for Noting {
+    fn read(&mut self, buf: &mut [u8]) -> io::Result<usize> {
+        self.asked
+            .push(buf.len())
+            .map_err(|_| io::Error::from(ErrorKind::OutOfMemory))?;
+        buf.fill(7);
+        Ok(buf.len())
+    }
+}
+
+impl Write for Noting {
+    fn write(&mut self, buf: &[u8]) -> io::Result<usize> {
+        self.asked
+            .push(buf.len())
+            .map_err(|_| io::Error::from(ErrorKind::OutOfMemory))?;
+        self.written.write(buf)
+    }
+
+    fn flush(&mut self) -> io::Result<()> {
+        self.flushes = self.flushes.saturating_add(1);
+        Ok(())
+    }
+}
+
+/// The first place where two outputs are not the same: for those that are too long to be shown.
+pub(crate) fn first_difference(one: &[u8], other: &[u8]) -> Option<usize> {
+    let shorter = one.len().min(other.len());
+    for place in 0..shorter {
+        if one[place] != other[place] {
+            return Some(place);
+        }
+    }
+    if one.len() == other.len() {
+        None
+    } else {
+        Some(shorter)
     }
 }

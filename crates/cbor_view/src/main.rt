@@ -3,13 +3,13 @@
 //!
 //! FROM is `bytes`, the item's own bytes, `hex`, its bytes in hex with comments, or `diag`, diagnostic
 //! notation. TO is `bytes`, `hex`, `diag`, diagnostic notation on one line, or `pretty`, the same over
-//! several lines. Where FROM is `seq`, the input is the bytes of items one after the other (RFC 8742), and each is
-//! written in the form TO, before the next is looked at.
+//! several lines. If FROM is `seq`, the input is the bytes of items one after the other (RFC 8742), and
+//! each is written in the form TO, in order. Their outputs are written in blocks.
 //!
-//! The exit status is 0 where the output was written. It is 1 where the input is no item, or no
-//! sequence of items, or can't be read, or the output can't be written, or memory is wanting; of an
-//! input that is no item nothing is written, and of a sequence the items before a fault. It is 2, and
-//! nothing is read, where the arguments are not two such words. Standard error then says why.
+//! The exit status is 0 if the output was written. It is 1 if the input is no item, or no sequence of
+//! items, if it cannot be read, if the output cannot be written, or if memory runs out. Of an input that
+//! is no item nothing is written, and of a sequence the items before the error are. The status is 2, and
+//! nothing is read, if the arguments are not two such words. Standard error then says why.
 #![tactic(auto)]
 
 mod convert;
@@ -17,6 +17,9 @@ mod counted;
 mod error;
 #[cfg(test)]
 mod fakes;
+mod laws;
+#[cfg(test)]
+mod refused_memory;
 mod run;
 mod run_seq;
 #[cfg(test)]
@@ -80,8 +83,8 @@ fn asked(rt: &(impl Env + Alloc)) -> Result<Job, Failure> {
     }
 }
 
-/// Tests the words, and only then reads. What stands written before the end of a sequence is flushed
-/// before its refusal is told; a flush that fails is told in its place.
+/// Tests the words, and only then reads. What was written of a sequence is flushed before its error is
+/// reported; if the flush fails, that is reported in its place.
 fn view(
     rt: &(impl Env + AllocGlobal),
     input: impl Read + Drop,

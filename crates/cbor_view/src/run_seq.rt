@@ -1,9 +1,10 @@
 //! One run of the program over a sequence of items, one after the other (RFC 8742).
-ghost use Rattle.std.specs.Prelude.{◌≡◌, ◌≢◌, ℕ, ◌<◌, ◌≤◌, List, length, drop, IfOk, OnOk, MatchBool, false};
+ghost use Rattle.std.specs.Prelude.{◌≡◌, ◌≢◌, ℕ, ◌<◌, ◌≤◌, List, ◌++◌, length, drop, IfOk, OnOk, OnErr, MatchBool, false};
 ghost use Rattle.std.specs.Bool.{OnTrue};
 ghost use Rattle.cbor_diag.specs.declared.error.Error.TheVariants as refusal;
+ghost use Rattle.cbor_diag.specs.Answer.{RefusedSo};
 ghost use Rattle.cbor_view.specs.Counting.{failures_of};
-ghost use Rattle.cbor_view.specs.Running.{HadAll, Gains, GainsPart, IsReadOut, Stops, OnRefusal, OnReadOut, OnUnwritten, is_read_error, is_write_error, failures_then};
+ghost use Rattle.cbor_view.specs.Running.{HadAll, Gains, GainsPart, IsReadOut, Stops, OnRefusal, OnReadOut, is_read_error, is_write_error, failures_then};
 ghost use Rattle.cbor_view.specs.Sequence.{IsOutputOfFirst, IsOutputOfAll, IsOutputBefore, EndsTheItems};
 
 use crate::convert::write_item;
@@ -15,12 +16,15 @@ use cbor_diag::{Error, parse_bytes_partial};
 use std::alloc::Global;
 use std::io::{Read, Write};
 
-/// Reads the input to its end, and then takes one item after the other from its front and writes the
-/// output of each, before it looks at the next; an item is let go when it is written. Any call that fails
-/// ends the run, an interrupted one too.
+/// Outputs are gathered until they are at least this long, and then written.
+const BLOCK: usize = 64 * 1024;
+
+/// Reads the input to its end, converts one item after the other, from its front, and writes the outputs,
+/// in order and in blocks. Any call that fails ends the run, an interrupted one too.
 ///
-/// Where what follows the items is no item, it ends with `ViewError::Item` and why: `CutShort` where it is
-/// cut, else its fault. The output of the items before it stands written then.
+/// If what follows the items is no item, the run ends with `ViewError::Item` and why: `CutShort` if it is
+/// cut, else its fault. If memory runs out at an item, it ends with `Memory`. In both cases the output of
+/// all items before is written first, and if that write fails, the run ends with `ViewError::Write`.
 pub fn run_seq<R: Read, W: Write>(
     alloc: Global,
     to: To,
@@ -85,39 +89,82 @@ fn write_items<W: Write>(
         (failures_of output.new ≡ failures_of output.old) }
     ensures read { is_read_error result ≡ false }
 {
+    let mut block = Vec::new(alloc);
     let mut rest = bytes;
-    while !rest.is_empty() {
-        let used = write_first(alloc, to, rest, output)?;
+    'sequence: while !rest.is_empty() {
+        let (used, end) = write_block(alloc, to, rest, &mut block, output);
+        end?;
         rest = &rest[used..];
     }
     Ok(())
 }
 
-/// Writes the output of the item at the front of the bytes, and says how many of them it takes.
-fn write_first<W: Write>(
+/// Writes the output of one item after the other, from the front of the bytes, until a block is full or no
+/// item follows, in the memory of `block`. Says how many bytes these items take, and then why the sequence
+/// ends after them, if it does.
+fn write_block<W: Write>(
     alloc: Global,
     to: To,
     bytes: &[u8],
+    block: &mut Vec<u8>,
     output: &mut Counted<W>,
-) -> Result<usize, ViewError>
+) -> (usize, Result<(), ViewError>)
+    requires { 0 < length bytes.now }
+    ensures used { result.0 ≤ length bytes.now }
+    ensures some { OnOk result.1 (1 ≤ result.0) }
+    ensures written { (written : List ℕ)
+        × IsOutputOfFirst to bytes.now written (drop result.0 bytes.now)
+        × MatchBool (is_write_error result.1) (GainsPart W.contents output.old output.new written)
+        (Gains W.contents output.old output.new written) }
+    ensures item { OnRefusal result.1 (λ e.
+        e ≢ refusal.Memory → EndsTheItems (drop result.0 bytes.now) e) }
+    ensures failures { MatchBool (is_write_error result.1) (Stops output.old output.new)
+        (failures_of output.new ≡ failures_of output.old) }
+    ensures read { is_read_error result.1 ≡ false }
+{
+    let (used, end) = fill(alloc, to, bytes, block);
+    let end = match write_whole(output, block) {
+        Ok(()) => end.map_err(ViewError::Item),
+        Err(error) => Err(error),
+    };
+    (used, end)
+}
+
+/// Fills a block with the output of one item after the other, from the front of the bytes, until it is full
+/// or no item follows. Says how many bytes these items take, and then why none follows, if so.
+fn fill(alloc: Global, to: To, bytes: &[u8], block: &mut Vec<u8>) -> (usize, Result<(), Error>)
+    requires { 0 < length bytes.now }
+    ensures used { result.0 ≤ length bytes.now }
+    ensures some { OnOk result.1 (1 ≤ result.0) }
+    ensures output { IsOutputOfFirst to bytes.now block.new.items (drop result.0 bytes.now) }
+    ensures refused { RefusedSo result.1 (EndsTheItems (drop result.0 bytes.now)) }
+{
+    block.clear();
+    let mut used = 0;
+    'items: while used < bytes.len() && block.len() < BLOCK {
+        match append_first(alloc, to, &bytes[used..], block) {
+            Ok(count) => used += count,
+            Err(error) => return (used, Err(error)),
+        }
+    }
+    (used, Ok(()))
+}
+
+/// Appends the output of the item at the front of the bytes, and says how many of them it takes. After an
+/// error the block is as it was.
+fn append_first(alloc: Global, to: To, bytes: &[u8], block: &mut Vec<u8>) -> Result<usize, Error>
     requires { 0 < length bytes.now }
     ensures used { IfOk result (λ used. (1 ≤ used) × (used ≤ length bytes.now)) }
-    ensures ok { IfOk result (λ used. (written : List ℕ)
+    ensures output { IfOk result (λ used. (written : List ℕ)
         × IsOutputOfFirst to bytes.now written (drop used bytes.now)
-        × Gains W.contents output.old output.new written) }
-    ensures item { OnRefusal result (λ e. e ≢ refusal.Memory → EndsTheItems bytes.now e) }
-    ensures unwritten { OnUnwritten result (output.new ≡ output.old) }
-    ensures write { OnTrue (is_write_error result) ((written rest : List ℕ)
-        × IsOutputOfFirst to bytes.now written rest
-        × GainsPart W.contents output.old output.new written) }
-    ensures failures { MatchBool (is_write_error result) (Stops output.old output.new)
-        (failures_of output.new ≡ failures_of output.old) }
-    ensures read { is_read_error result ≡ false }
+        × (block.new.items ≡ block.old.items ++ written)) }
+    ensures refused { RefusedSo result (EndsTheItems bytes.now) }
+    ensures unchanged { OnErr result (block.new.items ≡ block.old.items) }
 {
     let Some((item, used)) = parse_bytes_partial(alloc, bytes)? else {
-        return Err(ViewError::Item(Error::CutShort));
+        return Err(Error::CutShort);
     };
     let written = write_item(alloc, to, &item, Vec::new(alloc))?;
-    write_whole(output, &written)?;
+    block.extend_from_slice(&written)?;
     Ok(used)
 }

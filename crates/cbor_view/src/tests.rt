@@ -1,76 +1,50 @@
-//! Runs over memory, and what a `Counted` hands on.
+//! Runs over memory, by the words of the command line, and what a `Counted` hands on.
 use crate::counted::Counted;
-use crate::error::ViewError;
-use crate::fakes::{COMMENTED, ITEM};
-use crate::run;
+use crate::fakes::{COMMENTED, Full, ITEM, Noting, first_difference};
+use crate::run::run;
+use crate::run_seq::run_seq;
 use crate::words::{Source, To, from_word, to_word};
 use std::alloc::Global;
-use std::io;
-use std::io::{ErrorKind, Read, Write};
+use std::io::{Read, Write};
+use std::process::Abort;
 use std::test::Fail;
 
-/// Can't be flushed.
-#[derive(Drop)]
-struct Full;
-
-impl Write for Full {
-    fn write(&mut self, _buf: &[u8]) -> io::Result<usize> {
-        Ok(0)
-    }
-
-    fn flush(&mut self) -> io::Result<()> {
-        Err(io::Error::from(ErrorKind::StorageFull))
-    }
-}
-
-/// Keeps what each read or write was asked for, in their order, and counts the flushes.
-#[derive(Drop)]
-struct Noting {
-    asked: Vec<usize>,
-    written: Vec<u8>,
-    flushes: usize,
-}
-
-impl Noting {
-    fn new(alloc: Global) -> Noting {
-        Noting {
-            asked: Vec::new(alloc),
-            written: Vec::new(alloc),
-            flushes: 0,
-        }
-    }
-}
-
-impl Read for Noting {
-    fn read(&mut self, buf: &mut [u8]) -> io::Result<usize> {
-        self.asked
-            .push(buf.len())
-            .map_err(|_| io::Error::from(ErrorKind::OutOfMemory))?;
-        buf.fill(7);
-        Ok(buf.len())
-    }
-}
-
-impl Write for Noting {
-    fn write(&mut self, buf: &[u8]) -> io::Result<usize> {
-        self.asked
-            .push(buf.len())
-            .map_err(|_| io::Error::from(ErrorKind::OutOfMemory))?;
-        self.written.write(buf)
-    }
-
-    fn flush(&mut self) -> io::Result<()> {
-        self.flushes = self.flushes.saturating_add(1);
-        Ok(())
-    }
-}
-
-/// What a run over memory writes, and how it ends.
-fn run_on(alloc: Global, from: Source, to: To, input: &[u8]) -> (Vec<u8>, Result<(), ViewError>) {
+/// What a run over memory writes, and the text of its error, which is empty if there is none.
+pub(crate) fn outcome(
+    alloc: Global,
+    from: &str,
+    to: &str,
+    input: &[u8],
+) -> (Vec<u8>, &'static str) {
     let mut input = Counted::new(input);
     let mut output = Counted::new(Vec::new(alloc));
-    let end = run::run(alloc, from, to, &mut input, &mut output);
-    (output.into_inner(), end)
+    let end = match (from, from_word(from), to_word(to)) {
+        ("seq", _, Some(to)) => run_seq(alloc, to, &mut input, &mut output),
+        (_, Some(from), Some(to)) => run(alloc, from, to, &mut input, &mut output),
+        _ => return (output.into_inner(), "no such words"),
+    };
+    let text = match end {
+        Ok(()) => "",
+        Err(error) => error.text(),
+    };
+    (output.into_inner(), text)
+}
+
+/// A run writes this, and its error has this text.
+pub(crate) fn check(
+    rt: &(impl Abort + AllocGlobal),
+    from: &str,
+    to: &str,
+    input: &[u8],
+    wanted: &[u8],
+    wanted_text: &str,
+) {
+    let (output, text) = outcome(rt.alloc(), from, to, input);
+    assert_eq!(rt;
+        (output.as_slice(), text),
+        (wanted, wanted_text),
+        "{from} {to} on {input:?}"
+    );
 }
 
 #[test]
@@ -83,69 +57,39 @@ fn words_name_forms(rt: HostRuntime) {
     assert_eq!(rt; to_word("hex"), Some(To::Hex));
     assert_eq!(rt; to_word("diag"), Some(To::Diag));
     assert_eq!(rt; to_word("pretty"), Some(To::Pretty));
-    for word in ["", "byte", "bytes ", "Bytes", "HEX", "hex\n", "-", "seq"] {
+    for word in [
+        "", "byte", "bytes ", "Bytes", "HEX", "hex\n", "-", "seq", "text",
+    ] {
         assert_eq!(rt; from_word(word), None, "at {word:?}");
         assert_eq!(rt; to_word(word), None, "at {word:?}");
     }
 }
 
+/// Two words, an input and its output.
+const CONVERTED: [(&str, &str, &[u8], &[u8]); 11] = [
+    ("hex", "bytes", COMMENTED, &ITEM),
+    ("bytes", "bytes", &ITEM, &ITEM),
+    ("bytes", "hex", &ITEM, COMMENTED),
+    ("hex", "hex", COMMENTED, COMMENTED),
+    ("bytes", "bytes", b"\x18\x05", b"\x18\x05"),
+    ("hex", "bytes", b"01\r\n", b"\x01"),
+    ("diag", "bytes", b"32_0(\"https://example.com\")", &ITEM),
+    ("diag", "diag", b"[ 1, /two/ 2, ]\n", b"[1,2]\n"),
+    ("hex", "bytes", b"18 64 # x", b"\x18\x64"),
+    ("hex", "diag", b"83 01 02 03", b"[1,2,3]\n"),
+    ("hex", "pretty", b"83 01 5f ff 7f ff", b"[1, ''_, \"\"_]\n"),
+];
+
 #[test]
-fn converts(rt: HostRuntime) -> Result<(), Fail> {
-    let rows = [
-        ("hex", "bytes", COMMENTED.as_bytes(), ITEM.as_slice()),
-        ("bytes", "bytes", ITEM.as_slice(), ITEM.as_slice()),
-        ("bytes", "hex", ITEM.as_slice(), COMMENTED.as_bytes()),
-        ("hex", "hex", COMMENTED.as_bytes(), COMMENTED.as_bytes()),
-        (
-            "bytes",
-            "bytes",
-            b"\x18\x05".as_slice(),
-            b"\x18\x05".as_slice(),
-        ),
-        ("hex", "bytes", b"01\r\n".as_slice(), b"\x01".as_slice()),
-        (
-            "diag",
-            "bytes",
-            b"32_0(\"https://example.com\")".as_slice(),
-            ITEM.as_slice(),
-        ),
-        (
-            "diag",
-            "diag",
-            b"[ 1, /two/ 2, ]\n".as_slice(),
-            b"[1,2]\n".as_slice(),
-        ),
-        (
-            "hex",
-            "bytes",
-            b"18 64 # x".as_slice(),
-            b"\x18\x64".as_slice(),
-        ),
-        (
-            "hex",
-            "diag",
-            b"83 01 02 03".as_slice(),
-            b"[1,2,3]\n".as_slice(),
-        ),
-        (
-            "hex",
-            "pretty",
-            b"83 01 5f ff 7f ff".as_slice(),
-            b"[1, ''_, \"\"_]\n".as_slice(),
-        ),
-    ];
-    for (from, to, input, wanted) in rows {
-        let from = from_word(from).ok_or("no such word")?;
-        let to = to_word(to).ok_or("no such word")?;
-        let (output, end) = run_on(rt.alloc(), from, to, input);
-        assert_eq!(rt; end, Ok(()), "on {input:?}");
-        assert_eq!(rt; output.as_slice(), wanted, "on {input:?}");
+fn converts(rt: HostRuntime) {
+    for (from, to, input, wanted) in CONVERTED {
+        check(&rt, from, to, input, wanted, "");
     }
-    Ok(())
 }
 
-/// Strings of no chunks, in notation and in each form that is written.
-const OF_NO_CHUNKS: [(&str, &[u8], &str, &str, &str); 5] = [
+/// Strings of no chunks: a text in notation, its bytes, and what is written of either as a dump, on one line
+/// and over several.
+const OF_NO_CHUNKS: [(&str, &[u8], &str, &str, &str); 8] = [
     (
         "''_",
         b"\x5f\xff",
@@ -162,6 +106,20 @@ const OF_NO_CHUNKS: [(&str, &[u8], &str, &str, &str); 5] = [
     ),
     (
         "(_)",
+        b"\x5f\xff",
+        "5f    # bytes(*)\n   ff #   break\n",
+        "''_\n",
+        "''_\n",
+    ),
+    (
+        "\"\"_ ",
+        b"\x7f\xff",
+        "7f    # text(*)\n   ff #   break\n",
+        "\"\"_\n",
+        "\"\"_\n",
+    ),
+    (
+        "/x/''_",
         b"\x5f\xff",
         "5f    # bytes(*)\n   ff #   break\n",
         "''_\n",
@@ -191,71 +149,77 @@ d6       # suggested base64 encoding, tag(22)
         "22(''_)\n",
         "22(''_)\n",
     ),
+    (
+        "24_0(<<\"\"_>>)",
+        b"\xd8\x18\x42\x7f\xff",
+        "\
+d8 18      # encoded cbor data item, tag(24)
+   42      #   bytes(2)
+      7fff #     \"\\x7f\\xff\"
+           #   encoded cbor data item
+           #     7f    # text(*)
+           #        ff #   break
+",
+        "24_0(<<\"\"_>>)\n",
+        "24_0(<<\"\"_>>)\n",
+    ),
 ];
 
 #[test]
-fn converts_strings_of_no_chunks(rt: HostRuntime) -> Result<(), Fail> {
+fn converts_strings_of_no_chunks(rt: HostRuntime) {
     for (notation, bytes, dump, compact, pretty) in OF_NO_CHUNKS {
         let outputs = [
-            (To::Bytes, bytes),
-            (To::Hex, dump.as_bytes()),
-            (To::Diag, compact.as_bytes()),
-            (To::Pretty, pretty.as_bytes()),
+            ("bytes", bytes),
+            ("hex", dump.as_bytes()),
+            ("diag", compact.as_bytes()),
+            ("pretty", pretty.as_bytes()),
         ];
         for (to, wanted) in outputs {
-            let (output, end) = run_on(rt.alloc(), Source::Diag, to, notation.as_bytes());
-            assert_eq!(rt; end, Ok(()), "on {notation}");
-            assert_eq!(rt; output.as_slice(), wanted, "on {notation}");
+            check(&rt, "diag", to, notation.as_bytes(), wanted, "");
+            check(&rt, "bytes", to, bytes, wanted, "");
         }
     }
-    Ok(())
 }
 
+/// The form of an input, an input that is no item in that form, and why.
+const REFUSED: [(&str, &[u8], &str); 19] = [
+    ("bytes", b"", "the item is cut short"),
+    ("bytes", b"\xd8", "the item is cut short"),
+    ("bytes", b"\x1c", "no item can have this head"),
+    ("bytes", b"\x61\xff", "a text is not UTF-8"),
+    ("bytes", b"\x01\x02", "bytes remain after the item"),
+    ("hex", b"", "the item is cut short"),
+    ("hex", b"0", "an odd number of hex digits"),
+    ("hex", b"01\r", "an odd number of hex digits"),
+    ("hex", b"0\t", "not a hex digit"),
+    ("hex", b"1c", "no item can have this head"),
+    ("diag", b"", "not diagnostic notation"),
+    ("diag", b"300_0", "a number does not fit its width"),
+    ("diag", b"\"\xff\"", "a text is not UTF-8"),
+    ("hex", b"01 # \xff", "a text is not UTF-8"),
+    ("diag", b"\"\" _", "not diagnostic notation"),
+    ("diag", b"\"a\" \"\"_", "not diagnostic notation"),
+    ("diag", b"h''_", "not diagnostic notation"),
+    ("diag", b"<<>>_", "not diagnostic notation"),
+    ("diag", b"(_''_)", "not diagnostic notation"),
+];
+
 #[test]
-fn refuses(rt: HostRuntime) -> Result<(), Fail> {
-    let rows = [
-        ("bytes", b"".as_slice(), "the item is cut short"),
-        ("bytes", b"\xd8".as_slice(), "the item is cut short"),
-        ("bytes", b"\x1c".as_slice(), "no item can have this head"),
-        ("bytes", b"\x61\xff".as_slice(), "a text is not UTF-8"),
-        (
-            "bytes",
-            b"\x01\x02".as_slice(),
-            "bytes remain after the item",
-        ),
-        ("hex", b"".as_slice(), "the item is cut short"),
-        ("hex", b"0".as_slice(), "an odd number of hex digits"),
-        ("hex", b"01\r".as_slice(), "an odd number of hex digits"),
-        ("hex", b"0\t".as_slice(), "not a hex digit"),
-        ("hex", b"1c".as_slice(), "no item can have this head"),
-        ("diag", b"".as_slice(), "not diagnostic notation"),
-        (
-            "diag",
-            b"300_0".as_slice(),
-            "a number does not fit its width",
-        ),
-        ("diag", b"\"\xff\"".as_slice(), "a text is not UTF-8"),
-        ("hex", b"01 # \xff".as_slice(), "a text is not UTF-8"),
-    ];
-    for (from, input, text) in rows {
-        let from = from_word(from).ok_or("no such word")?;
-        for to in [To::Bytes, To::Hex, To::Diag, To::Pretty] {
-            let (output, end) = run_on(rt.alloc(), from, to, input);
-            assert_eq!(rt; end.map_err(|e| e.text()), Err(text), "on {input:?}");
-            assert!(rt; output.is_empty(), "on {input:?}");
+fn refuses(rt: HostRuntime) {
+    for (from, input, text) in REFUSED {
+        for to in ["bytes", "hex", "diag", "pretty"] {
+            check(&rt, from, to, input, b"", text);
         }
     }
-    Ok(())
 }
 
 #[test]
 fn refuses_notation_that_is_too_deep(rt: HostRuntime) -> Result<(), Fail> {
     let mut input = vec![in rt.alloc(); b'['; 200_000]?;
     input.resize(400_000, b']')?;
-    let (output, end) = run_on(rt.alloc(), Source::Diag, To::Bytes, &input);
-    let text = "nested deeper than 128 levels";
-    assert_eq!(rt; end.map_err(|e| e.text()), Err(text));
-    assert!(rt; output.is_empty());
+    let (output, text) = outcome(rt.alloc(), "diag", "bytes", &input);
+    assert_eq!(rt; text, "nested deeper than 128 levels");
+    assert_eq!(rt; output.len(), 0);
     Ok(())
 }
 
@@ -263,9 +227,9 @@ fn refuses_notation_that_is_too_deep(rt: HostRuntime) -> Result<(), Fail> {
 fn converts_what_takes_many_reads(rt: HostRuntime) -> Result<(), Fail> {
     let mut input = b"\x5a\x00\x03\x0d\x40".to_vec(rt.alloc())?;
     input.resize(5 + 200_000, 7)?;
-    let (output, end) = run_on(rt.alloc(), Source::Bytes, To::Bytes, &input);
-    assert_eq!(rt; end, Ok(()));
-    assert!(rt; output.as_slice() == input.as_slice());
+    let (output, text) = outcome(rt.alloc(), "bytes", "bytes", &input);
+    assert_eq!(rt; text, "");
+    assert_eq!(rt; first_difference(&output, &input), None);
     Ok(())
 }
 

@@ -2,14 +2,21 @@
 //! nothing: each pair of words, sequences among them.
 use crate::counted::Counted;
 use crate::error::ViewError;
-use crate::fakes::{COMMENTED, Dripping, ITEM, Sipping};
+use crate::fakes::{COMMENTED, Dripping, ITEM, Sipping, first_difference};
 use crate::run;
 use crate::run_seq::run_seq;
-use crate::tests_seq::{ITEMS, WRITTEN};
+use crate::tests_seq::repeated;
 use crate::words::{Source, To};
 use std::alloc::Global;
 use std::io::{ErrorKind, Read, Write};
 use std::process::Abort;
+use std::test::Fail;
+
+/// Three items: a false in two bytes, an empty array, and an integer.
+const ITEMS: [u8; 5] = [0xf8, 0x14, 0x80, 0x18, 0x64];
+
+/// What is written of them as bytes.
+const WRITTEN: [u8; 4] = [0xf4, 0x80, 0x18, 0x64];
 
 const NOTATION: &str = "32_0(\"https://example.com\")";
 
@@ -39,7 +46,7 @@ fn row<'a>(from: Option<Source>, to: To, input: &'a [u8], output: &'a [u8]) -> P
 
 /// An item from each form to each, and items one after the other to each.
 fn pairs() -> [Pair<'static>; 16] {
-    let (bytes, dump, notation) = (ITEM.as_slice(), COMMENTED.as_bytes(), NOTATION.as_bytes());
+    let (bytes, dump, notation) = (ITEM.as_slice(), COMMENTED, NOTATION.as_bytes());
     let (line, items, lines) = (LINE.as_bytes(), ITEMS.as_slice(), LINES.as_bytes());
     let (from_bytes, from_hex) = (Some(Source::Bytes), Some(Source::Hex));
     let from_diag = Some(Source::Diag);
@@ -125,7 +132,12 @@ fn check_write(
     let written = output.into_inner();
     assert_eq!(rt; written.calls, failing);
     assert_eq!(rt; written.bytes.len(), failing.saturating_sub(1));
-    assert!(rt; pair.output.starts_with(written.bytes.as_slice()));
+    let wanted = pair.output.get(..written.bytes.len());
+    assert_eq!(rt;
+        wanted.and_then(|wanted| first_difference(&written.bytes, wanted)),
+        None,
+        "{from:?} {to:?}, call {failing}"
+    );
 }
 
 #[test]
@@ -173,4 +185,30 @@ fn converts_what_comes_and_goes_byte_by_byte(rt: HostRuntime) {
         assert_eq!(rt; (input.failures(), output.failures()), (0, 0));
         assert_eq!(rt; output.into_inner().bytes.as_slice(), pair.output);
     }
+}
+
+/// Runs over a sequence of 70 strings, of 1,000 bytes each, that this follows. The first block is the first
+/// 66,000 bytes of the output.
+fn check_blocks(
+    rt: &(impl Abort + AllocGlobal),
+    behind: &[u8],
+    kind: Option<ErrorKind>,
+) -> Result<(), Fail> {
+    let mut string = b"\x59\x03\xe5".to_vec(rt.alloc())?;
+    string.resize(1_000, 7)?;
+    let output = repeated(rt.alloc(), &string, 70)?;
+    let mut input = repeated(rt.alloc(), &string, 70)?;
+    input.extend_from_slice(behind)?;
+    let pair = row(None, To::Bytes, &input, &output);
+    for failing in [1, 2, 40_000, 65_999, 66_000, 66_001, 66_002, 70_000] {
+        check_write(rt, rt.alloc(), &pair, failing, kind);
+    }
+    Ok(())
+}
+
+#[test]
+fn ends_at_a_write_that_fails_in_any_block(rt: HostRuntime) -> Result<(), Fail> {
+    check_blocks(&rt, b"", Some(ErrorKind::Other))?;
+    // the write is told and not what follows the items
+    check_blocks(&rt, b"\xff", None)
 }

@@ -1,72 +1,116 @@
-//! Runs over sequences of items, over memory.
+//! Runs over sequences of items, over memory, and in which pieces what they write is written.
 use crate::counted::Counted;
-use crate::error::ViewError;
+use crate::fakes::{Noting, first_difference};
 use crate::run_seq::run_seq;
-use crate::words::{To, to_word};
-use std::alloc::Global;
+use crate::tests::{check, outcome};
+use crate::words::To;
+use std::alloc::{AllocError, Global};
 use std::test::Fail;
 
-/// Three items: a false in two bytes, an empty array, and an integer.
-pub(crate) const ITEMS: [u8; 5] = [0xf8, 0x14, 0x80, 0x18, 0x64];
-
-/// What is written of them as bytes.
-pub(crate) const WRITTEN: [u8; 4] = [0xf4, 0x80, 0x18, 0x64];
-
-/// What a run over memory writes, and how it ends.
-fn run_on(alloc: Global, to: To, input: &[u8]) -> (Vec<u8>, Result<(), ViewError>) {
-    let mut input = Counted::new(input);
-    let mut output = Counted::new(Vec::new(alloc));
-    let end = run_seq(alloc, to, &mut input, &mut output);
-    (output.into_inner(), end)
-}
+/// A form, items one after the other, perhaps with something else after them, what is written of the items,
+/// and why no item follows them, if so.
+const SEQUENCES: [(&str, &[u8], &[u8], &str); 13] = [
+    ("bytes", b"\xf8\x14\x80\x18\x64", b"\xf4\x80\x18\x64", ""),
+    ("bytes", b"\xf8\x14\x80", b"\xf4\x80", ""),
+    ("bytes", b"", b"", ""),
+    ("bytes", b"\x01\x20\xf6", b"\x01\x20\xf6", ""),
+    ("diag", b"\x01\x20\xf6", b"1\n-1\nnull\n", ""),
+    ("diag", b"", b"", ""),
+    (
+        "hex",
+        b"\x01\x20",
+        b"01 # unsigned(1)\n20 # negative(-1)\n",
+        "",
+    ),
+    ("pretty", b"\x82\x01\x02\x5f\xff", b"[1, 2]\n''_\n", ""),
+    ("diag", b"\x01\x62\xc3", b"1\n", "the item is cut short"),
+    (
+        "diag",
+        b"\x01\xff\x02",
+        b"1\n",
+        "no item can have this head",
+    ),
+    ("bytes", b"\x01\x62\xc3", b"\x01", "the item is cut short"),
+    (
+        "bytes",
+        b"\x01\xff\x02",
+        b"\x01",
+        "no item can have this head",
+    ),
+    ("bytes", b"\x61\xff", b"", "a text is not UTF-8"),
+];
 
 #[test]
-fn converts_each_item(rt: HostRuntime) -> Result<(), Fail> {
-    let rows = [
-        ("bytes", ITEMS.as_slice(), WRITTEN.as_slice()),
-        ("bytes", b"".as_slice(), b"".as_slice()),
-        (
-            "bytes",
-            b"\x01\x20\xf6".as_slice(),
-            b"\x01\x20\xf6".as_slice(),
-        ),
-    ];
-    for (to, input, wanted) in rows {
-        let to = to_word(to).ok_or("no such word")?;
-        let (output, end) = run_on(rt.alloc(), to, input);
-        assert_eq!(rt; end, Ok(()), "on {input:?}");
-        assert_eq!(rt; output.as_slice(), wanted, "on {input:?}");
+fn converts_each_item_up_to_what_is_none(rt: HostRuntime) {
+    for (to, input, wanted, text) in SEQUENCES {
+        check(&rt, "seq", to, input, wanted, text);
+    }
+}
+
+/// So many times the same bytes.
+pub(crate) fn repeated(alloc: Global, piece: &[u8], count: usize) -> Result<Vec<u8>, AllocError> {
+    let mut bytes = Vec::new(alloc);
+    for _ in 0..count {
+        bytes.extend_from_slice(piece)?;
+    }
+    Ok(bytes)
+}
+
+/// The number 256 in two bytes. Their length does not divide that of a block.
+const NUMBER: [u8; 3] = [0x19, 0x01, 0x00];
+
+/// How many of these numbers, as bytes, fill a block: 65,538 bytes are the first whole outputs that are
+/// no shorter than 65,536.
+const IN_A_BLOCK: usize = 21_846;
+
+/// What follows the items, and why it is no item.
+const BEHIND: [(&[u8], &str); 4] = [
+    (b"", ""),
+    (b"\xff\x01", "no item can have this head"),
+    (b"\x19\x01", "the item is cut short"),
+    (b"\x61\xff", "a text is not UTF-8"),
+];
+
+#[test]
+fn writes_all_items_before_a_fault_in_any_block(rt: HostRuntime) -> Result<(), Fail> {
+    for count in [
+        IN_A_BLOCK - 1,
+        IN_A_BLOCK,
+        IN_A_BLOCK + 1,
+        30_000,
+        2 * IN_A_BLOCK,
+    ] {
+        for (behind, wanted_text) in BEHIND {
+            let mut input = repeated(rt.alloc(), &NUMBER, count)?;
+            input.extend_from_slice(behind)?;
+            for (to, piece) in [
+                ("bytes", NUMBER.as_slice()),
+                ("diag", b"256_1\n".as_slice()),
+            ] {
+                let wanted = repeated(rt.alloc(), piece, count)?;
+                let (output, text) = outcome(rt.alloc(), "seq", to, &input);
+                let differs = first_difference(&output, &wanted);
+                assert_eq!(rt;
+                    (differs, text),
+                    (None, wanted_text),
+                    "{to}, {count} items and {behind:?}"
+                );
+            }
+        }
     }
     Ok(())
 }
 
+// No clause says how many calls a sequence takes.
 #[test]
-fn stops_at_the_first_that_is_no_item(rt: HostRuntime) -> Result<(), Fail> {
-    let rows = [
-        (
-            "bytes",
-            b"\x01\x62\xc3".as_slice(),
-            b"\x01".as_slice(),
-            "the item is cut short",
-        ),
-        (
-            "bytes",
-            b"\x01\xff\x02".as_slice(),
-            b"\x01".as_slice(),
-            "no item can have this head",
-        ),
-        (
-            "bytes",
-            b"\x61\xff".as_slice(),
-            b"".as_slice(),
-            "a text is not UTF-8",
-        ),
-    ];
-    for (to, input, wanted, text) in rows {
-        let to = to_word(to).ok_or("no such word")?;
-        let (output, end) = run_on(rt.alloc(), to, input);
-        assert_eq!(rt; end.map_err(|e| e.text()), Err(text), "on {input:?}");
-        assert_eq!(rt; output.as_slice(), wanted, "on {input:?}");
-    }
+fn writes_a_block_by_one_call(rt: HostRuntime) -> Result<(), Fail> {
+    let bytes = repeated(rt.alloc(), &NUMBER, 2 * IN_A_BLOCK + 1)?;
+    let mut input = Counted::new(bytes.as_slice());
+    let mut output = Counted::new(Noting::new(rt.alloc()));
+    let end = run_seq(rt.alloc(), To::Bytes, &mut input, &mut output);
+    assert_eq!(rt; end, Ok(()));
+    let noted = output.into_inner();
+    assert_eq!(rt; noted.asked.as_slice(), [65_538, 65_538, 3].as_slice());
+    assert_eq!(rt; first_difference(&noted.written, &bytes), None);
     Ok(())
 }

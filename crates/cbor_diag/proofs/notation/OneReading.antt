@@ -1,5 +1,5 @@
--- What the limits on levels change: a text is at most one item, and what a larger limit reads is read, or
--- is TooDeep.
+-- What the limits on levels change: a text is at most one item, and what one limit reads is read under any
+-- other, or is TooDeep there.
 use Rattle.std.proofs.Common.{◌≡◌, ℕ, ◌-◌, ◌≤◌, List, [], Ok, Err, ◌⊎◌, inl, inr, refl, sym, ap, ◌∙◌, subst, arith}
 use Rattle.std.proofs.lemmas.Bool.{cases_lt}
 use Rattle.cbor_diag.specs.declared.error.Error.TheVariants as refusal
@@ -28,10 +28,21 @@ one_reading limit other text i j is is_too =
       | inr le ↦ sym (same_item other limit text j i is_too is (levels_more other limit text le))
     ]
 
--- what a limit reads is read under a smaller one too, or is TooDeep there
-pub read_or_too_deep : (limit larger : ℕ) (text : List ℕ) (i : Item) → limit ≤ larger → Reads larger text i → (notation_of limit text ≡ Err refusal.TooDeep) ⊎ (notation_of limit text ≡ Ok i)
-read_or_too_deep limit larger text i le is = from (levels_more limit larger text le)
+-- what one limit reads is read under any other, or is TooDeep there
+pub read_or_too_deep : (limit other : ℕ) (text : List ℕ) (i : Item) → Reads other text i → (notation_of limit text ≡ Err refusal.TooDeep) ⊎ (notation_of limit text ≡ Ok i)
+read_or_too_deep limit other text i is =
+    elim (cases_lt other limit) [
+      | inl more ↦ above (levels_more other limit text (omega arith))
+      | inr le ↦ below (levels_more limit other text le)
+    ]
   where
-    from : Grows (item_at limit text) (item_at larger text) → (notation_of limit text ≡ Err refusal.TooDeep) ⊎ (notation_of limit text ≡ Ok i)
-    from (inl e) = inl (rw e refl)
-    from (inr e) = let read : item_at limit text ≡ Ok (i, []) = e ∙ item_whole larger text i is in inr (rw read refl)
+    found : item_at limit text ≡ Ok (i, []) → (notation_of limit text ≡ Err refusal.TooDeep) ⊎ (notation_of limit text ≡ Ok i)
+    found read = inr (rw read refl)
+
+    above : Grows (item_at other text) (item_at limit text) → (notation_of limit text ≡ Err refusal.TooDeep) ⊎ (notation_of limit text ≡ Ok i)
+    above (inl e) = let never : ◌≡◌ {A = Read Item} (Ok (i, [])) (Err refusal.TooDeep) = sym (item_whole other text i is) ∙ e in absurd (cc never)
+    above (inr e) = found (sym e ∙ item_whole other text i is)
+
+    below : Grows (item_at limit text) (item_at other text) → (notation_of limit text ≡ Err refusal.TooDeep) ⊎ (notation_of limit text ≡ Ok i)
+    below (inl e) = inl (rw e refl)
+    below (inr e) = found (e ∙ item_whole other text i is)

@@ -1,39 +1,42 @@
-use Rattle.std.proofs.Common.{ℕ, List, drop, ◌++◌, rules}
+use Rattle.std.proofs.Common.{drop, ◌++◌, rules, sym, subst}
 use Rattle.std.proofs.lemmas.List.{take_rest}
 use Rattle.std.proofs.KnownBytes.{Appends-trans}
-use Rattle.cbor_view.specs.Running.{GainsPart}
-use Rattle.cbor_view.specs.Sequence.{IsOutputOfFirst}
-use Rattle.cbor_view.proofs.Sequences.{more_written, part_later, write_error_later}
+use Rattle.cbor_view.proofs.Sequences.{more_written, same_end, end_item, end_memory, end_write}
 use Rattle.cbor_view.proofs.run_seq.write_items.Goals as goal
 
-pub returns-in_err-used-clause-write : goal.returns-in_err-used-clause-write
-returns-in_err-used-clause-write g c =
-    let contents = g.W.Write.contents in
-    let all = c.args.bytes.now in
-    let old = c.args.output.now in
-    let mid = c.loop-rest.output in
-    let new = c.write_first.new.output in
-    let before = c.loop-rest.invariant.before in
-    let Now : Type 0 = (out rest : List ℕ) × IsOutputOfFirst c.args.to c.loop-rest.rest.now out rest × GainsPart contents mid new out in
-    let Whole : Type 0 = (out rest : List ℕ) × IsOutputOfFirst c.args.to all out rest × GainsPart contents old new out in
-    write_error_later c.from_residual.result c.in_err-used.field-0.0 Now Whole c.from_residual.ensures.1
-    (λ part. (
-      before.0 ++ part.0,
-      part.1,
-      more_written c.args.to all before.0 c.loop-rest.rest.now part.0 part.1 before.1 part.2,
-      part_later contents old mid new before.0 part.0 before.2 part.3,
-    ))
-    c.in_err-used.ensures.write
+pub returns-in_err-end-clause-item : goal.returns-in_err-end-clause-item
+returns-in_err-end-clause-item g c =
+    let before = c.sequence.invariant.before in
+    let r = c.write_block-used.result.1 in
+    let block = c.write_block-used.ensures.written in
+    let same = same_end c.from_residual.result r c.in_err-end.field-0.0 c.from_residual.ensures.1 c.in_err-end.was in
+    rw same (end_item g.W.Write.contents c.args.output.now c.sequence.output c.write_block-used.new.output c.args.to c.args.bytes.now before.0 c.sequence.rest.now block.0 (drop c.write_block-used.result.0 c.sequence.rest.now) before.1 before.2 block.1 r block.2 c.write_block-used.ensures.item)
 
-pub loop-rest-preserved : goal.loop-rest-preserved
-loop-rest-preserved g c =
-    let before = c.loop-rest.invariant.before in
-    let ok = c.in_ok-used.ensures.ok in
+pub returns-in_err-end-clause-memory : goal.returns-in_err-end-clause-memory
+returns-in_err-end-clause-memory g c =
+    let before = c.sequence.invariant.before in
+    let r = c.write_block-used.result.1 in
+    let block = c.write_block-used.ensures.written in
+    let same = same_end c.from_residual.result r c.in_err-end.field-0.0 c.from_residual.ensures.1 c.in_err-end.was in
+    rw same (end_memory g.W.Write.contents c.args.output.now c.sequence.output c.write_block-used.new.output c.args.to c.args.bytes.now before.0 c.sequence.rest.now block.0 (drop c.write_block-used.result.0 c.sequence.rest.now) before.1 before.2 block.1 r block.2)
+
+pub returns-in_err-end-clause-write : goal.returns-in_err-end-clause-write
+returns-in_err-end-clause-write g c =
+    let before = c.sequence.invariant.before in
+    let r = c.write_block-used.result.1 in
+    let block = c.write_block-used.ensures.written in
+    let same = same_end c.from_residual.result r c.in_err-end.field-0.0 c.from_residual.ensures.1 c.in_err-end.was in
+    rw same (end_write g.W.Write.contents c.args.output.now c.sequence.output c.write_block-used.new.output c.args.to c.args.bytes.now before.0 c.sequence.rest.now block.0 (drop c.write_block-used.result.0 c.sequence.rest.now) before.1 before.2 block.1 r block.2)
+
+pub sequence-preserved : goal.sequence-preserved
+sequence-preserved g c =
+    let before = c.sequence.invariant.before in
+    let block = rw c.in_ok-end.was at c.write_block-used.ensures.written in
     record {
       before = (
-        before.0 ++ ok.0,
-        rw take_rest (more_written c.args.to c.args.bytes.now before.0 c.loop-rest.rest.now ok.0 (drop c.in_ok-used.used c.loop-rest.rest.now) before.1 ok.1),
-        Appends-trans _ _ _ before.0 ok.0 before.2 ok.2,
+        before.0 ++ block.0,
+        rw take_rest (more_written c.args.to c.args.bytes.now before.0 c.sequence.rest.now block.0 (drop c.write_block-used.result.0 c.sequence.rest.now) before.1 block.1),
+        Appends-trans _ _ _ before.0 block.0 before.2 block.2,
       );
       failures = search rules;
     }

@@ -1,0 +1,23 @@
+//! Laws of the definitions of `specs/` alone: what is written of bytes, whoever writes it. Nothing calls
+//! these functions.
+ghost use Rattle.std.specs.Prelude.{◌≡◌, ℕ, List, ◌++◌};
+ghost use Rattle.cbor_diag.specs.declared.error.Error.{Error};
+ghost use Rattle.cbor_view.specs.declared.words.To.{To};
+ghost use Rattle.cbor_view.specs.Sequence.{IsOutputOfFirst, IsOutputOfAll, IsOutputBefore};
+
+/// Bytes have one output as a sequence of items, and one error or none. The output of some first items is a
+/// beginning of it.
+pub(crate) fn one_output()
+    ensures of_all { (to : To) (input a b : List ℕ)
+        → IsOutputOfAll to input a → IsOutputOfAll to input b → a ≡ b }
+    ensures before { (to : To) (input a b : List ℕ) (e d : Error)
+        → IsOutputBefore to input e a → IsOutputBefore to input d b → (a ≡ b) × (e ≡ d) }
+    ensures not_both { (to : To) (input a b : List ℕ) (e : Error)
+        → IsOutputOfAll to input a → ¬ (IsOutputBefore to input e b) }
+    ensures first_of_all { (to : To) (input a rest b : List ℕ)
+        → IsOutputOfFirst to input a rest → IsOutputOfAll to input b
+        → (more : List ℕ) × (b ≡ a ++ more) }
+    ensures first_before { (to : To) (input a rest b : List ℕ) (e : Error)
+        → IsOutputOfFirst to input a rest → IsOutputBefore to input e b
+        → (more : List ℕ) × (b ≡ a ++ more) }
+{}
