@@ -74,7 +74,7 @@ install: all
 
 # The first command of the README.
 demo: $(PROGRAM)
-	$(PROGRAM) hex diag < examples/uri.hex
+	$(PROGRAM) hex bytes < examples/uri.hex | od -An -tx1
 
 # Checks all crates and runs their tests, without the must-fail edits.
 quick:
