@@ -1,14 +1,16 @@
 #!/usr/bin/env python3
 """Times the program on inputs that it makes itself, beside another program with the same words.
 
-    benches/bench.py PROGRAM [OTHER] [--rounds N] [--size PERCENT] [--only KIND] [--folder FOLDER]
+    benches/bench.py PROGRAM [OTHER] [--rounds N] [--size PERCENT] [--only KIND] [--folder FOLDER] [--status]
 
 PROGRAM is `crates/cbor_view/out/cbor_view`, as `rt run` leaves it. For each kind of input and each
 conversion that PROGRAM serves, the two programs run in turn, so many rounds each, and a line shows the
 least time of each in milliseconds, what that is in megabytes of input a second, its peak memory in
 megabytes, and the ratio of the two times. A dash stands where a run failed. The inputs are the same on
 every machine. They are kept in FOLDER, or in one that is removed at the end. At last records as a
-sequence are timed beside the same ones in an array. It needs Python and its standard library alone.
+sequence are timed beside the same ones in an array. With --status the programs take no words: each reads
+bytes and answers by its exit status alone, as `crates/cbor_extent/out/cbor_extent` does. It needs Python
+and its standard library alone.
 """
 import argparse
 import os
@@ -262,6 +264,26 @@ def serves(program, words, path):
     return run(program, words, path) is not None
 
 
+def compare(programs, folder, source, words, options):
+    """A line for each kind of input in this form."""
+    for kind, make, count in KINDS:
+        if options.only not in (None, kind):
+            continue
+        path = input_of(folder, kind, make, max(1, count * options.size // 100))
+        for maker in programs:
+            made = input_for(maker, folder, source, path)
+            if made:
+                break
+        if not made:
+            continue
+        size = os.path.getsize(made)
+        results = rounds_of(programs, words, made, options.rounds)
+        line = f"{kind:10} {' '.join(words):13} {size / 1e6:7.1f} {cells(results[0], size)}"
+        if options.other:
+            line += f" {cells(results[1], size)} {ratio(*results)}"
+        print(line, flush=True)
+
+
 def main():
     parser = argparse.ArgumentParser(description=__doc__, formatter_class=argparse.RawTextHelpFormatter)
     parser.add_argument("program")
@@ -270,6 +292,7 @@ def main():
     parser.add_argument("--size", type=int, default=100, help="percent of the counts of each input")
     parser.add_argument("--only", help="one kind of input: " + ", ".join([kind for kind, _, _ in KINDS] + ["records"]))
     parser.add_argument("--folder", help="where inputs are kept")
+    parser.add_argument("--status", action="store_true", help="the programs take no words")
     options = parser.parse_args()
     programs = [options.program] + ([options.other] if options.other else [])
     with tempfile.TemporaryDirectory() as passing:
@@ -279,28 +302,15 @@ def main():
         forms = {"bytes": b"\x01", "hex": b"01", "diag": b"1"}
         columns = f"{'ms':>10} {'MB/s':>8} {'MB':>7}"
         print(f"{'input':10} {'words':13} {'MB in':>7} {columns}" + (f" {columns} {'ratio':>6}" if options.other else ""))
+        if options.status:
+            compare(programs, folder, "bytes", [], options)
+            return
         for source in FROM:
             with open(small, "wb") as file:
                 file.write(forms[source])
             for to in TO:
-                if not serves(options.program, [source, to], small):
-                    continue
-                for kind, make, count in KINDS:
-                    if options.only not in (None, kind):
-                        continue
-                    path = input_of(folder, kind, make, max(1, count * options.size // 100))
-                    for maker in programs:
-                        made = input_for(maker, folder, source, path)
-                        if made:
-                            break
-                    if not made:
-                        continue
-                    size = os.path.getsize(made)
-                    results = rounds_of(programs, [source, to], made, options.rounds)
-                    line = f"{kind:10} {source + ' ' + to:13} {size / 1e6:7.1f} {cells(results[0], size)}"
-                    if options.other:
-                        line += f" {cells(results[1], size)} {ratio(*results)}"
-                    print(line, flush=True)
+                if serves(options.program, [source, to], small):
+                    compare(programs, folder, source, [source, to], options)
         if options.only in (None, "records"):
             sequences(options.program, folder, max(1, 1000 * options.size), options.rounds)
 

@@ -12,7 +12,7 @@ use Rattle.cbor_diag.specs.Refused.{Cut, Fault}
 use Rattle.cbor_diag.specs.Answer.{Outcome, spelled, cut, fault, IsOutcome, OneOutcome}
 use Rattle.cbor_diag.specs.Facts.{BeginsWithItem, IsCut, HasFault}
 use Rattle.cbor_diag.specs.Reading.{Read, item_at}
-use Rattle.cbor_diag.specs.Extent.{IfFault, IsExtent}
+use Rattle.cbor_diag.specs.Extent.{IfItem, IfFault, FaultEnds, IsExtent}
 use Rattle.cbor_diag.specs.Skipping.{rest_of, here, Goes, Shows, skip_item}
 use Rattle.cbor_diag.proofs.Heads.{IsBytes, IsBytes-take}
 use Rattle.cbor_diag.proofs.Found.{spelled_begins, item_again}
@@ -84,9 +84,9 @@ fault_extent b e after fits s =
     let faulty : Fault 1 shown e = fault_takes 1 128 shown e refl fits_shown s.other (rest_err (item_at 128 shown) e s.fails) in
     let before : take (length s.before) b ≡ s.before = ap (take (length s.before)) s.parts ∙ front_is (length s.before) s.before (s.last ∷ s.behind) refl in
     let fits_before : IsBytes s.before = subst IsBytes before (IsBytes-take (length s.before) b fits) in
-    let cut_before : Cut 1 s.before = cut_takes 1 128 s.before refl fits_before (rest_err (item_at 128 s.before) refusal.CutShort s.cut) in (
-      omega arith,
-      subst (λ (x : List ℕ). Fault 1 x e) (sym front) faulty,
+    let cut_before : Cut 1 s.before = cut_takes 1 128 s.before refl fits_before (rest_err (item_at 128 s.before) refusal.CutShort s.cut) in
+    let shows : FaultEnds b e (length b - after) = (omega (arith, length-append s.before (s.last ∷ [])), omega arith, subst (λ (x : List ℕ). Fault 1 x e) (sym front) faulty) in (
+      shows,
       λ n lt.
           let le : n ≤ length s.before = omega (arith, length-append s.before (s.last ∷ [])) in
           let same : take n b ≡ take n s.before = ap (take n) s.parts ∙ take-append-le n s.before (s.last ∷ s.behind) le in
@@ -96,11 +96,13 @@ fault_extent b e after fits s =
 
 -- ---- the clauses
 
-pub item_is : (b : List ℕ) (x : Extent) → IsExtent b x → (n : ℕ) → x ≡ extent.Item n → (i : Item) × BeginsWithItem b i n
-item_is b x h n is = subst (IsExtent b) is h
+pub item_is : (b : List ℕ) (x : Extent) → IsExtent b x → IfItem x (λ n. (i : Item) × BeginsWithItem b i n)
+item_is b (extent.Item n) h = h
+item_is b extent.Cut h = tt
+item_is b (extent.Fault e end) h = tt
 
 has_fault : (b : List ℕ) (e : Error) (end : ℕ) → IsExtent b (extent.Fault e end) → Fault 1 b e
-has_fault b e end h = subst (λ (x : List ℕ). Fault 1 x e) (take-append-drop end b) (fault_append 1 (take end b) (drop end b) e h.1)
+has_fault b e end h = subst (λ (x : List ℕ). Fault 1 x e) (take-append-drop end b) (fault_append 1 (take end b) (drop end b) e h.0.2)
 
 -- the outcome that bytes begin so with
 outcome_of : (b : List ℕ) (x : Extent) → IsExtent b x → (o : Outcome) × IsOutcome 1 b o
@@ -140,30 +142,26 @@ every_fault b (extent.Fault d end) one h e f =
     let error : d ≡ e = cc in
     (end, ap (λ (x : Error). extent.Fault x end) error)
 
-pub fault_shown : (b : List ℕ) (x : Extent) → IsExtent b x → IfFault x (λ error end. (end ≤ length b) × HasFault (take end b) error)
+pub fault_shown : (b : List ℕ) (x : Extent) → IsExtent b x → IfFault x (λ error end. FaultEnds b error end)
 fault_shown b (extent.Item n) h = tt
 fault_shown b extent.Cut h = tt
-fault_shown b (extent.Fault e end) h = (h.0, h.1)
+fault_shown b (extent.Fault e end) h = h.0
 
 pub fronts_cut : (b : List ℕ) (x : Extent) → IsExtent b x → IfFault x (λ error end. (n : ℕ) → n < end → IsCut (take n b))
 fronts_cut b (extent.Item n) h = tt
 fronts_cut b extent.Cut h = tt
-fronts_cut b (extent.Fault e end) h = h.2
+fronts_cut b (extent.Fault e end) h = h.1
 
-pub item_stays : (b : List ℕ) (x : Extent) → IsExtent b x → (n : ℕ) → x ≡ extent.Item n → (more : List ℕ) → (i : Item) × BeginsWithItem (b ++ more) i n
-item_stays b x h n is more =
-    let k = item_is b x h n is in
-    let le : n ≤ length b = k.1.1 in
-    (k.0, (k.1.0, omega (arith, length-append b more), subst (λ (y : List ℕ). Spells any 1 y k.0) (sym (take-append-le n b more le)) k.1.2))
+pub item_stays : (b : List ℕ) (x : Extent) → IsExtent b x → IfItem x (λ n. (more : List ℕ) → (i : Item) × BeginsWithItem (b ++ more) i n)
+item_stays b (extent.Item n) h = λ more.
+    let le : n ≤ length b = h.1.1 in
+    (h.0, (h.1.0, omega (arith, length-append b more), subst (λ (y : List ℕ). Spells any 1 y h.0) (sym (take-append-le n b more le)) h.1.2))
+item_stays b extent.Cut h = tt
+item_stays b (extent.Fault e end) h = tt
 
-pub fault_stays : (b : List ℕ) (x : Extent) → IsExtent b x → IfFault x (λ error end. (more : List ℕ) → IsExtent (b ++ more) x)
+pub fault_stays : (b : List ℕ) (x : Extent) → IsExtent b x → IfFault x (λ error end. (more : List ℕ) → HasFault (b ++ more) error × FaultEnds (b ++ more) error end)
 fault_stays b (extent.Item n) h = tt
 fault_stays b extent.Cut h = tt
 fault_stays b (extent.Fault e end) h = λ more.
-    let le : end ≤ length b = h.0 in (
-      omega (arith, length-append b more),
-      subst (λ (y : List ℕ). Fault 1 y e) (sym (take-append-le end b more le)) h.1,
-      λ n lt.
-          let shorter : n ≤ length b = omega arith in
-          subst (Cut 1) (sym (take-append-le n b more shorter)) (h.2 n lt),
-    )
+    let le : end ≤ length b = h.0.1 in
+    (fault_append 1 b more e (has_fault b e end h), (h.0.0, omega (arith, length-append b more), subst (λ (y : List ℕ). Fault 1 y e) (sym (take-append-le end b more le)) h.0.2))

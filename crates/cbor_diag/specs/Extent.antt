@@ -6,15 +6,23 @@ use Rattle.cbor_diag.specs.declared.parse.binary.skip.answer.Extent.TheVariants 
 use Rattle.cbor_diag.specs.Item.{Item}
 use Rattle.cbor_diag.specs.Facts.{BeginsWithItem, IsCut, HasFault}
 
--- a fact of the fault that was answered, and of how many first bytes show it
+-- a fact of how many bytes the item takes, if there is one
+abbrev pub IfItem : Extent → (ℕ → Type 0) → Type 0
+IfItem (extent.Item n) Fact = Fact n
+IfItem _ Fact = Unit {0}
+
+-- a fact of the error and of how many first bytes show it, if there is one
 abbrev pub IfFault : Extent → (Error → ℕ → Type 0) → Type 0
 IfFault (extent.Fault error end) Fact = Fact error end
 IfFault _ Fact = Unit {0}
+
+-- so many first bytes, at least one, have the fault
+abbrev pub FaultEnds : List ℕ → Error → ℕ → Type 0
+FaultEnds b error end = (1 ≤ end) × (end ≤ length b) × HasFault (take end b) error
 
 -- The bytes begin so: with an item of so many bytes; cut; or with a fault that so many first bytes have,
 -- of which fewer are cut.
 abbrev pub IsExtent : List ℕ → Extent → Type 0
 IsExtent b (extent.Item n) = (i : Item) × BeginsWithItem b i n
 IsExtent b extent.Cut = IsCut b
-IsExtent b (extent.Fault error end) =
-    (end ≤ length b) × HasFault (take end b) error × ((n : ℕ) → n < end → IsCut (take n b))
+IsExtent b (extent.Fault error end) = FaultEnds b error end × ((n : ℕ) → n < end → IsCut (take n b))

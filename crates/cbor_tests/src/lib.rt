@@ -4,6 +4,8 @@
 #[cfg(test)]
 mod bytes;
 #[cfg(test)]
+mod extent;
+#[cfg(test)]
 mod hex_text;
 #[cfg(test)]
 mod hostile;

@@ -13,7 +13,7 @@ ghost use Rattle.cbor_diag.specs.Item.{Item};
 ghost use Rattle.cbor_diag.specs.WellFormed.{deepest};
 ghost use Rattle.cbor_diag.specs.Bytes.{IsContent, major_of};
 ghost use Rattle.cbor_diag.specs.Facts.{BeginsWithItem, IsCut, HasFault};
-ghost use Rattle.cbor_diag.specs.Extent.{IfFault, IsExtent};
+ghost use Rattle.cbor_diag.specs.Extent.{IfItem, IfFault, FaultEnds, IsExtent};
 ghost use Rattle.cbor_diag.specs.Skipping.{here, Goes, StopsSo, stop_of, kind_of, skip_content, skip_chunks, after_chunk, skip_item, skip_body, opened, begun};
 
 use super::head::{Info, ItemHead, head_at, info_at};
@@ -260,7 +260,7 @@ fn begins(bytes: &[u8]) -> Extent
 /// the byte at fault; of `Utf8` they end with the text that is not UTF-8.
 pub fn extent(bytes: &[u8]) -> Extent
     // An item of so many bytes, exactly where they spell one.
-    ensures item { (n : ℕ) → result ≡ Extent.Item n → (i : Item) × BeginsWithItem bytes.now i n }
+    ensures item { IfItem result (λ n. (i : Item) × BeginsWithItem bytes.now i n) }
     ensures every_item { (i : Item) (n : ℕ) → BeginsWithItem bytes.now i n
         → result ≡ Extent.Item n }
 
@@ -273,15 +273,14 @@ pub fn extent(bytes: &[u8]) -> Extent
         → (end : ℕ) × (result ≡ Extent.Fault error end) }
 
     // The first `end` bytes have the fault, and fewer are cut.
-    ensures shown { IfFault result (λ error end.
-        (end ≤ length bytes.now) × HasFault (take end bytes.now) error) }
+    ensures shown { IfFault result (λ error end. FaultEnds bytes.now error end) }
     ensures fronts_cut { IfFault result (λ error end. (n : ℕ) → n < end → IsCut (take n bytes.now)) }
 
     // Bytes that come later change no item, and no fault nor where it ends.
-    ensures item_stays { (n : ℕ) → result ≡ Extent.Item n
-        → (more : List ℕ) → (i : Item) × BeginsWithItem (bytes.now ++ more) i n }
+    ensures item_stays { IfItem result (λ n.
+        (more : List ℕ) → (i : Item) × BeginsWithItem (bytes.now ++ more) i n) }
     ensures fault_stays { IfFault result (λ error end.
-        (more : List ℕ) → IsExtent (bytes.now ++ more) result) }
+        (more : List ℕ) → HasFault (bytes.now ++ more) error × FaultEnds (bytes.now ++ more) error end) }
 {
     begins(bytes)
 }
