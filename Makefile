@@ -74,7 +74,7 @@ install: all
 
 # The first command of the README.
 demo: $(PROGRAM)
-	$(PROGRAM) hex bytes < examples/uri.hex | od -An -tx1
+	$(PROGRAM) hex diag < examples/uri.hex
 
 # Checks all crates and runs their tests, without the must-fail edits.
 quick:

@@ -1,5 +1,6 @@
 /*
- * cbor_diag.h - CBOR data items (RFC 7049) in bytes, in hex with comments and in diagnostic notation.
+ * cbor_diag.h - CBOR data items (RFC 8949, which replaced RFC 7049) in bytes, in hex with comments and in diagnostic
+ * notation.
  *
  *     static const char notation[] = "[1, {\"a\": h'00ff'}]";
  *     unsigned char bytes[64];
@@ -11,7 +12,7 @@
  *
  * The library keeps nothing between calls: any number of threads may call it at once. It frees all memory that
  * it takes before a call returns. Do not call it from a signal handler, nor in the forked child of a process
- * that has threads, since it calls malloc. A call needs at most CBOR_DIAG_STACK_SIZE bytes of stack.
+ * that has threads, since it calls malloc. CBOR_DIAG_STACK_SIZE bytes of stack are enough for each call.
  */
 #ifndef CBOR_DIAG_H
 #define CBOR_DIAG_H
@@ -26,7 +27,7 @@ extern "C" {
 /* The version of this header: 10000 * major + 100 * minor + patch. */
 #define CBOR_DIAG_VERSION 100
 
-/* The stack that a call needs at most, in bytes. */
+/* How many bytes of stack are enough for each call, as measured. */
 #define CBOR_DIAG_STACK_SIZE 262144
 
 /* The form of an input or of an output. Each can be either. */
@@ -39,17 +40,17 @@ enum cbor_diag_form {
 
 /* Why there is no output. A call answers minus one of these. */
 enum cbor_diag_error {
-    CBOR_DIAG_ERROR_MEMORY = 1,     /* out of memory */
-    CBOR_DIAG_ERROR_CUT_SHORT = 2,  /* the item is cut short: more bytes are needed */
-    CBOR_DIAG_ERROR_HEAD = 3,       /* no item can have this head */
-    CBOR_DIAG_ERROR_UTF8 = 4,       /* a text is not UTF-8, or the hex or notation of the input is not */
-    CBOR_DIAG_ERROR_TOO_DEEP = 5,   /* nested deeper than 128 levels */
-    CBOR_DIAG_ERROR_REMAINING = 6,  /* bytes remain after the item */
-    CBOR_DIAG_ERROR_ODD_HEX = 7,    /* an odd number of hex digits */
-    CBOR_DIAG_ERROR_BAD_HEX = 8,    /* not a hex digit */
-    CBOR_DIAG_ERROR_NOTATION = 9,   /* not diagnostic notation */
+    CBOR_DIAG_ERROR_MEMORY = 1,      /* out of memory */
+    CBOR_DIAG_ERROR_CUT_SHORT = 2,   /* the item is cut short: more bytes are needed */
+    CBOR_DIAG_ERROR_HEAD = 3,        /* no item can have this head */
+    CBOR_DIAG_ERROR_UTF8 = 4,        /* a text is not UTF-8, or the hex or notation of the input is not */
+    CBOR_DIAG_ERROR_TOO_DEEP = 5,    /* nested deeper than 128 levels */
+    CBOR_DIAG_ERROR_REMAINING = 6,   /* bytes remain after the item */
+    CBOR_DIAG_ERROR_ODD_HEX = 7,     /* an odd number of hex digits */
+    CBOR_DIAG_ERROR_BAD_HEX = 8,     /* not a hex digit */
+    CBOR_DIAG_ERROR_NOTATION = 9,    /* not diagnostic notation */
     CBOR_DIAG_ERROR_PAST_WIDTH = 10, /* a number does not fit its width */
-    CBOR_DIAG_ERROR_NO_FORM = 11    /* no such form: `from` or `to` is no enum cbor_diag_form */
+    CBOR_DIAG_ERROR_NO_FORM = 11     /* no such form: `from` or `to` is no enum cbor_diag_form */
 };
 
 /* Enough for the text of each error, and the zero byte that ends it. */

@@ -449,19 +449,22 @@ static long rounds_of_threads;
 static void *converting(void *unused)
 {
     (void)unused;
-    char deepest[2 * 127 + 1];
-    memset(deepest, '[', 127);
-    deepest[127] = '1';
-    memset(deepest + 128, ']', 127);
+    /* The number 1 in 127 byte strings, one in the other. The innermost 23 have heads of one byte, the rest of two. */
+    char deepest[4 * 127 + 1];
+    const int64_t deepest_length = 1 + 23 + 2 * 104;
+    memset(deepest, '<', 2 * 127);
+    deepest[2 * 127] = '1';
+    memset(deepest + 2 * 127 + 1, '>', 2 * 127);
     for (long round = 0; round < rounds_of_threads; round++) {
         unsigned char output[400];
         int from = (int)(round % FORMS), to = (int)(round / FORMS % FORMS);
         check_answer("in a thread", (int64_t)uri[to].length,
                      cbor_diag_convert(from, to, uri[from].bytes, uri[from].length, output, sizeof output));
         check_bytes("in a thread", uri[to].bytes, output, uri[to].length);
-        check_answer("127 arrays in a thread", 128,
+        check_answer("127 levels in a thread", deepest_length,
                      cbor_diag_convert(DIAG, BYTES, deepest, sizeof deepest, output, sizeof output));
-        check(output[0] == 0x81 && output[126] == 0x81 && output[127] == 1, "127 arrays in a thread: came others");
+        check(output[0] == 0x58 && output[1] == deepest_length - 2 && output[deepest_length - 1] == 1,
+              "127 levels in a thread: came %02x %02x", output[0], output[1]);
     }
     return NULL;
 }

@@ -1,4 +1,4 @@
-"""CBOR data items (RFC 7049) in bytes, in hex with comments and in diagnostic notation.
+"""CBOR data items (RFC 8949) in bytes, in hex with comments and in diagnostic notation.
 
     >>> diag_to_bytes('[1, {"a": 2}]').hex()
     '8201a1616102'
