@@ -11,8 +11,8 @@ use Rattle.cbor_diag.specs.Reading.{Read, item_at}
 use Rattle.cbor_diag.proofs.Found.{item_again}
 use Rattle.cbor_diag.proofs.CutShort.{cut_again, fault_no_cut}
 use Rattle.cbor_diag.proofs.Faults.{fault_refuses}
-use Rattle.cbor_view.specs.declared.words.To.{To}
-use Rattle.cbor_view.specs.Output.{output_of}
+use Rattle.cbor_convert.specs.declared.form.To.{To}
+use Rattle.cbor_convert.specs.Output.{output_of}
 use Rattle.cbor_view.specs.Sequence.{ItemsThen, IsOutputOfFirst, IsOutputOfAll, EndsTheItems, IsOutputBefore}
 
 -- ---- what reading answers at the front

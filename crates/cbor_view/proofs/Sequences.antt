@@ -9,11 +9,11 @@ use Rattle.cbor_diag.specs.declared.error.Error.{Error}
 use Rattle.cbor_diag.specs.declared.error.Error.TheVariants as refusal
 use Rattle.cbor_diag.specs.Item.{Item}
 use Rattle.cbor_diag.specs.Facts.{IsItem}
-use Rattle.cbor_view.specs.declared.words.To.{To}
+use Rattle.cbor_convert.specs.declared.form.To.{To}
 use Rattle.cbor_view.specs.declared.counted.Counted.{Counted}
 use Rattle.cbor_view.specs.declared.error.ViewError.{ViewError}
 use Rattle.cbor_view.specs.declared.error.ViewError.TheVariants as view_error
-use Rattle.cbor_view.specs.Output.{output_of}
+use Rattle.cbor_convert.specs.Output.{output_of}
 use Rattle.cbor_view.specs.Running.{Gains, GainsPart, OnRefusal, is_write_error}
 use Rattle.cbor_view.specs.Sequence.{ItemsThen, IsOutputOfFirst, EndsTheItems, IsOutputBefore}
 

@@ -1,6 +1,5 @@
 pub mod Words
 pub mod Errors
 pub mod Counting
-pub mod Output
 pub mod Running
 pub mod Sequence

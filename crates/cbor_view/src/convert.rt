@@ -1,13 +1,10 @@
 //! From the bytes of an input to the bytes of its output.
-ghost use Rattle.std.specs.Prelude.{◌≡◌, [], ◌∷◌, ◌++◌, Ok, Err, IfOk, IfErr};
-ghost use Rattle.std.specs.String.{string_bytes};
-ghost use Rattle.cbor_diag.specs.View.{view};
-ghost use Rattle.cbor_diag.specs.Facts.{IsWellFormed};
+ghost use Rattle.std.specs.Prelude.{Ok, Err, IfOk};
 ghost use Rattle.cbor_diag.specs.Answer.{RefusedSo};
-ghost use Rattle.cbor_view.specs.Output.{Reads, Refuses, output_of, IsOutput};
+ghost use Rattle.cbor_convert.specs.Output.{IsOutput};
 
-use crate::words::{Source, To};
-use cbor_diag::{DataItem, Error, parse_bytes, parse_diag, parse_hex};
+use cbor_convert::{Source, To, read_item, write_item};
+use cbor_diag::Error;
 use std::alloc::Global;
 
 /// The output for an input, in the memory of the input where it can: that was used already, and fresh
@@ -23,67 +20,4 @@ pub(crate) fn convert(alloc: Global, from: Source, to: To, input: Vec<u8>) -> Re
     let output = write_item(alloc, to, &item, input);
     std::mem::forget(item);
     output
-}
-
-fn read_item(alloc: Global, from: Source, input: &[u8]) -> Result<DataItem, Error>
-    ensures item { IfOk result (λ item. Reads from input.now (view item)) }
-    ensures refused { RefusedSo result (Refuses from input.now) }
-    ensures well_formed { IfOk result (λ item. IsWellFormed (view item)) }
-{
-    match from {
-        Source::Bytes => parse_bytes(alloc, input),
-        Source::Hex => match str::from_utf8(input) {
-            Ok(text) => parse_hex(alloc, text),
-            Err(_) => Err(Error::Utf8),
-        },
-        Source::Diag => match str::from_utf8(input) {
-            Ok(text) => parse_diag(alloc, text),
-            Err(_) => Err(Error::Utf8),
-        },
-    }
-}
-
-/// The output of an item, in the memory of `spare`, whose bytes are dropped; a dump has memory of its own.
-pub(crate) fn write_item(
-    alloc: Global,
-    to: To,
-    item: &DataItem,
-    spare: Vec<u8>,
-) -> Result<Vec<u8>, Error>
-    requires { IsWellFormed (view item.now) }
-    ensures written { IfOk result (λ output. output.items ≡ output_of to (view item.now)) }
-    ensures memory { IfErr result (λ e. e ≡ Error.Memory) }
-{
-    let mut output = spare;
-    output.clear();
-    match to {
-        To::Bytes => {
-            item.push_bytes(&mut output)?;
-            Ok(output)
-        }
-        To::Hex => {
-            drop(output);
-            Ok(item.to_hex(alloc)?.into_bytes())
-        }
-        To::Diag => {
-            let mut text = String::from_utf8(output).unwrap();
-            item.push_diag(alloc, &mut text)?;
-            ended_line(text)
-        }
-        To::Pretty => {
-            let mut text = String::from_utf8(output).unwrap();
-            item.push_diag_pretty(alloc, &mut text)?;
-            ended_line(text)
-        }
-    }
-}
-
-/// The bytes of a text and a line feed.
-fn ended_line(text: String) -> Result<Vec<u8>, Error>
-    ensures line { IfOk result (λ output. output.items ≡ string_bytes text ++ 10 ∷ []) }
-    ensures memory { IfErr result (λ e. e ≡ Error.Memory) }
-{
-    let mut line = text.into_bytes();
-    line.push(b'\n')?;
-    Ok(line)
 }

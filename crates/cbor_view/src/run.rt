@@ -4,7 +4,7 @@ ghost use Rattle.std.specs.Bool.{OnTrue};
 ghost use Rattle.std.specs.Io.KnownBytes.{Consumes};
 ghost use Rattle.cbor_diag.specs.declared.error.Error.TheVariants as refusal;
 ghost use Rattle.cbor_view.specs.Counting.{inner_of, failures_of};
-ghost use Rattle.cbor_view.specs.Output.{IsOutput};
+ghost use Rattle.cbor_convert.specs.Output.{IsOutput};
 ghost use Rattle.cbor_view.specs.Running.{HadAll, Gains, GainsPart, IsReadOut, Stops, OnRefusal, OnReadOut, OnUnwritten, is_read_error, is_write_error, failures_then};
 
 use crate::convert::convert;

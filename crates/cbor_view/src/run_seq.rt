@@ -7,11 +7,11 @@ ghost use Rattle.cbor_view.specs.Counting.{failures_of};
 ghost use Rattle.cbor_view.specs.Running.{HadAll, Gains, GainsPart, IsReadOut, Stops, OnRefusal, OnReadOut, is_read_error, is_write_error, failures_then};
 ghost use Rattle.cbor_view.specs.Sequence.{IsOutputOfFirst, IsOutputOfAll, IsOutputBefore, EndsTheItems};
 
-use crate::convert::write_item;
 use crate::counted::Counted;
 use crate::error::ViewError;
 use crate::run::{read_to_end, write_whole};
 use crate::words::To;
+use cbor_convert::write_item;
 use cbor_diag::{Error, parse_bytes_partial};
 use std::alloc::Global;
 use std::io::{Read, Write};

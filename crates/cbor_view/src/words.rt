@@ -2,29 +2,7 @@
 ghost use Rattle.std.specs.Prelude.{◌≡◌, Some, IfSome};
 ghost use Rattle.cbor_view.specs.Words.{source_word, target_word};
 
-/// The form in which an item is read.
-#[derive(Clone, Copy, PartialEq, Eq, Debug)]
-pub enum Source {
-    /// The bytes of the item.
-    Bytes,
-    /// The bytes of the item in hex, with comments.
-    Hex,
-    /// The item in diagnostic notation.
-    Diag,
-}
-
-/// The form in which an item is written.
-#[derive(Clone, Copy, PartialEq, Eq, Debug)]
-pub enum To {
-    /// The bytes of the item.
-    Bytes,
-    /// The bytes of the item in hex, each line with a comment.
-    Hex,
-    /// Diagnostic notation on one line, and a line feed.
-    Diag,
-    /// Diagnostic notation over several lines, and a line feed.
-    Pretty,
-}
+pub use cbor_convert::{Source, To};
 
 /// The form that a word names for the input: `bytes`, `hex` or `diag`. Any other word names none.
 pub fn from_word(word: &str) -> Option<Source>

@@ -1,5 +1,5 @@
 use Rattle.cbor_diag.specs.View.{view}
-use Rattle.cbor_view.specs.Output.{output_of}
+use Rattle.cbor_convert.specs.Output.{output_of}
 use Rattle.cbor_view.proofs.Sequences.{one_written}
 use Rattle.cbor_view.proofs.run_seq.append_first.Goals as goal
 

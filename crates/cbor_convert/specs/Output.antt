@@ -9,10 +9,10 @@ use Rattle.cbor_diag.specs.Notation.{IsNotation}
 use Rattle.cbor_diag.specs.NotationRefused.{IsNoNotation}
 use Rattle.cbor_diag.specs.Dump.{dump}
 use Rattle.cbor_diag.specs.Written.{encoded}
-use Rattle.cbor_view.specs.declared.words.Source.{Source}
-use Rattle.cbor_view.specs.declared.words.Source.TheVariants as source
-use Rattle.cbor_view.specs.declared.words.To.{To}
-use Rattle.cbor_view.specs.declared.words.To.TheVariants as target
+use Rattle.cbor_convert.specs.declared.form.Source.{Source}
+use Rattle.cbor_convert.specs.declared.form.Source.TheVariants as source
+use Rattle.cbor_convert.specs.declared.form.To.{To}
+use Rattle.cbor_convert.specs.declared.form.To.TheVariants as target
 
 -- the input, all of it, is this item in that form
 abbrev pub Reads : Source → List ℕ → Item → Type 0

@@ -1,0 +1,143 @@
+/*
+ * cbor_diag.h - CBOR data items (RFC 8949, which replaced RFC 7049) in bytes, in hex with comments and in diagnostic
+ * notation.
+ *
+ *     static const char notation[] = "[1, {\"a\": h'00ff'}]";
+ *     unsigned char bytes[64];
+ *     int64_t length = cbor_diag_convert(CBOR_DIAG_FORM_DIAG, CBOR_DIAG_FORM_BYTES,
+ *                                        notation, strlen(notation), bytes, sizeof bytes);
+ *
+ * Link with -lcbor_diag. The library needs malloc, realloc, free, memcpy, memmove and memset, and nothing else
+ * of the system.
+ *
+ * The library keeps nothing between calls: any number of threads may call it at once. It frees all memory that
+ * it takes before a call returns. Do not call it from a signal handler, nor in the forked child of a process
+ * that has threads, since it calls malloc. CBOR_DIAG_STACK_SIZE bytes of stack are enough for each call.
+ */
+#ifndef CBOR_DIAG_H
+#define CBOR_DIAG_H
+
+#include <stddef.h>
+#include <stdint.h>
+
+#ifdef __cplusplus
+extern "C" {
+#endif
+
+/* The version of this header: 10000 * major + 100 * minor + patch. */
+#define CBOR_DIAG_VERSION 100
+
+/* How many bytes of stack are enough for each call, as measured. */
+#define CBOR_DIAG_STACK_SIZE 262144
+
+/* The form of an input or of an output. Each can be either. */
+enum cbor_diag_form {
+    CBOR_DIAG_FORM_BYTES = 0, /* the bytes of an item */
+    CBOR_DIAG_FORM_HEX = 1,   /* hex with comments from # to the end of the line; the output is a dump */
+    CBOR_DIAG_FORM_DIAG = 2,  /* diagnostic notation; the output is on one line, and a line feed ends it */
+    CBOR_DIAG_FORM_PRETTY = 3 /* diagnostic notation; the output may have several lines, each with a line feed */
+};
+
+/* Why there is no output. A call answers minus one of these. */
+enum cbor_diag_error {
+    CBOR_DIAG_ERROR_MEMORY = 1,      /* out of memory */
+    CBOR_DIAG_ERROR_CUT_SHORT = 2,   /* the item is cut short: more bytes are needed */
+    CBOR_DIAG_ERROR_HEAD = 3,        /* no item can have this head */
+    CBOR_DIAG_ERROR_UTF8 = 4,        /* a text is not UTF-8, or the hex or notation of the input is not */
+    CBOR_DIAG_ERROR_TOO_DEEP = 5,    /* nested deeper than 128 levels */
+    CBOR_DIAG_ERROR_REMAINING = 6,   /* bytes remain after the item */
+    CBOR_DIAG_ERROR_ODD_HEX = 7,     /* an odd number of hex digits */
+    CBOR_DIAG_ERROR_BAD_HEX = 8,     /* not a hex digit */
+    CBOR_DIAG_ERROR_NOTATION = 9,    /* not diagnostic notation */
+    CBOR_DIAG_ERROR_PAST_WIDTH = 10, /* a number does not fit its width */
+    CBOR_DIAG_ERROR_NO_FORM = 11     /* no such form: `from` or `to` is no enum cbor_diag_form */
+};
+
+/* Enough for the text of each error, and the zero byte that ends it. */
+#define CBOR_DIAG_ERROR_TEXT_SIZE 64
+
+/*
+ * The functions of the library, as it exports them. No pointer is null, a length is at most PTRDIFF_MAX, and the
+ * output does not overlap the input. In C and C++ call the functions of the same names below, which take less
+ * trouble; other languages call these.
+ */
+int64_t cbor_diag_convert(uint32_t from, uint32_t to, const uint8_t *input, size_t input_len, uint8_t *output,
+                          size_t output_len);
+int64_t cbor_diag_extent(const uint8_t *input, size_t input_len, size_t *end);
+int64_t cbor_diag_error_text(uint32_t error, uint8_t *output, size_t output_len);
+uint32_t cbor_diag_version(void);
+
+/* What stands for a null pointer to no bytes. */
+static inline uint8_t *cbor_diag_no_bytes(void)
+{
+    static uint8_t none;
+    return &none;
+}
+
+/*
+ * Converts an item from one form to another.
+ *
+ * Answers the length of the whole output, of which as much is written as there is room for; the bytes of `output`
+ * after that stay as they are. An answer above `output_len` says that the output was longer than the room. With
+ * an `output_len` of 0 the call only finds the length. No zero byte is added.
+ *
+ * Or answers minus a number of enum cbor_diag_error, and then `output` is as it was.
+ *
+ * A pointer may be null if its length is 0. The output must not overlap the input.
+ */
+static inline int64_t cbor_diag_convert_checked(uint32_t from, uint32_t to, const void *input, size_t input_len,
+                                                void *output, size_t output_len)
+{
+    const uint8_t *in = input ? (const uint8_t *)input : cbor_diag_no_bytes();
+    uint8_t *out = output ? (uint8_t *)output : cbor_diag_no_bytes();
+    if (input_len > (size_t)PTRDIFF_MAX) {
+        return -CBOR_DIAG_ERROR_MEMORY; /* no object is that large */
+    }
+    if (output_len > (size_t)PTRDIFF_MAX) {
+        output_len = (size_t)PTRDIFF_MAX;
+    }
+    return cbor_diag_convert(from, to, in, input_len, out, output_len);
+}
+#define cbor_diag_convert cbor_diag_convert_checked
+
+/*
+ * Tells how bytes begin, without memory. For whoever reads items one after the other, as from a socket.
+ *
+ * Answers how many bytes the item at the front takes, which is at least 1; more bytes may follow it. Or answers
+ *
+ * - minus CBOR_DIAG_ERROR_CUT_SHORT, if the bytes end before their item does: with more bytes, call again;
+ * - minus CBOR_DIAG_ERROR_HEAD, _UTF8 or _TOO_DEEP, if no item begins so, whatever bytes follow.
+ *
+ * `*end` gets how many of the first bytes tell so: those of the item, all that are cut, or those that show the error,
+ * of which the last is the byte at fault or ends the text that is not UTF-8. `end` may be null.
+ */
+static inline int64_t cbor_diag_extent_checked(const void *input, size_t input_len, size_t *end)
+{
+    const uint8_t *in = input ? (const uint8_t *)input : cbor_diag_no_bytes();
+    size_t unused;
+    if (input_len > (size_t)PTRDIFF_MAX) {
+        return -CBOR_DIAG_ERROR_MEMORY; /* no object is that large */
+    }
+    return cbor_diag_extent(in, input_len, end ? end : &unused);
+}
+#define cbor_diag_extent cbor_diag_extent_checked
+
+/*
+ * Writes what an error says into `text`, with a zero byte at its end, and returns `text`. `answer` is the negative
+ * answer of a call. A text that is longer than the room is cut; CBOR_DIAG_ERROR_TEXT_SIZE is room for each. `size`
+ * is at least 1.
+ */
+static inline const char *cbor_diag_strerror(int64_t answer, char *text, size_t size)
+{
+    uint32_t number = answer < 0 && answer >= -INT32_MAX ? (uint32_t)-answer : 0;
+    size_t room = size - 1 < CBOR_DIAG_ERROR_TEXT_SIZE ? size - 1 : CBOR_DIAG_ERROR_TEXT_SIZE - 1;
+    int64_t length = cbor_diag_error_text(number, (uint8_t *)text, room);
+    text[length < (int64_t)room ? (size_t)length : room] = '\0';
+    return text;
+}
+
+#ifdef __cplusplus
+}
+#endif
+
+#endif

@@ -1,0 +1,503 @@
+/*
+ * Tests of the library for C. Expected values are worked out by hand from RFC 7049 and the documents in docs/.
+ *
+ *     test [COUNT]      COUNT is how many integers the large array has, 65536 to 16777215; 500000 if left out
+ *
+ * Links with -Wl,--wrap=malloc,--wrap=realloc,--wrap=free, so that each allocation can be made to fail.
+ */
+#include <pthread.h>
+#include <stdarg.h>
+#include <stdio.h>
+#include <stdlib.h>
+#include <string.h>
+
+#include "cbor_diag.h"
+
+#define BYTES CBOR_DIAG_FORM_BYTES
+#define HEX CBOR_DIAG_FORM_HEX
+#define DIAG CBOR_DIAG_FORM_DIAG
+#define PRETTY CBOR_DIAG_FORM_PRETTY
+#define FORMS 4
+#define UNTOUCHED 0xa5
+
+/* ---- reports */
+
+static pthread_mutex_t reporting = PTHREAD_MUTEX_INITIALIZER;
+static long checks, failures;
+
+/* One check. If it fails, the words say on what input, what was expected and what came. */
+static void check(int holds, const char *words, ...)
+{
+    pthread_mutex_lock(&reporting);
+    checks++;
+    if (!holds) {
+        failures++;
+        va_list arguments;
+        va_start(arguments, words);
+        vfprintf(stderr, words, arguments);
+        va_end(arguments);
+        fputc('\n', stderr);
+    }
+    pthread_mutex_unlock(&reporting);
+}
+
+static void check_answer(const char *input, int64_t expected, int64_t came)
+{
+    check(expected == came, "%s: expected the answer %lld, came %lld", input, (long long)expected, (long long)came);
+}
+
+/* Where the bytes differ from what is expected. */
+static void check_bytes(const char *input, const void *expected, const void *came, size_t length)
+{
+    const unsigned char *e = expected, *c = came;
+    size_t at = 0;
+    while (at < length && e[at] == c[at]) {
+        at++;
+    }
+    check(at == length, "%s: expected byte %zu to be %02x, came %02x", input, at, at < length ? e[at] : 0,
+          at < length ? c[at] : 0);
+}
+
+/* ---- memory that fails */
+
+void *__real_malloc(size_t size);
+void *__real_realloc(void *block, size_t size);
+void __real_free(void *block);
+
+/* The allocation that fails, counted from 0, where counting is on; and how many blocks are held. */
+static long failing = -1, allocations, held;
+static int counting;
+
+static int fails(void)
+{
+    return counting && allocations++ == failing;
+}
+
+void *__wrap_malloc(size_t size)
+{
+    if (fails()) {
+        return NULL;
+    }
+    void *block = __real_malloc(size);
+    held += counting && block;
+    return block;
+}
+
+void *__wrap_realloc(void *block, size_t size)
+{
+    if (fails()) {
+        return NULL;
+    }
+    void *moved = __real_realloc(block, size);
+    held += counting && !block && moved;
+    return moved;
+}
+
+void __wrap_free(void *block)
+{
+    held -= counting && block;
+    __real_free(block);
+}
+
+/* ---- an item in all forms */
+
+struct text {
+    const void *bytes;
+    size_t length;
+};
+
+#define TEXT(literal) {literal, sizeof(literal) - 1}
+
+/* The tag 32 over a text, as the README of the repository shows it. */
+static const struct text uri[FORMS] = {
+    TEXT("\xd8\x20\x73https://example.com"),
+    TEXT("d8 20                                        # uri, tag(32)\n"
+         "   73                                        #   text(19)\n"
+         "      68747470733a2f2f6578616d706c652e636f6d #     \"https://example.com\"\n"
+         "                                             #   valid URL (checked against URL Standard, not RFC 3986)\n"),
+    TEXT("32_0(\"https://example.com\")\n"),
+    TEXT("32_0(\"https://example.com\")\n"),
+};
+
+/* A buffer of its own for each length, so that a tool that watches memory sees a byte past its end. */
+static void test_room(const char *name, int from, int to, struct text input, struct text output)
+{
+    for (size_t room = 0; room <= output.length + 3; room++) {
+        unsigned char *buffer = malloc(room + 1);
+        memset(buffer, UNTOUCHED, room + 1);
+        int64_t came = cbor_diag_convert(from, to, input.bytes, input.length, buffer, room);
+        size_t written = room < output.length ? room : output.length;
+        check_answer(name, (int64_t)output.length, came);
+        check_bytes(name, output.bytes, buffer, written);
+        for (size_t i = written; i <= room; i++) {
+            check(buffer[i] == UNTOUCHED, "%s: room of %zu: expected byte %zu untouched, came %02x", name, room, i,
+                  buffer[i]);
+        }
+        free(buffer);
+    }
+}
+
+/* The same with no byte to spare, for the tools. */
+static void test_exact_room(const char *name, int from, int to, struct text input, struct text output)
+{
+    for (size_t room = 0; room <= output.length; room++) {
+        unsigned char *in = malloc(input.length), *out = malloc(room);
+        memcpy(in, input.bytes, input.length);
+        check_answer(name, (int64_t)output.length, cbor_diag_convert(from, to, in, input.length, out, room));
+        check_bytes(name, output.bytes, out, room);
+        free(in);
+        free(out);
+    }
+}
+
+static const char *const form_names[FORMS] = {"bytes", "hex", "diag", "pretty"};
+
+static void test_all_pairs_in_every_room(void)
+{
+    for (int from = 0; from < FORMS; from++) {
+        for (int to = 0; to < FORMS; to++) {
+            char name[64];
+            snprintf(name, sizeof name, "a URI from %s to %s", form_names[from], form_names[to]);
+            test_room(name, from, to, uri[from], uri[to]);
+            test_exact_room(name, from, to, uri[from], uri[to]);
+        }
+    }
+}
+
+/* ---- errors */
+
+struct refused {
+    const char *name;
+    uint32_t from, to;
+    struct text input;
+    int error;
+};
+
+static const struct refused refusals[] = {
+    {"no bytes", BYTES, DIAG, TEXT(""), CBOR_DIAG_ERROR_CUT_SHORT},
+    {"no hex", HEX, DIAG, TEXT(""), CBOR_DIAG_ERROR_CUT_SHORT},
+    {"no notation", DIAG, BYTES, TEXT(""), CBOR_DIAG_ERROR_NOTATION},
+    {"an array of two that ends after one", BYTES, DIAG, TEXT("\x82\x01"), CBOR_DIAG_ERROR_CUT_SHORT},
+    {"a head with the info 28", BYTES, DIAG, TEXT("\x1c"), CBOR_DIAG_ERROR_HEAD},
+    {"a break alone", BYTES, DIAG, TEXT("\xff"), CBOR_DIAG_ERROR_HEAD},
+    {"a text of the byte ff", BYTES, DIAG, TEXT("\x61\xff"), CBOR_DIAG_ERROR_UTF8},
+    {"hex of the byte ff", HEX, DIAG, TEXT("\xff"), CBOR_DIAG_ERROR_UTF8},
+    {"notation of the byte ff", DIAG, BYTES, TEXT("\xff"), CBOR_DIAG_ERROR_UTF8},
+    {"two items", BYTES, DIAG, TEXT("\x01\x02"), CBOR_DIAG_ERROR_REMAINING},
+    {"one hex digit", HEX, BYTES, TEXT("0"), CBOR_DIAG_ERROR_ODD_HEX},
+    {"a g among hex digits", HEX, BYTES, TEXT("0g"), CBOR_DIAG_ERROR_BAD_HEX},
+    {"a decimal fraction", DIAG, BYTES, TEXT("1.5"), CBOR_DIAG_ERROR_NOTATION},
+    {"a decimal fraction, pretty", PRETTY, BYTES, TEXT("1.5"), CBOR_DIAG_ERROR_NOTATION},
+    {"300 in one byte", DIAG, BYTES, TEXT("300_0"), CBOR_DIAG_ERROR_PAST_WIDTH},
+    {"from the form 4", 4, BYTES, TEXT("\x01"), CBOR_DIAG_ERROR_NO_FORM},
+    {"to the form 4", BYTES, 4, TEXT("\x01"), CBOR_DIAG_ERROR_NO_FORM},
+    {"from the form 2^32 - 1", UINT32_MAX, BYTES, TEXT("\x01"), CBOR_DIAG_ERROR_NO_FORM},
+    {"to the form 2^31", BYTES, 1u << 31, TEXT("\x01"), CBOR_DIAG_ERROR_NO_FORM},
+    {"to no form, of no item", BYTES, 99, TEXT(""), CBOR_DIAG_ERROR_NO_FORM},
+};
+
+static void check_refused(const char *name, uint32_t from, uint32_t to, struct text input, int error)
+{
+    unsigned char buffer[16], as_before[sizeof buffer];
+    memset(buffer, UNTOUCHED, sizeof buffer);
+    memset(as_before, UNTOUCHED, sizeof buffer);
+    check_answer(name, -error, cbor_diag_convert(from, to, input.bytes, input.length, buffer, sizeof buffer));
+    check_bytes(name, as_before, buffer, sizeof buffer);
+    check_answer(name, -error, cbor_diag_convert(from, to, input.bytes, input.length, NULL, 0));
+}
+
+static void test_errors(void)
+{
+    for (size_t i = 0; i < sizeof refusals / sizeof *refusals; i++) {
+        const struct refused *r = &refusals[i];
+        check_refused(r->name, r->from, r->to, r->input, r->error);
+    }
+}
+
+static const char *const error_texts[] = {
+    "no such error",
+    "out of memory",
+    "the item is cut short",
+    "no item can have this head",
+    "a text is not UTF-8",
+    "nested deeper than 128 levels",
+    "bytes remain after the item",
+    "an odd number of hex digits",
+    "not a hex digit",
+    "not diagnostic notation",
+    "a number does not fit its width",
+    "no such form",
+    "no such error",
+};
+
+static void test_error_texts(void)
+{
+    for (int64_t number = 0; number <= 12; number++) {
+        const char *expected = error_texts[number];
+        char text[CBOR_DIAG_ERROR_TEXT_SIZE];
+        check(strcmp(expected, cbor_diag_strerror(-number, text, sizeof text)) == 0,
+              "the error %lld: expected \"%s\", came \"%s\"", (long long)number, expected, text);
+        for (size_t size = 1; size <= strlen(expected) + 2; size++) {
+            char *cut = malloc(size);
+            size_t length = size - 1 < strlen(expected) ? size - 1 : strlen(expected);
+            cbor_diag_strerror(-number, cut, size);
+            check(strlen(cut) == length && memcmp(cut, expected, length) == 0,
+                  "the error %lld in %zu bytes: expected %zu of \"%s\", came \"%s\"", (long long)number, size, length,
+                  expected, cut);
+            free(cut);
+        }
+    }
+    char text[CBOR_DIAG_ERROR_TEXT_SIZE];
+    const int64_t no_errors[] = {1, INT64_MAX, INT64_MIN, -UINT32_MAX, -(int64_t)UINT32_MAX - 2};
+    for (size_t i = 0; i < sizeof no_errors / sizeof *no_errors; i++) {
+        check(strcmp("no such error", cbor_diag_strerror(no_errors[i], text, sizeof text)) == 0,
+              "the answer %lld: came \"%s\"", (long long)no_errors[i], text);
+    }
+}
+
+/* ---- how bytes begin */
+
+static void test_extents(void)
+{
+    const struct {
+        struct text input;
+        int64_t answer;
+        size_t end;
+    } rows[] = {
+        {TEXT(""), -CBOR_DIAG_ERROR_CUT_SHORT, 0},
+        {TEXT("\x01"), 1, 1},
+        {TEXT("\x01\x02"), 1, 1},
+        {TEXT("\x82\x01\x02\x03"), 3, 3},
+        {TEXT("\x82\x01"), -CBOR_DIAG_ERROR_CUT_SHORT, 2},
+        {TEXT("\x82\x01\x1c\x00"), -CBOR_DIAG_ERROR_HEAD, 3},
+        {TEXT("\xff"), -CBOR_DIAG_ERROR_HEAD, 1},
+        {TEXT("\x81\x62\xff\x00\x00"), -CBOR_DIAG_ERROR_UTF8, 4},
+        {TEXT("\x62\xff"), -CBOR_DIAG_ERROR_CUT_SHORT, 2},
+        {TEXT("\x9f\x01\xff\xff"), 3, 3},
+    };
+    for (size_t i = 0; i < sizeof rows / sizeof *rows; i++) {
+        char name[40];
+        snprintf(name, sizeof name, "the extent of row %zu", i);
+        size_t length = rows[i].input.length, end = 99;
+        unsigned char *input = malloc(length);
+        memcpy(input, rows[i].input.bytes, length);
+        check_answer(name, rows[i].answer, cbor_diag_extent(input, length, &end));
+        check(end == rows[i].end, "%s: expected the end %zu, came %zu", name, rows[i].end, end);
+        check_answer(name, rows[i].answer, cbor_diag_extent(input, length, NULL));
+        free(input);
+    }
+    size_t end = 99;
+    check_answer("null input", -CBOR_DIAG_ERROR_CUT_SHORT, cbor_diag_extent(NULL, 0, &end));
+    check(end == 0, "null input: expected the end 0, came %zu", end);
+    check_answer("2^64 - 1 bytes", -CBOR_DIAG_ERROR_MEMORY, cbor_diag_extent("\x01", SIZE_MAX, NULL));
+}
+
+/* Arrays in arrays: at level 129 any byte is the byte at fault. And no memory is taken. */
+static void test_deep_extent(void)
+{
+    const size_t count = 200000;
+    unsigned char *openings = malloc(count);
+    size_t end;
+    memset(openings, 0x81, count);
+    allocations = 0;
+    counting = 1;
+    int64_t deep = cbor_diag_extent(openings, count, &end);
+    int64_t cut = cbor_diag_extent(openings, 128, NULL);
+    counting = 0;
+    check_answer("200000 arrays", -CBOR_DIAG_ERROR_TOO_DEEP, deep);
+    check(end == 129, "200000 arrays: expected the end 129, came %zu", end);
+    check_answer("128 arrays", -CBOR_DIAG_ERROR_CUT_SHORT, cut);
+    check(allocations == 0, "200000 arrays: expected no allocation, came %ld", allocations);
+    free(openings);
+}
+
+/* ---- arguments at their limits */
+
+static void test_limits(void)
+{
+    unsigned char buffer[8];
+    memset(buffer, UNTOUCHED, sizeof buffer);
+    check_answer("null input", -CBOR_DIAG_ERROR_CUT_SHORT, cbor_diag_convert(BYTES, DIAG, NULL, 0, NULL, 0));
+    check_answer("null output", 2, cbor_diag_convert(BYTES, DIAG, "\x01", 1, NULL, 0));
+    check_answer("an input of 2^64 - 1 bytes", -CBOR_DIAG_ERROR_MEMORY,
+                 cbor_diag_convert(BYTES, DIAG, "\x01", SIZE_MAX, buffer, sizeof buffer));
+    check_answer("room for 2^64 - 1 bytes", 2, cbor_diag_convert(BYTES, DIAG, "\x01", 1, buffer, SIZE_MAX));
+    check_bytes("room for 2^64 - 1 bytes", "1\n\xa5\xa5\xa5\xa5\xa5\xa5", buffer, sizeof buffer);
+    check(cbor_diag_version() == CBOR_DIAG_VERSION, "the version: expected %d, came %u", CBOR_DIAG_VERSION,
+          cbor_diag_version());
+}
+
+/* ---- memory */
+
+static void test_failing_memory(int from, int to, struct text input, struct text output)
+{
+    unsigned char buffer[400], as_before[400];
+    int64_t came = -CBOR_DIAG_ERROR_MEMORY;
+    memset(as_before, UNTOUCHED, sizeof as_before);
+    for (failing = 0; came < 0 && failing < 1000; failing++) {
+        memset(buffer, UNTOUCHED, sizeof buffer);
+        allocations = held = 0;
+        counting = 1;
+        came = cbor_diag_convert(from, to, input.bytes, input.length, buffer, sizeof buffer);
+        counting = 0;
+        check(held == 0, "allocation %ld fails: expected no block held, came %ld", failing, held);
+        if (came < 0) {
+            check_answer("an allocation fails", -CBOR_DIAG_ERROR_MEMORY, came);
+            check_bytes("an allocation fails", as_before, buffer, sizeof buffer);
+        }
+    }
+    check(failing > 1, "no allocation was made to fail from %d to %d", from, to);
+    check_answer("no allocation fails", (int64_t)output.length, came);
+    check_bytes("no allocation fails", output.bytes, buffer, output.length);
+}
+
+static void test_memory(void)
+{
+    for (int from = 0; from < FORMS; from++) {
+        for (int to = 0; to < FORMS; to++) {
+            test_failing_memory(from, to, uri[from], uri[to]);
+        }
+    }
+}
+
+/* ---- openings */
+
+static void test_openings(void)
+{
+    const struct {
+        const char *name;
+        int from;
+        const char *opening;
+    } rows[] = {
+        {"arrays", BYTES, "\x81"},   {"indefinite arrays", BYTES, "\x9f"}, {"maps", BYTES, "\xa1"},
+        {"tags", BYTES, "\xc1"},     {"arrays in hex", HEX, "81"},         {"arrays", DIAG, "["},
+        {"maps", DIAG, "{"},         {"tags", DIAG, "1("},                 {"arrays", PRETTY, "[_ "},
+    };
+    const size_t count = 200000;
+    char *openings = malloc(3 * count);
+    for (size_t i = 0; i < sizeof rows / sizeof *rows; i++) {
+        size_t length = strlen(rows[i].opening);
+        for (size_t j = 0; j < count; j++) {
+            memcpy(openings + j * length, rows[i].opening, length);
+        }
+        for (int to = 0; to < FORMS; to++) {
+            struct text input = {openings, count * length};
+            check_refused(rows[i].name, rows[i].from, to, input, CBOR_DIAG_ERROR_TOO_DEEP);
+        }
+    }
+    free(openings);
+}
+
+/* ---- a large array of the number 1 */
+
+struct buffer {
+    unsigned char *bytes;
+    size_t length;
+};
+
+static void append(struct buffer *buffer, const char *piece, size_t length)
+{
+    memcpy(buffer->bytes + buffer->length, piece, length);
+    buffer->length += length;
+}
+
+/* A first piece, then a piece as often as the array has items, and then a last piece. */
+static struct buffer repeated(const char *first, size_t first_length, const char *piece, size_t count, const char *last)
+{
+    struct buffer buffer = {malloc(first_length + strlen(piece) * count + strlen(last)), 0};
+    append(&buffer, first, first_length);
+    for (size_t i = 0; i < count; i++) {
+        append(&buffer, piece, strlen(piece));
+    }
+    append(&buffer, last, strlen(last));
+    return buffer;
+}
+
+static void test_large(size_t count)
+{
+    unsigned char head[5] = {0x9a, 0, (unsigned char)(count >> 16), (unsigned char)(count >> 8), (unsigned char)count};
+    char first_line[80];
+    snprintf(first_line, sizeof first_line, "9a %08zx # array(%zu)\n", count, count);
+    struct buffer forms[FORMS] = {
+        repeated((char *)head, 5, "\x01", count, ""),
+        repeated(first_line, strlen(first_line), "   01       #   unsigned(1)\n", count, ""),
+        repeated("[", 1, "1,", count - 1, "1]\n"),
+        repeated("[\n", 2, "    1,\n", count, "]\n"),
+    };
+    for (int from = 0; from < FORMS; from++) {
+        for (int to = 0; to < FORMS; to++) {
+            char name[64];
+            snprintf(name, sizeof name, "a large array from %s to %s", form_names[from], form_names[to]);
+            size_t room = forms[to].length;
+            unsigned char *output = malloc(room);
+            check_answer(name, (int64_t)room,
+                         cbor_diag_convert(from, to, forms[from].bytes, forms[from].length, output, room));
+            check_bytes(name, forms[to].bytes, output, room);
+            free(output);
+        }
+    }
+    for (int form = 0; form < FORMS; form++) {
+        free(forms[form].bytes);
+    }
+}
+
+/* ---- threads */
+
+static long rounds_of_threads;
+
+/* All pairs of forms over and over, and items at the deepest level, which take the most stack. */
+static void *converting(void *unused)
+{
+    (void)unused;
+    /* The number 1 in 127 byte strings, one in the other. The innermost 23 have heads of one byte, the rest of two. */
+    char deepest[4 * 127 + 1];
+    const int64_t deepest_length = 1 + 23 + 2 * 104;
+    memset(deepest, '<', 2 * 127);
+    deepest[2 * 127] = '1';
+    memset(deepest + 2 * 127 + 1, '>', 2 * 127);
+    for (long round = 0; round < rounds_of_threads; round++) {
+        unsigned char output[400];
+        int from = (int)(round % FORMS), to = (int)(round / FORMS % FORMS);
+        check_answer("in a thread", (int64_t)uri[to].length,
+                     cbor_diag_convert(from, to, uri[from].bytes, uri[from].length, output, sizeof output));
+        check_bytes("in a thread", uri[to].bytes, output, uri[to].length);
+        check_answer("127 levels in a thread", deepest_length,
+                     cbor_diag_convert(DIAG, BYTES, deepest, sizeof deepest, output, sizeof output));
+        check(output[0] == 0x58 && output[1] == deepest_length - 2 && output[deepest_length - 1] == 1,
+              "127 levels in a thread: came %02x %02x", output[0], output[1]);
+    }
+    return NULL;
+}
+
+static void test_threads(void)
+{
+    pthread_t threads[4];
+    pthread_attr_t attributes;
+    pthread_attr_init(&attributes);
+    pthread_attr_setstacksize(&attributes, CBOR_DIAG_STACK_SIZE);
+    for (int i = 0; i < 4; i++) {
+        check(pthread_create(&threads[i], &attributes, converting, NULL) == 0, "a thread could not be started");
+    }
+    for (int i = 0; i < 4; i++) {
+        pthread_join(threads[i], NULL);
+    }
+    pthread_attr_destroy(&attributes);
+}
+
+int main(int argc, char **argv)
+{
+    size_t count = argc > 1 ? strtoul(argv[1], NULL, 10) : 500000;
+    rounds_of_threads = (long)count / 25;
+    test_all_pairs_in_every_room();
+    test_errors();
+    test_error_texts();
+    test_extents();
+    test_deep_extent();
+    test_limits();
+    test_memory();
+    test_openings();
+    test_large(count);
+    test_threads();
+    printf("%ld checks, %ld failed\n", checks, failures);
+    return failures == 0 ? 0 : 1;
+}

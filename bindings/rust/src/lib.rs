@@ -1,0 +1,174 @@
+#![doc = include_str!("../README.md")]
+#![warn(missing_docs)]
+
+mod error;
+
+pub use error::{Error, Result};
+
+/// The form of an input or of an output.
+#[derive(Clone, Copy, PartialEq, Eq, Hash, Debug)]
+pub enum Form {
+    /// The bytes of an item.
+    Bytes,
+    /// Hex with comments from `#` to the end of the line. As an output it is a dump.
+    Hex,
+    /// Diagnostic notation. As an output it is on one line, and a line feed ends it.
+    Diag,
+    /// Diagnostic notation. As an output it may have several lines, each with a line feed.
+    Pretty,
+}
+
+impl Form {
+    fn number(self) -> u32 {
+        match self {
+            Form::Bytes => 0,
+            Form::Hex => 1,
+            Form::Diag => 2,
+            Form::Pretty => 3,
+        }
+    }
+}
+
+mod library {
+    extern "C" {
+        /// Answers the length of the whole output, of which as much is written as there is room for, or minus the
+        /// number of an error. It reads no byte of the output.
+        pub fn cbor_diag_convert(
+            from: u32,
+            to: u32,
+            input: *const u8,
+            input_len: usize,
+            output: *mut u8,
+            output_len: usize,
+        ) -> i64;
+        /// Answers how many bytes the item takes, or minus the number of an error, and writes to `end` how many first
+        /// bytes tell that.
+        pub fn cbor_diag_extent(input: *const u8, input_len: usize, end: *mut usize) -> i64;
+        pub fn cbor_diag_error_text(error: u32, output: *mut u8, output_len: usize) -> i64;
+        pub fn cbor_diag_version() -> u32;
+    }
+}
+
+/// Room that is enough for most outputs.
+fn likely_room(to: Form, input: &[u8]) -> usize {
+    let factor = if to == Form::Hex { 8 } else { 3 };
+    input.len().saturating_mul(factor).saturating_add(64)
+}
+
+/// Converts an item from one form to another.
+pub fn convert(from: Form, to: Form, input: &[u8]) -> Result<Vec<u8>> {
+    let mut output = Vec::new();
+    let mut room = likely_room(to, input);
+    loop {
+        output.try_reserve_exact(room).map_err(|_| Error::Memory)?;
+        let room_there = output.capacity();
+        // SAFETY: the pointers are those of the slice and of the vector, are not null and do not overlap, and so many
+        // bytes stand at each. The call only writes to the output.
+        let answer = unsafe {
+            library::cbor_diag_convert(
+                from.number(),
+                to.number(),
+                input.as_ptr(),
+                input.len(),
+                output.as_mut_ptr(),
+                room_there,
+            )
+        };
+        let length = usize::try_from(answer).map_err(|_| Error::of(answer))?;
+        if length <= room_there {
+            // SAFETY: the call wrote all bytes of the output.
+            unsafe { output.set_len(length) };
+            return Ok(output);
+        }
+        room = length;
+    }
+}
+
+/// An output that is text.
+fn text(from: Form, to: Form, input: &[u8]) -> Result<String> {
+    let output = convert(from, to, input)?;
+    // All text of an item is checked to be UTF-8 before any of it is written.
+    Ok(String::from_utf8(output).expect("the output is UTF-8"))
+}
+
+/// Notation without the line feed at its end.
+fn notation(from: Form, to: Form, input: &[u8]) -> Result<String> {
+    let mut text = text(from, to, input)?;
+    text.pop();
+    Ok(text)
+}
+
+/// How some bytes begin.
+#[derive(Clone, Copy, PartialEq, Eq, Hash, Debug)]
+pub enum Extent {
+    /// With an item of this many bytes; more bytes may follow it.
+    Item(usize),
+    /// The bytes end before their item does: with more bytes there may be one.
+    Cut,
+    /// No item begins so, whatever bytes follow.
+    Fault {
+        /// Why there is no item.
+        error: Error,
+        /// How many of the first bytes show it.
+        end: usize,
+    },
+}
+
+/// Tells how some bytes begin, without memory.
+pub fn extent(bytes: &[u8]) -> Extent {
+    let mut end = 0;
+    // SAFETY: the pointers are those of the slice and of the variable, and so many bytes stand at the first.
+    let answer = unsafe { library::cbor_diag_extent(bytes.as_ptr(), bytes.len(), &mut end) };
+    match usize::try_from(answer).map_err(|_| Error::of(answer)) {
+        Ok(length) => Extent::Item(length),
+        Err(Error::CutShort) => Extent::Cut,
+        Err(error) => Extent::Fault { error, end },
+    }
+}
+
+/// The dump of an item: its bytes in hex, a line for each head, with comments.
+pub fn bytes_to_hex(bytes: &[u8]) -> Result<String> {
+    text(Form::Bytes, Form::Hex, bytes)
+}
+
+/// An item in diagnostic notation, on one line without a line feed.
+pub fn bytes_to_diag(bytes: &[u8]) -> Result<String> {
+    notation(Form::Bytes, Form::Diag, bytes)
+}
+
+/// An item in diagnostic notation over several lines, without a line feed at the end.
+pub fn bytes_to_diag_pretty(bytes: &[u8]) -> Result<String> {
+    notation(Form::Bytes, Form::Pretty, bytes)
+}
+
+/// The bytes of an item from hex, with or without comments.
+pub fn hex_to_bytes(hex: &str) -> Result<Vec<u8>> {
+    convert(Form::Hex, Form::Bytes, hex.as_bytes())
+}
+
+/// An item in hex in diagnostic notation, on one line without a line feed.
+pub fn hex_to_diag(hex: &str) -> Result<String> {
+    notation(Form::Hex, Form::Diag, hex.as_bytes())
+}
+
+/// An item in hex in diagnostic notation over several lines, without a line feed at the end.
+pub fn hex_to_diag_pretty(hex: &str) -> Result<String> {
+    notation(Form::Hex, Form::Pretty, hex.as_bytes())
+}
+
+/// The bytes of an item from diagnostic notation.
+pub fn diag_to_bytes(diag: &str) -> Result<Vec<u8>> {
+    convert(Form::Diag, Form::Bytes, diag.as_bytes())
+}
+
+/// The dump of an item from diagnostic notation.
+pub fn diag_to_hex(diag: &str) -> Result<String> {
+    text(Form::Diag, Form::Hex, diag.as_bytes())
+}
+
+/// The major, minor and patch version of the library.
+pub fn library_version() -> (u32, u32, u32) {
+    // SAFETY: the call takes nothing.
+    let version = unsafe { library::cbor_diag_version() };
+    (version / 10000, version / 100 % 100, version % 100)
+}

@@ -1,0 +1,187 @@
+//! Expected values are worked out by hand from RFC 7049 and the documents in docs/.
+
+use cbor_diag::{convert, extent, Error, Extent, Form};
+use std::thread;
+
+const FORMS: [Form; 4] = [Form::Bytes, Form::Hex, Form::Diag, Form::Pretty];
+
+/// A tag over a text in each form, in the order of `FORMS`.
+const URI: [&[u8]; 4] = [
+    b"\xd8\x20\x73https://example.com",
+    b"\
+d8 20                                        # uri, tag(32)
+   73                                        #   text(19)
+      68747470733a2f2f6578616d706c652e636f6d #     \"https://example.com\"
+                                             #   valid URL (checked against URL Standard, not RFC 3986)
+",
+    b"32_0(\"https://example.com\")\n",
+    b"32_0(\"https://example.com\")\n",
+];
+
+fn assert_all_pairs(forms: [&[u8]; 4]) {
+    for (from, input) in FORMS.into_iter().zip(forms) {
+        for (to, expected) in FORMS.into_iter().zip(forms) {
+            let output = convert(from, to, input).unwrap();
+            assert!(output == expected, "from {from:?} to {to:?}");
+        }
+    }
+}
+
+#[test]
+fn each_pair_of_forms() {
+    assert_all_pairs(URI);
+}
+
+#[test]
+fn named_conversions() {
+    let item = [0x81, 0x01];
+    let dump = "81    # array(1)\n   01 #   unsigned(1)\n";
+    assert_eq!(cbor_diag::bytes_to_hex(&item).as_deref(), Ok(dump));
+    assert_eq!(cbor_diag::bytes_to_diag(&item).as_deref(), Ok("[1]"));
+    assert_eq!(cbor_diag::bytes_to_diag_pretty(&item).as_deref(), Ok("[1]"));
+    assert_eq!(cbor_diag::hex_to_bytes(dump).as_deref(), Ok(&item[..]));
+    assert_eq!(cbor_diag::hex_to_diag(dump).as_deref(), Ok("[1]"));
+    assert_eq!(cbor_diag::hex_to_diag_pretty(dump).as_deref(), Ok("[1]"));
+    assert_eq!(cbor_diag::diag_to_bytes("[1]").as_deref(), Ok(&item[..]));
+    assert_eq!(cbor_diag::diag_to_hex("[1]").as_deref(), Ok(dump));
+}
+
+#[test]
+fn each_error() {
+    let deep = [b"\x81".repeat(128), vec![1]].concat();
+    let rows: [(Form, &[u8], Error); 16] = [
+        (Form::Bytes, b"", Error::CutShort),
+        (Form::Bytes, b"\x82\x01", Error::CutShort),
+        (Form::Bytes, b"\x1c", Error::Head),
+        (Form::Bytes, b"\x61\xff", Error::Utf8),
+        (Form::Hex, b"\xff", Error::Utf8),
+        (Form::Diag, b"\xff", Error::Utf8),
+        (Form::Bytes, &deep, Error::TooDeep),
+        (Form::Bytes, &b"\x81".repeat(200000), Error::TooDeep),
+        (Form::Hex, &b"81".repeat(200000), Error::TooDeep),
+        (Form::Diag, &b"[".repeat(200000), Error::TooDeep),
+        (Form::Pretty, &b"{".repeat(200000), Error::TooDeep),
+        (Form::Bytes, b"\x01\x02", Error::Remaining),
+        (Form::Hex, b"0", Error::OddHex),
+        (Form::Hex, b"0g", Error::BadHex),
+        (Form::Diag, b"1.5", Error::Notation),
+        (Form::Diag, b"300_0", Error::PastWidth),
+    ];
+    for (from, input, error) in rows {
+        for to in FORMS {
+            let begin = &input[..input.len().min(20)];
+            assert_eq!(
+                convert(from, to, input),
+                Err(error),
+                "{begin:x?} from {from:?} to {to:?}"
+            );
+        }
+    }
+}
+
+#[test]
+fn extents() {
+    let openings = b"\x81".repeat(200000);
+    let rows: [(&[u8], Extent); 9] = [
+        (b"", Extent::Cut),
+        (b"\x01", Extent::Item(1)),
+        (b"\x01\x02", Extent::Item(1)),
+        (b"\x82\x01\x02\x03", Extent::Item(3)),
+        (b"\x82\x01", Extent::Cut),
+        (
+            b"\x82\x01\x1c\x00",
+            Extent::Fault {
+                error: Error::Head,
+                end: 3,
+            },
+        ),
+        (
+            b"\x81\x62\xff\x00\x00",
+            Extent::Fault {
+                error: Error::Utf8,
+                end: 4,
+            },
+        ),
+        (
+            &openings,
+            Extent::Fault {
+                error: Error::TooDeep,
+                end: 129,
+            },
+        ),
+        (b"\x9f\x01\xff\xff", Extent::Item(3)),
+    ];
+    for (bytes, expected) in rows {
+        assert_eq!(
+            extent(bytes),
+            expected,
+            "{:x?}",
+            &bytes[..bytes.len().min(20)]
+        );
+    }
+}
+
+#[test]
+fn texts_of_errors() {
+    let rows = [
+        (Error::Memory, "out of memory"),
+        (Error::CutShort, "the item is cut short"),
+        (Error::Head, "no item can have this head"),
+        (Error::Utf8, "a text is not UTF-8"),
+        (Error::TooDeep, "nested deeper than 128 levels"),
+        (Error::Remaining, "bytes remain after the item"),
+        (Error::OddHex, "an odd number of hex digits"),
+        (Error::BadHex, "not a hex digit"),
+        (Error::Notation, "not diagnostic notation"),
+        (Error::PastWidth, "a number does not fit its width"),
+    ];
+    for (error, text) in rows {
+        assert_eq!(error.to_string(), text);
+        let error: Box<dyn std::error::Error + Send + Sync> = error.into();
+        assert_eq!(error.to_string(), text);
+    }
+}
+
+#[test]
+fn an_output_far_longer_than_its_input() {
+    // 120 arrays, one in the other: each has a line of its own, three blanks deeper than the one around it.
+    let dump = cbor_diag::bytes_to_hex(&[b"\x81".repeat(119), vec![0x80]].concat()).unwrap();
+    let lines: Vec<_> = dump.lines().collect();
+    assert_eq!(lines.len(), 120);
+    assert!(
+        lines[119].starts_with(&format!("{}80 #", " ".repeat(357))),
+        "{}",
+        lines[119]
+    );
+}
+
+#[test]
+fn a_megabyte_of_each_form() {
+    let count = 500000;
+    let head = [&[0x9a][..], &u32::to_be_bytes(count)].concat();
+    let count = count as usize;
+    assert_all_pairs([
+        &[&head[..], &b"\x01".repeat(count)].concat(),
+        &[
+            format!("9a {count:08x} # array({count})\n").as_bytes(),
+            &b"   01       #   unsigned(1)\n".repeat(count),
+        ]
+        .concat(),
+        &[b"[", &b"1,".repeat(count - 1)[..], b"1]\n"].concat(),
+        &[b"[\n", &b"    1,\n".repeat(count)[..], b"]\n"].concat(),
+    ]);
+}
+
+#[test]
+fn four_threads_at_once() {
+    thread::scope(|scope| {
+        for _ in 0..4 {
+            scope.spawn(|| (0..2000).for_each(|_| assert_all_pairs(URI)));
+        }
+    });
+}
+
+#[test]
+fn version() {
+    assert_eq!(cbor_diag::library_version(), (0, 1, 0));
+}

@@ -1,0 +1,79 @@
+//! From the bytes of an input to the bytes of its output.
+ghost use Rattle.std.specs.Prelude.{◌≡◌, [], ◌∷◌, ◌++◌, Ok, Err, IfOk, IfErr};
+ghost use Rattle.std.specs.String.{string_bytes};
+ghost use Rattle.cbor_diag.specs.View.{view};
+ghost use Rattle.cbor_diag.specs.Facts.{IsWellFormed};
+ghost use Rattle.cbor_diag.specs.Answer.{RefusedSo};
+ghost use Rattle.cbor_convert.specs.Output.{Reads, Refuses, output_of, IsOutput};
+
+use crate::form::{Source, To};
+use cbor_diag::{DataItem, Error, parse_bytes, parse_diag, parse_hex};
+use std::alloc::Global;
+
+/// The output for an input.
+pub fn convert(alloc: Global, from: Source, to: To, input: &[u8]) -> Result<Vec<u8>, Error>
+    ensures ok { IfOk result (λ output. IsOutput from to input.now (Ok output.items)) }
+    ensures refused { RefusedSo result (λ e. IsOutput from to input.now (Err e)) }
+{
+    let item = read_item(alloc, from, input)?;
+    write_item(alloc, to, &item, Vec::new(alloc))
+}
+
+/// The item that an input is.
+pub fn read_item(alloc: Global, from: Source, input: &[u8]) -> Result<DataItem, Error>
+    ensures item { IfOk result (λ item. Reads from input.now (view item)) }
+    ensures refused { RefusedSo result (Refuses from input.now) }
+    ensures well_formed { IfOk result (λ item. IsWellFormed (view item)) }
+{
+    match from {
+        Source::Bytes => parse_bytes(alloc, input),
+        Source::Hex => match str::from_utf8(input) {
+            Ok(text) => parse_hex(alloc, text),
+            Err(_) => Err(Error::Utf8),
+        },
+        Source::Diag => match str::from_utf8(input) {
+            Ok(text) => parse_diag(alloc, text),
+            Err(_) => Err(Error::Utf8),
+        },
+    }
+}
+
+/// The output of an item, in the memory of `spare`, whose bytes are dropped; a dump has memory of its own.
+pub fn write_item(alloc: Global, to: To, item: &DataItem, spare: Vec<u8>) -> Result<Vec<u8>, Error>
+    requires { IsWellFormed (view item.now) }
+    ensures written { IfOk result (λ output. output.items ≡ output_of to (view item.now)) }
+    ensures memory { IfErr result (λ e. e ≡ Error.Memory) }
+{
+    let mut output = spare;
+    output.clear();
+    match to {
+        To::Bytes => {
+            item.push_bytes(&mut output)?;
+            Ok(output)
+        }
+        To::Hex => {
+            drop(output);
+            Ok(item.to_hex(alloc)?.into_bytes())
+        }
+        To::Diag => {
+            let mut text = String::from_utf8(output).unwrap();
+            item.push_diag(alloc, &mut text)?;
+            ended_line(text)
+        }
+        To::Pretty => {
+            let mut text = String::from_utf8(output).unwrap();
+            item.push_diag_pretty(alloc, &mut text)?;
+            ended_line(text)
+        }
+    }
+}
+
+/// The bytes of a text and a line feed.
+fn ended_line(text: String) -> Result<Vec<u8>, Error>
+    ensures line { IfOk result (λ output. output.items ≡ string_bytes text ++ 10 ∷ []) }
+    ensures memory { IfErr result (λ e. e ≡ Error.Memory) }
+{
+    let mut line = text.into_bytes();
+    line.push(b'\n')?;
+    Ok(line)
+}

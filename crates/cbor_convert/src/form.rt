@@ -1,0 +1,25 @@
+//! The forms in which an item is read and written.
+
+/// The form in which an item is read.
+#[derive(Clone, Copy, PartialEq, Eq, Debug)]
+pub enum Source {
+    /// The bytes of the item.
+    Bytes,
+    /// The bytes of the item in hex, with comments.
+    Hex,
+    /// The item in diagnostic notation.
+    Diag,
+}
+
+/// The form in which an item is written.
+#[derive(Clone, Copy, PartialEq, Eq, Debug)]
+pub enum To {
+    /// The bytes of the item.
+    Bytes,
+    /// The bytes of the item in hex, each line with a comment.
+    Hex,
+    /// Diagnostic notation on one line, and a line feed.
+    Diag,
+    /// Diagnostic notation over several lines, and a line feed.
+    Pretty,
+}

@@ -1,0 +1,45 @@
+-- What an export answers: a length, or minus the number of an error. And what its buffer holds then.
+use Rattle.std.specs.Prelude.{◌≡◌, ◌⊎◌, ⊤, ℕ, ◌+◌, ◌<◌, ℤ, pos, negsuc, List, ◌++◌, length, take, drop, Ok, Err, codes}
+use Rattle.cbor_diag.specs.declared.error.Error.{Error}
+use Rattle.cbor_diag.specs.Refusals.{text_of, number_of}
+use Rattle.cbor_diag_c.specs.Forms.{IsNoForm, IsConversion}
+
+-- a fact of the length that was answered
+abbrev pub IfLength : ℤ → (ℕ → Type 0) → Type 0
+IfLength (pos n) Fact = Fact n
+IfLength (negsuc n) Fact = ⊤
+
+-- a fact of the error's number that was answered with a minus
+abbrev pub IfError : ℤ → (ℕ → Type 0) → Type 0
+IfError (pos n) Fact = ⊤
+IfError (negsuc n) Fact = Fact (n + 1)
+
+-- The buffer after a text was written to it: as much of the text as there is room for, and what stood after.
+abbrev pub written : List ℕ → List ℕ → List ℕ
+written text buffer = take (length buffer) text ++ drop (length text) buffer
+
+-- the answer for a form that there is not
+abbrev pub no_form : ℕ
+no_form = 11
+
+-- A conversion of so many bytes, and the buffer after it.
+abbrev pub IsWhole : ℕ → ℕ → List ℕ → List ℕ → List ℕ → ℕ → Type 0
+IsWhole from to input old new n =
+    (whole : List ℕ) × IsConversion from to input (Ok whole) × (n ≡ length whole) × (new ≡ written whole old)
+
+-- why there is no conversion, by the error's number, want of memory aside
+abbrev pub IsWhy : ℕ → ℕ → List ℕ → ℕ → Type 0
+IsWhy from to input n =
+    ((e : Error) × (n ≡ number_of e) × IsConversion from to input (Err e))
+    ⊎ ((n ≡ no_form) × (IsNoForm from ⊎ IsNoForm to))
+
+-- no error has this number
+abbrev pub IsNoError : ℕ → Type 0
+IsNoError n = (n ≡ 0) ⊎ (no_form < n)
+
+-- what the error of this number says
+abbrev pub IsTextOf : ℕ → List ℕ → Type 0
+IsTextOf n text =
+    ((e : Error) × (n ≡ number_of e) × (text ≡ text_of e))
+    ⊎ ((n ≡ no_form) × (text ≡ codes "no such form"))
+    ⊎ (IsNoError n × (text ≡ codes "no such error"))

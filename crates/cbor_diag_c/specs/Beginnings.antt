@@ -1,0 +1,17 @@
+-- What is answered of how bytes begin.
+use Rattle.std.specs.Prelude.{◌≡◌, ◌⊎◌, ℕ, List, length}
+use Rattle.cbor_diag.specs.declared.error.Error.{Error}
+use Rattle.cbor_diag.specs.declared.error.Error.TheVariants.{CutShort}
+use Rattle.cbor_diag.specs.declared.parse.binary.skip.answer.Extent.TheVariants.{Item, Cut, Fault}
+use Rattle.cbor_diag.specs.Extent.{IsExtent}
+use Rattle.cbor_diag.specs.Refusals.{number_of}
+
+-- an item of so many bytes, which end here
+abbrev pub IsItemOf : List ℕ → ℕ → ℕ → Type 0
+IsItemOf input n end = IsExtent input (Item n) × (end ≡ n)
+
+-- all bytes are cut, or the first ones up to here show the error of this number
+abbrev pub IsCutOrFault : List ℕ → ℕ → ℕ → Type 0
+IsCutOrFault input n end =
+    ((n ≡ number_of CutShort) × IsExtent input Cut × (end ≡ length input))
+    ⊎ ((e : Error) × (n ≡ number_of e) × IsExtent input (Fault e end))

@@ -1,0 +1,50 @@
+//! The texts of errors.
+ghost use Rattle.std.specs.Prelude.{◌≡◌, ◌⊎◌, ◌<◌, ℕ, List, length, None, IfSome};
+ghost use Rattle.cbor_diag.specs.Refusals.{number_of};
+ghost use Rattle.cbor_diag_c.specs.Answers.{IfLength, IfError, no_form, IsTextOf, written};
+
+use crate::answer::write;
+use cbor_diag::Error;
+
+/// The error of a number.
+fn error(number: u32) -> Option<Error>
+    ensures named { IfSome result (λ error. number ≡ number_of error) }
+    ensures none { result ≡ None → (number ≡ 0) ⊎ (10 < number) }
+{
+    match number {
+        1 => Some(Error::Memory),
+        2 => Some(Error::CutShort),
+        3 => Some(Error::Head),
+        4 => Some(Error::Utf8),
+        5 => Some(Error::TooDeep),
+        6 => Some(Error::Remaining),
+        7 => Some(Error::OddHex),
+        8 => Some(Error::BadHex),
+        9 => Some(Error::Notation),
+        10 => Some(Error::PastWidth),
+        _ => None,
+    }
+}
+
+/// What the error of a number says.
+fn text(number: u32) -> &'static str
+    ensures { IsTextOf number result.now }
+{
+    match error(number) {
+        Some(error) => error.text(),
+        None if number == 11 => "no such form",
+        None => "no such error",
+    }
+}
+
+/// What the error of a number says, in ASCII and without a full stop.
+///
+/// Answers the length of the text, of which as much is written as there is room for.
+#[unsafe(no_mangle)]
+pub extern "C" fn cbor_diag_error_text(number: u32, output: &mut [u8]) -> i64
+    ensures text { IfLength result (λ n. (text : List ℕ) × IsTextOf number text
+        × (n ≡ length text) × (output.new ≡ written text output.old)) }
+    ensures no_error { IfError result (λ n. ⊥) }
+{
+    write(text(number).as_bytes(), output)
+}
