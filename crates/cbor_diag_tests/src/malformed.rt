@@ -105,3 +105,19 @@ fn faults_are_found_whatever_follows(rt: HostRuntime) {
     check_table(&rt, rt.alloc(), Input::Bytes, View::Fields, FAULTS);
     check_faults(&rt, rt.alloc(), FAULTS);
 }
+
+/// Bytes of an item with others after them, in hex, and the name of the error.
+const LONGER: &[(&str, &str)] = &[
+    (
+        "d8207368747470733a2f2f6578616d706c652e636f6dff",
+        "Remaining",
+    ),
+    ("9f01ff02", "Remaining"),
+    ("01ff", "Remaining"),
+    ("8000", "Remaining"),
+];
+
+#[test]
+fn bytes_after_an_item_are_refused(rt: HostRuntime) {
+    check_table(&rt, rt.alloc(), Input::Bytes, View::Fields, LONGER);
+}
