@@ -102,18 +102,34 @@ fn check_as_read(rt: &impl Abort, alloc: Global, bytes: &[u8]) -> Result<(), Err
     Ok(())
 }
 
+/// The first so many bytes, or all where there are fewer.
+fn front(bytes: &[u8], count: usize) -> &[u8] {
+    bytes.get(..count).unwrap_or(bytes)
+}
+
+/// An input with one byte changed.
+fn check_changed(
+    rt: &impl Abort,
+    alloc: Global,
+    bytes: &[u8],
+    place: usize,
+    byte: u8,
+) -> Result<(), Error> {
+    let mut changed = Vec::from_slice(alloc, bytes)?;
+    if let Some(here) = changed.get_mut(place) {
+        *here = byte;
+    }
+    check_as_read(rt, alloc, &changed)
+}
+
 /// An input, each of its fronts, and the same with each byte changed.
 fn check_near(rt: &impl Abort, alloc: Global, bytes: &[u8]) -> Result<(), Error> {
-    for end in 0..=bytes.len() {
-        check_as_read(rt, alloc, &bytes[..end])?;
-    }
-    let mut changed = Vec::from_slice(alloc, bytes)?;
+    check_as_read(rt, alloc, bytes)?;
     for place in 0..bytes.len() {
+        check_as_read(rt, alloc, front(bytes, place))?;
         for byte in CHANGES {
-            changed[place] = byte;
-            check_as_read(rt, alloc, &changed)?;
+            check_changed(rt, alloc, bytes, place, byte)?;
         }
-        changed[place] = bytes[place];
     }
     Ok(())
 }
@@ -136,32 +152,41 @@ fn examples(rt: HostRuntime) -> Result<(), Fail> {
     Ok(())
 }
 
-#[test]
-fn levels(rt: HostRuntime) -> Result<(), Fail> {
-    let alloc = rt.alloc();
-    let error = Error::TooDeep;
-    for opening in [0x81u8, 0x9f, 0xa1, 0xbf, 0xc0] {
-        let mut bytes = vec![in alloc; opening; 200_000]?;
-        check_answer(&rt, &bytes, Extent::Fault { error, end: 129 });
-        check_answer(&rt, &bytes[..128], Extent::Cut);
-        bytes[127] = 0x00;
-        check_near_end(&rt, &bytes, opening);
-    }
-    for opening in [0x5fu8, 0x7f] {
-        let error = Error::Head;
-        let bytes = vec![in alloc; opening; 200_000]?;
-        check_answer(&rt, &bytes, Extent::Fault { error, end: 2 });
-    }
+/// So many openings, and then a number.
+fn check_openings(
+    rt: &impl Abort,
+    alloc: Global,
+    opening: u8,
+    after_127: Extent,
+) -> Result<(), Error> {
+    let openings = vec![in alloc; opening; 200_000]?;
+    let too_deep = Extent::Fault {
+        error: Error::TooDeep,
+        end: 129,
+    };
+    check_answer(rt, &openings, too_deep);
+    check_answer(rt, front(&openings, 128), Extent::Cut);
+    let mut whole = Vec::from_slice(alloc, front(&openings, 127))?;
+    whole.push(0)?;
+    check_answer(rt, &whole, after_127);
     Ok(())
 }
 
-/// Behind 127 containers a number is whole, which ends the arrays and tags of one item round it.
-fn check_near_end(rt: &impl Abort, bytes: &[u8], opening: u8) {
-    let end = match opening {
-        0x81 | 0xc0 => Extent::Item(128),
-        _ => Extent::Cut,
-    };
-    check_answer(rt, &bytes[..128], end);
+// After 127 openings a number is whole, which ends the arrays and tags of one item around it.
+#[test]
+fn levels(rt: HostRuntime) -> Result<(), Fail> {
+    let alloc = rt.alloc();
+    check_openings(&rt, alloc, 0x81, Extent::Item(128))?;
+    check_openings(&rt, alloc, 0xc0, Extent::Item(128))?;
+    for opening in [0x9fu8, 0xa1, 0xbf] {
+        check_openings(&rt, alloc, opening, Extent::Cut)?;
+    }
+    for opening in [0x5fu8, 0x7f] {
+        let bytes = vec![in alloc; opening; 200_000]?;
+        let error = Error::Head;
+        check_answer(&rt, &bytes, Extent::Fault { error, end: 2 });
+    }
+    Ok(())
 }
 
 #[test]
@@ -213,11 +238,12 @@ fn fault_at(bytes: &[u8]) -> Option<(Error, usize)> {
 
 #[test]
 fn a_log_is_skipped_record_by_record(rt: HostRuntime) -> Result<(), Fail> {
-    let log = b"\x82\x01\x02\xa1\x61k\x05\x19\x01";
-    let rest = after_record(log);
-    assert_eq!(rt; rest, Some(&log[3..]));
-    assert_eq!(rt; rest.and_then(after_record), Some(&log[7..]));
-    assert_eq!(rt; after_record(&log[7..]), None);
+    let log = b"\x82\x01\x02\xa1\x61k\x05\x19\x01".as_slice();
+    let second = after_record(log).unwrap_or(b"");
+    assert_eq!(rt; second, b"\xa1\x61k\x05\x19\x01".as_slice());
+    let third = after_record(second).unwrap_or(b"");
+    assert_eq!(rt; third, b"\x19\x01".as_slice());
+    assert_eq!(rt; after_record(third), None);
     Ok(())
 }
 
