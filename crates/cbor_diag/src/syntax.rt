@@ -1,6 +1,7 @@
 //! The data item, with all that its encoding chose: widths, and definite or indefinite lengths.
 mod clone;
 mod equal;
+pub(crate) mod major;
 mod tags;
 mod well_formed;
 mod width;

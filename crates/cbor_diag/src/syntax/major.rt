@@ -1,0 +1,58 @@
+//! Major types (RFC 7049 section 2.1).
+ghost use Rattle.std.specs.Prelude.{◌≡◌, ◌/◌};
+ghost use Rattle.cbor_diag.specs.Head.{major_number};
+
+/// The major type of a head: the three high bits of its first byte (RFC 7049 section 2.1).
+#[derive(Clone, Copy)]
+pub(crate) enum Major {
+    /// Major type 0: an unsigned integer.
+    Unsigned,
+    /// Major type 1: a negative integer.
+    Negative,
+    /// Major type 2: a byte string.
+    Bytes,
+    /// Major type 3: a text string.
+    Text,
+    /// Major type 4: an array.
+    Array,
+    /// Major type 5: a map.
+    Map,
+    /// Major type 6: a tag.
+    Tag,
+    /// Major type 7: a float, a simple value or a break.
+    Special,
+}
+
+impl Major {
+    /// The number of the major type, from 0 to 7.
+    pub(crate) fn number(self) -> u8
+        ensures { result ≡ major_number self }
+    {
+        match self {
+            Major::Unsigned => 0,
+            Major::Negative => 1,
+            Major::Bytes => 2,
+            Major::Text => 3,
+            Major::Array => 4,
+            Major::Map => 5,
+            Major::Tag => 6,
+            Major::Special => 7,
+        }
+    }
+
+    /// The major type of a head, by its first byte.
+    pub(crate) fn of(first: u8) -> Major
+        ensures { major_number result ≡ first / 32 }
+    {
+        match first {
+            0..=0x1f => Major::Unsigned,
+            0x20..=0x3f => Major::Negative,
+            0x40..=0x5f => Major::Bytes,
+            0x60..=0x7f => Major::Text,
+            0x80..=0x9f => Major::Array,
+            0xa0..=0xbf => Major::Map,
+            0xc0..=0xdf => Major::Tag,
+            0xe0..=0xff => Major::Special,
+        }
+    }
+}
