@@ -13,7 +13,6 @@ use Rattle.cbor_notes.proofs.DecodedLineLemmas.{encode_with-append}
 use Rattle.cbor_notes.proofs.OneLine.{Free, free_hex, from_test}
 use Rattle.cbor_diag.specs.declared.syntax.IntegerWidth.{IntegerWidth}
 use Rattle.cbor_diag.specs.declared.encode.encoding.Encoding.{Encoding}
-use Rattle.cbor_diag.specs.declared.encode.dump.place.Place.{Place}
 use Rattle.cbor_diag.specs.Item as spec
 use Rattle.cbor_diag.specs.Item.{Chunk, Atom, integer, negative, byte_string, text_string, byte_chunks, text_chunks}
 use Rattle.cbor_diag.specs.Item.{float, simple, Item, atom, array, tagged, Items, no_items, item, Pairs, no_pairs, pair, item_count, pair_count}
@@ -21,7 +20,7 @@ use Rattle.cbor_diag.specs.Head.{opening, break_byte}
 use Rattle.cbor_diag.specs.Written.{encoded_head, encoded_chunk, encoded_float, encoded_simple, encoded_atom, encoded_open, encoded_close, encoded, encoded_items, encoded_pairs}
 use Rattle.cbor_diag.specs.Comments.{unsigned_comment, negative_comment, float_comment, simple_comment, tag_comment, bytes_comment, text_comment, counted_comment}
 use Rattle.cbor_diag.specs.Pieces.{pieces_of, byte_pieces, text_pieces, text_cut}
-use Rattle.cbor_diag.specs.Dump.{head_hex, head_line, piece_line, content_lines, byte_string_lines, text_string_lines}
+use Rattle.cbor_diag.specs.Dump.{At, head_hex, head_line, piece_line, content_lines, byte_string_lines, text_string_lines}
 use Rattle.cbor_diag.specs.Dump.{bytes_lines, element_lines, sized_lines, tagged_lines, note_line, note_lines, notes, notes_lines}
 use Rattle.cbor_diag.specs.Dump.{count_if_definite, break_line, atom_lines, close_lines, inside, below, shared_in, shared_from, items_lines, pairs_lines, parts_lines, lines_at, top}
 use Rattle.cbor_diag.specs.WellFormed.{WellFormed, WellFormedItems, WellFormedPairs}
@@ -132,19 +131,20 @@ tagged_are : (depth : ℕ) (encoding : Option Encoding) (tag : Option ℕ) (byte
 tagged_are depth encoding None bytes = plain_are depth encoding bytes
 tagged_are depth encoding (Some t) bytes = sized_are depth encoding t (element_size t) bytes (element_small t)
 
-bytes_are : (depth : ℕ) (encoding : Option Encoding) (tag : Option ℕ) (c : Chunk) → Are (byte_string_lines depth encoding tag c) (encoded_chunk 2 c)
-bytes_are depth encoding tag c =
-    headed depth (encoded_head 2 (length c.bytes) c.width) (counted_comment (codes "bytes") (Some (length c.bytes))) (tagged_lines (depth + 1) encoding tag c.bytes) c.bytes (tagged_are (depth + 1) encoding tag c.bytes)
+bytes_are : (p : At) (c : Chunk) → Are (byte_string_lines p c) (encoded_chunk 2 c)
+bytes_are p c =
+    headed p.depth (encoded_head 2 (length c.bytes) c.width) (counted_comment (codes "bytes") (Some (length c.bytes)))
+    (tagged_lines (p.depth + 1) p.encoding p.tag c.bytes) c.bytes (tagged_are (p.depth + 1) p.encoding p.tag c.bytes)
 
 text_are : (depth : ℕ) (c : Chunk) → Are (text_string_lines depth c) (encoded_chunk 3 c)
 text_are depth c =
     headed depth (encoded_head 3 (length c.bytes) c.width) (counted_comment (codes "text") (Some (length c.bytes))) (content_lines (depth + 1) text_comment (text_pieces c.bytes)) c.bytes
     (subst (Are (content_lines (depth + 1) text_comment (text_pieces c.bytes))) (text_joined c.bytes) (content_are (depth + 1) text_comment (text_pieces c.bytes)))
 
-byte_chunks_are : (depth : ℕ) (encoding : Option Encoding) (cs : List Chunk) → Are (flat_map (byte_string_lines depth encoding None) cs) (flat_map (encoded_chunk 2) cs)
-byte_chunks_are depth encoding [] = none
-byte_chunks_are depth encoding (c ∷ cs) =
-    both (byte_string_lines depth encoding None c) (flat_map (byte_string_lines depth encoding None) cs) (encoded_chunk 2 c) (flat_map (encoded_chunk 2) cs) (bytes_are depth encoding None c) (byte_chunks_are depth encoding cs)
+byte_chunks_are : (p : At) (cs : List Chunk) → Are (flat_map (byte_string_lines p) cs) (flat_map (encoded_chunk 2) cs)
+byte_chunks_are p [] = none
+byte_chunks_are p (c ∷ cs) =
+    both (byte_string_lines p c) (flat_map (byte_string_lines p) cs) (encoded_chunk 2 c) (flat_map (encoded_chunk 2) cs) (bytes_are p c) (byte_chunks_are p cs)
 
 text_chunks_are : (depth : ℕ) (cs : List Chunk) → Are (flat_map (text_string_lines depth) cs) (flat_map (encoded_chunk 3) cs)
 text_chunks_are depth [] = none
@@ -155,14 +155,16 @@ close_are : (depth : ℕ) (w : Option IntegerWidth) → Are (close_lines depth w
 close_are depth (Some w) = none
 close_are depth None = alone depth (break_byte ∷ []) (codes "break")
 
-atom_are : (p : Place) (a : Atom) → Are (atom_lines p a) (encoded_atom a)
+atom_are : (p : At) (a : Atom) → Are (atom_lines p a) (encoded_atom a)
 atom_are p (integer n w) = alone p.depth (encoded_head 0 n w) (unsigned_comment n)
 atom_are p (negative n w) = alone p.depth (encoded_head 1 n w) (negative_comment n)
-atom_are p (byte_string c) = bytes_are p.depth p.encoding p.tag c
+atom_are p (byte_string c) = bytes_are p c
 atom_are p (text_string c) = text_are p.depth c
 atom_are p (byte_chunks cs) =
-    headed p.depth (opening 2 ∷ []) (counted_comment (codes "bytes") None) (flat_map (byte_string_lines (p.depth + 1) p.encoding None) cs ++ break_line (p.depth + 1) ∷ []) (flat_map (encoded_chunk 2) cs ++ break_byte ∷ [])
-    (both (flat_map (byte_string_lines (p.depth + 1) p.encoding None) cs) (break_line (p.depth + 1) ∷ []) (flat_map (encoded_chunk 2) cs) (break_byte ∷ []) (byte_chunks_are (p.depth + 1) p.encoding cs) (alone (p.depth + 1) (break_byte ∷ []) (codes "break")))
+    headed p.depth (opening 2 ∷ []) (counted_comment (codes "bytes") None)
+    (flat_map (byte_string_lines (inside p)) cs ++ break_line (p.depth + 1) ∷ []) (flat_map (encoded_chunk 2) cs ++ break_byte ∷ [])
+    (both (flat_map (byte_string_lines (inside p)) cs) (break_line (p.depth + 1) ∷ []) (flat_map (encoded_chunk 2) cs) (break_byte ∷ [])
+    (byte_chunks_are (inside p) cs) (alone (p.depth + 1) (break_byte ∷ []) (codes "break")))
 atom_are p (text_chunks cs) =
     headed p.depth (opening 3 ∷ []) (counted_comment (codes "text") None) (flat_map (text_string_lines (p.depth + 1)) cs ++ break_line (p.depth + 1) ∷ []) (flat_map (encoded_chunk 3) cs ++ break_byte ∷ [])
     (both (flat_map (text_string_lines (p.depth + 1)) cs) (break_line (p.depth + 1) ∷ []) (flat_map (encoded_chunk 3) cs) (break_byte ∷ []) (text_chunks_are (p.depth + 1) cs) (alone (p.depth + 1) (break_byte ∷ []) (codes "break")))
@@ -200,8 +202,8 @@ module _ (write : ℕ → Item → List DumpLine) (level : ℕ) (each : (known :
       both (write known k) (write after v ++ pairs_lines write (after + shared_in v) ps) (encoded k) (encoded v ++ encoded_pairs ps) (each known k well.0)
       (both (write after v) (pairs_lines write (after + shared_in v) ps) (encoded v) (encoded_pairs ps) (each after v well.1) (pairs_are (after + shared_in v) ps well.2))
 
-module _ (write : Place → ℕ → Item → List DumpLine) (level : ℕ) (each : (p : Place) (known : ℕ) (i : Item) → WellFormed (level + 1) i → Are (write p known i) (encoded i)) where
-  parts_are : (p : Place) (known : ℕ) (i : Item) → WellFormed level i → Are (parts_lines write p known i) (encoded i)
+module _ (write : At → ℕ → Item → List DumpLine) (level : ℕ) (each : (p : At) (known : ℕ) (i : Item) → WellFormed (level + 1) i → Are (write p known i) (encoded i)) where
+  parts_are : (p : At) (known : ℕ) (i : Item) → WellFormed level i → Are (parts_lines write p known i) (encoded i)
   parts_are p known (atom a) well = atom_are p a
   parts_are p known (array is w) well =
       headed p.depth (encoded_open 4 (item_count is) w) (counted_comment (codes "array") (count_if_definite (item_count is) w)) (items_lines (write (inside p)) known is ++ close_lines (p.depth + 1) w) (encoded_items is ++ encoded_close w)
@@ -212,7 +214,7 @@ module _ (write : Place → ℕ → Item → List DumpLine) (level : ℕ) (each 
   parts_are p known (tagged t w i) well =
       headed p.depth (encoded_head 6 t w) (tag_comment t) (write (below t p) (shared_from t known) i) (encoded i) (each (below t p) (shared_from t known) i well.2)
 
-pub item_are : (left level : ℕ) (p : Place) (known : ℕ) (i : Item) → level + left ≡ 129 → WellFormed level i → Are (lines_at left p known i) (encoded i)
+pub item_are : (left level : ℕ) (p : At) (known : ℕ) (i : Item) → level + left ≡ 129 → WellFormed level i → Are (lines_at left p known i) (encoded i)
 unfolding lines_at
 item_are zero level p known i levels well = absurd (omega (arith, well_level level i well))
 item_are (suc left) level p known i levels well =

@@ -21,7 +21,6 @@ use Rattle.cbor_diag.specs.declared.syntax.IntegerWidth.TheVariants as width
 use Rattle.cbor_diag.specs.declared.syntax.FloatWidth.{FloatWidth}
 use Rattle.cbor_diag.specs.declared.syntax.FloatWidth.TheVariants as float_width
 use Rattle.cbor_diag.specs.declared.encode.encoding.Encoding.{Encoding}
-use Rattle.cbor_diag.specs.declared.encode.dump.place.Place.{Place}
 use Rattle.cbor_diag.specs.declared.error.Error.{Error}
 use Rattle.cbor_diag.specs.declared.error.Error.TheVariants as refusal
 use Rattle.cbor_diag.specs.Item as spec
@@ -32,7 +31,7 @@ use Rattle.cbor_diag.specs.WellFormed.{WellFormed, WellFormedItems, WellFormedPa
 use Rattle.cbor_diag.specs.Written.{encoded_head, encoded_float, encoded_simple, encoded_open}
 use Rattle.cbor_diag.specs.Comments.{bytes_comment, text_comment}
 use Rattle.cbor_diag.specs.Pieces.{pieces_of, byte_pieces, text_pieces, last_start, text_cut, begins_character, piece_size}
-use Rattle.cbor_diag.specs.Dump.{head_hex, head_line, piece_line, content_lines, byte_string_lines, text_string_lines}
+use Rattle.cbor_diag.specs.Dump.{At, head_hex, head_line, piece_line, content_lines, byte_string_lines, text_string_lines}
 use Rattle.cbor_diag.specs.Dump.{bytes_lines, element_lines, sized_lines, tagged_lines, note_line, note_lines, notes, notes_lines}
 use Rattle.cbor_diag.specs.Dump.{row, embedded_note, failed_note, whole_note, items_notes, rest_note, sequence_notes, bytes_in, encoded_item_note, encoded_sequence_notes}
 use Rattle.cbor_diag.specs.Dump.{count_if_definite, break_line, atom_lines, container_line, close_lines, inside, below, shared_in, shared_from, items_lines, pairs_lines, parts_lines, lines_at, top}
@@ -47,8 +46,8 @@ use Rattle.cbor_diag.proofs.NormalWell.{items_well}
 use Rattle.cbor_diag.proofs.Resolved.{spells_well}
 use Rattle.cbor_diag.proofs.NoteTexts.{value_note_line}
 use Rattle.cbor_diag.proofs.TextParts.{well_level}
-use Rattle.cbor_diag.specs.Parts.{Takes, taken}
-use Rattle.cbor_diag.specs.Sinks.{step, widest, written}
+use Rattle.cbor_diag.specs.ShownLines.{Takes}
+use Rattle.cbor_diag.specs.Passes.{taken, step, widest, written}
 use Rattle.cbor_diag.proofs.Digits.{length-hex, length-head_short, length-head_long}
 use Rattle.cbor_diag.proofs.Cuts.{byte_cut, text_short, text_long}
 
@@ -192,11 +191,11 @@ tagged_fit : (depth : ℕ) (encoding : Option Encoding) (tag : Option ℕ) (byte
 tagged_fit depth encoding None bytes low = plain_fits depth encoding bytes low
 tagged_fit depth encoding (Some t) bytes low = sized_fit depth encoding t (element_size t) bytes low (element_small t)
 
-bytes_fit : (depth : ℕ) (encoding : Option Encoding) (tag : Option ℕ) (c : Chunk) → depth + 1 < 140 → AllByRecursion IsGood (byte_string_lines depth encoding tag c)
-bytes_fit depth encoding tag c low = (
-  fit_head depth (encoded_head 2 (length c.bytes) c.width) _ (omega arith) (head_length 2 (length c.bytes) (stated c.width (length c.bytes)))
+bytes_fit : (p : At) (c : Chunk) → p.depth + 1 < 140 → AllByRecursion IsGood (byte_string_lines p c)
+bytes_fit p c low = (
+  fit_head p.depth (encoded_head 2 (length c.bytes) c.width) _ (omega arith) (head_length 2 (length c.bytes) (stated c.width (length c.bytes)))
       (counted_line (codes "bytes") (Some (length c.bytes)) (from_test 10 (codes "bytes") refl)),
-  tagged_fit (depth + 1) encoding tag c.bytes low,
+  tagged_fit (p.depth + 1) p.encoding p.tag c.bytes low,
 )
 
 text_fits : (depth : ℕ) (c : Chunk) → depth + 1 < 140 → AllByRecursion IsGood (text_string_lines depth c)
@@ -206,10 +205,10 @@ text_fits depth c low = (
   content_fits (depth + 1) text_comment text_line (text_pieces c.bytes) low (text_few c.bytes),
 )
 
-byte_chunks_fit : (depth : ℕ) (encoding : Option Encoding) (cs : List Chunk) → depth + 1 < 140 → AllByRecursion IsGood (flat_map (byte_string_lines depth encoding None) cs)
-byte_chunks_fit depth encoding [] low = tt
-byte_chunks_fit depth encoding (c ∷ cs) low =
-    all_both IsGood (byte_string_lines depth encoding None c) (flat_map (byte_string_lines depth encoding None) cs) (bytes_fit depth encoding None c low) (byte_chunks_fit depth encoding cs low)
+byte_chunks_fit : (p : At) (cs : List Chunk) → p.depth + 1 < 140 → AllByRecursion IsGood (flat_map (byte_string_lines p) cs)
+byte_chunks_fit p [] low = tt
+byte_chunks_fit p (c ∷ cs) low =
+    all_both IsGood (byte_string_lines p c) (flat_map (byte_string_lines p) cs) (bytes_fit p c low) (byte_chunks_fit p cs low)
 
 text_chunks_fit : (depth : ℕ) (cs : List Chunk) → depth + 1 < 140 → AllByRecursion IsGood (flat_map (text_string_lines depth) cs)
 text_chunks_fit depth [] low = tt
@@ -223,14 +222,15 @@ close_fits : (depth : ℕ) (w : Option IntegerWidth) → depth < 140 → AllByRe
 close_fits depth (Some w) low = tt
 close_fits depth None low = break_fits depth low
 
-atom_fits : (p : Place) (a : Atom) → p.depth < 128 → AllByRecursion IsGood (atom_lines p a)
+atom_fits : (p : At) (a : Atom) → p.depth < 128 → AllByRecursion IsGood (atom_lines p a)
 atom_fits p (integer n w) low = (fit_head p.depth (encoded_head 0 n w) _ (omega arith) (head_length 0 n (stated w n)) (unsigned_line n), tt)
 atom_fits p (negative n w) low = (fit_head p.depth (encoded_head 1 n w) _ (omega arith) (head_length 1 n (stated w n)) (negative_line n), tt)
-atom_fits p (byte_string c) low = bytes_fit p.depth p.encoding p.tag c (omega arith)
+atom_fits p (byte_string c) low = bytes_fit p c (omega arith)
 atom_fits p (text_string c) low = text_fits p.depth c (omega arith)
 atom_fits p (byte_chunks cs) low = (
   fit_head p.depth (opening 2 ∷ []) _ (omega arith) (omega arith) (counted_line (codes "bytes") None (from_test 10 (codes "bytes") refl)),
-  all_both IsGood (flat_map (byte_string_lines (p.depth + 1) p.encoding None) cs) (break_line (p.depth + 1) ∷ []) (byte_chunks_fit (p.depth + 1) p.encoding cs (omega arith)) (break_fits (p.depth + 1) (omega arith)),
+  all_both IsGood (flat_map (byte_string_lines (inside p)) cs) (break_line (p.depth + 1) ∷ [])
+      (byte_chunks_fit (inside p) cs (omega arith)) (break_fits (p.depth + 1) (omega arith)),
 )
 atom_fits p (text_chunks cs) low = (
   fit_head p.depth (opening 3 ∷ []) _ (omega arith) (omega arith) (counted_line (codes "text") None (from_test 10 (codes "text") refl)),
@@ -398,8 +398,8 @@ module _ (write : ℕ → Item → List DumpLine) (level : ℕ) (each : (known :
       all_both IsGood (write known k) (write after v ++ pairs_lines write (after + shared_in v) ps) (each known k well.0)
       (all_both IsGood (write after v) (pairs_lines write (after + shared_in v) ps) (each after v well.1) (pairs_fit (after + shared_in v) ps well.2))
 
-module _ (write : Place → ℕ → Item → List DumpLine) (level : ℕ) (each : (p : Place) (known : ℕ) (i : Item) → p.depth < level + 1 → WellFormed (level + 1) i → AllByRecursion IsGood (write p known i)) where
-  parts_fit : (p : Place) (known : ℕ) (i : Item) → p.depth < level → WellFormed level i → AllByRecursion IsGood (parts_lines write p known i)
+module _ (write : At → ℕ → Item → List DumpLine) (level : ℕ) (each : (p : At) (known : ℕ) (i : Item) → p.depth < level + 1 → WellFormed (level + 1) i → AllByRecursion IsGood (write p known i)) where
+  parts_fit : (p : At) (known : ℕ) (i : Item) → p.depth < level → WellFormed level i → AllByRecursion IsGood (parts_lines write p known i)
   parts_fit p known (atom a) deep well = atom_fits p a (low_here p.depth level deep well.0)
   parts_fit p known (array is w) deep well = (
     open_fits p.depth 4 (codes "array") (item_count is) w (low_first p.depth level deep well.0) (from_test 10 (codes "array") refl),
@@ -414,7 +414,7 @@ module _ (write : Place → ℕ → Item → List DumpLine) (level : ℕ) (each 
     each (below t p) (shared_from t known) i (low_below p.depth level deep) well.2,
   )
 
-pub item_fits : (left level : ℕ) (p : Place) (known : ℕ) (i : Item) → level + left ≡ 129 → p.depth < level → WellFormed level i → AllByRecursion IsGood (lines_at left p known i)
+pub item_fits : (left level : ℕ) (p : At) (known : ℕ) (i : Item) → level + left ≡ 129 → p.depth < level → WellFormed level i → AllByRecursion IsGood (lines_at left p known i)
 unfolding lines_at
 item_fits zero level p known i levels deep well = absurd (omega (arith, well_level level i well))
 item_fits (suc left) level p known i levels deep well =

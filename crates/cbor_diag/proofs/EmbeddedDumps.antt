@@ -16,9 +16,8 @@ use Rattle.cbor_diag.specs.Answer.{cut, fault, spelled, IsOutcome, IsRefused}
 use Rattle.cbor_diag.specs.Bytes.{any, Spells}
 use Rattle.cbor_diag.specs.Embedded.{and_then, sequence_of, before as item_before}
 use Rattle.cbor_diag.specs.Dump.{note_line, note_lines, row, sequence_notes, failed_note, embedded_note, lines_at, top, whole_note}
-use Rattle.cbor_diag.specs.Parts.{taken}
+use Rattle.cbor_diag.specs.Passes.{taken, Held, step}
 use Rattle.cbor_diag.specs.Reading.{item_at}
-use Rattle.cbor_diag.specs.Sinks.{Held, step}
 use Rattle.cbor_diag.proofs.DumpFits.{row_line}
 use Rattle.cbor_diag.proofs.Found.{item_again}
 use Rattle.cbor_diag.proofs.Heads.{IsBytes, IsBytes-drop}

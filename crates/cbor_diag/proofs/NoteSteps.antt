@@ -3,8 +3,8 @@ use Rattle.std.proofs.Common.{◌≡◌, ℕ, ◌+◌, ◌<◌, List, [], ◌∷
 use Rattle.std.specs.List.{flat_map}
 use Rattle.cbor_notes.proofs.HexLemmas.{IsAscii-from_test}
 use Rattle.cbor_diag.specs.Dump.{note_line, note_lines}
-use Rattle.cbor_diag.specs.Parts.{Takes, taken}
-use Rattle.cbor_diag.specs.Sinks.{step, widest}
+use Rattle.cbor_diag.specs.ShownLines.{Takes}
+use Rattle.cbor_diag.specs.Passes.{taken, step, widest}
 use Rattle.cbor_diag.proofs.Walks.{taken-append}
 
 -- any sink takes a note

@@ -1,13 +1,16 @@
 -- What the walk over an item does with the pieces of a string, and with one line after the other.
-use Rattle.std.proofs.Common.{◌≡◌, ℕ, ◌+◌, ◌<◌, List, [], ◌∷◌, ◌++◌, map, length, take, drop, get_or, refl, sym, ap, subst, ◌∙◌, append_assoc}
+use Rattle.std.proofs.Common.{◌≡◌, Result, OnOk, ℕ, ◌+◌, ◌<◌, List, [], ◌∷◌, ◌++◌, map, length, take, drop, get_or, refl, sym, ap, subst, ◌∙◌, append_assoc}
 use Rattle.std.specs.List.{AllByRecursion, flat_map}
 use Rattle.std.proofs.lemmas.List.{drop_more}
+use Rattle.std.proofs.lemmas.Result.{on_ok_weaker}
 use Rattle.cbor_notes.proofs.Trees.{all_front, all_back}
 use Rattle.cbor_diag.specs.Item.{Chunk}
 use Rattle.cbor_notes.specs.Layout.{DumpLine}
 use Rattle.cbor_diag.specs.Dump.{content_lines, piece_line}
 use Rattle.cbor_diag.specs.Pieces.{pieces_of}
-use Rattle.cbor_diag.specs.Parts.{Takes, taken}
+use Rattle.cbor_diag.specs.declared.encode.dump.pass.Pass.{Pass}
+use Rattle.cbor_diag.specs.ShownLines.{Takes}
+use Rattle.cbor_diag.specs.Passes.{held, room, step, taken, CanTake, Took}
 use Rattle.cbor_diag.proofs.Cuts.{Cuts, pieces_more}
 
 -- one line after the other
@@ -29,35 +32,43 @@ content_is depth comment cut cuts bytes some =
     content_some depth comment (take (cut bytes) bytes) (pieces_of cut (length bytes) bytes)
     (pieces_of cut (length (drop (cut bytes) bytes)) (drop (cut bytes) bytes)) (pieces_more cut cuts bytes some)
 
--- A loop over pieces: one is cut off what is left.
-module _ (line : List ℕ → DumpLine) (cut : List ℕ → ℕ) (cuts : Cuts cut) (rest piece after : List ℕ) (some : 0 < length rest) (front : piece ≡ take (cut rest) rest) (back : after ≡ drop (cut rest) rest) where
-  split : lines_of line cut rest ≡ line piece ∷ lines_of line cut after
-  split = rw (front, back) (ap (map line) (pieces_more cut cuts rest some))
+-- Of all lines that a pass takes, some are left.
+abbrev pub Left : Pass → Pass → List DumpLine → List DumpLine → Type 0
+Left old now left all = (taken step (held now) left ≡ taken step (held old) all) × CanTake now left × (room now ≡ room old)
 
-  pub piece_here : (room : ℕ) → AllByRecursion (Takes room) (lines_of line cut rest) → Takes room (line piece)
-  piece_here room all = (subst (AllByRecursion (Takes room)) split all).0
-
-  pub pieces_left : (room now : ℕ) → now ≡ room → AllByRecursion (Takes room) (lines_of line cut rest) → AllByRecursion (Takes now) (lines_of line cut after)
-  pieces_left room now same all = rw same ((subst (AllByRecursion (Takes room)) split all).1)
-
-  pub pieces_taken : {View : Type 0} (step : View → DumpLine → View) (view now whole : View) → now ≡ step view (line piece)
-      → taken step view (lines_of line cut rest) ≡ whole → taken step now (lines_of line cut after) ≡ whole
-  pieces_taken step view now whole is all =
-      ap (λ v. taken step v (lines_of line cut after)) is ∙ sym (ap (taken step view) split) ∙ all
+-- the last call takes them
+pub left_then : {T E : Type 0} (r : Result T E) (old now next : Pass) (left all : List DumpLine) → Left old now left all
+    → OnOk r (Took now next left) → OnOk r (Took old next all)
+left_then r old now next left all l took = on_ok_weaker r (λ t. (t.0 ∙ l.0, t.1 ∙ l.2)) took
 
 -- The lines that are left are those of a part, and others.
 module _ (left here others : List DumpLine) (split : left ≡ here ++ others) where
-  pub part_here : (room : ℕ) → AllByRecursion (Takes room) left → AllByRecursion (Takes room) here
-  part_here room all = all_front (Takes room) here others (subst (AllByRecursion (Takes room)) split all)
+  pub part_here : (p : Pass) → CanTake p left → CanTake p here
+  part_here p all = all_front (Takes (room p)) here others (subst (CanTake p) split all)
 
-  pub part_left : (room now : ℕ) → now ≡ room → AllByRecursion (Takes room) left → AllByRecursion (Takes now) others
-  part_left room now same all = rw same (all_back (Takes room) here others (subst (AllByRecursion (Takes room)) split all))
+  pub part_left : (old now next : Pass) (all : List DumpLine) → Took now next here → Left old now left all
+      → Left old next others all
+  part_left old now next all took l =
+      let same = ap (λ v. taken step v others) took.0 ∙ sym (taken-append step (held now) here others) in
+      let rest = all_back (Takes (room now)) here others (subst (CanTake now) split l.1) in (
+        same ∙ sym (ap (taken step (held now)) split) ∙ l.0,
+        subst (λ n. AllByRecursion (Takes n) others) (sym took.1) rest,
+        took.1 ∙ l.2,
+      )
 
-  pub part_taken : {View : Type 0} (step : View → DumpLine → View) (view now whole : View) → now ≡ taken step view here → taken step view left ≡ whole → taken step now others ≡ whole
-  part_taken step view now whole is all =
-      ap (λ v. taken step v others) is ∙ sym (taken-append step view here others) ∙ sym (ap (taken step view) split) ∙ all
+-- A loop over pieces: one is cut off what is left.
+module _ (line : List ℕ → DumpLine) (cut : List ℕ → ℕ) (cuts : Cuts cut) (rest piece after : List ℕ) (some : 0 < length rest) (front : piece ≡ take (cut rest) rest) (back : after ≡ drop (cut rest) rest) where
+  split_off : lines_of line cut rest ≡ (line piece ∷ []) ++ lines_of line cut after
+  split_off = rw (front, back) (ap (map line) (pieces_more cut cuts rest some))
 
--- A loop over chunks stands at its i-th one.
+  pub piece_here : (p : Pass) → CanTake p (lines_of line cut rest) → CanTake p (line piece ∷ [])
+  piece_here = part_here (lines_of line cut rest) (line piece ∷ []) (lines_of line cut after) split_off
+
+  pub pieces_left : (old now next : Pass) (all : List DumpLine) → Took now next (line piece ∷ [])
+      → Left old now (lines_of line cut rest) all → Left old next (lines_of line cut after) all
+  pieces_left = part_left (lines_of line cut rest) (line piece ∷ []) (lines_of line cut after) split_off
+
+-- A loop over chunks is at its i-th one.
 module _ {X : Type 0} (chunk_of : X → Chunk) (chunks : List X) (i : ℕ) (chunk : X) (is : chunk ≡ get_or chunks i chunk) (inside : i < length chunks) where
   chunks_split : drop i chunks ≡ chunk ∷ drop (i + 1) chunks
   chunks_split = drop_more chunks i chunk inside ∙ ap (λ c. c ∷ drop (i + 1) chunks) (sym is)

@@ -9,7 +9,6 @@ use Rattle.cbor_diag.specs.declared.error.Error.{Error}
 use Rattle.cbor_diag.specs.declared.error.Error.TheVariants.{Remaining}
 use Rattle.cbor_diag.specs.declared.syntax.IntegerWidth.{IntegerWidth}
 use Rattle.cbor_diag.specs.declared.encode.encoding.Encoding.{Encoding}
-use Rattle.cbor_diag.specs.declared.encode.dump.place.Place.{Place}
 use Rattle.cbor_diag.specs.Item as spec
 use Rattle.cbor_diag.specs.Item.{Chunk, Atom, integer, negative, byte_string, text_string, byte_chunks, text_chunks}
 use Rattle.cbor_diag.specs.Item.{float, simple, Item, atom, array, tagged, Items, no_items, item, Pairs, no_pairs}
@@ -37,18 +36,24 @@ head_line depth bytes comment = record { depth = depth; hex = head_hex bytes; co
 abbrev pub piece_line : ℕ → List ℕ → List ℕ → DumpLine
 piece_line depth bytes comment = record { depth = depth; hex = encode_lower bytes; comment = comment }
 
--- ---- where an item stands
+-- ---- where an item is
+
+-- how deep its lines are, how byte strings are shown, and the tag right above it
+pub record At : Type 0 where
+  pub depth : ℕ
+  pub encoding : Option Encoding
+  pub tag : Option ℕ
 
 -- a whole item: byte strings are quoted, and there is no tag above
-abbrev pub top : Place
+abbrev pub top : At
 top = record { depth = 0; encoding = None; tag = None }
 
 -- what a container holds, one deeper
-abbrev pub inside : Place → Place
+abbrev pub inside : At → At
 inside p = record { depth = p.depth + 1; encoding = p.encoding; tag = None }
 
 -- the value right below a tag, one deeper
-abbrev pub below : ℕ → Place → Place
+abbrev pub below : ℕ → At → At
 below t p = record { depth = p.depth + 1; encoding = encoding_below t p.encoding; tag = Some t }
 
 -- ---- strings
@@ -79,10 +84,10 @@ tagged_lines depth encoding None bytes = bytes_lines depth encoding bytes
 tagged_lines depth encoding (Some t) bytes = sized_lines depth encoding t (element_size t) bytes
 
 -- a string of definite length: its head, and its content one deeper
-abbrev pub byte_string_lines : ℕ → Option Encoding → Option ℕ → Chunk → List DumpLine
-byte_string_lines depth encoding tag c =
-    head_line depth (encoded_head 2 (length c.bytes) c.width) (counted_comment (codes "bytes") (Some (length c.bytes)))
-    ∷ tagged_lines (depth + 1) encoding tag c.bytes
+abbrev pub byte_string_lines : At → Chunk → List DumpLine
+byte_string_lines p c =
+    head_line p.depth (encoded_head 2 (length c.bytes) c.width) (counted_comment (codes "bytes") (Some (length c.bytes)))
+    ∷ tagged_lines (p.depth + 1) p.encoding p.tag c.bytes
 
 abbrev pub text_string_lines : ℕ → Chunk → List DumpLine
 text_string_lines depth c =
@@ -97,20 +102,20 @@ abbrev pub break_line : ℕ → DumpLine
 break_line depth = head_line depth (break_byte ∷ []) break_comment
 
 -- an indefinite string: its chunks between the two
-abbrev pub byte_chunks_lines : ℕ → Option Encoding → List Chunk → List DumpLine
-byte_chunks_lines depth encoding cs =
-    open_line depth 2 (codes "bytes") ∷ (flat_map (byte_string_lines (depth + 1) encoding None) cs ++ break_line (depth + 1) ∷ [])
+abbrev pub byte_chunks_lines : At → List Chunk → List DumpLine
+byte_chunks_lines p cs =
+    open_line p.depth 2 (codes "bytes") ∷ (flat_map (byte_string_lines (inside p)) cs ++ break_line (p.depth + 1) ∷ [])
 
 abbrev pub text_chunks_lines : ℕ → List Chunk → List DumpLine
 text_chunks_lines depth cs =
     open_line depth 3 (codes "text") ∷ (flat_map (text_string_lines (depth + 1)) cs ++ break_line (depth + 1) ∷ [])
 
-abbrev pub atom_lines : Place → Atom → List DumpLine
+abbrev pub atom_lines : At → Atom → List DumpLine
 atom_lines p (integer n w) = head_line p.depth (encoded_head 0 n w) (unsigned_comment n) ∷ []
 atom_lines p (negative n w) = head_line p.depth (encoded_head 1 n w) (negative_comment n) ∷ []
-atom_lines p (byte_string c) = byte_string_lines p.depth p.encoding p.tag c
+atom_lines p (byte_string c) = byte_string_lines p c
 atom_lines p (text_string c) = text_string_lines p.depth c
-atom_lines p (byte_chunks cs) = byte_chunks_lines p.depth p.encoding cs
+atom_lines p (byte_chunks cs) = byte_chunks_lines p cs
 atom_lines p (text_chunks cs) = text_chunks_lines p.depth cs
 atom_lines p (float bits w) = head_line p.depth (encoded_float bits w) (float_comment (encoded_float bits w)) ∷ []
 atom_lines p (simple n) = head_line p.depth (encoded_simple n) (simple_comment n) ∷ []
@@ -233,7 +238,7 @@ pairs_lines write known (pair k v ps) =
     write known k ++ (write (known + shared_in k) v ++ pairs_lines write (known + shared_in k + shared_in v) ps)
 
 -- what an item's bytes are; what a container or a tag holds stands one deeper
-abbrev pub parts_lines : (Place → ℕ → Item → List DumpLine) → Place → ℕ → Item → List DumpLine
+abbrev pub parts_lines : (At → ℕ → Item → List DumpLine) → At → ℕ → Item → List DumpLine
 parts_lines write p known (atom a) = atom_lines p a
 parts_lines write p known (array is w) =
     container_line p.depth 4 (codes "array") (item_count is) w
@@ -248,7 +253,7 @@ parts_lines write p known (tagged t w i) =
 -- An item with so many levels left for it and what is nested in it, embedded items included: 129 less the
 -- level that it stands at. Its notes follow it, as deep as it stands. An embedded item has a dump of its own,
 -- which counts shared values from 0. Where no level is left there is no item.
-unfoldable pub lines_at : ℕ → Place → ℕ → Item → List DumpLine
+unfoldable pub lines_at : ℕ → At → ℕ → Item → List DumpLine
 lines_at zero p known i = []
 lines_at (suc left) p known i =
     parts_lines (lines_at left) p known i ++ notes_lines p.depth left (lines_at left top 0) known p.tag i

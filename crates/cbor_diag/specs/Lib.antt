@@ -21,8 +21,8 @@ pub mod Examples
 pub mod Comments
 pub mod Pieces
 pub mod Dump
-pub mod Parts
-pub mod Sinks
+pub mod ShownLines
+pub mod Passes
 pub mod Embedded
 pub mod Estimate
 pub mod NotationText

@@ -4,9 +4,9 @@
 //! calls, and room for these would be made for each integer, too.
 #![tactic(auto, using(crate::proofs::Appending::appending_steps))]
 
-ghost use Rattle.std.specs.Prelude.{◌≡◌, ◌<◌, ◌++◌, ℕ, List, ◌↔◌, length, map, OnOk, OnErr, IfOk, IfErr};
+ghost use Rattle.std.specs.Prelude.{◌≡◌, ◌++◌, if◌then◌else◌, ℕ, List, ◌↔◌, length, map, OnOk, OnErr, IfOk, IfErr};
 ghost use Rattle.std.specs.List.{AllByRecursion};
-ghost use Rattle.cbor_diag.specs.Head.{FitsWidth};
+ghost use Rattle.cbor_diag.specs.Head.{FitsWidth, major_number};
 ghost use Rattle.cbor_diag.specs.Appends.{Appends};
 ghost use Rattle.cbor_diag.specs.View.{view, items_view, pairs_view, byte_chunk, text_chunk};
 ghost use Rattle.cbor_diag.specs.WellFormed.{WellFormed, WellFormedItems, WellFormedPairs, IsByteChunk, IsTextChunk};
@@ -17,21 +17,21 @@ ghost use Rattle.cbor_diag.specs.Written.{encoded, resolve, encoded_items, encod
 
 use super::head::{push_close, push_float, push_head, push_open, push_simple};
 use crate::error::Error;
+use crate::syntax::major::Major;
 use crate::syntax::{ByteString, DataItem, IntegerWidth, Tag, TextString};
 use std::alloc::{AllocError, Global};
 
-/// Writes a string of definite length: of major type 2 its bytes, of major type 3 its UTF-8.
+/// Writes a string of definite length: its bytes, or its UTF-8.
 #[inline(never)]
 fn push_string(
     out: &mut Vec<u8>,
-    major: u8,
+    major: Major,
     content: &[u8],
     width: IntegerWidth,
 ) -> Result<(), AllocError>
-    requires major { major < 8 }
-    requires fits { FitsWidth width (length content.now) }
+    requires { FitsWidth width (length content.now) }
     ensures { Appends result out.old.items out.new.items
-        (encoded_chunk major (record { bytes = content.now; width = width })) }
+        (encoded_chunk (major_number major) (record { bytes = content.now; width = width })) }
 {
     push_head(out, major, content.len() as u64, width)?;
     out.extend_from_slice(content)?;
@@ -47,7 +47,7 @@ fn push_byte_chunks(out: &mut Vec<u8>, chunks: &[ByteString]) -> Result<(), Allo
 {
     out.push(0x5f)?;
     'chunks: for chunk in chunks {
-        push_string(out, 2, &chunk.content, chunk.bitwidth)?;
+        push_string(out, Major::Bytes, &chunk.content, chunk.bitwidth)?;
     }
     out.push(0xff)?;
     Ok(())
@@ -62,10 +62,21 @@ fn push_text_chunks(out: &mut Vec<u8>, chunks: &[TextString]) -> Result<(), Allo
 {
     out.push(0x7f)?;
     'chunks: for chunk in chunks {
-        push_string(out, 3, chunk.content.as_bytes(), chunk.bitwidth)?;
+        push_string(out, Major::Text, chunk.content.as_bytes(), chunk.bitwidth)?;
     }
     out.push(0xff)?;
     Ok(())
+}
+
+/// The major type of an integer.
+fn integer_major(negative: bool) -> Major
+    ensures { major_number result ≡ (if negative then 1 else 0) }
+{
+    if negative {
+        Major::Negative
+    } else {
+        Major::Unsigned
+    }
 }
 
 /// Writes an item.
@@ -75,14 +86,19 @@ fn push_item(out: &mut Vec<u8>, item: &DataItem) -> Result<(), AllocError>
     ensures { Appends result out.old.items out.new.items (encoded (view item.now)) }
 {
     match item {
-        // One arm for both: which of them comes next can't be foretold, so two would cost a jump.
+        // One arm for both: a branch between them would often be mispredicted.
         DataItem::Integer { value, bitwidth } | DataItem::Negative { value, bitwidth } => {
-            let major = u8::from(matches!(item, DataItem::Negative { .. }));
+            let major = integer_major(matches!(item, DataItem::Negative { .. }));
             push_head(out, major, *value, *bitwidth)
         }
-        DataItem::ByteString(string) => push_string(out, 2, &string.content, string.bitwidth),
+        DataItem::ByteString(string) => push_string(
+            out,
+            Major::Bytes,
+            &string.content,
+            string.bitwidth,
+        ),
         DataItem::TextString(string) => {
-            push_string(out, 3, string.content.as_bytes(), string.bitwidth)
+            push_string(out, Major::Text, string.content.as_bytes(), string.bitwidth)
         }
         DataItem::IndefiniteByteString(chunks) => push_byte_chunks(out, chunks),
         DataItem::IndefiniteTextString(chunks) => push_text_chunks(out, chunks),
@@ -110,7 +126,7 @@ fn push_array(
     ensures { Appends result out.old.items out.new.items
         (encoded (spec.array (items_view items.now.items) width)) }
 {
-    push_open(out, 4, items.len(), width)?;
+    push_open(out, Major::Array, items.len(), width)?;
     push_items(out, items)?;
     push_close(out, width)
 }
@@ -127,7 +143,7 @@ fn push_map(
     ensures { Appends result out.old.items out.new.items
         (encoded (spec.map (pairs_view pairs.now.items) width)) }
 {
-    push_open(out, 5, pairs.len(), width)?;
+    push_open(out, Major::Map, pairs.len(), width)?;
     push_pairs(out, pairs)?;
     push_close(out, width)
 }
@@ -145,7 +161,7 @@ fn push_tagged(
     ensures { Appends result out.old.items out.new.items
         (encoded (spec.tagged tag.0 width (view value.now))) }
 {
-    push_head(out, 6, tag.0, width)?;
+    push_head(out, Major::Tag, tag.0, width)?;
     push_item(out, value)
 }
 

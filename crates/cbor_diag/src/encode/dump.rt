@@ -1,7 +1,7 @@
 //! Writes an item as a dump: annotated hex.
 //!
-//! One walk over the item hands its lines, one after the other, to a sink. A first walk finds how wide the
-//! column of the digits is, and a second one writes each line at once.
+//! One recursion over the item hands its lines to a pass, one after the other. The first pass measures the
+//! column of the digits, and the second one writes each line at once.
 ghost use Rattle.std.specs.Prelude.{◌≡◌, ◌+◌, IfOk, IfErr};
 ghost use Rattle.std.specs.List.{AllByRecursion};
 ghost use Rattle.std.specs.String.{string_bytes};
@@ -16,25 +16,25 @@ ghost use Rattle.cbor_diag.specs.HexText.{strip, IsHexOf};
 ghost use Rattle.cbor_diag.specs.Dump as spec;
 
 mod comment;
-mod form;
+mod context;
+mod hex_style;
+mod items;
 mod lines;
 mod note_lines;
 mod notes;
-mod place;
-mod sink;
-mod walk;
+mod pass;
 mod writer;
 
 use crate::error::Error;
 use crate::syntax::DataItem;
+use items::dump;
 use std::alloc::Global;
-use walk::dump;
 
 impl DataItem {
     /// The item as a dump: its bytes in hex, as `to_bytes` writes them, each line with a comment (docs/DUMP.md).
     /// `parse_hex` reads it back, with open widths resolved.
     ///
-    /// The item has to be well formed, which `is_well_formed` tells. Refuses with `Memory` alone.
+    /// The item has to be well formed, as `is_well_formed` checks. The only error is `Memory`.
     pub fn to_hex(&self, alloc: Global) -> crate::Result<String>
         requires { IsWellFormed (view self.now) }
         ensures text { IfOk result (λ t. string_bytes t ≡ spec.dump (view self.now)) }

@@ -17,10 +17,10 @@ pub(crate) enum Encoding {
 
 /// The encoding in which a dump shows byte strings below a tag: the tag's own (RFC 7049 section 2.4.4.2; base
 /// 16 below UUIDs and addresses, too), or the one outside.
-pub(crate) fn encoding_below(number: u64, outside: Option<Encoding>) -> Option<Encoding>
-    ensures { result ≡ spec.encoding_below number outside }
+pub(crate) fn encoding_below(tag: Tag, outside: Option<Encoding>) -> Option<Encoding>
+    ensures { result ≡ spec.encoding_below tag.0 outside }
 {
-    match Tag(number) {
+    match tag {
         Tag::ENCODED_BASE64URL => Some(Encoding::Base64Url),
         Tag::ENCODED_BASE64 => Some(Encoding::Base64),
         Tag::ENCODED_BASE16 | Tag::UUID | Tag::IPV4 | Tag::IPV6 | Tag::NETWORK_ADDRESS => {

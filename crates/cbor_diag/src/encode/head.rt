@@ -1,27 +1,64 @@
 //! Heads as they are written (RFC 7049 section 2), and the opening byte and the break in their place.
 #![tactic(auto, using(crate::proofs::Appending::appending_steps))]
 
-ghost use Rattle.std.specs.Prelude.{◌<◌};
 ghost use Rattle.cbor_diag.specs.Appends.{Appends};
-ghost use Rattle.cbor_diag.specs.Head.{FitsWidth};
+ghost use Rattle.std.specs.Prelude.{◌≡◌};
+ghost use Rattle.cbor_diag.specs.Head.{FitsWidth, major_number};
 ghost use Rattle.cbor_diag.specs.WellFormed.{FitsFloat, FitsCount};
-ghost use Rattle.cbor_diag.specs.Written.{encoded_head, encoded_float, encoded_simple, encoded_open, encoded_close};
+ghost use Rattle.cbor_diag.specs.Written.{encoded_head, encoded_float, encoded_simple};
+ghost use Rattle.cbor_diag.specs.Written.{encoded_open, encoded_close};
 
+use crate::syntax::major::Major;
 use crate::syntax::{FloatWidth, IntegerWidth};
 use std::alloc::AllocError;
 
-/// Writes a head: the major type, below 8, and a number that fits its width.
+/// A head: a major type, and a number in a width that it fits.
+#[derive(Clone, Copy)]
+pub(crate) struct Head {
+    /// The major type.
+    pub(crate) major: Major,
+    /// The number.
+    pub(crate) number: u64,
+    /// The width of the number.
+    pub(crate) width: IntegerWidth,
+}
+
+impl Head {
+    /// The head of this major type and number.
+    pub(crate) fn new(major: Major, number: u64, width: IntegerWidth) -> Head
+        ensures { result ≡ record { major = major; number = number; width = width } }
+    {
+        Head {
+            major,
+            number,
+            width,
+        }
+    }
+}
+
+/// The head of a container with its count, or its opening byte.
+#[derive(Clone, Copy)]
+pub(crate) struct Opening {
+    /// The major type.
+    pub(crate) major: Major,
+    /// The number of members.
+    pub(crate) count: usize,
+    /// The width of the count, which is written where the length is definite.
+    pub(crate) width: Option<IntegerWidth>,
+}
+
+/// Writes a head: the major type, and a number that fits its width.
 pub(crate) fn push_head(
     out: &mut Vec<u8>,
-    major: u8,
+    major: Major,
     number: u64,
     width: IntegerWidth,
 ) -> Result<(), AllocError>
-    requires major { major < 8 }
-    requires fits { FitsWidth width number }
-    ensures { Appends result out.old.items out.new.items (encoded_head major number width) }
+    requires { FitsWidth width number }
+    ensures { Appends result out.old.items out.new.items
+        (encoded_head (major_number major) number width) }
 {
-    let first = major * 32;
+    let first = major.high_bits();
     match width.stated(number) {
         IntegerWidth::Zero => out.push(first + number as u8)?,
         IntegerWidth::Eight => out.extend_from_slice(&[first + 24, number as u8])?,
@@ -37,7 +74,7 @@ pub(crate) fn push_head(
             out.push(first + 27)?;
             out.extend_from_slice(&number.to_be_bytes())?;
         }
-        // A stated width is never open.
+        // `stated` never returns it.
         IntegerWidth::Unknown => unreachable!(),
     }
     Ok(())
@@ -81,18 +118,18 @@ pub(crate) fn push_simple(out: &mut Vec<u8>, value: u8) -> Result<(), AllocError
 /// Writes what stands before the members of a container: a head with their count, or an opening byte.
 pub(crate) fn push_open(
     out: &mut Vec<u8>,
-    major: u8,
+    major: Major,
     count: usize,
     width: Option<IntegerWidth>,
 ) -> Result<(), AllocError>
-    requires major { major < 8 }
-    requires fits { FitsCount width count }
-    ensures { Appends result out.old.items out.new.items (encoded_open major count width) }
+    requires { FitsCount width count }
+    ensures { Appends result out.old.items out.new.items
+        (encoded_open (major_number major) count width) }
 {
     match width {
         Some(width) => push_head(out, major, count as u64, width),
         None => {
-            out.push(major * 32 + 31)?;
+            out.push(major.high_bits() + 31)?;
             Ok(())
         }
     }

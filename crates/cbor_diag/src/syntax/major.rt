@@ -1,5 +1,5 @@
 //! Major types (RFC 7049 section 2.1).
-ghost use Rattle.std.specs.Prelude.{◌≡◌, ◌/◌};
+ghost use Rattle.std.specs.Prelude.{◌≡◌, ◌≤◌, ◌*◌, ◌/◌};
 ghost use Rattle.cbor_diag.specs.Head.{major_number};
 
 /// The major type of a head: the three high bits of its first byte (RFC 7049 section 2.1).
@@ -37,6 +37,23 @@ impl Major {
             Major::Map => 5,
             Major::Tag => 6,
             Major::Special => 7,
+        }
+    }
+
+    /// The first byte of a head, its five low bits being 0.
+    pub(crate) fn high_bits(self) -> u8
+        ensures bits { result ≡ 32 * major_number self }
+        ensures most { result ≤ 224 }
+    {
+        match self {
+            Major::Unsigned => 0x00,
+            Major::Negative => 0x20,
+            Major::Bytes => 0x40,
+            Major::Text => 0x60,
+            Major::Array => 0x80,
+            Major::Map => 0xa0,
+            Major::Tag => 0xc0,
+            Major::Special => 0xe0,
         }
     }
 

@@ -3,10 +3,12 @@ ghost use Rattle.std.specs.Prelude.{◌≡◌, ◌++◌, OnOk, decimal};
 ghost use Rattle.std.specs.String.{string_bytes};
 ghost use Rattle.cbor_notes.specs.TagNames.{tag_name};
 ghost use Rattle.cbor_diag.specs.Comments as spec;
-ghost use Rattle.cbor_diag.specs.Parts.{comment_text};
+ghost use Rattle.cbor_diag.specs.ShownLines.{comment_text, head_comment, major_word};
 
 use crate::encode::encoding::Encoding;
 use crate::encode::notation::push_quoted;
+use crate::syntax::Tag;
+use crate::syntax::major::Major;
 use cbor_notes::{
     push_element_text, push_escaped_text, push_grouped, push_hex, push_quoted_bytes, tag_name,
 };
@@ -15,20 +17,16 @@ use std::alloc::AllocError;
 /// What a line of a dump says of its digits.
 #[derive(Clone, Copy)]
 pub(super) enum Comment<'a> {
-    /// An unsigned integer.
-    Unsigned(u64),
-    /// A negative integer, by the number that is encoded.
-    Negative(u64),
+    /// The number of a head: an integer, a tag or a length.
+    Head(Major, u64),
+    /// A string or a container with its length or count, or none where that is indefinite.
+    Counted(Major, Option<u64>),
     /// A float, by its encoding.
     Float(&'a [u8]),
     /// A simple value.
     Simple(u8),
-    /// A string or a container with its length or count, or none where that is indefinite.
-    Counted(&'static str, Option<usize>),
     /// A break.
     Break,
-    /// A tag.
-    Tag(u64),
     /// A string without content.
     Empty,
     /// A piece of a byte string, and the whole string.
@@ -36,7 +34,7 @@ pub(super) enum Comment<'a> {
     /// A piece of a text.
     Text(&'a str),
     /// An element of the typed array of a tag.
-    Element(u64, &'a [u8]),
+    Element(Tag, &'a [u8]),
     /// A line of a note.
     Note(&'a str),
 }
@@ -47,21 +45,11 @@ impl Comment<'_> {
         ensures { OnOk result (string_bytes out.new ≡ string_bytes out.old ++ comment_text self.now) }
     {
         match self {
-            Comment::Unsigned(number) => {
-                out.push_str("unsigned(")?;
-                push_grouped(out, u128::from(*number), false)?;
-                out.push(')')
-            }
-            Comment::Negative(number) => {
-                out.push_str("negative(")?;
-                push_grouped(out, u128::from(*number) + 1, true)?;
-                out.push(')')
-            }
+            Comment::Head(major, number) => push_head(out, *major, *number),
+            Comment::Counted(major, count) => push_counted(out, *major, *count),
             Comment::Float(bytes) => push_float(out, bytes),
             Comment::Simple(value) => push_simple(out, *value),
-            Comment::Counted(name, count) => push_counted(out, name, *count),
             Comment::Break => out.push_str("break"),
-            Comment::Tag(number) => push_tag(out, *number),
             Comment::Empty => out.push_str("\"\""),
             Comment::Bytes(encoding, whole, piece) => push_bytes(out, *encoding, whole, piece),
             Comment::Text(piece) => {
@@ -70,11 +58,44 @@ impl Comment<'_> {
                 out.push('"')
             }
             Comment::Element(tag, piece) => {
-                push_element_text(out, *tag, piece)?;
+                push_element_text(out, tag.0, piece)?;
                 Ok(())
             }
             Comment::Note(text) => out.push_str(text),
         }
+    }
+}
+
+/// Appends what a head says with its number.
+fn push_head(out: &mut String, major: Major, number: u64) -> Result<(), AllocError>
+    ensures { OnOk result (string_bytes out.new ≡ string_bytes out.old ++ head_comment major number) }
+{
+    match major {
+        Major::Unsigned => {
+            out.push_str("unsigned(")?;
+            push_grouped(out, u128::from(number), false)?;
+            out.push(')')
+        }
+        Major::Negative => {
+            out.push_str("negative(")?;
+            push_grouped(out, u128::from(number) + 1, true)?;
+            out.push(')')
+        }
+        Major::Tag => push_tag(out, number),
+        _ => push_counted(out, major, Some(number)),
+    }
+}
+
+/// The word of a string or a container.
+fn word(major: Major) -> &'static str
+    ensures { result.now ≡ major_word major }
+{
+    match major {
+        Major::Bytes => "bytes",
+        Major::Text => "text",
+        Major::Array => "array",
+        Major::Map => "map",
+        _ => "",
     }
 }
 
@@ -111,13 +132,14 @@ fn push_simple(out: &mut String, value: u8) -> Result<(), AllocError>
     out.push(')')
 }
 
-fn push_counted(out: &mut String, name: &str, count: Option<usize>) -> Result<(), AllocError>
-    ensures { OnOk result (string_bytes out.new ≡ string_bytes out.old ++ spec.counted_comment name.now count) }
+fn push_counted(out: &mut String, major: Major, count: Option<u64>) -> Result<(), AllocError>
+    ensures { OnOk result (string_bytes out.new
+        ≡ string_bytes out.old ++ spec.counted_comment (major_word major) count) }
 {
-    out.push_str(name)?;
+    out.push_str(word(major))?;
     out.push('(')?;
     match count {
-        Some(count) => push_decimal(out, count as u64)?,
+        Some(count) => push_decimal(out, count)?,
         None => out.push('*')?,
     }
     out.push(')')

@@ -1,232 +1,341 @@
-//! The lines of what holds no item, and those round members, handed to a sink.
-ghost use Rattle.std.specs.Prelude.{◌≡◌, ◌<◌, ◌+◌, ◌^◌, length, map, Option, Some, None, OnOk};
+//! The lines of heads and of strings.
+ghost use Rattle.std.specs.Prelude.{◌≡◌, ◌<◌, ◌+◌, ◌^◌, ◌∷◌, [], length, map, OnOk, IfOk};
 ghost use Rattle.std.specs.List.{AllByRecursion};
-ghost use Rattle.cbor_diag.specs.Head.{FitsWidth};
+ghost use Rattle.std.specs.Str.{IsCharBoundary};
+ghost use Rattle.cbor_diag.specs.Head.{FitsWidth, major_number};
 ghost use Rattle.cbor_diag.specs.View.{byte_chunk, text_chunk};
 ghost use Rattle.cbor_diag.specs.WellFormed.{FitsCount, FitsFloat, IsByteChunk, IsTextChunk};
 ghost use Rattle.cbor_diag.specs.Written.{encoded_head, encoded_float, encoded_simple};
 ghost use Rattle.cbor_diag.specs.Comments.{float_comment, text_comment, simple_comment};
 ghost use Rattle.cbor_diag.specs.Pieces.{text_pieces};
 ghost use Rattle.cbor_diag.specs.Pieces.{text_cut as cut_of};
-ghost use Rattle.std.specs.Str.{IsCharBoundary};
 ghost use Rattle.cbor_diag.specs.Dump as spec;
-ghost use Rattle.cbor_diag.specs.Parts.{comment_text, Takes, taken};
-ghost use Rattle.cbor_diag.specs.Sinks.{held, room, step};
+ghost use Rattle.cbor_diag.specs.ShownLines.{comment_text, head_comment, major_word};
+ghost use Rattle.cbor_diag.specs.Passes.{at_of, tag_number, IsContext, CanTake, Took};
 
 use super::comment::Comment;
-use super::form::Form;
-use super::sink::Sink;
+use super::context::DumpContext;
+use super::hex_style::HexStyle;
+use super::pass::Pass;
 use crate::encode::encoding::Encoding;
-use crate::encode::head::{push_float, push_head, push_open, push_simple};
-use crate::syntax::{ByteString, FloatWidth, IntegerWidth, TextString};
+use crate::encode::head::{Head, Opening, push_float, push_head, push_open, push_simple};
+use crate::syntax::major::Major;
+use crate::syntax::{ByteString, FloatWidth, IntegerWidth, Tag, TextString};
 use cbor_notes::element_size;
-use std::alloc::AllocError;
+use std::alloc::{AllocError, Global};
 
-/// The line of a head with a number.
-pub(super) fn number_line(
-    sink: &mut Sink,
-    head: &mut Vec<u8>,
-    depth: usize,
-    major: u8,
-    number: u64,
-    width: IntegerWidth,
-    comment: &Comment<'_>,
-) -> Result<(), AllocError>
-    requires major { major < 8 }
-    requires fits { FitsWidth width number }
-    requires takes { Takes (room sink.old)
-        (spec.head_line depth (encoded_head major number width) (comment_text comment.now)) }
-    ensures step { OnOk result (held sink.new ≡ step (held sink.old)
-        (spec.head_line depth (encoded_head major number width) (comment_text comment.now))) }
-    ensures room { OnOk result (room sink.new ≡ room sink.old) }
-{
-    head.clear();
-    push_head(head, major, number, width)?;
-    sink.line(depth, Form::Head, head, comment)
+/// The lines of a dump, handed to a pass one after the other.
+#[derive(Drop)]
+pub(crate) struct Lines {
+    /// The pass.
+    pub(crate) pass: Pass,
+    /// The bytes of a head, kept to reuse their memory.
+    pub(crate) head: Vec<u8>,
 }
 
-/// The line of a float.
-pub(super) fn float_line(
-    sink: &mut Sink,
-    head: &mut Vec<u8>,
-    depth: usize,
-    bits: u64,
-    width: FloatWidth,
-) -> Result<(), AllocError>
-    requires fits { FitsFloat width bits }
-    requires takes { Takes (room sink.old)
-        (spec.head_line depth (encoded_float bits width) (float_comment (encoded_float bits width))) }
-    ensures step { OnOk result (held sink.new ≡ step (held sink.old)
-        (spec.head_line depth (encoded_float bits width) (float_comment (encoded_float bits width)))) }
-    ensures room { OnOk result (room sink.new ≡ room sink.old) }
-{
-    head.clear();
-    push_float(head, bits, width)?;
-    sink.line(depth, Form::Head, head, &Comment::Float(head))
+/// The elements of a typed array (RFC 8746).
+#[derive(Clone, Copy)]
+pub(crate) struct Elements {
+    /// The tag of the array, which says what they are.
+    pub(crate) tag: Tag,
+    /// The number of bytes of each.
+    pub(crate) size: usize,
 }
 
-/// The line of a simple value.
-pub(super) fn simple_line(
-    sink: &mut Sink,
-    head: &mut Vec<u8>,
-    depth: usize,
-    value: u8,
-) -> Result<(), AllocError>
-    requires { Takes (room sink.old) (spec.head_line depth (encoded_simple value) (simple_comment value)) }
-    ensures step { OnOk result (held sink.new ≡ step (held sink.old)
-        (spec.head_line depth (encoded_simple value) (simple_comment value))) }
-    ensures room { OnOk result (room sink.new ≡ room sink.old) }
-{
-    head.clear();
-    push_simple(head, value)?;
-    sink.line(depth, Form::Head, head, &Comment::Simple(value))
-}
-
-/// The line of an indefinite string's opening byte.
-fn open_line(sink: &mut Sink, depth: usize, major: u8, name: &'static str) -> Result<(), AllocError>
-    requires major { major < 7 }
-    requires takes { Takes (room sink.old) (spec.open_line depth major name.now) }
-    ensures step { OnOk result (held sink.new ≡ step (held sink.old) (spec.open_line depth major name.now)) }
-    ensures room { OnOk result (room sink.new ≡ room sink.old) }
-{
-    sink.line(
-        depth,
-        Form::Head,
-        &[32 * major + 31],
-        &Comment::Counted(name, None),
-    )
-}
-
-/// The line of a break.
-fn break_line(sink: &mut Sink, depth: usize) -> Result<(), AllocError>
-    requires { Takes (room sink.old) (spec.break_line depth) }
-    ensures step { OnOk result (held sink.new ≡ step (held sink.old) (spec.break_line depth)) }
-    ensures room { OnOk result (room sink.new ≡ room sink.old) }
-{
-    sink.line(depth, Form::Head, &[0xff], &Comment::Break)
-}
-
-/// The line before the members of a container.
-pub(super) fn container_line(
-    sink: &mut Sink,
-    head: &mut Vec<u8>,
-    depth: usize,
-    major: u8,
-    name: &'static str,
-    count: usize,
-    width: Option<IntegerWidth>,
-) -> Result<(), AllocError>
-    requires major { major < 7 }
-    requires fits { FitsCount width count }
-    requires takes { Takes (room sink.old) (spec.container_line depth major name.now count width) }
-    ensures step { OnOk result (held sink.new ≡ step (held sink.old)
-        (spec.container_line depth major name.now count width)) }
-    ensures room { OnOk result (room sink.new ≡ room sink.old) }
-{
-    head.clear();
-    push_open(head, major, count, width)?;
-    let definite = if width.is_some() { Some(count) } else { None };
-    sink.line(depth, Form::Head, head, &Comment::Counted(name, definite))
-}
-
-/// The line after them, if there is one.
-pub(super) fn close_lines(
-    sink: &mut Sink,
-    depth: usize,
-    width: Option<IntegerWidth>,
-) -> Result<(), AllocError>
-    requires { AllByRecursion (Takes (room sink.old)) (spec.close_lines depth width) }
-    ensures step { OnOk result (held sink.new ≡ taken step (held sink.old) (spec.close_lines depth width)) }
-    ensures room { OnOk result (room sink.new ≡ room sink.old) }
-{
-    match width {
-        Some(_) => Ok(()),
-        None => break_line(sink, depth),
+impl Lines {
+    /// No lines yet.
+    pub(super) fn new(alloc: Global, pass: Pass) -> Result<Lines, AllocError>
+        ensures { IfOk result (λ lines. lines.pass ≡ pass) }
+    {
+        Ok(Lines {
+            pass,
+            head: Vec::with_capacity(alloc, 9)?,
+        })
     }
-}
 
-/// The line of a piece of a string.
-fn piece_line(
-    sink: &mut Sink,
-    depth: usize,
-    piece: &[u8],
-    comment: &Comment<'_>,
-) -> Result<(), AllocError>
-    requires { Takes (room sink.old) (spec.piece_line depth piece.now (comment_text comment.now)) }
-    ensures step { OnOk result (held sink.new ≡ step (held sink.old)
-        (spec.piece_line depth piece.now (comment_text comment.now))) }
-    ensures room { OnOk result (room sink.new ≡ room sink.old) }
-{
-    sink.line(depth, Form::Content, piece, comment)
-}
-
-/// The content of a byte string, a line for each piece.
-fn bytes_content(
-    sink: &mut Sink,
-    depth: usize,
-    encoding: Option<Encoding>,
-    bytes: &[u8],
-) -> Result<(), AllocError>
-    requires { AllByRecursion (Takes (room sink.old)) (spec.bytes_lines depth encoding bytes.now) }
-    ensures step { OnOk result (held sink.new ≡ taken step (held sink.old)
-        (spec.bytes_lines depth encoding bytes.now)) }
-    ensures room { OnOk result (room sink.new ≡ room sink.old) }
-{
-    if bytes.is_empty() {
-        return piece_line(sink, depth, bytes, &Comment::Empty);
+    /// The line of a head with its number.
+    pub(super) fn number(&mut self, depth: usize, head: Head) -> Result<(), AllocError>
+        requires fits { FitsWidth head.width head.number }
+        requires takes { CanTake self.old.pass (spec.head_line depth
+            (encoded_head (major_number head.major) head.number head.width)
+            (head_comment head.major head.number) ∷ []) }
+        ensures { OnOk result (Took self.old.pass self.new.pass (spec.head_line depth
+            (encoded_head (major_number head.major) head.number head.width)
+            (head_comment head.major head.number) ∷ [])) }
+    {
+        self.head.clear();
+        push_head(&mut self.head, head.major, head.number, head.width)?;
+        let comment = Comment::Head(head.major, head.number);
+        self.pass.line(depth, HexStyle::Head, &self.head, &comment)
     }
-    let mut rest = bytes;
-    'pieces: while !rest.is_empty() {
-        let (piece, after) = rest.split_at(rest.len().min(16));
-        piece_line(sink, depth, piece, &Comment::Bytes(encoding, bytes, piece))?;
-        rest = after;
-    }
-    Ok(())
-}
 
-/// The elements of a typed array, a line for each.
-fn elements(
-    sink: &mut Sink,
-    depth: usize,
-    tag: u64,
-    size: usize,
-    bytes: &[u8],
-) -> Result<(), AllocError>
-    requires size { 0 < size }
-    requires takes { AllByRecursion (Takes (room sink.old)) (spec.element_lines depth tag size bytes.now) }
-    ensures step { OnOk result (held sink.new ≡ taken step (held sink.old)
-        (spec.element_lines depth tag size bytes.now)) }
-    ensures room { OnOk result (room sink.new ≡ room sink.old) }
-{
-    let mut rest = bytes;
-    'elements: while !rest.is_empty() {
-        let (element, after) = rest.split_at(rest.len().min(size));
-        piece_line(sink, depth, element, &Comment::Element(tag, element))?;
-        rest = after;
+    /// The line of a float.
+    pub(super) fn float(
+        &mut self,
+        depth: usize,
+        bits: u64,
+        width: FloatWidth,
+    ) -> Result<(), AllocError>
+        requires fits { FitsFloat width bits }
+        requires takes { CanTake self.old.pass (spec.head_line depth
+            (encoded_float bits width) (float_comment (encoded_float bits width)) ∷ []) }
+        ensures { OnOk result (Took self.old.pass self.new.pass (spec.head_line depth
+            (encoded_float bits width) (float_comment (encoded_float bits width)) ∷ [])) }
+    {
+        self.head.clear();
+        push_float(&mut self.head, bits, width)?;
+        self.pass.line(
+            depth,
+            HexStyle::Head,
+            &self.head,
+            &Comment::Float(&self.head),
+        )
     }
-    Ok(())
-}
 
-/// The content of a byte string right below a tag, if there is one: its elements where the tag is that of a
-/// typed array and the bytes are whole elements.
-fn tagged_content(
-    sink: &mut Sink,
-    depth: usize,
-    encoding: Option<Encoding>,
-    tag: Option<u64>,
-    bytes: &[u8],
-) -> Result<(), AllocError>
-    requires { AllByRecursion (Takes (room sink.old)) (spec.tagged_lines depth encoding tag bytes.now) }
-    ensures step { OnOk result (held sink.new ≡ taken step (held sink.old)
-        (spec.tagged_lines depth encoding tag bytes.now)) }
-    ensures room { OnOk result (room sink.new ≡ room sink.old) }
-{
-    let Some(tag) = tag else {
-        return bytes_content(sink, depth, encoding, bytes);
-    };
-    match element_size(tag) {
-        Some(size) if bytes.len() % size == 0 => elements(sink, depth, tag, size, bytes),
-        _ => bytes_content(sink, depth, encoding, bytes),
+    /// The line of a simple value.
+    pub(super) fn simple(&mut self, depth: usize, value: u8) -> Result<(), AllocError>
+        requires { CanTake self.old.pass
+            (spec.head_line depth (encoded_simple value) (simple_comment value) ∷ []) }
+        ensures { OnOk result (Took self.old.pass self.new.pass
+            (spec.head_line depth (encoded_simple value) (simple_comment value) ∷ [])) }
+    {
+        self.head.clear();
+        push_simple(&mut self.head, value)?;
+        self.pass
+            .line(depth, HexStyle::Head, &self.head, &Comment::Simple(value))
+    }
+
+    /// The line of the opening byte of an indefinite length.
+    fn open(&mut self, depth: usize, major: Major) -> Result<(), AllocError>
+        requires { CanTake self.old.pass
+            (spec.open_line depth (major_number major) (major_word major) ∷ []) }
+        ensures { OnOk result (Took self.old.pass self.new.pass
+            (spec.open_line depth (major_number major) (major_word major) ∷ [])) }
+    {
+        let opening = [major.high_bits() + 31];
+        let comment = Comment::Counted(major, None);
+        self.pass.line(depth, HexStyle::Head, &opening, &comment)
+    }
+
+    /// The line of a break.
+    fn break_line(&mut self, depth: usize) -> Result<(), AllocError>
+        requires { CanTake self.old.pass (spec.break_line depth ∷ []) }
+        ensures { OnOk result (Took self.old.pass self.new.pass (spec.break_line depth ∷ [])) }
+    {
+        self.pass
+            .line(depth, HexStyle::Head, &[0xff], &Comment::Break)
+    }
+
+    /// The line before the members of a container.
+    pub(super) fn container(&mut self, depth: usize, opening: Opening) -> Result<(), AllocError>
+        requires fits { FitsCount opening.width opening.count }
+        requires takes { CanTake self.old.pass (spec.container_line depth
+            (major_number opening.major) (major_word opening.major) opening.count opening.width ∷ []) }
+        ensures { OnOk result (Took self.old.pass self.new.pass (spec.container_line depth
+            (major_number opening.major) (major_word opening.major) opening.count opening.width ∷ [])) }
+    {
+        self.head.clear();
+        push_open(&mut self.head, opening.major, opening.count, opening.width)?;
+        let count = if opening.width.is_some() {
+            Some(opening.count as u64)
+        } else {
+            None
+        };
+        let comment = Comment::Counted(opening.major, count);
+        self.pass.line(depth, HexStyle::Head, &self.head, &comment)
+    }
+
+    /// The line after the members of a container, if there is one.
+    pub(super) fn close(
+        &mut self,
+        depth: usize,
+        width: Option<IntegerWidth>,
+    ) -> Result<(), AllocError>
+        requires { CanTake self.old.pass (spec.close_lines depth width) }
+        ensures { OnOk result (Took self.old.pass self.new.pass (spec.close_lines depth width)) }
+    {
+        match width {
+            Some(_) => Ok(()),
+            None => self.break_line(depth),
+        }
+    }
+
+    /// The line of a piece of a string.
+    fn piece_line(
+        &mut self,
+        depth: usize,
+        piece: &[u8],
+        comment: &Comment<'_>,
+    ) -> Result<(), AllocError>
+        requires { CanTake self.old.pass
+            (spec.piece_line depth piece.now (comment_text comment.now) ∷ []) }
+        ensures { OnOk result (Took self.old.pass self.new.pass
+            (spec.piece_line depth piece.now (comment_text comment.now) ∷ [])) }
+    {
+        self.pass.line(depth, HexStyle::Content, piece, comment)
+    }
+
+    /// The content of a byte string, a line for each piece.
+    fn bytes_content(
+        &mut self,
+        depth: usize,
+        encoding: Option<Encoding>,
+        bytes: &[u8],
+    ) -> Result<(), AllocError>
+        requires { CanTake self.old.pass (spec.bytes_lines depth encoding bytes.now) }
+        ensures { OnOk result (Took self.old.pass self.new.pass
+            (spec.bytes_lines depth encoding bytes.now)) }
+    {
+        if bytes.is_empty() {
+            return self.piece_line(depth, bytes, &Comment::Empty);
+        }
+        let mut rest = bytes;
+        'pieces: while !rest.is_empty() {
+            let (piece, after) = rest.split_at(rest.len().min(16));
+            self.piece_line(depth, piece, &Comment::Bytes(encoding, bytes, piece))?;
+            rest = after;
+        }
+        Ok(())
+    }
+
+    /// The elements of a typed array, a line for each.
+    fn elements(&mut self, depth: usize, of: Elements, bytes: &[u8]) -> Result<(), AllocError>
+        requires size { 0 < of.size }
+        requires takes { CanTake self.old.pass (spec.element_lines depth of.tag.0 of.size bytes.now) }
+        ensures { OnOk result (Took self.old.pass self.new.pass
+            (spec.element_lines depth of.tag.0 of.size bytes.now)) }
+    {
+        let mut rest = bytes;
+        'elements: while !rest.is_empty() {
+            let (element, after) = rest.split_at(rest.len().min(of.size));
+            self.piece_line(depth, element, &Comment::Element(of.tag, element))?;
+            rest = after;
+        }
+        Ok(())
+    }
+
+    /// The content of a byte string, one deeper than the context: its elements where the tag above is that of a
+    /// typed array and the bytes are whole elements.
+    fn tagged_content(&mut self, context: DumpContext, bytes: &[u8]) -> Result<(), AllocError>
+        requires context { IsContext context }
+        requires takes { CanTake self.old.pass (spec.tagged_lines (context.depth + 1)
+            context.encoding (tag_number context.tag) bytes.now) }
+        ensures { OnOk result (Took self.old.pass self.new.pass (spec.tagged_lines (context.depth + 1)
+            context.encoding (tag_number context.tag) bytes.now)) }
+    {
+        let depth = context.depth + 1;
+        let Some(tag) = context.tag else {
+            return self.bytes_content(depth, context.encoding, bytes);
+        };
+        match element_size(tag.0) {
+            Some(size) if bytes.len() % size == 0 => {
+                self.elements(depth, Elements { tag, size }, bytes)
+            }
+            _ => self.bytes_content(depth, context.encoding, bytes),
+        }
+    }
+
+    /// The content of a text, in one line or a line for each piece.
+    fn text_content(&mut self, depth: usize, text: &str) -> Result<(), AllocError>
+        requires { CanTake self.old.pass
+            (spec.content_lines depth text_comment (text_pieces text.now)) }
+        ensures { OnOk result (Took self.old.pass self.new.pass
+            (spec.content_lines depth text_comment (text_pieces text.now))) }
+    {
+        if text.is_empty() {
+            return self.piece_line(depth, text.as_bytes(), &Comment::Empty);
+        }
+        if text.len() <= 24 {
+            return self.piece_line(depth, text.as_bytes(), &Comment::Text(text));
+        }
+        let mut rest = text;
+        'pieces: while !rest.is_empty() {
+            let (piece, after) = rest.split_at(text_cut(rest));
+            self.piece_line(depth, piece.as_bytes(), &Comment::Text(piece))?;
+            rest = after;
+        }
+        Ok(())
+    }
+
+    /// A byte string of definite length.
+    pub(super) fn byte_string(
+        &mut self,
+        context: DumpContext,
+        string: &ByteString,
+    ) -> Result<(), AllocError>
+        requires context { IsContext context }
+        requires well_formed { IsByteChunk (byte_chunk string.now) }
+        requires takes { CanTake self.old.pass
+            (spec.byte_string_lines (at_of context) (byte_chunk string.now)) }
+        ensures { OnOk result (Took self.old.pass self.new.pass
+            (spec.byte_string_lines (at_of context) (byte_chunk string.now))) }
+    {
+        let length = string.content.len() as u64;
+        self.number(
+            context.depth,
+            Head::new(Major::Bytes, length, string.bitwidth),
+        )?;
+        self.tagged_content(context, &string.content)
+    }
+
+    /// A text string of definite length.
+    pub(super) fn text_string(
+        &mut self,
+        depth: usize,
+        string: &TextString,
+    ) -> Result<(), AllocError>
+        requires depth { depth < 2 ^ 32 }
+        requires well_formed { IsTextChunk (text_chunk string.now) }
+        requires takes { CanTake self.old.pass
+            (spec.text_string_lines depth (text_chunk string.now)) }
+        ensures { OnOk result (Took self.old.pass self.new.pass
+            (spec.text_string_lines depth (text_chunk string.now))) }
+    {
+        let length = string.content.len() as u64;
+        self.number(depth, Head::new(Major::Text, length, string.bitwidth))?;
+        self.text_content(depth + 1, &string.content)
+    }
+
+    /// A byte string in chunks.
+    pub(super) fn byte_chunks(
+        &mut self,
+        context: DumpContext,
+        chunks: &[ByteString],
+    ) -> Result<(), AllocError>
+        requires context { IsContext context }
+        requires level { context.level < 129 }
+        requires well_formed { AllByRecursion IsByteChunk (map byte_chunk chunks.now) }
+        requires takes { CanTake self.old.pass
+            (spec.byte_chunks_lines (at_of context) (map byte_chunk chunks.now)) }
+        ensures { OnOk result (Took self.old.pass self.new.pass
+            (spec.byte_chunks_lines (at_of context) (map byte_chunk chunks.now))) }
+    {
+        self.open(context.depth, Major::Bytes)?;
+        let inner = context.inside();
+        'chunks: for chunk in chunks {
+            self.byte_string(inner, chunk)?;
+        }
+        self.break_line(context.depth + 1)
+    }
+
+    /// A text string in chunks.
+    pub(super) fn text_chunks(
+        &mut self,
+        depth: usize,
+        chunks: &[TextString],
+    ) -> Result<(), AllocError>
+        requires depth { depth < 2 ^ 31 }
+        requires well_formed { AllByRecursion IsTextChunk (map text_chunk chunks.now) }
+        requires takes { CanTake self.old.pass
+            (spec.text_chunks_lines depth (map text_chunk chunks.now)) }
+        ensures { OnOk result (Took self.old.pass self.new.pass
+            (spec.text_chunks_lines depth (map text_chunk chunks.now))) }
+    {
+        self.open(depth, Major::Text)?;
+        'chunks: for chunk in chunks {
+            self.text_string(depth + 1, chunk)?;
+        }
+        self.break_line(depth + 1)
     }
 }
 
@@ -237,132 +346,4 @@ fn text_cut(rest: &str) -> usize
     ensures boundary { IsCharBoundary rest.now result }
 {
     rest.floor_char_boundary(16)
-}
-
-/// The content of a text, in one line or a line for each piece.
-fn text_content(sink: &mut Sink, depth: usize, text: &str) -> Result<(), AllocError>
-    requires { AllByRecursion (Takes (room sink.old))
-        (spec.content_lines depth text_comment (text_pieces text.now)) }
-    ensures step { OnOk result (held sink.new ≡ taken step (held sink.old)
-        (spec.content_lines depth text_comment (text_pieces text.now))) }
-    ensures room { OnOk result (room sink.new ≡ room sink.old) }
-{
-    if text.is_empty() {
-        return piece_line(sink, depth, text.as_bytes(), &Comment::Empty);
-    }
-    if text.len() <= 24 {
-        return piece_line(sink, depth, text.as_bytes(), &Comment::Text(text));
-    }
-    let mut rest = text;
-    'pieces: while !rest.is_empty() {
-        let (piece, after) = rest.split_at(text_cut(rest));
-        piece_line(sink, depth, piece.as_bytes(), &Comment::Text(piece))?;
-        rest = after;
-    }
-    Ok(())
-}
-
-/// A byte string of definite length, right below a tag if there is one.
-pub(super) fn byte_string(
-    sink: &mut Sink,
-    head: &mut Vec<u8>,
-    depth: usize,
-    encoding: Option<Encoding>,
-    tag: Option<u64>,
-    string: &ByteString,
-) -> Result<(), AllocError>
-    requires room_for_depth { depth < 2 ^ 32 }
-    requires well_formed { IsByteChunk (byte_chunk string.now) }
-    requires takes { AllByRecursion (Takes (room sink.old))
-        (spec.byte_string_lines depth encoding tag (byte_chunk string.now)) }
-    ensures step { OnOk result (held sink.new ≡ taken step (held sink.old)
-        (spec.byte_string_lines depth encoding tag (byte_chunk string.now))) }
-    ensures room { OnOk result (room sink.new ≡ room sink.old) }
-{
-    let length = string.content.len();
-    let comment = Comment::Counted("bytes", Some(length));
-    number_line(
-        sink,
-        head,
-        depth,
-        2,
-        length as u64,
-        string.bitwidth,
-        &comment,
-    )?;
-    tagged_content(sink, depth + 1, encoding, tag, &string.content)
-}
-
-/// A text string of definite length.
-pub(super) fn text_string(
-    sink: &mut Sink,
-    head: &mut Vec<u8>,
-    depth: usize,
-    string: &TextString,
-) -> Result<(), AllocError>
-    requires room_for_depth { depth < 2 ^ 32 }
-    requires well_formed { IsTextChunk (text_chunk string.now) }
-    requires takes { AllByRecursion (Takes (room sink.old))
-        (spec.text_string_lines depth (text_chunk string.now)) }
-    ensures step { OnOk result (held sink.new ≡ taken step (held sink.old)
-        (spec.text_string_lines depth (text_chunk string.now))) }
-    ensures room { OnOk result (room sink.new ≡ room sink.old) }
-{
-    let length = string.content.len();
-    let comment = Comment::Counted("text", Some(length));
-    number_line(
-        sink,
-        head,
-        depth,
-        3,
-        length as u64,
-        string.bitwidth,
-        &comment,
-    )?;
-    text_content(sink, depth + 1, &string.content)
-}
-
-/// A byte string in chunks.
-pub(super) fn byte_chunks(
-    sink: &mut Sink,
-    head: &mut Vec<u8>,
-    depth: usize,
-    encoding: Option<Encoding>,
-    chunks: &[ByteString],
-) -> Result<(), AllocError>
-    requires room_for_depth { depth < 2 ^ 31 }
-    requires well_formed { AllByRecursion IsByteChunk (map byte_chunk chunks.now) }
-    requires takes { AllByRecursion (Takes (room sink.old))
-        (spec.byte_chunks_lines depth encoding (map byte_chunk chunks.now)) }
-    ensures step { OnOk result (held sink.new ≡ taken step (held sink.old)
-        (spec.byte_chunks_lines depth encoding (map byte_chunk chunks.now))) }
-    ensures room { OnOk result (room sink.new ≡ room sink.old) }
-{
-    open_line(sink, depth, 2, "bytes")?;
-    'chunks: for chunk in chunks {
-        byte_string(sink, head, depth + 1, encoding, None, chunk)?;
-    }
-    break_line(sink, depth + 1)
-}
-
-/// A text string in chunks.
-pub(super) fn text_chunks(
-    sink: &mut Sink,
-    head: &mut Vec<u8>,
-    depth: usize,
-    chunks: &[TextString],
-) -> Result<(), AllocError>
-    requires room_for_depth { depth < 2 ^ 31 }
-    requires well_formed { AllByRecursion IsTextChunk (map text_chunk chunks.now) }
-    requires takes { AllByRecursion (Takes (room sink.old))
-        (spec.text_chunks_lines depth (map text_chunk chunks.now)) }
-    ensures step { OnOk result (held sink.new ≡ taken step (held sink.old)
-        (spec.text_chunks_lines depth (map text_chunk chunks.now))) }
-    ensures room { OnOk result (room sink.new ≡ room sink.old) }
-{
-    open_line(sink, depth, 3, "text")?;
-    'chunks: for chunk in chunks {
-        text_string(sink, head, depth + 1, chunk)?;
-    }
-    break_line(sink, depth + 1)
 }

@@ -24,12 +24,12 @@ use std::alloc::{AllocError, Global};
 pub(super) fn value_note(
     alloc: Global,
     known: u64,
-    tag: u64,
+    tag: Tag,
     value: &DataItem,
 ) -> Result<Vec<String>, AllocError>
-    ensures { IfOk result (λ texts. map string_bytes texts.items ≡ spec.value_note known tag (view value.now)) }
+    ensures { IfOk result (λ texts. map string_bytes texts.items ≡ spec.value_note known tag.0 (view value.now)) }
 {
-    match Tag(tag) {
+    match tag {
         Tag::DATETIME => one(alloc, datetime_note(alloc, value)?),
         Tag::EPOCH_DATETIME => one(alloc, epoch_datetime_note(alloc, value)?),
         Tag::SHAREABLE => one(alloc, shareable_note(alloc, known.saturating_sub(1))?),
@@ -43,7 +43,7 @@ pub(super) fn value_note(
         Tag::EPOCH_DATE => one(alloc, epoch_date_note(alloc, value)?),
         Tag::NETWORK_ADDRESS => one(alloc, network_note(alloc, value)?),
         Tag::DATE => one(alloc, date_note(alloc, value)?),
-        _ => match element_size(tag) {
+        _ => match element_size(tag.0) {
             Some(size) => typed_array_note(alloc, size, value),
             None => Ok(Vec::new(alloc)),
         },

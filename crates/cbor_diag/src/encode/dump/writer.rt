@@ -2,10 +2,10 @@
 ghost use Rattle.std.specs.Prelude.{◌≡◌, ◌≤◌, ◌++◌, [], OnOk};
 ghost use Rattle.std.specs.String.{string_bytes};
 ghost use Rattle.cbor_notes.specs.Layout.{line_text};
-ghost use Rattle.cbor_diag.specs.Parts.{shown_line, Takes, most_width};
+ghost use Rattle.cbor_diag.specs.ShownLines.{shown_line, Takes, most_width};
 
 use super::comment::Comment;
-use super::form::Form;
+use super::hex_style::HexStyle;
 use cbor_notes::put_line;
 use std::alloc::{AllocError, Global};
 
@@ -16,9 +16,9 @@ pub(crate) struct Writer {
     pub(crate) out: String,
     /// The width of its left column.
     pub(crate) width: usize,
-    /// Room for the digits of one line.
+    /// The digits of a line, kept to reuse their memory.
     pub(crate) hex: String,
-    /// Room for its comment.
+    /// Its comment, likewise.
     pub(crate) comment: String,
     ghost narrow: { width ≤ most_width },
 }
@@ -38,21 +38,22 @@ impl Writer {
         }
     }
 
-    /// Appends a line, as `Sink::line` takes it.
+    /// Appends a line, as `Pass::line` takes it.
     pub(super) fn line(
         &mut self,
         depth: usize,
-        form: Form,
+        style: HexStyle,
         bytes: &[u8],
         comment: &Comment<'_>,
     ) -> Result<(), AllocError>
-        requires { Takes self.old.width (shown_line depth form bytes.now comment.now) }
+        requires { Takes self.old.width (shown_line depth style bytes.now comment.now) }
         ensures text { OnOk result (string_bytes self.new.out
-            ≡ string_bytes self.old.out ++ line_text self.old.width (shown_line depth form bytes.now comment.now)) }
+            ≡ string_bytes self.old.out
+            ++ line_text self.old.width (shown_line depth style bytes.now comment.now)) }
         ensures width { OnOk result (self.new.width ≡ self.old.width) }
     {
         self.hex.clear();
-        form.push(&mut self.hex, bytes)?;
+        style.push(&mut self.hex, bytes)?;
         self.comment.clear();
         comment.push(&mut self.comment)?;
         put_line(&mut self.out, self.width, depth, &self.hex, &self.comment)

@@ -11,8 +11,8 @@ use Rattle.cbor_diag.proofs.encode.bytes.+push.Goals as goal
 around : (out opening members closing all : List ℕ) → all ≡ (out ++ opening) ++ members → all ++ closing ≡ out ++ (opening ++ (members ++ closing))
 around out opening members closing all e = ap (λ x. x ++ closing) e ∙ append_assoc (out ++ opening) members closing ∙ append_assoc out opening (members ++ closing)
 
-pub push_array-push_open-requires-clause-fits : goal.push_array-push_open-requires-clause-fits
-push_array-push_open-requires-clause-fits t c =
+pub push_array-push_open-requires : goal.push_array-push_open-requires
+push_array-push_open-requires t c =
     let v = c.args.items.now in
     let counted : item_count (items_view v.items) ≡ c.len.result = omega (arith, item_count_view v.items, v.ok.0) in
     subst (λ n. FitsCount c.args.width n) counted c.requires.1.1
@@ -29,8 +29,8 @@ push_array-returns t c =
     let begun = begins_two out c.push_open.new.out.items (encoded_open 4 c.len.result c.args.width) members c.push_items.new.out.items c.in_ok-push_open.ensures c.in_ok-push_items.ensures in
     appends_last c.push_close.result out c.push_items.new.out.items c.push_close.new.out.items (encoded_close c.args.width) _ begun (λ e. e ∙ spelled) c.push_close.ensures
 
-pub push_map-push_open-requires-clause-fits : goal.push_map-push_open-requires-clause-fits
-push_map-push_open-requires-clause-fits t c =
+pub push_map-push_open-requires : goal.push_map-push_open-requires
+push_map-push_open-requires t c =
     let v = c.args.pairs.now in
     let counted : pair_count (pairs_view v.items) ≡ c.len.result = omega (arith, pair_count_view v.items, v.ok.0) in
     subst (λ n. FitsCount c.args.width n) counted c.requires.1.1

@@ -1,0 +1,52 @@
+//! Where in a dump an item is.
+ghost use Rattle.std.specs.Prelude.{◌≡◌, ◌+◌};
+ghost use Rattle.cbor_diag.specs.Dump as spec;
+ghost use Rattle.cbor_diag.specs.Passes.{at_of, IsContext};
+
+use crate::encode::encoding::{Encoding, encoding_below};
+use crate::syntax::Tag;
+
+/// Where in a dump an item is.
+#[derive(Clone, Copy)]
+pub(crate) struct DumpContext {
+    /// The item's level: 1 plus the number of items round it, of those that embed it, too.
+    pub(crate) level: u8,
+    /// The depth of its lines, which are indented by it.
+    pub(crate) depth: usize,
+    /// How byte strings are shown; they are quoted where there is none.
+    pub(crate) encoding: Option<Encoding>,
+    /// The tag right above it.
+    pub(crate) tag: Option<Tag>,
+}
+
+impl DumpContext {
+    /// In a container, or in a string in chunks.
+    pub(crate) fn inside(self) -> DumpContext
+        requires { IsContext self }
+        ensures at { at_of result ≡ spec.inside (at_of self) }
+        ensures depth { result.depth ≡ self.depth + 1 }
+        ensures level { result.level ≡ self.level + 1 }
+    {
+        DumpContext {
+            level: self.level + 1,
+            depth: self.depth + 1,
+            encoding: self.encoding,
+            tag: None,
+        }
+    }
+
+    /// Right below a tag.
+    pub(crate) fn below(self, tag: Tag) -> DumpContext
+        requires { IsContext self }
+        ensures at { at_of result ≡ spec.below tag.0 (at_of self) }
+        ensures depth { result.depth ≡ self.depth + 1 }
+        ensures level { result.level ≡ self.level + 1 }
+    {
+        DumpContext {
+            level: self.level + 1,
+            depth: self.depth + 1,
+            encoding: encoding_below(tag, self.encoding),
+            tag: Some(tag),
+        }
+    }
+}
