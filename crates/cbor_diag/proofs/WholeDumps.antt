@@ -11,7 +11,7 @@ use Rattle.cbor_diag.specs.declared.encode.dump.pass.Pass.TheVariants as pass
 use Rattle.cbor_diag.specs.declared.encode.dump.writer.Writer.{Writer}
 use Rattle.cbor_diag.specs.Item.{Item}
 use Rattle.cbor_diag.specs.Dump.{lines_at, top}
-use Rattle.cbor_diag.specs.ShownLines.{most_width, Takes}
+use Rattle.cbor_diag.specs.ShownLines.{most_width}
 use Rattle.cbor_diag.specs.Passes.{taken, held, room, step, text_in, width_in, CanTake, Took}
 use Rattle.cbor_diag.specs.WellFormed.{WellFormed}
 use Rattle.cbor_diag.proofs.DumpFits.{IsGood, fits_of, item_fits, plain_of, takes_all, widest_is, written_is}
