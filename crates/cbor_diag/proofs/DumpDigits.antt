@@ -212,13 +212,14 @@ module _ (write : At → ℕ → Item → List DumpLine) (level : ℕ) (each : (
       headed p.depth (encoded_open 5 (pair_count ps) w) (counted_comment (codes "map") (count_if_definite (pair_count ps) w)) (pairs_lines (write (inside p)) known ps ++ close_lines (p.depth + 1) w) (encoded_pairs ps ++ encoded_close w)
       (both (pairs_lines (write (inside p)) known ps) (close_lines (p.depth + 1) w) (encoded_pairs ps) (encoded_close w) (pairs_are (write (inside p)) (level + 1) (each (inside p)) known ps well.2) (close_are (p.depth + 1) w))
   parts_are p known (tagged t w i) well =
-      headed p.depth (encoded_head 6 t w) (tag_comment t) (write (below t p) (shared_from t known) i) (encoded i) (each (below t p) (shared_from t known) i well.2)
+      headed p.depth (encoded_head 6 t w) (tag_comment t) (write (below t known p) (shared_from t known) i) (encoded i)
+      (each (below t known p) (shared_from t known) i well.2)
 
 pub item_are : (left level : ℕ) (p : At) (known : ℕ) (i : Item) → level + left ≡ 129 → WellFormed level i → Are (lines_at left p known i) (encoded i)
 unfolding lines_at
 item_are zero level p known i levels well = absurd (omega (arith, well_level level i well))
 item_are (suc left) level p known i levels well =
     let parts = parts_lines (lines_at left) p known i in
-    let said = notes_lines p.depth left (lines_at left top 0) known p.tag i in
+    let said = notes_lines p.depth left (lines_at left top 0) p.shared p.tag i in
     subst (Are (parts ++ said)) (append-nil (encoded i))
-    (both parts said (encoded i) [] (parts_are (lines_at left) level (λ q n j w. item_are left (level + 1) q n j (omega arith) w) p known i well) (notes_are p.depth left (lines_at left top 0) known p.tag i))
+    (both parts said (encoded i) [] (parts_are (lines_at left) level (λ q n j w. item_are left (level + 1) q n j (omega arith) w) p known i well) (notes_are p.depth left (lines_at left top 0) p.shared p.tag i))

@@ -411,7 +411,7 @@ module _ (write : At → ℕ → Item → List DumpLine) (level : ℕ) (each : (
   )
   parts_fit p known (tagged t w i) deep well = (
     fit_head p.depth (encoded_head 6 t w) _ (low_first p.depth level deep well.0) (head_length 6 t (stated w t)) (tag_line t),
-    each (below t p) (shared_from t known) i (low_below p.depth level deep) well.2,
+    each (below t known p) (shared_from t known) i (low_below p.depth level deep) well.2,
   )
 
 pub item_fits : (left level : ℕ) (p : At) (known : ℕ) (i : Item) → level + left ≡ 129 → p.depth < level → WellFormed level i → AllByRecursion IsGood (lines_at left p known i)
@@ -419,9 +419,9 @@ unfolding lines_at
 item_fits zero level p known i levels deep well = absurd (omega (arith, well_level level i well))
 item_fits (suc left) level p known i levels deep well =
     let embedded = λ (e : Item) (h : WellFormed (level + 1) e). item_fits left (level + 1) top 0 e (omega arith) (omega arith) h in
-    all_both IsGood (parts_lines (lines_at left) p known i) (notes_lines p.depth left (lines_at left top 0) known p.tag i)
+    all_both IsGood (parts_lines (lines_at left) p known i) (notes_lines p.depth left (lines_at left top 0) p.shared p.tag i)
     (parts_fit (lines_at left) level (λ q n j d h. item_fits left (level + 1) q n j (omega arith) d h) p known i deep well)
-    (notes_fit (level + 1) left (omega arith) (lines_at left top 0) embedded p.depth level known p.tag i (low_end p.depth level deep (well_level level i well)) well)
+    (notes_fit (level + 1) left (omega arith) (lines_at left top 0) embedded p.depth level p.shared p.tag i (low_end p.depth level deep (well_level level i well)) well)
 
 -- the two parts of what is known of each line
 pub fits_of : (lines : List DumpLine) → AllByRecursion IsGood lines → AllByRecursion IsFit lines

@@ -16,7 +16,7 @@ use Rattle.cbor_diag.proofs.Walks.{part_here, part_left, left_then, Left}
 
 -- An item is its parts and its notes.
 pub item_opens : (level : ℕ) (p : At) (known : ℕ) (i : Item) → level ≤ 128
-    → lines_at (129 - level) p known i ≡ parts_lines (lines_at (129 - (level + 1))) p known i ++ notes_lines p.depth (129 - (level + 1)) (lines_at (129 - (level + 1)) top 0) known p.tag i
+    → lines_at (129 - level) p known i ≡ parts_lines (lines_at (129 - (level + 1))) p known i ++ notes_lines p.depth (129 - (level + 1)) (lines_at (129 - (level + 1)) top 0) p.shared p.tag i
 unfolding lines_at
 item_opens level p known i le =
     let levels : 129 - level ≡ suc (129 - (level + 1)) = omega arith in
@@ -31,7 +31,7 @@ module _ (level : ℕ) (p : At) (known : ℕ) (i : Item) (le : level ≤ 128) wh
   all = lines_at (129 - level) p known i
 
   abbrev said : Option ℕ → List DumpLine
-  said tag = notes_lines p.depth (129 - (level + 1)) (write top 0) known tag i
+  said tag = notes_lines p.depth (129 - (level + 1)) (write top 0) p.shared tag i
 
   pub content_takes : (old : Pass) → CanTake old all → CanTake old (parts_lines write p known i)
   content_takes = part_here all (parts_lines write p known i) (said p.tag) (item_opens level p known i le)

@@ -266,7 +266,7 @@ unfolding value_note
 value_note_line known t i =
     all_cond (t == 0) (one (datetime_note i)) _ (one_line (datetime_note i) (datetime_line i))
     (all_cond (t == 1) (one (epoch_datetime_note i)) _ (one_line (epoch_datetime_note i) (epoch_datetime_line i))
-    (all_cond (t == 28) (one (shareable_note (known - 1))) _ (one_line (shareable_note (known - 1)) (shareable_line (known - 1)))
+    (all_cond (t == 28) (one (shareable_note known)) _ (one_line (shareable_note known) (shareable_line known))
     (all_cond (t == 29) (one (reference_note known i)) _ (one_line (reference_note known i) (reference_line known i))
     (all_cond (t == 32) (one (url_note i)) _ (one_line (url_note i) (url_line i))
     (all_cond (t == 33) (base64_note true i) _ (base64_line true i)

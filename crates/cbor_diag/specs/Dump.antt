@@ -38,23 +38,25 @@ piece_line depth bytes comment = record { depth = depth; hex = encode_lower byte
 
 -- ---- where an item is
 
--- how deep its lines are, how byte strings are shown, and the tag right above it
+-- how deep its lines are, how byte strings are shown, the tag right above it, and how many values were shared
+-- before that tag
 pub record At : Type 0 where
   pub depth : ℕ
   pub encoding : Option Encoding
   pub tag : Option ℕ
+  pub shared : ℕ
 
 -- a whole item: byte strings are quoted, and there is no tag above
 abbrev pub top : At
-top = record { depth = 0; encoding = None; tag = None }
+top = record { depth = 0; encoding = None; tag = None; shared = 0 }
 
 -- what a container holds, one deeper
 abbrev pub inside : At → At
-inside p = record { depth = p.depth + 1; encoding = p.encoding; tag = None }
+inside p = record { depth = p.depth + 1; encoding = p.encoding; tag = None; shared = 0 }
 
 -- the value right below a tag, one deeper
-abbrev pub below : ℕ → At → At
-below t p = record { depth = p.depth + 1; encoding = encoding_below t p.encoding; tag = Some t }
+abbrev pub below : ℕ → ℕ → At → At
+below t known p = record { depth = p.depth + 1; encoding = encoding_below t p.encoding; tag = Some t; shared = known }
 
 -- ---- strings
 
@@ -212,8 +214,8 @@ abbrev pub encoded_sequence_notes : ℕ → (Item → List DumpLine) → Option 
 encoded_sequence_notes left dump (Some bytes) = sequence_notes left dump (sequence_at left bytes)
 encoded_sequence_notes left dump None = one (codes "invalid type for encoded cbor sequence") ∷ []
 
--- What is said of the value right below a tag, where so many levels are left for what is embedded in it and so
--- many values were shared before it, a value right below tag 28 counting itself.
+-- What is said of the value right below a tag, where `left` levels are left for what is embedded in it and
+-- `known` values were shared before the tag.
 abbrev pub notes : ℕ → (Item → List DumpLine) → ℕ → ℕ → Item → List (List (List ℕ))
 notes left dump known t i =
     if t == 24 then encoded_item_note left dump (bytes_in i) ∷ []
@@ -248,7 +250,7 @@ parts_lines write p known (spec.map ps w) =
     ∷ (pairs_lines (write (inside p)) known ps ++ close_lines (p.depth + 1) w)
 parts_lines write p known (tagged t w i) =
     head_line p.depth (encoded_head 6 t w) (tag_comment t)
-    ∷ write (below t p) (shared_from t known) i
+    ∷ write (below t known p) (shared_from t known) i
 
 -- An item with so many levels left for it and what is nested in it, embedded items included: 129 less the
 -- level that it stands at. Its notes follow it, as deep as it stands. An embedded item has a dump of its own,
@@ -256,7 +258,7 @@ parts_lines write p known (tagged t w i) =
 unfoldable pub lines_at : ℕ → At → ℕ → Item → List DumpLine
 lines_at zero p known i = []
 lines_at (suc left) p known i =
-    parts_lines (lines_at left) p known i ++ notes_lines p.depth left (lines_at left top 0) known p.tag i
+    parts_lines (lines_at left) p known i ++ notes_lines p.depth left (lines_at left top 0) p.shared p.tag i
 
 -- the lines of a whole item, and its dump
 abbrev pub lines : Item → List DumpLine

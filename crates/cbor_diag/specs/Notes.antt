@@ -189,13 +189,13 @@ typed_array_note (Some size) _ = one (codes "invalid type for typed array")
 
 -- ---- all of them
 
--- What is said of a value right below a tag, where `known` values were shared before it, a value right
--- below tag 28 being counted itself. What tags 24 and 63 embed is no matter of the value alone.
+-- What is said of a value right below a tag, where `known` values were shared before the tag. What tags 24 and 63
+-- embed is no matter of the value alone.
 unfoldable pub value_note : ℕ → ℕ → Item → List (List ℕ)
 value_note known t i =
     if t == 0 then one (datetime_note i)
     else if t == 1 then one (epoch_datetime_note i)
-    else if t == 28 then one (shareable_note (known - 1))
+    else if t == 28 then one (shareable_note known)
     else if t == 29 then one (reference_note known i)
     else if t == 32 then one (url_note i)
     else if t == 33 then base64_note true i

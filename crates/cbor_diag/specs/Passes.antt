@@ -17,7 +17,7 @@ tag_number (Some t) = Some t.0
 tag_number None = None
 
 abbrev pub at_of : DumpContext → At
-at_of c = record { depth = c.depth; encoding = c.encoding; tag = tag_number c.tag }
+at_of c = record { depth = c.depth; encoding = c.encoding; tag = tag_number c.tag; shared = c.shared }
 
 -- an item is less deep than its level, which is at most one past the deepest
 abbrev pub IsContext : DumpContext → Type 0

@@ -17,6 +17,8 @@ pub(crate) struct DumpContext {
     pub(crate) encoding: Option<Encoding>,
     /// The tag right above it.
     pub(crate) tag: Option<Tag>,
+    /// The number of values that were shared before that tag.
+    pub(crate) shared: u64,
 }
 
 impl DumpContext {
@@ -32,13 +34,14 @@ impl DumpContext {
             depth: self.depth + 1,
             encoding: self.encoding,
             tag: None,
+            shared: 0,
         }
     }
 
-    /// Right below a tag.
-    pub(crate) fn below(self, tag: Tag) -> DumpContext
+    /// Right below a tag, before which `known` values were shared.
+    pub(crate) fn below(self, tag: Tag, known: u64) -> DumpContext
         requires { IsContext self }
-        ensures at { at_of result ≡ spec.below tag.0 (at_of self) }
+        ensures at { at_of result ≡ spec.below tag.0 known (at_of self) }
         ensures depth { result.depth ≡ self.depth + 1 }
         ensures level { result.level ≡ self.level + 1 }
     {
@@ -47,6 +50,7 @@ impl DumpContext {
             depth: self.depth + 1,
             encoding: encoding_below(tag, self.encoding),
             tag: Some(tag),
+            shared: known,
         }
     }
 }

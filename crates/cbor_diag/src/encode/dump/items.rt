@@ -68,6 +68,7 @@ pub(super) fn dump(alloc: Global, item: &DataItem, level: u8) -> Result<String, 
         depth: 0,
         encoding: None,
         tag: None,
+        shared: 0,
     };
     let mut walk = Walk::new(alloc, Pass::Measure(0))?;
     dump_item(&mut walk, context, item)?;
@@ -89,9 +90,8 @@ fn dump_item(walk: &mut Walk, context: DumpContext, item: &DataItem) -> Result<(
     ensures shared { OnOk result (walk.new.shared
         ≡ walk.old.shared + spec.shared_in (view item.now)) }
 {
-    let known = walk.shared;
     dump_content(walk, context, item)?;
-    dump_notes(walk, context, known, item)
+    dump_notes(walk, context, item)
 }
 
 /// Dumps what the bytes of an item are; what a container or a tag holds is one deeper.
@@ -127,8 +127,9 @@ fn dump_content(walk: &mut Walk, context: DumpContext, item: &DataItem) -> Resul
             value,
         } => {
             lines.number(depth, Head::new(Major::Tag, tag.0, *bitwidth))?;
-            walk.shared = shared_below(walk.shared, *tag)?;
-            dump_item(walk, context.below(*tag), value)
+            let known = walk.shared;
+            walk.shared = shared_below(known, *tag)?;
+            dump_item(walk, context.below(*tag, known), value)
         }
         DataItem::Float { bits, bitwidth } => lines.float(depth, *bits, *bitwidth),
         DataItem::Simple(simple) => lines.simple(depth, simple.0),
@@ -248,19 +249,15 @@ fn dump_pairs(
     Ok(())
 }
 
-/// Dumps the notes on a value of the tag right above it; `known` values were shared when the value began.
+/// Dumps the notes on a value of the tag right above it.
 #[cycle(walk)]
-fn dump_notes(
-    walk: &mut Walk,
-    context: DumpContext,
-    known: u64,
-    value: &DataItem,
-) -> Result<(), AllocError>
+fn dump_notes(walk: &mut Walk, context: DumpContext, value: &DataItem) -> Result<(), AllocError>
     requires context { IsContext context }
     requires level { context.level < 129 }
     ensures took { OnOk result (Took walk.old.lines.pass walk.new.lines.pass
         (spec.notes_lines context.depth (129 - (context.level + 1))
-        (spec.lines_at (129 - (context.level + 1)) spec.top 0) known (tag_number context.tag) (view value.now))) }
+        (spec.lines_at (129 - (context.level + 1)) spec.top 0)
+        context.shared (tag_number context.tag) (view value.now))) }
     ensures shared { OnOk result (walk.new.shared ≡ walk.old.shared) }
 {
     let Some(tag) = context.tag else {
@@ -281,7 +278,7 @@ fn dump_notes(
             None => walk.lines.note_line(context.depth, INVALID_SEQUENCE),
         },
         _ => {
-            let texts = value_note(walk.alloc, known, tag, value)?;
+            let texts = value_note(walk.alloc, context.shared, tag, value)?;
             walk.lines.note(context.depth, &texts)
         }
     }

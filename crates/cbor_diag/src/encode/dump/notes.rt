@@ -18,7 +18,7 @@ use encoded::{base64_note, url_note, uuid_note};
 use shared::{reference_note, shareable_note};
 use std::alloc::{AllocError, Global};
 
-/// What is said of a value right below a tag, where `known` values were shared before it: a text, and others
+/// What is said of a value right below a tag, where `known` values were shared before the tag: a text, and others
 /// that belong to it; none where there is no note. Tags 24 and 63 have theirs in the walk.
 #[tactic(auto, unfolding(crate::specs::Notes::value_note))]
 pub(super) fn value_note(
@@ -32,7 +32,7 @@ pub(super) fn value_note(
     match tag {
         Tag::DATETIME => one(alloc, datetime_note(alloc, value)?),
         Tag::EPOCH_DATETIME => one(alloc, epoch_datetime_note(alloc, value)?),
-        Tag::SHAREABLE => one(alloc, shareable_note(alloc, known.saturating_sub(1))?),
+        Tag::SHAREABLE => one(alloc, shareable_note(alloc, known)?),
         Tag::SHARED_REF => one(alloc, reference_note(alloc, known, value)?),
         Tag::URI => one(alloc, url_note(alloc, value)?),
         Tag::BASE64URL => base64_note(alloc, true, value),

@@ -370,14 +370,14 @@ dump_notes-returns-in-None-clause-took t c =
     let is : tag_number c.args.context.tag ≡ Some 24 = search rules in
     let none = sym c.bytes_in.ensures ∙ ap option_copied c.in-None.is in
     subst (λ lines. OnOk c.note_line.result (Took c.args.walk.now.lines.pass c.note_line.new.self.pass lines))
-    (invalid_item c.args.context.depth (129 - level) (lines_at (129 - level) top 0) c.args.known (tag_number c.args.context.tag) (view c.args.value.now) is none)
+    (invalid_item c.args.context.depth (129 - level) (lines_at (129 - level) top 0) c.args.context.shared (tag_number c.args.context.tag) (view c.args.value.now) is none)
     c.note_line.ensures
 
 pub dump_notes-returns-then-not-writes-clause-took : goal.dump_notes-returns-then-not-writes-clause-took
 dump_notes-returns-then-not-writes-clause-took t c =
     let level = c.args.context.level + 1 in
     let silent : writes c.args.walk.now.lines.pass ≡ false = search rules in
-    notes_left c.args.walk.now.lines.pass silent c.args.context.depth (129 - level) (lines_at (129 - level) top 0) c.args.known (tag_number c.args.context.tag) (view c.args.value.now)
+    notes_left c.args.walk.now.lines.pass silent c.args.context.depth (129 - level) (lines_at (129 - level) top 0) c.args.context.shared (tag_number c.args.context.tag) (view c.args.value.now)
 
 -- ---- what is embedded
 
