@@ -8,7 +8,7 @@ ghost use Rattle.cbor_diag.specs.View.{view, items_view, pairs_view};
 ghost use Rattle.cbor_diag.specs.WellFormed.{WellFormed, WellFormedItems, WellFormedPairs};
 ghost use Rattle.cbor_diag.specs.Dump as spec;
 ghost use Rattle.cbor_diag.specs.Embedded.{sequence_at};
-ghost use Rattle.cbor_diag.specs.Reading.{item_at};
+ghost use Rattle.cbor_diag.specs.Reading.{read_item};
 ghost use Rattle.cbor_diag.specs.Passes.{at_of, tag_number, IsContext, CanTake, Took};
 
 use super::context::DumpContext;
@@ -18,7 +18,7 @@ use super::pass::Pass;
 use super::writer::Writer;
 use crate::encode::head::{Head, Opening};
 use crate::error::Error;
-use crate::parse::{front_at, whole_at};
+use crate::parse::{read_front, read_whole};
 use crate::syntax::major::Major;
 use crate::syntax::{DataItem, IntegerWidth, Tag};
 use std::alloc::{AllocError, Global};
@@ -306,9 +306,9 @@ fn embedded_item(
     requires level { context.level < 129 }
     ensures { OnOk result (Took lines.old.pass lines.new.pass (spec.note_lines context.depth
         (spec.whole_note (spec.lines_at (129 - (context.level + 1)) spec.top 0)
-        (item_at (129 - (context.level + 1)) bytes.now)))) }
+        (read_item (129 - (context.level + 1)) bytes.now)))) }
 {
-    match whole_at(alloc, bytes, context.level + 1) {
+    match read_whole(alloc, bytes, context.level + 1) {
         Ok(item) => embedded_dump(lines, alloc, context, item),
         Err(error) => match error {
             Error::Memory => Err(AllocError),
@@ -334,7 +334,7 @@ fn embedded_sequence(
 {
     let mut rest = bytes;
     'items: while !rest.is_empty() {
-        match front_at(alloc, rest, context.level + 1) {
+        match read_front(alloc, rest, context.level + 1) {
             Ok(Some((item, used))) => {
                 embedded_dump(lines, alloc, context, item)?;
                 let (_, after) = rest.split_at(used);
