@@ -7,11 +7,11 @@ use Rattle.cbor_diag.specs.declared.syntax.IntegerWidth.TheVariants.{Unknown, Ze
 use Rattle.cbor_diag.specs.declared.syntax.FloatWidth.{FloatWidth}
 use Rattle.cbor_diag.specs.declared.syntax.FloatWidth.TheVariants as float_width
 use Rattle.cbor_diag.specs.declared.encode.encoding.Encoding.{Encoding}
-use Rattle.cbor_diag.specs.declared.encode.notation.context.Content.{Content}
-use Rattle.cbor_diag.specs.declared.encode.notation.context.Content.TheVariants as content
-use Rattle.cbor_diag.specs.declared.encode.notation.context.Layout.TheVariants.{Compact}
-use Rattle.cbor_diag.specs.declared.encode.notation.context.Listing.TheVariants.{Joined}
-use Rattle.cbor_diag.specs.declared.encode.notation.context.Context.{Context}
+use Rattle.cbor_diag.specs.Layout.{Content}
+use Rattle.cbor_diag.specs.Layout as content
+use Rattle.cbor_diag.specs.Layout.{Compact}
+use Rattle.cbor_diag.specs.ContainerStyle as style
+use Rattle.cbor_diag.specs.Layout.{Context}
 use Rattle.cbor_diag.specs.Item as spec
 use Rattle.cbor_diag.specs.Item.{Chunk, Atom, integer, negative, byte_string, text_string, byte_chunks, text_chunks, float, simple, Item, atom, array, tagged, Items, no_items, item, Pairs, no_pairs, pair}
 use Rattle.cbor_diag.specs.Head.{FitsStated}
@@ -156,17 +156,23 @@ module _ (left : ℕ) (write : Writer) (same : (e : Encoding) (shown : Content) 
   atom_resolved e shown (negative n w) h = ap (λ v. codes "-" ++ number (n + 1) v) (stated_is w n h)
   atom_resolved e shown (byte_string c) h = refl
   atom_resolved e shown (text_string c) h = refl
-  atom_resolved e shown (byte_chunks cs) h = ap (chunks_text Joined (codes "''_")) (bytes_resolved (λ s. quoted e s.bytes) (λ c. refl) cs)
-  atom_resolved e shown (text_chunks cs) h = ap (chunks_text Joined (codes "\"\"_")) (bytes_resolved (λ s. text s.bytes) (λ c. refl) cs)
+  atom_resolved e shown (byte_chunks cs) h =
+      ap (chunks_text style.Compact (codes "''_")) (bytes_resolved (λ s. quoted e s.bytes) (λ c. refl) cs)
+  atom_resolved e shown (text_chunks cs) h =
+      ap (chunks_text style.Compact (codes "\"\"_")) (bytes_resolved (λ s. text s.bytes) (λ c. refl) cs)
   atom_resolved e shown (float bits w) h = ap (float_text bits) (float_kept w h)
   atom_resolved e shown (simple n) h = refl
 
   with_resolved : (e : Encoding) (shown : Content) (i : Item) → Stated i → text_with left write (at e shown) (resolve i) ≡ text_with left write (at e shown) i
   with_resolved e shown (atom a) h = atom_resolved e shown a h
-  with_resolved e shown (array is (Some w)) h = ap (λ ms. bracketed Joined (codes "[") ms (codes "]")) (items_resolved e is h)
-  with_resolved e shown (array is None) h = ap (λ ms. bracketed Joined (codes "[_") ms (codes "]")) (items_resolved e is h)
-  with_resolved e shown (spec.map ps (Some w)) h = ap (λ ms. bracketed Joined (codes "{") ms (codes "}")) (pairs_resolved e (codes ":") ps h)
-  with_resolved e shown (spec.map ps None) h = ap (λ ms. bracketed Joined (codes "{_") ms (codes "}")) (pairs_resolved e (codes ":") ps h)
+  with_resolved e shown (array is (Some w)) h =
+      ap (λ ms. bracketed style.Compact (codes "[") ms (codes "]")) (items_resolved e is h)
+  with_resolved e shown (array is None) h =
+      ap (λ ms. bracketed style.Compact (codes "[_") ms (codes "]")) (items_resolved e is h)
+  with_resolved e shown (spec.map ps (Some w)) h =
+      ap (λ ms. bracketed style.Compact (codes "{") ms (codes "}")) (pairs_resolved e (codes ":") ps h)
+  with_resolved e shown (spec.map ps None) h =
+      ap (λ ms. bracketed style.Compact (codes "{_") ms (codes "}")) (pairs_resolved e (codes ":") ps h)
   with_resolved e shown (tagged t w i) h =
       rw (stated_is w t h.0, same (encoding_below t e) (content_below t) i h.1) refl
 
@@ -323,7 +329,8 @@ module _ (level left : ℕ) (levels : level + left ≡ 129) (same : (e : Encodin
       let js = normal_items (into_normal left) s.0 in
       let f = sequences level left levels b all in
       let texts = items_resolved left (text_at left) (text_resolved left) e js f.states ∙ items_normal_text e s.0 f.well in
-      ap (sequence_text (text_at left) c) f.again ∙ ap (λ ms. bracketed Joined (codes "<<") ms (codes ">>") ++ rest_text c s.1) texts
+      ap (sequence_text (text_at left) c) f.again
+      ∙ ap (λ ms. bracketed style.Compact (codes "<<") ms (codes ">>") ++ rest_text c s.1) texts
 
   atom_normal_text : (e : Encoding) (shown : Content) (a : Atom) → WellFormedAtom a → atom_text left (text_at left) (at e shown) (normal_atom left (normal_at left) shown a) ≡ atom_text left (text_at left) (at e shown) a
   atom_normal_text e shown (integer n w) h = ap (λ t. decimal n ++ t) (indicator_kept n w)
@@ -332,18 +339,28 @@ module _ (level left : ℕ) (levels : level + left ≡ 129) (same : (e : Encodin
   atom_normal_text e content.Item (byte_string c) h = embedded_normal_text e c.bytes h.bytes
   atom_normal_text e content.Sequence (byte_string c) h = sequence_normal_text e c.bytes h.bytes
   atom_normal_text e shown (text_string c) h = refl
-  atom_normal_text e shown (byte_chunks cs) h = ap (chunks_text Joined (codes "''_")) (bytes_normal (λ s. quoted e s.bytes) (λ c. refl) cs)
-  atom_normal_text e shown (text_chunks cs) h = ap (chunks_text Joined (codes "\"\"_")) (bytes_normal (λ s. text s.bytes) (λ c. refl) cs)
+  atom_normal_text e shown (byte_chunks cs) h =
+      ap (chunks_text style.Compact (codes "''_")) (bytes_normal (λ s. quoted e s.bytes) (λ c. refl) cs)
+  atom_normal_text e shown (text_chunks cs) h =
+      ap (chunks_text style.Compact (codes "\"\"_")) (bytes_normal (λ s. text s.bytes) (λ c. refl) cs)
   atom_normal_text e shown (float bits w) h = float_normal_text bits w
   atom_normal_text e shown (simple n) h = refl
 
 with_normal_text : (level left : ℕ) → (level + 1) + left ≡ 129 → (same : (e : Encoding) (shown : Content) (i : Item) → WellFormed (level + 1) i → text_at left (at e shown) (normal_at left shown i) ≡ text_at left (at e shown) i)
     → (e : Encoding) (shown : Content) (i : Item) → WellFormed level i → text_with left (text_at left) (at e shown) (normal_with left (normal_at left) shown i) ≡ text_with left (text_at left) (at e shown) i
 with_normal_text level left levels same e shown (atom a) h = atom_normal_text (level + 1) left levels same e shown a h.1
-with_normal_text level left levels same e shown (array is (Some w)) h = ap (λ ms. bracketed Joined (codes "[") ms (codes "]")) (items_normal_text (level + 1) left levels same e is h.2)
-with_normal_text level left levels same e shown (array is None) h = ap (λ ms. bracketed Joined (codes "[_") ms (codes "]")) (items_normal_text (level + 1) left levels same e is h.2)
-with_normal_text level left levels same e shown (spec.map ps (Some w)) h = ap (λ ms. bracketed Joined (codes "{") ms (codes "}")) (pairs_normal_text (level + 1) left levels same e (codes ":") ps h.2)
-with_normal_text level left levels same e shown (spec.map ps None) h = ap (λ ms. bracketed Joined (codes "{_") ms (codes "}")) (pairs_normal_text (level + 1) left levels same e (codes ":") ps h.2)
+with_normal_text level left levels same e shown (array is (Some w)) h =
+    ap (λ ms. bracketed style.Compact (codes "[") ms (codes "]"))
+    (items_normal_text (level + 1) left levels same e is h.2)
+with_normal_text level left levels same e shown (array is None) h =
+    ap (λ ms. bracketed style.Compact (codes "[_") ms (codes "]"))
+    (items_normal_text (level + 1) left levels same e is h.2)
+with_normal_text level left levels same e shown (spec.map ps (Some w)) h =
+    ap (λ ms. bracketed style.Compact (codes "{") ms (codes "}"))
+    (pairs_normal_text (level + 1) left levels same e (codes ":") ps h.2)
+with_normal_text level left levels same e shown (spec.map ps None) h =
+    ap (λ ms. bracketed style.Compact (codes "{_") ms (codes "}"))
+    (pairs_normal_text (level + 1) left levels same e (codes ":") ps h.2)
 with_normal_text level left levels same e shown (tagged t w i) h =
     rw (indicator_kept t w, same (encoding_below t e) (content_below t) i h.2) refl
 

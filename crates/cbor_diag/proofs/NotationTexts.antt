@@ -4,8 +4,8 @@ use Rattle.std.specs.List.{flat_map, list_any}
 use Rattle.std.proofs.lemmas.List.{length-take, take_more, drop_more, drop-append-le, drop_at, append-nil}
 use Rattle.std.proofs.lemmas.Grind.{flat_map-append}
 use Rattle.std.proofs.lemmas.Bool.Decides.{nat_tests}
-use Rattle.cbor_diag.specs.NotationText.{is_escaped, escaped, start, end, members, last_line, opened, chunks_text}
-use Rattle.cbor_diag.specs.declared.encode.notation.context.Listing.{Listing}
+use Rattle.cbor_diag.specs.NotationText.{is_escaped, escaped, start, end, members, bracketed, opened, chunks_text}
+use Rattle.cbor_diag.specs.ContainerStyle.{ContainerStyle}
 
 -- a byte that stands behind a backslash is a character
 pub escaped_ascii : (b : ℕ) → is_escaped b ≡ true → b < 128
@@ -50,21 +50,23 @@ pub drop_here : {X : Type 0} (xs : List X) (i : ℕ) (x : X) → i < length xs �
 drop_here xs i x here is = drop_more xs i x here ∙ ap (λ y. y ∷ drop (i + 1) xs) (sym is)
 
 -- a member more is written
-pub member_more : (l : Listing) (first : Bool) (m : List ℕ) (ms : List (List ℕ)) (out started written ended whole : List ℕ) → started ≡ out ++ start l first → written ≡ started ++ m → ended ≡ written ++ end l
+pub member_more : (l : ContainerStyle) (first : Bool) (m : List ℕ) (ms : List (List ℕ))
+    (out started written ended whole : List ℕ) → started ≡ out ++ start l first → written ≡ started ++ m
+    → ended ≡ written ++ end l
     → out ++ members l first (m ∷ ms) ≡ whole → ended ++ members l false ms ≡ whole
 unfolding members
 member_more l first m ms out started written ended whole p q r h =
     ap (λ x. x ++ members l false ms) (r ∙ ap (λ x. x ++ end l) (q ∙ ap (λ x. x ++ m) p)) ∙ simp append_assoc h
 
 -- all members are written
-pub members_end : (l : Listing) (first : Bool) (out whole : List ℕ) → out ++ members l first [] ≡ whole → out ≡ whole
+pub members_end : (l : ContainerStyle) (first : Bool) (out whole : List ℕ) → out ++ members l first [] ≡ whole
+    → out ≡ whole
 unfolding members
 members_end l first out whole h = sym (append-nil out) ∙ h
 
 -- the chunks of a string that has some
-pub chunks_written : {X Y : Type 0} (l : Listing) (empty : List ℕ) (f : Y → List ℕ) (g : X → Y) (xs : List X) (out started written ended : List ℕ) → eqb (length xs) 0 ≡ false
-    → started ≡ out ++ opened l (codes "(") None → written ≡ started ++ members l true (map f (map g xs)) → ended ≡ written ++ (last_line l ++ codes ")")
-    → ended ≡ out ++ chunks_text l empty (map f (map g xs))
-chunks_written l empty f g [] out started written ended some p q r = absurd cc
-chunks_written l empty f g (x ∷ xs) out started written ended some p q r =
-    r ∙ ap (λ y. y ++ (last_line l ++ codes ")")) (q ∙ ap (λ y. y ++ members l true (map f (map g (x ∷ xs)))) p) ∙ simp append_assoc
+pub chunks_written : {X : Type 0} (l : ContainerStyle) (empty : List ℕ) (f : X → List ℕ) (xs : List X)
+    → eqb (length xs) 0 ≡ false
+    → chunks_text l empty (map f xs) ≡ bracketed l (opened l (codes "(") None) (map f xs) (codes ")")
+chunks_written l empty f [] some = absurd cc
+chunks_written l empty f (x ∷ xs) some = refl

@@ -1,8 +1,8 @@
 -- Compact texts are equal exactly where the normal forms of the items are.
 use Rattle.std.proofs.Common.{◌≡◌, ◌↔◌, List, ℕ, sym, ap, subst, ◌∙◌, arith}
-use Rattle.cbor_diag.specs.declared.encode.notation.context.Content.TheVariants.{Bytes}
+use Rattle.cbor_diag.specs.Layout.{Bytes}
 use Rattle.cbor_diag.specs.declared.encode.encoding.Encoding.TheVariants.{Base16}
-use Rattle.cbor_diag.specs.declared.encode.notation.context.Layout.TheVariants.{Compact}
+use Rattle.cbor_diag.specs.Layout.{Compact}
 use Rattle.cbor_diag.specs.Item.{Item}
 use Rattle.cbor_diag.specs.Facts.{IsWellFormed, diag_of, normal_of}
 use Rattle.cbor_diag.specs.Notation.{Reads}

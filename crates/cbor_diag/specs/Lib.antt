@@ -25,7 +25,10 @@ pub mod Parts
 pub mod Sinks
 pub mod Embedded
 pub mod Estimate
+pub mod Layout
+pub mod ContainerStyle
 pub mod NotationText
+pub mod LayoutView
 pub mod Notes
 pub mod Compact
 pub mod Pretty

@@ -1,10 +1,11 @@
 -- What a text tells of an item: two items have the same compact text exactly where their normal forms are
 -- equal.
-use Rattle.std.specs.Prelude.{ℕ, zero, suc, ◌-◌, List, ◌++◌, map, Option, Some, None, nat_lt, if◌then◌else◌}
+use Rattle.std.specs.Prelude.{ℕ, zero, suc, List, ◌++◌, map, Option, Some, None, nat_lt, if◌then◌else◌}
 use Rattle.cbor_diag.specs.declared.syntax.IntegerWidth.{IntegerWidth}
 use Rattle.cbor_diag.specs.declared.syntax.IntegerWidth.TheVariants.{Unknown, Zero}
-use Rattle.cbor_diag.specs.declared.encode.notation.context.Content.{Content}
-use Rattle.cbor_diag.specs.declared.encode.notation.context.Content.TheVariants as content
+use Rattle.cbor_diag.specs.Layout as content
+use Rattle.cbor_diag.specs.Layout.{Content}
+use Rattle.cbor_diag.specs.WellFormed.{levels_left}
 use Rattle.cbor_diag.specs.Item as spec
 use Rattle.cbor_diag.specs.Item.{Chunk, Atom, integer, negative, byte_string, text_string, byte_chunks, text_chunks, float, simple, Item, atom, array, tagged, Items, no_items, item, Pairs, no_pairs, pair}
 use Rattle.cbor_diag.specs.Written.{encoded, encoded_items, resolve_float}
@@ -65,8 +66,8 @@ normal_with left into shown (array is w) = array (normal_items (into content.Byt
 normal_with left into shown (spec.map ps w) = spec.map (normal_pairs (into content.Bytes) ps) (normal_count w)
 normal_with left into shown (tagged t w i) = tagged t (normal_width w t) (into (content_below t) i)
 
--- An item with so many levels left for it and what is nested in it, embedded items included: 129 less the
--- level that it stands at. Where none is left there is no item.
+-- An item with so many levels left for it and what is nested in it, embedded items included: `levels_left`
+-- of its level. Where none is left there is no item.
 unfoldable pub normal_at : ℕ → Content → Item → Item
 normal_at zero shown i = i
 normal_at (suc left) shown i = normal_with left (normal_at left) shown i
@@ -75,4 +76,4 @@ normal_at (suc left) shown i = normal_with left (normal_at left) shown i
 -- an open width that a text shows as another; bytes that are shown as embedded items are the bytes of the
 -- normal items. Nothing else changes.
 abbrev pub normal : ℕ → Item → Item
-normal level i = normal_at (129 - level) content.Bytes i
+normal level i = normal_at (levels_left level) content.Bytes i

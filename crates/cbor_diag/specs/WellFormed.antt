@@ -1,5 +1,5 @@
 -- Which items have an encoding (RFC 7049 section 2).
-use Rattle.std.specs.Prelude.{ℕ, ◌+◌, ◌^◌, ◌<◌, ◌≤◌, length, Option, Some, None, IsUtf8}
+use Rattle.std.specs.Prelude.{ℕ, ◌+◌, ◌-◌, ◌^◌, ◌<◌, ◌≤◌, length, Option, Some, None, IsUtf8}
 use Rattle.std.specs.List.{AllByRecursion}
 use Rattle.cbor_diag.specs.declared.syntax.IntegerWidth.{IntegerWidth}
 use Rattle.cbor_diag.specs.declared.syntax.FloatWidth.{FloatWidth}
@@ -13,6 +13,10 @@ use Rattle.cbor_diag.specs.Head.{FitsWidth}
 -- the deepest level that an item may stand at; the outermost stands at level 1
 abbrev pub deepest : ℕ
 deepest = 128
+
+-- how many levels are left for an item at this level and the items in it
+abbrev pub levels_left : ℕ → ℕ
+levels_left level = deepest + 1 - level
 
 -- the length fits its width, and the bytes are bytes
 pub record IsByteChunk (c : Chunk) : Type 0 where

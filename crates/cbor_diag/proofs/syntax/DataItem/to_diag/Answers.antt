@@ -1,8 +1,8 @@
 use Rattle.std.proofs.Common.{◌++◌, ap, sym, subst, ◌∙◌, arith}
-use Rattle.cbor_diag.specs.declared.encode.notation.context.Content.TheVariants.{Bytes}
+use Rattle.cbor_diag.specs.Layout.{Bytes}
 use Rattle.cbor_diag.specs.declared.encode.encoding.Encoding.TheVariants.{Base16}
 use Rattle.cbor_diag.specs.View.{view}
-use Rattle.cbor_diag.specs.declared.encode.notation.context.Layout.TheVariants.{Compact}
+use Rattle.cbor_diag.specs.Layout.{Compact}
 use Rattle.cbor_diag.specs.Facts.{diag_of}
 use Rattle.cbor_diag.specs.Notation.{Reads}
 use Rattle.cbor_diag.specs.NotationText.{in_encoding}

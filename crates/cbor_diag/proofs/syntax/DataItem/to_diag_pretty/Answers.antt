@@ -1,7 +1,7 @@
 use Rattle.std.proofs.Common.{◌++◌, ap, sym, subst, ◌∙◌, arith}
-use Rattle.cbor_diag.specs.declared.encode.notation.context.Content.TheVariants.{Bytes}
+use Rattle.cbor_diag.specs.Layout.{Bytes}
 use Rattle.cbor_diag.specs.declared.encode.encoding.Encoding.TheVariants.{Base16}
-use Rattle.cbor_diag.specs.declared.encode.notation.context.Layout.TheVariants.{Pretty}
+use Rattle.cbor_diag.specs.Layout.{Pretty}
 use Rattle.cbor_diag.specs.View.{view}
 use Rattle.cbor_diag.specs.Facts.{pretty_of}
 use Rattle.cbor_diag.specs.Notation.{Reads}
