@@ -5,8 +5,6 @@ use Rattle.std.proofs.lemmas.List.{append-nil}
 use Rattle.cbor_notes.specs.Token.{nothing}
 use Rattle.cbor_notes.proofs.Blanks.{Blank-append}
 use Rattle.cbor_diag.specs.declared.syntax.IntegerWidth.TheVariants.{Unknown}
-use Rattle.cbor_diag.specs.Layout.{Content}
-use Rattle.cbor_diag.specs.Layout as content
 use Rattle.cbor_diag.specs.Layout.{Layout}
 use Rattle.cbor_diag.specs.Layout.{Compact, Pretty}
 use Rattle.cbor_diag.specs.ContainerStyle.{ContainerStyle}
@@ -27,10 +25,10 @@ use Rattle.cbor_diag.specs.NotationText.{sequence_text, content_text, chunks_tex
 use Rattle.cbor_diag.specs.Normal.{normal_chunk, normal_items, normal_pairs, normal_embedded, normal_sequence, normal_content, normal_atom, normal_with, normal_at}
 use Rattle.cbor_diag.proofs.Refusals.{item_nothing}
 use Rattle.cbor_diag.proofs.Resolved.{spells_well}
-use Rattle.cbor_diag.proofs.TextParts.{well_level}
+use Rattle.cbor_diag.proofs.TextParts.{content_of, well_level}
 use Rattle.cbor_diag.proofs.EmbeddedItems.{embedded_spells, sequence_spells}
 use Rattle.cbor_diag.proofs.NormalForm.{AllBytes, bytes_at}
-use Rattle.cbor_diag.proofs.NormalWell.{items_well}
+use Rattle.cbor_diag.proofs.NormalWell.{tag_kind, items_well}
 use Rattle.cbor_diag.proofs.ReadTokens.{one_space, number_read, negative_read, quoted_read, bytes_read, text_read, float_read, simple_read}
 use Rattle.cbor_diag.proofs.ReadLists.{Each, opening_of, opens, listed}
 
@@ -105,73 +103,89 @@ colon_after (style.MultiLine k) value = refl
 
 -- ---- one level: members are read by what reads the level below
 
-module _ (level left : ℕ) (levels : level + left ≡ 129) (reads : (c : Context) (i : Item) → WellFormed level i → Reads left (text_at left c i) (normal_at left c.content i)) where
-  items_each : (c : Context) (is : Items) → WellFormedItems level is → Each (Reads left) (item_texts (text_at left (inside c.layout c)) is) (list_of (normal_items (normal_at left content.Bytes) is))
+-- the text of an item is read as its normal form, at this level
+abbrev IsRead : ℕ → ℕ → Type 0
+IsRead level left = (c : Context) (tag : Option ℕ) (i : Item) → c.content ≡ content_of tag → WellFormed level i
+    → Reads left (text_at left c i) (normal_at left tag i)
+
+module _ (level left : ℕ) (levels : level + left ≡ 129) (reads : IsRead level left) where
+  items_each : (c : Context) (is : Items) → WellFormedItems level is → Each (Reads left) (item_texts (text_at left (inside c.layout c)) is) (list_of (normal_items (normal_at left None) is))
   items_each c no_items h = tt
   items_each c (item i is) h =
-      (λ gap b. reads_after left gap (text_at left (inside c.layout c) i) (normal_at left content.Bytes i) b (reads (inside c.layout c) i h.0), items_each c is h.1)
+      (λ gap b. reads_after left gap (text_at left (inside c.layout c) i) (normal_at left None i) b (reads (inside c.layout c) None i refl h.0), items_each c is h.1)
 
   pairs_each : (c : Context) (l : ContainerStyle) (ps : Pairs) → WellFormedPairs level ps
       → Each (PairOf (Reads left)) (pair_texts (text_at left (inside c.layout c)) (colon l) ps)
-      (pairs_list (normal_pairs (normal_at left content.Bytes) ps))
+      (pairs_list (normal_pairs (normal_at left None) ps))
   pairs_each c l no_pairs h = tt
   pairs_each c l (pair k v ps) h =
       let key = text_at left (inside c.layout c) k in
       let value = text_at left (inside c.layout c) v in
-      (λ gap b. (gap ++ key, colon_gap l ++ value, sym (append_assoc gap key (colon l ++ value)) ∙ ap (λ t. (gap ++ key) ++ t) (colon_after l value), reads_after left gap key _ b (reads (inside c.layout c) k h.0), reads_after left (colon_gap l) value _ (colon_blank l) (reads (inside c.layout c) v h.1)), pairs_each c l ps h.2)
+      (λ gap b. (gap ++ key, colon_gap l ++ value, sym (append_assoc gap key (colon l ++ value)) ∙ ap (λ t. (gap ++ key) ++ t) (colon_after l value), reads_after left gap key _ b (reads (inside c.layout c) None k refl h.0), reads_after left (colon_gap l) value _ (colon_blank l) (reads (inside c.layout c) None v refl h.1)), pairs_each c l ps h.2)
 
   -- the bytes of a byte string
-  embedded_read : (c : Context) (b : List ℕ) (o : Option Item) → AllBytes b → embedded_at left b ≡ o → Joined (Notation (Reads left)) (embedded_text (text_at left) c b o) (normal_embedded (normal_at left content.Bytes) b o)
+  embedded_read : (c : Context) (b : List ℕ) (o : Option Item) → AllBytes b → embedded_at left b ≡ o → Joined (Notation (Reads left)) (embedded_text (text_at left) c b o) (normal_embedded (normal_at left None) b o)
   embedded_read c [] None all h = one (as_items no_items (codes ">>", refl, ([], codes ">>", refl, nothing, inl refl)) refl)
   embedded_read c [] (Some e) all h = absurd (nothing_embedded left e h)
   embedded_read c (x ∷ b) None all h = one (quoted_read (Reads left) c.encoding (x ∷ b) all)
   embedded_read c (x ∷ b) (Some e) all h =
       let well = spells_well level (x ∷ b) e (bytes_at (x ∷ b) all) (embedded_spells level left (x ∷ b) e levels (bytes_at (x ∷ b) all) h) in
       let t = text_at left (inside c.layout c) e in
-      one (as_items (item (normal_at left content.Bytes e) no_items) (t ++ codes ">>", refl, (t, codes ">>", refl, reads (inside c.layout c) e well, inl refl)) (sym (append-nil (encoded (normal_at left content.Bytes e)))))
+      one (as_items (item (normal_at left None e) no_items) (t ++ codes ">>", refl, (t, codes ">>", refl, reads (inside c.layout c) None e refl well, inl refl)) (sym (append-nil (encoded (normal_at left None e)))))
 
-  sequence_read : (c : Context) (b : List ℕ) → AllBytes b → Joined (Notation (Reads left)) (sequence_text (text_at left) c (sequence_at left b)) (normal_sequence (normal_at left content.Bytes) (sequence_at left b))
+  sequence_read : (c : Context) (b : List ℕ) → AllBytes b → Joined (Notation (Reads left)) (sequence_text (text_at left) c (sequence_at left b)) (normal_sequence (normal_at left None) (sequence_at left b))
   sequence_read c b all =
       let s = sequence_at left b in
       let l = container_style c.layout (estimated_length (array s.0 None)) in
       let so = sequence_spells level left levels (length b) b (omega arith) (bytes_at b all) in
       let w = items_well level s.0 b s.1 all so.spelled_so in
-      let js = normal_items (normal_at left content.Bytes) s.0 in
+      let js = normal_items (normal_at left None) s.0 in
       let shown = items_text (text_at left) c l (codes "<<") s.0 (codes ">>") in
       let first = as_items {text = shown} js (listed (Reads left) l (codes "<<") (codes ">>") (Some Unknown) _ _ (items_each (inside (members_layout l) c) s.0 w.0)) refl in
       rest_read c shown (encoded_items js) s.1 first w.1
 
-  content_read : (shown : Content) (c : Context) (b : List ℕ) → AllBytes b → Joined (Notation (Reads left)) (content_text left (text_at left) shown c b) (normal_content left (normal_at left) shown b)
-  content_read content.Bytes c b all = one (quoted_read (Reads left) c.encoding b all)
-  content_read content.Item c b all = embedded_read c b (embedded_at left b) all refl
-  content_read content.Sequence c b all = sequence_read c b all
+  content_read : (tag : Option ℕ) (c : Context) (b : List ℕ) → AllBytes b
+      → Joined (Notation (Reads left)) (content_text left (text_at left) (content_of tag) c b)
+      (normal_content left (normal_at left None) tag b)
+  content_read None c b all = one (quoted_read (Reads left) c.encoding b all)
+  content_read (Some t) c b all =
+      elim (tag_kind t) [
+        | inl is ↦ rw is (embedded_read c b (embedded_at left b) all refl)
+        | inr no ↦ elim no [
+          | inl is ↦ rw is (sequence_read c b all)
+          | inr other ↦ rw (other.0, other.1) (one (quoted_read (Reads left) c.encoding b all))
+        ]
+      ]
 
-  atom_read : (c : Context) (a : Atom) → WellFormedAtom a → AtomCore (Reads left) (atom_text left (text_at left) c a) (normal_atom left (normal_at left) c.content a)
-  atom_read c (integer n w) h = number_read n w h
-  atom_read c (negative n w) h = negative_read n w h
-  atom_read c (byte_string s) h = (refl, tt, content_read c.content c s.bytes h.bytes, tt)
-  atom_read c (text_string s) h = text_read (Reads left) s.bytes h.utf8
-  atom_read c (byte_chunks cs) h =
+  atom_read : (c : Context) (tag : Option ℕ) (a : Atom) → c.content ≡ content_of tag → WellFormedAtom a
+      → AtomCore (Reads left) (atom_text left (text_at left) c a) (normal_atom left (normal_at left) tag a)
+  atom_read c tag (integer n w) is h = number_read n w h
+  atom_read c tag (negative n w) is h = negative_read n w h
+  atom_read c tag (byte_string s) is h = (refl, tt, rw is (content_read tag c s.bytes h.bytes), tt)
+  atom_read c tag (text_string s) is h = text_read (Reads left) s.bytes h.utf8
+  atom_read c tag (byte_chunks cs) is h =
       byte_chunks_read (Reads left) c (container_style c.layout (estimated_atom (byte_chunks cs))) cs h
-  atom_read c (text_chunks cs) h =
+  atom_read c tag (text_chunks cs) is h =
       text_chunks_read (Reads left) (container_style c.layout (estimated_atom (text_chunks cs))) cs h
-  atom_read c (float n w) h = float_read n w h
-  atom_read c (simple n) h = simple_read n h
+  atom_read c tag (float n w) is h = float_read n w h
+  atom_read c tag (simple n) is h = simple_read n h
 
-core_read : (level left : ℕ) → (level + 1) + left ≡ 129 → (reads : (c : Context) (i : Item) → WellFormed (level + 1) i → Reads left (text_at left c i) (normal_at left c.content i)) → (c : Context) (i : Item) → WellFormed level i
-    → Core (Reads left) (text_with left (text_at left) c i) (normal_with left (normal_at left) c.content i)
-core_read level left levels reads c (atom a) h = atom_read (level + 1) left levels reads c a h.1
-core_read level left levels reads c (array is w) h =
+core_read : (level left : ℕ) → (level + 1) + left ≡ 129 → (reads : IsRead (level + 1) left)
+    → (c : Context) (tag : Option ℕ) (i : Item) → c.content ≡ content_of tag → WellFormed level i
+    → Core (Reads left) (text_with left (text_at left) c i) (normal_with left (normal_at left) tag i)
+core_read level left levels reads c tag (atom a) is h = atom_read (level + 1) left levels reads c tag a is h.1
+core_read level left levels reads c tag (array is w) same h =
     let l = container_style c.layout (estimated_length (array is w)) in
     (opening_of (codes "[") w, opens (codes "[") w, listed (Reads left) l (codes "[") (codes "]") w _ _ (items_each (level + 1) left levels reads (inside (members_layout l) c) is h.2))
-core_read level left levels reads c (spec.map ps w) h =
+core_read level left levels reads c tag (spec.map ps w) same h =
     let l = container_style c.layout (estimated_length (spec.map ps w)) in
     (opening_of (codes "{") w, opens (codes "{") w, listed (PairOf (Reads left)) l (codes "{") (codes "}") w _ _ (pairs_each (level + 1) left levels reads (inside (members_layout l) c) l ps h.2))
-core_read level left levels reads c (tagged t w i) h =
-    (number t w, text_at left (below t c) i, refl, number_read t w h.1, reads (below t c) i h.2)
+core_read level left levels reads c tag (tagged t w i) same h =
+    (number t w, text_at left (below t c) i, refl, number_read t w h.1, reads (below t c) (Some t) i refl h.2)
 
-pub reads_back : (level left : ℕ) → level + left ≡ 129 → (c : Context) (i : Item) → WellFormed level i → Reads left (text_at left c i) (normal_at left c.content i)
+pub reads_back : (level left : ℕ) → level + left ≡ 129 → IsRead level left
 unfolding text_at normal_at Reads
-reads_back level zero levels c i h = absurd (omega (arith, well_level level i h))
-reads_back level (suc left) levels c i h =
-    plain (λ core. Core (Reads left) core (normal_with left (normal_at left) c.content i)) (text_with left (text_at left) c i) (core_read level left (omega arith) (reads_back (level + 1) left (omega arith)) c i h)
+reads_back level zero levels c tag i is h = absurd (omega (arith, well_level level i h))
+reads_back level (suc left) levels c tag i is h =
+    let core = core_read level left (omega arith) (reads_back (level + 1) left (omega arith)) c tag i is h in
+    plain (λ t. Core (Reads left) t (normal_with left (normal_at left) tag i)) (text_with left (text_at left) c i) core

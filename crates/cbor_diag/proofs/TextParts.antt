@@ -1,17 +1,17 @@
 -- The text of an item, put together from its parts.
 use Rattle.std.specs.Prelude.{Result}
-use Rattle.std.proofs.Common.{◌≡◌, ℕ, suc, ◌+◌, ◌<◌, ◌≤◌, true, List, ◌∷◌, ◌++◌, length, drop, get_or, codes, Option}
+use Rattle.std.proofs.Common.{◌≡◌, ℕ, suc, ◌+◌, ◌<◌, ◌≤◌, true, List, ◌∷◌, ◌++◌, length, drop, get_or, codes, Option, Some, None}
 use Rattle.std.proofs.Common.{sym, ap, subst, ◌∙◌, append_assoc, arith}
 use Rattle.cbor_diag.specs.declared.syntax.IntegerWidth.{IntegerWidth}
 use Rattle.cbor_diag.specs.declared.syntax.DataItem.{DataItem}
 use Rattle.cbor_diag.specs.Appends.{Appends}
-use Rattle.cbor_diag.specs.Layout.{Context}
+use Rattle.cbor_diag.specs.Layout.{Content, Bytes, Context}
 use Rattle.cbor_diag.specs.ContainerStyle.{ContainerStyle}
 use Rattle.cbor_diag.specs.Item as spec
 use Rattle.cbor_diag.specs.Item.{Item, Items, Pairs, atom, array, tagged}
 use Rattle.cbor_diag.specs.View.{view, items_view, pairs_view}
 use Rattle.cbor_diag.specs.WellFormed.{levels_left, WellFormed}
-use Rattle.cbor_diag.specs.NotationText.{Writer, number, below, inside, members_layout, members, last_line, bracketed}
+use Rattle.cbor_diag.specs.NotationText.{Writer, number, content_below, below, inside, members_layout, members, last_line, bracketed}
 use Rattle.cbor_diag.specs.NotationText.{item_texts, pair_texts}
 use Rattle.cbor_diag.specs.NotationText.{text_with, text_at, text_at_level, rest_text, sequence_listed}
 use Rattle.cbor_diag.proofs.NotationTexts.{drop_here}
@@ -22,6 +22,11 @@ left_below level = levels_left (level + 1)
 
 abbrev pub write_below : ℕ → Writer
 write_below level = text_at_level (level + 1)
+
+-- what the bytes of a byte string right below this tag, if there is one, are shown as
+abbrev pub content_of : Option ℕ → Content
+content_of None = Bytes
+content_of (Some t) = content_below t
 
 pub text_opens : (level : ℕ) (c : Context) (i : Item) → level ≤ 128
     → text_at_level level c i ≡ text_with (left_below level) (write_below level) c i
