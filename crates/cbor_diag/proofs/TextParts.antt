@@ -1,6 +1,6 @@
 -- The text of an item, put together from its parts.
 use Rattle.std.specs.Prelude.{Result}
-use Rattle.std.proofs.Common.{◌≡◌, ℕ, suc, ◌+◌, ◌<◌, ◌≤◌, true, List, ◌∷◌, ◌++◌, length, drop, get_or, codes, Option, Some, None}
+use Rattle.std.proofs.Common.{◌≡◌, ℕ, suc, ◌+◌, ◌<◌, ◌≤◌, List, ◌∷◌, ◌++◌, length, drop, get_or, codes, Option, Some, None}
 use Rattle.std.proofs.Common.{sym, ap, subst, ◌∙◌, append_assoc, arith}
 use Rattle.cbor_diag.specs.declared.syntax.IntegerWidth.{IntegerWidth}
 use Rattle.cbor_diag.specs.declared.syntax.DataItem.{DataItem}
@@ -53,10 +53,10 @@ shown r level c i j out new well is h =
 -- what is written of members between brackets, in the style of their container
 pub bracketed_written : (l : ContainerStyle) (opening closing : List ℕ) (ms : List (List ℕ))
     (out opened written new : List ℕ)
-    → opened ≡ out ++ opening → written ≡ opened ++ members l true ms → new ≡ written ++ (last_line l ++ closing)
+    → opened ≡ out ++ opening → written ≡ opened ++ members l ms → new ≡ written ++ (last_line l ++ closing)
     → new ≡ out ++ bracketed l opening ms closing
 bracketed_written l opening closing ms out opened written new p q r =
-    r ∙ ap (λ x. x ++ (last_line l ++ closing)) (q ∙ ap (λ x. x ++ members l true ms) p) ∙ simp append_assoc
+    r ∙ ap (λ x. x ++ (last_line l ++ closing)) (q ∙ ap (λ x. x ++ members l ms) p) ∙ simp append_assoc
 
 -- what is written of a container, an item without its level
 pub opened_again : (level : ℕ) (c : Context) (i : Item) (out new : List ℕ) → level ≤ 128
@@ -72,11 +72,11 @@ tag_shown level c v t w out a b e new le p q r s =
 
 -- what is written of a sequence and its rest
 pub sequence_shown : (write : Writer) (c : Context) (l : ContainerStyle) (s : Items × List ℕ) (out a b d e new : List ℕ)
-    → a ≡ out ++ codes "<<" → b ≡ a ++ members l true (item_texts (write (inside (members_layout l) c)) s.0)
+    → a ≡ out ++ codes "<<" → b ≡ a ++ members l (item_texts (write (inside (members_layout l) c)) s.0)
     → d ≡ b ++ (last_line l ++ codes ">") → e ≡ d ++ codes ">" → new ≡ e ++ rest_text c s.1
     → new ≡ out ++ sequence_listed write c l s
 sequence_shown write c l s out a b d e new p q r t u =
-    let ms = members l true (item_texts (write (inside (members_layout l) c)) s.0) in
+    let ms = members l (item_texts (write (inside (members_layout l) c)) s.0) in
     let opened = q ∙ ap (λ x. x ++ ms) p in
     let closed = t ∙ ap (λ x. x ++ codes ">") (r ∙ ap (λ x. x ++ (last_line l ++ codes ">")) opened) in
     u ∙ ap (λ x. x ++ rest_text c s.1) closed ∙ simp append_assoc

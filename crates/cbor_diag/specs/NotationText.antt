@@ -1,6 +1,6 @@
 -- Diagnostic notation as it is written (RFC 7049 section 6): what compact and pretty text have in common.
 -- They differ in their `Layout` alone.
-use Rattle.std.specs.Prelude.{ℕ, zero, suc, ◌+◌, List, [], ◌∷◌, ◌++◌, map, replicate, codes, Bool, true, false, Option, Some, None, nat_lt, ◌==◌, ◌||◌, if◌then◌else◌}
+use Rattle.std.specs.Prelude.{ℕ, zero, suc, ◌+◌, List, [], ◌∷◌, ◌++◌, map, replicate, codes, Bool, Option, Some, None, nat_lt, ◌==◌, ◌||◌, if◌then◌else◌}
 use Rattle.std.specs.List.{flat_map}
 use Rattle.std.specs.Fmt.{decimal}
 use Rattle.std.specs.Int.{w16, w32, w64, to_be_bytes}
@@ -108,30 +108,25 @@ style_indent style.Compact = 0
 style_indent (OneLine indent) = indent
 style_indent (MultiLine indent) = indent
 
--- what stands before the first member, and before each other one
-abbrev pub start : ContainerStyle → Bool → List ℕ
-start style.Compact first = if first then [] else codes ","
-start (OneLine indent) first = if first then [] else codes ", "
-start (MultiLine indent) first = line (indent + 4)
+-- texts with a separator between them
+abbrev pub separated : List ℕ → List (List ℕ) → List ℕ
+separated separator [] = []
+separated separator (m ∷ ms) = m ++ flat_map (λ x. separator ++ x) ms
 
--- what stands behind each member
-abbrev pub end : ContainerStyle → List ℕ
-end (MultiLine indent) = codes ","
-end _ = []
+-- the members, each already written: with a comma between them, or each on a line with a comma after it
+abbrev pub members : ContainerStyle → List (List ℕ) → List ℕ
+members style.Compact ms = separated (codes ",") ms
+members (OneLine indent) ms = separated (codes ", ") ms
+members (MultiLine indent) ms = flat_map (λ m. line (indent + 4) ++ (m ++ codes ",")) ms
 
--- the members, each already written
-unfoldable pub members : ContainerStyle → Bool → List (List ℕ) → List ℕ
-members l first [] = []
-members l first (m ∷ ms) = start l first ++ (m ++ (end l ++ members l false ms))
-
--- what stands before the closing bracket
+-- what is before the closing bracket
 abbrev pub last_line : ContainerStyle → List ℕ
 last_line (MultiLine indent) = line indent
 last_line _ = []
 
 -- members between brackets
 abbrev pub bracketed : ContainerStyle → List ℕ → List (List ℕ) → List ℕ → List ℕ
-bracketed l opening ms closing = opening ++ (members l true ms ++ (last_line l ++ closing))
+bracketed l opening ms closing = opening ++ (members l ms ++ (last_line l ++ closing))
 
 -- an indefinite length has an underscore behind its bracket, and in a row a blank
 abbrev pub mark : ContainerStyle → List ℕ

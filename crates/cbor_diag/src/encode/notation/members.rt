@@ -8,7 +8,8 @@ ghost use Rattle.cbor_diag.specs.View.{byte_chunk, text_chunk};
 ghost use Rattle.cbor_diag.specs.Item as spec;
 ghost use Rattle.cbor_diag.specs.WellFormed.{deepest};
 ghost use Rattle.cbor_diag.specs.LayoutView.{style_view, context_view, chunks_style, IsIndented};
-ghost use Rattle.cbor_diag.specs.NotationText.{line, start, end, last_line, opened, colon};
+ghost use Rattle.cbor_diag.specs.LayoutView.{before_member, after_member};
+ghost use Rattle.cbor_diag.specs.NotationText.{line, last_line, opened, colon};
 ghost use Rattle.cbor_diag.specs.NotationText.{style_indent};
 ghost use Rattle.cbor_diag.specs.NotationText.{byte_chunks_text, text_chunks_text, rest_text};
 
@@ -75,7 +76,7 @@ pub(crate) fn push_start(
     first: bool,
 ) -> Result<(), AllocError>
     requires { style_indent (style_view style) < 2 ^ 32 }
-    ensures { AppendsText result out.old out.new (start (style_view style) first) }
+    ensures { AppendsText result out.old out.new (before_member (style_view style) first) }
 {
     match style {
         ContainerStyle::MultiLine { indent } => push_line(out, indent + 4),
@@ -88,7 +89,7 @@ pub(crate) fn push_start(
 /// Writes what is after a member.
 #[inline(always)]
 pub(crate) fn push_end(out: &mut String, style: ContainerStyle) -> Result<(), AllocError>
-    ensures { AppendsText result out.old out.new (end (style_view style)) }
+    ensures { AppendsText result out.old out.new (after_member (style_view style)) }
 {
     match style {
         ContainerStyle::MultiLine { .. } => out.push(','),

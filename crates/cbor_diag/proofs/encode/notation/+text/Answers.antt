@@ -1,4 +1,4 @@
-use Rattle.std.proofs.Common.{◌≡◌, ◌+◌, ℕ, List, true, ◌++◌, map, drop, ap, sym, subst, ◌∙◌, append_assoc, arith}
+use Rattle.std.proofs.Common.{◌≡◌, ◌+◌, ℕ, List, ◌++◌, map, drop, ap, sym, subst, ◌∙◌, append_assoc, arith}
 use Rattle.std.proofs.lemmas.List.{drop_all}
 use Rattle.std.specs.String.{string_bytes}
 use Rattle.cbor_diag.specs.Appends.{Appends}
@@ -16,7 +16,7 @@ use Rattle.cbor_diag.specs.WellFormed.{WellFormedItems, WellFormedPairs}
 use Rattle.cbor_diag.proofs.Appending.{begins_still, begins_two, begins_after_member, appends_last}
 use Rattle.cbor_diag.proofs.Views.{view-Integer, view-Negative, view-ByteString, view-TextString}
 use Rattle.cbor_diag.proofs.Views.{view-IndefiniteByteString, view-IndefiniteTextString, view-Float, view-Simple}
-use Rattle.cbor_diag.proofs.NotationTexts.{drop_here, member_more, members_end}
+use Rattle.cbor_diag.proofs.NotationTexts.{members_left, drop_here, member_more, members_end}
 use Rattle.cbor_diag.proofs.TextParts.{write_below, shown, bracketed_written, opened_again, tag_shown, sequence_shown}
 use Rattle.cbor_diag.proofs.TextParts.{items_rest, pairs_rest}
 use Rattle.cbor_diag.proofs.encode.notation.+text.Goals as goal
@@ -163,7 +163,7 @@ push_items-items-preserved t c =
     let l = style_view c.args.style in
     let write = item_text c.inside-inner.result in
     let rest = item_texts write (items_view (drop (i + 1) all)) in
-    let left = ap (λ ms. string_bytes c.items.out ++ members l c.items.first ms) (sym (items_rest write all i v c.items-test.true c.item-item.is)) ∙ c.items.invariant.0 in
+    let left = ap (λ ms. string_bytes c.items.out ++ members_left l c.items.first ms) (sym (items_rest write all i v c.items-test.true c.item-item.is)) ∙ c.items.invariant.0 in
     let well = subst (λ vs. WellFormedItems c.inside-inner.result.level (items_view vs))
     (drop_here all i v c.items-test.true c.item-item.is) c.items.invariant.1 in
     let begun = begins_after_member (string_bytes c.args.out.now) (string_bytes c.items.out) (string_bytes c.push_start.new.out)
@@ -181,16 +181,16 @@ push_items-returns t c =
     let l = style_view c.args.style in
     let context = c.args.context.now in
     let write = item_text c.inside-inner.result in
-    let none = ap (λ vs. string_bytes c.items.out ++ members l c.items.first (item_texts write (items_view vs)))
+    let none = ap (λ vs. string_bytes c.items.out ++ members_left l c.items.first (item_texts write (items_view vs)))
     (sym (drop_all c.items.item-index c.deref-item-items.result.now c.items-test.false)) ∙ c.items.invariant.0 in
     let writes =
     writes_inner c.inside-inner.result (context.level + 1) (inside (members_layout l) (context_view context))
     c.inside-inner.ensures.level
     (c.inside-inner.ensures.context ∙ ap (λ x. inside x (context_view context)) c.members_layout.ensures) in
-    members_end l c.items.first (string_bytes c.items.out) _ none
-    ∙ ap (λ vs. string_bytes c.args.out.now ++ members l true (item_texts write (items_view vs)))
+    members_end l c.items.first (string_bytes c.items.out) _ _ none
+    ∙ ap (λ vs. string_bytes c.args.out.now ++ members l (item_texts write (items_view vs)))
     c.deref-item-items.ensures.value
-    ∙ ap (λ f. string_bytes c.args.out.now ++ members l true (item_texts f (items_view c.args.items.now.items))) writes
+    ∙ ap (λ f. string_bytes c.args.out.now ++ members l (item_texts f (items_view c.args.items.now.items))) writes
 
 pub push_pairs-pairs-preserved : goal.push_pairs-pairs-preserved
 push_pairs-pairs-preserved t c =
@@ -204,7 +204,7 @@ push_pairs-pairs-preserved t c =
     ∙ ap (λ x. x ++ write (view v.1))
     (c.in_ok-push_colon.ensures ∙ ap (λ x. x ++ colon l) c.in_ok-push_item.ensures)
     ∙ regroup (string_bytes c.push_start.new.out) (write (view v.0)) (colon l) (write (view v.1)) in
-    let left = ap (λ ms. string_bytes c.pairs.out ++ members l c.pairs.first ms) (sym (pairs_rest write (colon l) all i v c.pairs-test.true c.pairs-item.is)) ∙ c.pairs.invariant.0 in
+    let left = ap (λ ms. string_bytes c.pairs.out ++ members_left l c.pairs.first ms) (sym (pairs_rest write (colon l) all i v c.pairs-test.true c.pairs-item.is)) ∙ c.pairs.invariant.0 in
     let well = subst (λ vs. WellFormedPairs c.inside-inner.result.level (pairs_view vs))
     (drop_here all i v c.pairs-test.true c.pairs-item.is) c.pairs.invariant.1 in
     let begun = begins_after_member (string_bytes c.args.out.now) (string_bytes c.pairs.out) (string_bytes c.push_start.new.out)
@@ -218,17 +218,17 @@ push_pairs-returns t c =
     let context = c.args.context.now in
     let write = item_text c.inside-inner.result in
     let none =
-    ap (λ vs. string_bytes c.pairs.out ++ members l c.pairs.first (pair_texts write (colon l) (pairs_view vs)))
+    ap (λ vs. string_bytes c.pairs.out ++ members_left l c.pairs.first (pair_texts write (colon l) (pairs_view vs)))
     (sym (drop_all c.pairs.key-index c.deref-key-items.result.now c.pairs-test.false)) ∙ c.pairs.invariant.0 in
     let writes =
     writes_inner c.inside-inner.result (context.level + 1) (inside (members_layout l) (context_view context))
     c.inside-inner.ensures.level
     (c.inside-inner.ensures.context ∙ ap (λ x. inside x (context_view context)) c.members_layout.ensures) in
-    members_end l c.pairs.first (string_bytes c.pairs.out) _ none
-    ∙ ap (λ vs. string_bytes c.args.out.now ++ members l true (pair_texts write (colon l) (pairs_view vs)))
+    members_end l c.pairs.first (string_bytes c.pairs.out) _ _ none
+    ∙ ap (λ vs. string_bytes c.args.out.now ++ members l (pair_texts write (colon l) (pairs_view vs)))
     c.deref-key-items.ensures.value
     ∙ ap
-    (λ f. string_bytes c.args.out.now ++ members l true (pair_texts f (colon l) (pairs_view c.args.pairs.now.items)))
+    (λ f. string_bytes c.args.out.now ++ members l (pair_texts f (colon l) (pairs_view c.args.pairs.now.items)))
     writes
 
 pub push_sequence-returns : goal.push_sequence-returns

@@ -4,7 +4,8 @@ use Rattle.std.specs.String.{string_bytes}
 use Rattle.cbor_diag.specs.View.{items_view, pairs_view}
 use Rattle.cbor_diag.specs.WellFormed.{WellFormedItems, WellFormedPairs}
 use Rattle.cbor_diag.specs.LayoutView.{style_view, item_text}
-use Rattle.cbor_diag.specs.NotationText.{members, colon, item_texts, pair_texts}
+use Rattle.cbor_diag.specs.NotationText.{colon, item_texts, pair_texts}
+use Rattle.cbor_diag.proofs.NotationTexts.{members_left}
 use Rattle.cbor_diag.proofs.encode.notation.+text.Given as goal
 
 -- Each level is deeper than the one before; at one level an item is asked for its members or its bytes, and these
@@ -42,8 +43,8 @@ invariant-push_items-items l =
     let rest = items_view (drop l.item-index l.item-items) in
     let texts = item_texts (item_text l.inner) in
     let style = style_view l.style in
-    (string_bytes l.out ++ members style l.first (texts rest)
-    ≡ string_bytes l.fn.out ++ members style true (texts (items_view l.item-items)))
+    (string_bytes l.out ++ members_left style l.first (texts rest)
+    ≡ string_bytes l.fn.out ++ members_left style true (texts (items_view l.item-items)))
     × WellFormedItems l.inner.level rest × StartsWith (string_bytes l.out) (string_bytes l.fn.out)
 
 abbrev pub invariant-push_pairs-pairs : goal.invariant-push_pairs-pairs
@@ -51,6 +52,6 @@ invariant-push_pairs-pairs l =
     let rest = pairs_view (drop l.key-index l.key-items) in
     let style = style_view l.style in
     let texts = pair_texts (item_text l.inner) (colon style) in
-    (string_bytes l.out ++ members style l.first (texts rest)
-    ≡ string_bytes l.fn.out ++ members style true (texts (pairs_view l.key-items)))
+    (string_bytes l.out ++ members_left style l.first (texts rest)
+    ≡ string_bytes l.fn.out ++ members_left style true (texts (pairs_view l.key-items)))
     × WellFormedPairs l.inner.level rest × StartsWith (string_bytes l.out) (string_bytes l.fn.out)

@@ -35,7 +35,7 @@ returns c =
     let l = style_view c.text_chunks_style-style.result in
     let none : drop c.chunks.chunk-index all ≡ [] = drop_all c.chunks.chunk-index all c.chunks-test.false in
     let f : Chunk → List ℕ = λ s. text s.bytes in
-    let whole = members_end l c.chunks.first (string_bytes c.chunks.out) _ (rw none at c.chunks.invariant.0) in
+    let whole = members_end l c.chunks.first (string_bytes c.chunks.out) _ _ (rw none at c.chunks.invariant.0) in
     let some : eqb (length cs) 0 ≡ false = rw length-map (sym c.is_empty.ensures ∙ c.if-is_empty.false) in
     appends_last c.push_closing.result out (string_bytes c.chunks.out) (string_bytes c.push_closing.new.out) _ _
     c.chunks.invariant.1
