@@ -8,9 +8,8 @@ use Rattle.cbor_diag.specs.declared.syntax.FloatWidth.{FloatWidth}
 use Rattle.cbor_diag.specs.declared.syntax.FloatWidth.TheVariants as float_width
 use Rattle.cbor_diag.specs.declared.encode.encoding.Encoding.{Encoding}
 use Rattle.cbor_diag.specs.Layout as content
-use Rattle.cbor_diag.specs.Layout.{Compact}
+use Rattle.cbor_diag.specs.Layout.{Compact, Context}
 use Rattle.cbor_diag.specs.ContainerStyle as style
-use Rattle.cbor_diag.specs.Layout.{Context}
 use Rattle.cbor_diag.specs.Item as spec
 use Rattle.cbor_diag.specs.Item.{Chunk, Atom, integer, negative, byte_string, text_string, byte_chunks, text_chunks, float, simple, Item, atom, array, tagged, Items, no_items, item, Pairs, no_pairs, pair}
 use Rattle.cbor_diag.specs.Head.{FitsStated}
@@ -18,7 +17,9 @@ use Rattle.cbor_diag.specs.WellFormed.{WellFormedAtom, WellFormed, WellFormedIte
 use Rattle.cbor_diag.specs.Bytes.{any, SpellsAtom, SpellsFloat, Spells, SpellsItems, SpellsPairs}
 use Rattle.cbor_diag.specs.Written.{encoded, encoded_items, resolve_chunk, resolve_float, resolve_atom, resolve, resolve_items, resolve_pairs}
 use Rattle.cbor_diag.specs.Embedded.{embedded_at, sequence_at}
-use Rattle.cbor_diag.specs.NotationText.{number, indicator, bracketed, inside, float_text, encoding_below, quoted, text, item_texts, pair_texts, embedded_text, rest_text, sequence_text, content_text, chunks_text, atom_text, text_with, text_at}
+use Rattle.cbor_diag.specs.NotationText.{number, indicator, bracketed, inside, float_text, encoding_below, quoted, text}
+use Rattle.cbor_diag.specs.NotationText.{item_texts, pair_texts, embedded_text, rest_text, sequence_text, content_text}
+use Rattle.cbor_diag.specs.NotationText.{chunks_text, atom_text, text_with, text_at}
 use Rattle.cbor_diag.specs.Normal.{normal_width, normal_chunk, normal_items, normal_pairs, normal_embedded, normal_sequence, normal_content, normal_atom, normal_with, normal_at}
 use Rattle.cbor_diag.proofs.Strict.{stated_is, strict_any, strict_encoded, items_enc, items_any}
 use Rattle.cbor_diag.proofs.Resolved.{spells_well}
@@ -98,7 +99,8 @@ float_kept float_width.Sixteen h = refl
 float_kept float_width.ThirtyTwo h = refl
 float_kept float_width.SixtyFour h = refl
 
-module _ (left : ℕ) (into : Option ℕ → Item → Item) (keeps : (tag : Option ℕ) (i : Item) → Stated i → Stated (into tag i)) where
+module _ (left : ℕ) (into : Option ℕ → Item → Item)
+    (keeps : (tag : Option ℕ) (i : Item) → Stated i → Stated (into tag i)) where
   normal_items_stated : (is : Items) → StatedItems is → StatedItems (normal_items (into None) is)
   normal_items_stated no_items h = tt
   normal_items_stated (item i is) h = (keeps None i h.0, normal_items_stated is h.1)
@@ -141,41 +143,49 @@ bytes_resolved : (f : Chunk → List ℕ) (same : (c : Chunk) → f (resolve_chu
 bytes_resolved f same [] = refl
 bytes_resolved f same (c ∷ cs) = rw (same c, bytes_resolved f same cs) refl
 
-module _ (left : ℕ) (write : Writer) (same : (e : Encoding) (tag : Option ℕ) (i : Item) → Stated i → write (at e tag) (resolve i) ≡ write (at e tag) i) where
-  items_resolved : (e : Encoding) (is : Items) → StatedItems is → item_texts (write (at e None)) (resolve_items is) ≡ item_texts (write (at e None)) is
-  items_resolved e no_items h = refl
-  items_resolved e (item i is) h = rw (same e None i h.0, items_resolved e is h.1) refl
+module _ (left : ℕ) (write : Writer)
+    (same : (e : Encoding) (tag : Option ℕ) (i : Item) → Stated i → write (at e tag) (resolve i) ≡ write (at e tag) i)
+  where
+    items_resolved : (e : Encoding) (is : Items) → StatedItems is → item_texts (write (at e None)) (resolve_items is)
+        ≡ item_texts (write (at e None)) is
+    items_resolved e no_items h = refl
+    items_resolved e (item i is) h = rw (same e None i h.0, items_resolved e is h.1) refl
 
-  pairs_resolved : (e : Encoding) (between : List ℕ) (ps : Pairs) → StatedPairs ps → pair_texts (write (at e None)) between (resolve_pairs ps) ≡ pair_texts (write (at e None)) between ps
-  pairs_resolved e between no_pairs h = refl
-  pairs_resolved e between (pair k v ps) h = rw (same e None k h.0, same e None v h.1, pairs_resolved e between ps h.2) refl
+    pairs_resolved : (e : Encoding) (between : List ℕ) (ps : Pairs) → StatedPairs ps
+        → pair_texts (write (at e None)) between (resolve_pairs ps) ≡ pair_texts (write (at e None)) between ps
+    pairs_resolved e between no_pairs h = refl
+    pairs_resolved e between (pair k v ps) h =
+        rw (same e None k h.0, same e None v h.1, pairs_resolved e between ps h.2) refl
 
-  atom_resolved : (e : Encoding) (tag : Option ℕ) (a : Atom) → StatedAtom a → atom_text left write (at e tag) (resolve_atom a) ≡ atom_text left write (at e tag) a
-  atom_resolved e tag (integer n w) h = ap (number n) (stated_is w n h)
-  atom_resolved e tag (negative n w) h = ap (λ v. codes "-" ++ number (n + 1) v) (stated_is w n h)
-  atom_resolved e tag (byte_string c) h = refl
-  atom_resolved e tag (text_string c) h = refl
-  atom_resolved e tag (byte_chunks cs) h =
-      ap (chunks_text style.Compact (codes "''_")) (bytes_resolved (λ s. quoted e s.bytes) (λ c. refl) cs)
-  atom_resolved e tag (text_chunks cs) h =
-      ap (chunks_text style.Compact (codes "\"\"_")) (bytes_resolved (λ s. text s.bytes) (λ c. refl) cs)
-  atom_resolved e tag (float bits w) h = ap (float_text bits) (float_kept w h)
-  atom_resolved e tag (simple n) h = refl
+    atom_resolved : (e : Encoding) (tag : Option ℕ) (a : Atom) → StatedAtom a
+        → atom_text left write (at e tag) (resolve_atom a) ≡ atom_text left write (at e tag) a
+    atom_resolved e tag (integer n w) h = ap (number n) (stated_is w n h)
+    atom_resolved e tag (negative n w) h = ap (λ v. codes "-" ++ number (n + 1) v) (stated_is w n h)
+    atom_resolved e tag (byte_string c) h = refl
+    atom_resolved e tag (text_string c) h = refl
+    atom_resolved e tag (byte_chunks cs) h =
+        ap (chunks_text style.Compact (codes "''_")) (bytes_resolved (λ s. quoted e s.bytes) (λ c. refl) cs)
+    atom_resolved e tag (text_chunks cs) h =
+        ap (chunks_text style.Compact (codes "\"\"_")) (bytes_resolved (λ s. text s.bytes) (λ c. refl) cs)
+    atom_resolved e tag (float bits w) h = ap (float_text bits) (float_kept w h)
+    atom_resolved e tag (simple n) h = refl
 
-  with_resolved : (e : Encoding) (tag : Option ℕ) (i : Item) → Stated i → text_with left write (at e tag) (resolve i) ≡ text_with left write (at e tag) i
-  with_resolved e tag (atom a) h = atom_resolved e tag a h
-  with_resolved e tag (array is (Some w)) h =
-      ap (λ ms. bracketed style.Compact (codes "[") ms (codes "]")) (items_resolved e is h)
-  with_resolved e tag (array is None) h =
-      ap (λ ms. bracketed style.Compact (codes "[_") ms (codes "]")) (items_resolved e is h)
-  with_resolved e tag (spec.map ps (Some w)) h =
-      ap (λ ms. bracketed style.Compact (codes "{") ms (codes "}")) (pairs_resolved e (codes ":") ps h)
-  with_resolved e tag (spec.map ps None) h =
-      ap (λ ms. bracketed style.Compact (codes "{_") ms (codes "}")) (pairs_resolved e (codes ":") ps h)
-  with_resolved e tag (tagged t w i) h =
-      rw (stated_is w t h.0, same (encoding_below t e) (Some t) i h.1) refl
+    with_resolved : (e : Encoding) (tag : Option ℕ) (i : Item) → Stated i → text_with left write (at e tag) (resolve i)
+        ≡ text_with left write (at e tag) i
+    with_resolved e tag (atom a) h = atom_resolved e tag a h
+    with_resolved e tag (array is (Some w)) h =
+        ap (λ ms. bracketed style.Compact (codes "[") ms (codes "]")) (items_resolved e is h)
+    with_resolved e tag (array is None) h =
+        ap (λ ms. bracketed style.Compact (codes "[_") ms (codes "]")) (items_resolved e is h)
+    with_resolved e tag (spec.map ps (Some w)) h =
+        ap (λ ms. bracketed style.Compact (codes "{") ms (codes "}")) (pairs_resolved e (codes ":") ps h)
+    with_resolved e tag (spec.map ps None) h =
+        ap (λ ms. bracketed style.Compact (codes "{_") ms (codes "}")) (pairs_resolved e (codes ":") ps h)
+    with_resolved e tag (tagged t w i) h =
+        rw (stated_is w t h.0, same (encoding_below t e) (Some t) i h.1) refl
 
-text_resolved : (left : ℕ) (e : Encoding) (tag : Option ℕ) (i : Item) → Stated i → text_at left (at e tag) (resolve i) ≡ text_at left (at e tag) i
+text_resolved : (left : ℕ) (e : Encoding) (tag : Option ℕ) (i : Item) → Stated i → text_at left (at e tag) (resolve i)
+    ≡ text_at left (at e tag) i
 unfolding text_at
 text_resolved zero e tag i h = refl
 text_resolved (suc left) e tag i h = with_resolved left (text_at left) (text_resolved left) e tag i h
@@ -184,16 +194,21 @@ chunks_kept : (cs : List Chunk) → map normal_chunk (map resolve_chunk cs) ≡ 
 chunks_kept [] = refl
 chunks_kept (c ∷ cs) = ap (λ ds. normal_chunk c ∷ ds) (chunks_kept cs)
 
-module _ (level left : ℕ) (into : Option ℕ → Item → Item) (same : (tag : Option ℕ) (i : Item) → WellFormed level i → Stated i → into tag (resolve i) ≡ into tag i) where
-  normal_items_resolved : (is : Items) → WellFormedItems level is → StatedItems is → normal_items (into None) (resolve_items is) ≡ normal_items (into None) is
+module _ (level left : ℕ) (into : Option ℕ → Item → Item)
+    (same : (tag : Option ℕ) (i : Item) → WellFormed level i → Stated i → into tag (resolve i) ≡ into tag i) where
+  normal_items_resolved : (is : Items) → WellFormedItems level is → StatedItems is
+      → normal_items (into None) (resolve_items is) ≡ normal_items (into None) is
   normal_items_resolved no_items well h = refl
   normal_items_resolved (item i is) well h = rw (same None i well.0 h.0, normal_items_resolved is well.1 h.1) refl
 
-  normal_pairs_resolved : (ps : Pairs) → WellFormedPairs level ps → StatedPairs ps → normal_pairs (into None) (resolve_pairs ps) ≡ normal_pairs (into None) ps
+  normal_pairs_resolved : (ps : Pairs) → WellFormedPairs level ps → StatedPairs ps
+      → normal_pairs (into None) (resolve_pairs ps) ≡ normal_pairs (into None) ps
   normal_pairs_resolved no_pairs well h = refl
-  normal_pairs_resolved (pair k v ps) well h = rw (same None k well.0 h.0, same None v well.1 h.1, normal_pairs_resolved ps well.2 h.2) refl
+  normal_pairs_resolved (pair k v ps) well h =
+      rw (same None k well.0 h.0, same None v well.1 h.1, normal_pairs_resolved ps well.2 h.2) refl
 
-normal_atom_resolved : (left : ℕ) (into : Option ℕ → Item → Item) (tag : Option ℕ) (a : Atom) → StatedAtom a → normal_atom left into tag (resolve_atom a) ≡ normal_atom left into tag a
+normal_atom_resolved : (left : ℕ) (into : Option ℕ → Item → Item) (tag : Option ℕ) (a : Atom) → StatedAtom a
+    → normal_atom left into tag (resolve_atom a) ≡ normal_atom left into tag a
 normal_atom_resolved left into tag (integer n w) h = ap (λ v. integer n (normal_width v n)) (stated_is w n h)
 normal_atom_resolved left into tag (negative n w) h = ap (λ v. negative n (normal_width v n)) (stated_is w n h)
 normal_atom_resolved left into tag (byte_string c) h = refl
@@ -203,19 +218,28 @@ normal_atom_resolved left into tag (text_chunks cs) h = ap text_chunks (chunks_k
 normal_atom_resolved left into tag (float bits w) h = ap (λ v. float bits (resolve_float v)) (float_kept w h)
 normal_atom_resolved left into tag (simple n) h = refl
 
-normal_with_resolved : (level left : ℕ) (into : Option ℕ → Item → Item) (same : (tag : Option ℕ) (i : Item) → WellFormed (level + 1) i → Stated i → into tag (resolve i) ≡ into tag i)
-    → (tag : Option ℕ) (i : Item) → WellFormed level i → Stated i → normal_with left into tag (resolve i) ≡ normal_with left into tag i
+normal_with_resolved : (level left : ℕ) (into : Option ℕ → Item → Item)
+    (same : (tag : Option ℕ) (i : Item) → WellFormed (level + 1) i → Stated i → into tag (resolve i) ≡ into tag i)
+    → (tag : Option ℕ) (i : Item) → WellFormed level i → Stated i → normal_with left into tag (resolve i)
+    ≡ normal_with left into tag i
 normal_with_resolved level left into same tag (atom a) well h = ap atom (normal_atom_resolved left into tag a h)
-normal_with_resolved level left into same tag (array is (Some w)) well h = ap (λ js. array js (Some Unknown)) (normal_items_resolved (level + 1) left into same is well.2 h)
-normal_with_resolved level left into same tag (array is None) well h = ap (λ js. array js None) (normal_items_resolved (level + 1) left into same is well.2 h)
-normal_with_resolved level left into same tag (spec.map ps (Some w)) well h = ap (λ qs. spec.map qs (Some Unknown)) (normal_pairs_resolved (level + 1) left into same ps well.2 h)
-normal_with_resolved level left into same tag (spec.map ps None) well h = ap (λ qs. spec.map qs None) (normal_pairs_resolved (level + 1) left into same ps well.2 h)
-normal_with_resolved level left into same tag (tagged t w i) well h = rw (stated_is w t h.0, same (Some t) i well.2 h.1) refl
+normal_with_resolved level left into same tag (array is (Some w)) well h =
+    ap (λ js. array js (Some Unknown)) (normal_items_resolved (level + 1) left into same is well.2 h)
+normal_with_resolved level left into same tag (array is None) well h =
+    ap (λ js. array js None) (normal_items_resolved (level + 1) left into same is well.2 h)
+normal_with_resolved level left into same tag (spec.map ps (Some w)) well h =
+    ap (λ qs. spec.map qs (Some Unknown)) (normal_pairs_resolved (level + 1) left into same ps well.2 h)
+normal_with_resolved level left into same tag (spec.map ps None) well h =
+    ap (λ qs. spec.map qs None) (normal_pairs_resolved (level + 1) left into same ps well.2 h)
+normal_with_resolved level left into same tag (tagged t w i) well h =
+    rw (stated_is w t h.0, same (Some t) i well.2 h.1) refl
 
-normal_resolved : (level left : ℕ) → level + left ≡ 129 → (tag : Option ℕ) (i : Item) → WellFormed level i → Stated i → normal_at left tag (resolve i) ≡ normal_at left tag i
+normal_resolved : (level left : ℕ) → level + left ≡ 129 → (tag : Option ℕ) (i : Item) → WellFormed level i → Stated i
+    → normal_at left tag (resolve i) ≡ normal_at left tag i
 unfolding normal_at
 normal_resolved level zero levels tag i well h = absurd (omega (arith, well_level level i well))
-normal_resolved level (suc left) levels tag i well h = normal_with_resolved level left (normal_at left) (normal_resolved (level + 1) left (omega arith)) tag i well h
+normal_resolved level (suc left) levels tag i well h =
+    normal_with_resolved level left (normal_at left) (normal_resolved (level + 1) left (omega arith)) tag i well h
 
 -- ---- embedded items, read again from the bytes of their normal forms
 
@@ -303,14 +327,21 @@ embedded_text-some : (write : Writer) (c : Context) (b : List ℕ) (e : Item) �
 embedded_text-some write c [] e some = absurd (omega arith)
 embedded_text-some write c (x ∷ b) e some = refl
 
-module _ (level left : ℕ) (levels : level + left ≡ 129) (same : (e : Encoding) (tag : Option ℕ) (i : Item) → WellFormed level i → text_at left (at e tag) (normal_at left tag i) ≡ text_at left (at e tag) i) where
-  items_normal_text : (e : Encoding) (is : Items) → WellFormedItems level is → item_texts (text_at left (at e None)) (normal_items (into_normal left) is) ≡ item_texts (text_at left (at e None)) is
+module _ (level left : ℕ) (levels : level + left ≡ 129)
+    (same : (e : Encoding) (tag : Option ℕ) (i : Item) → WellFormed level i
+    → text_at left (at e tag) (normal_at left tag i) ≡ text_at left (at e tag) i) where
+  items_normal_text : (e : Encoding) (is : Items) → WellFormedItems level is
+      → item_texts (text_at left (at e None)) (normal_items (into_normal left) is)
+      ≡ item_texts (text_at left (at e None)) is
   items_normal_text e no_items h = refl
   items_normal_text e (item i is) h = rw (same e None i h.0, items_normal_text e is h.1) refl
 
-  pairs_normal_text : (e : Encoding) (between : List ℕ) (ps : Pairs) → WellFormedPairs level ps → pair_texts (text_at left (at e None)) between (normal_pairs (into_normal left) ps) ≡ pair_texts (text_at left (at e None)) between ps
+  pairs_normal_text : (e : Encoding) (between : List ℕ) (ps : Pairs) → WellFormedPairs level ps
+      → pair_texts (text_at left (at e None)) between (normal_pairs (into_normal left) ps)
+      ≡ pair_texts (text_at left (at e None)) between ps
   pairs_normal_text e between no_pairs h = refl
-  pairs_normal_text e between (pair k v ps) h = rw (same e None k h.0, same e None v h.1, pairs_normal_text e between ps h.2) refl
+  pairs_normal_text e between (pair k v ps) h =
+      rw (same e None k h.0, same e None v h.1, pairs_normal_text e between ps h.2) refl
 
   embedded_normal_text : (e : Encoding) (tag : Option ℕ) (b : List ℕ) → AllBytes b
       → content_text left (text_at left) content.Item (at e tag) (embedded_normal left b)
@@ -362,7 +393,9 @@ module _ (level left : ℕ) (levels : level + left ≡ 129) (same : (e : Encodin
         ]
       ]
 
-  atom_normal_text : (e : Encoding) (tag : Option ℕ) (a : Atom) → WellFormedAtom a → atom_text left (text_at left) (at e tag) (normal_atom left (normal_at left) tag a) ≡ atom_text left (text_at left) (at e tag) a
+  atom_normal_text : (e : Encoding) (tag : Option ℕ) (a : Atom) → WellFormedAtom a
+      → atom_text left (text_at left) (at e tag) (normal_atom left (normal_at left) tag a)
+      ≡ atom_text left (text_at left) (at e tag) a
   atom_normal_text e tag (integer n w) h = ap (λ t. decimal n ++ t) (indicator_kept n w)
   atom_normal_text e tag (negative n w) h = ap (λ t. codes "-" ++ (decimal (n + 1) ++ t)) (indicator_kept n w)
   atom_normal_text e tag (byte_string c) h = content_normal_text e tag c.bytes h.bytes
@@ -374,8 +407,12 @@ module _ (level left : ℕ) (levels : level + left ≡ 129) (same : (e : Encodin
   atom_normal_text e tag (float bits w) h = float_normal_text bits w
   atom_normal_text e tag (simple n) h = refl
 
-with_normal_text : (level left : ℕ) → (level + 1) + left ≡ 129 → (same : (e : Encoding) (tag : Option ℕ) (i : Item) → WellFormed (level + 1) i → text_at left (at e tag) (normal_at left tag i) ≡ text_at left (at e tag) i)
-    → (e : Encoding) (tag : Option ℕ) (i : Item) → WellFormed level i → text_with left (text_at left) (at e tag) (normal_with left (normal_at left) tag i) ≡ text_with left (text_at left) (at e tag) i
+with_normal_text : (level left : ℕ) → (level + 1) + left ≡ 129
+    → (same : (e : Encoding) (tag : Option ℕ) (i : Item) → WellFormed (level + 1) i
+    → text_at left (at e tag) (normal_at left tag i) ≡ text_at left (at e tag) i)
+    → (e : Encoding) (tag : Option ℕ) (i : Item) → WellFormed level i
+    → text_with left (text_at left) (at e tag) (normal_with left (normal_at left) tag i)
+    ≡ text_with left (text_at left) (at e tag) i
 with_normal_text level left levels same e tag (atom a) h = atom_normal_text (level + 1) left levels same e tag a h.1
 with_normal_text level left levels same e tag (array is (Some w)) h =
     ap (λ ms. bracketed style.Compact (codes "[") ms (codes "]"))
@@ -392,10 +429,12 @@ with_normal_text level left levels same e tag (spec.map ps None) h =
 with_normal_text level left levels same e tag (tagged t w i) h =
     rw (indicator_kept t w, same (encoding_below t e) (Some t) i h.2) refl
 
-pub normal_text : (level left : ℕ) → level + left ≡ 129 → (e : Encoding) (tag : Option ℕ) (i : Item) → WellFormed level i → text_at left (at e tag) (normal_at left tag i) ≡ text_at left (at e tag) i
+pub normal_text : (level left : ℕ) → level + left ≡ 129 → (e : Encoding) (tag : Option ℕ) (i : Item)
+    → WellFormed level i → text_at left (at e tag) (normal_at left tag i) ≡ text_at left (at e tag) i
 unfolding text_at normal_at
 normal_text level zero levels e tag i h = refl
-normal_text level (suc left) levels e tag i h = with_normal_text level left (omega arith) (normal_text (level + 1) left (omega arith)) e tag i h
+normal_text level (suc left) levels e tag i h =
+    with_normal_text level left (omega arith) (normal_text (level + 1) left (omega arith)) e tag i h
 
 -- ---- the normal form of the normal form
 
@@ -421,7 +460,9 @@ chunks_twice : (cs : List Chunk) → map normal_chunk (map normal_chunk cs) ≡ 
 chunks_twice [] = refl
 chunks_twice (c ∷ cs) = ap (λ ds. normal_chunk c ∷ ds) (chunks_twice cs)
 
-module _ (level left : ℕ) (levels : level + left ≡ 129) (same : (tag : Option ℕ) (i : Item) → WellFormed level i → normal_at left tag (normal_at left tag i) ≡ normal_at left tag i) where
+module _ (level left : ℕ) (levels : level + left ≡ 129)
+    (same : (tag : Option ℕ) (i : Item) → WellFormed level i → normal_at left tag (normal_at left tag i)
+    ≡ normal_at left tag i) where
   items_twice : (is : Items) → WellFormedItems level is → normal_items (into_normal left) (normal_items (into_normal left) is) ≡ normal_items (into_normal left) is
   items_twice no_items h = refl
   items_twice (item i is) h = rw (same None i h.0, items_twice is h.1) refl
@@ -467,26 +508,39 @@ module _ (level left : ℕ) (levels : level + left ≡ 129) (same : (tag : Optio
         ]
       ]
 
-  atom_twice : (tag : Option ℕ) (a : Atom) → WellFormedAtom a → normal_atom left (normal_at left) tag (normal_atom left (normal_at left) tag a) ≡ normal_atom left (normal_at left) tag a
+  atom_twice : (tag : Option ℕ) (a : Atom) → WellFormedAtom a
+      → normal_atom left (normal_at left) tag (normal_atom left (normal_at left) tag a)
+      ≡ normal_atom left (normal_at left) tag a
   atom_twice tag (integer n w) h = ap (integer n) (normal_width_twice n w)
   atom_twice tag (negative n w) h = ap (negative n) (normal_width_twice n w)
-  atom_twice tag (byte_string c) h = ap (λ x. byte_string (record { bytes = x; width = Unknown })) (content_twice tag c.bytes h.bytes)
+  atom_twice tag (byte_string c) h =
+      ap (λ x. byte_string (record { bytes = x; width = Unknown })) (content_twice tag c.bytes h.bytes)
   atom_twice tag (text_string c) h = refl
   atom_twice tag (byte_chunks cs) h = ap byte_chunks (chunks_twice cs)
   atom_twice tag (text_chunks cs) h = ap text_chunks (chunks_twice cs)
   atom_twice tag (float bits w) h = ap (float bits) (resolve_float_twice w)
   atom_twice tag (simple n) h = refl
 
-with_twice : (level left : ℕ) → (level + 1) + left ≡ 129 → (same : (tag : Option ℕ) (i : Item) → WellFormed (level + 1) i → normal_at left tag (normal_at left tag i) ≡ normal_at left tag i)
-    → (tag : Option ℕ) (i : Item) → WellFormed level i → normal_with left (normal_at left) tag (normal_with left (normal_at left) tag i) ≡ normal_with left (normal_at left) tag i
+with_twice : (level left : ℕ) → (level + 1) + left ≡ 129
+    → (same : (tag : Option ℕ) (i : Item) → WellFormed (level + 1) i → normal_at left tag (normal_at left tag i)
+    ≡ normal_at left tag i)
+    → (tag : Option ℕ) (i : Item) → WellFormed level i
+    → normal_with left (normal_at left) tag (normal_with left (normal_at left) tag i)
+    ≡ normal_with left (normal_at left) tag i
 with_twice level left levels same tag (atom a) h = ap atom (atom_twice (level + 1) left levels same tag a h.1)
-with_twice level left levels same tag (array is (Some w)) h = ap (λ js. array js (Some Unknown)) (items_twice (level + 1) left levels same is h.2)
-with_twice level left levels same tag (array is None) h = ap (λ js. array js None) (items_twice (level + 1) left levels same is h.2)
-with_twice level left levels same tag (spec.map ps (Some w)) h = ap (λ qs. spec.map qs (Some Unknown)) (pairs_twice (level + 1) left levels same ps h.2)
-with_twice level left levels same tag (spec.map ps None) h = ap (λ qs. spec.map qs None) (pairs_twice (level + 1) left levels same ps h.2)
+with_twice level left levels same tag (array is (Some w)) h =
+    ap (λ js. array js (Some Unknown)) (items_twice (level + 1) left levels same is h.2)
+with_twice level left levels same tag (array is None) h =
+    ap (λ js. array js None) (items_twice (level + 1) left levels same is h.2)
+with_twice level left levels same tag (spec.map ps (Some w)) h =
+    ap (λ qs. spec.map qs (Some Unknown)) (pairs_twice (level + 1) left levels same ps h.2)
+with_twice level left levels same tag (spec.map ps None) h =
+    ap (λ qs. spec.map qs None) (pairs_twice (level + 1) left levels same ps h.2)
 with_twice level left levels same tag (tagged t w i) h = rw (normal_width_twice t w, same (Some t) i h.2) refl
 
-pub normal_twice : (level left : ℕ) → level + left ≡ 129 → (tag : Option ℕ) (i : Item) → WellFormed level i → normal_at left tag (normal_at left tag i) ≡ normal_at left tag i
+pub normal_twice : (level left : ℕ) → level + left ≡ 129 → (tag : Option ℕ) (i : Item) → WellFormed level i
+    → normal_at left tag (normal_at left tag i) ≡ normal_at left tag i
 unfolding normal_at
 normal_twice level zero levels tag i h = refl
-normal_twice level (suc left) levels tag i h = with_twice level left (omega arith) (normal_twice (level + 1) left (omega arith)) tag i h
+normal_twice level (suc left) levels tag i h =
+    with_twice level left (omega arith) (normal_twice (level + 1) left (omega arith)) tag i h

@@ -1,5 +1,6 @@
 -- The normal form of a well-formed item is well formed, and its encoding is no longer.
-use Rattle.std.proofs.Common.{◌≡◌, ℕ, zero, suc, ◌+◌, ◌≤◌, List, [], ◌∷◌, ◌++◌, length, map, Option, Some, None, ◌⊎◌, inl, inr, eqb, false, refl, ap, subst, arith}
+use Rattle.std.proofs.Common.{◌≡◌, ℕ, zero, suc, ◌+◌, ◌≤◌, List, [], ◌∷◌, ◌++◌, length, map, Option, Some, None, ◌⊎◌}
+use Rattle.std.proofs.Common.{inl, inr, eqb, false, refl, ap, subst, arith}
 use Rattle.std.specs.List.{AllByRecursion, flat_map}
 use Rattle.std.proofs.lemmas.Bool.{cases_lt, lt-ltb, le-ltb, cases_eq, ne_eqb}
 use Rattle.std.proofs.lemmas.List.{length-append}
@@ -196,8 +197,11 @@ container_no_longer major m n None x y same fits le = omega (arith, length-appen
 container_no_longer major m n (Some w) x y same fits le =
     omega (arith, head_no_longer major m n w (omega arith) fits, length-append (encoded_head major m Unknown) (x ++ []), length-append (encoded_head major n w) (y ++ []), length-append x [], length-append y [])
 
-module _ (level left : ℕ) (levels : (level + 1) + left ≡ 129) (into : Option ℕ → Item → Item) (serves : (tag : Option ℕ) (i : Item) → WellFormed (level + 1) i → Serves (level + 1) i (into tag i)) where
-  atom_serves : (tag : Option ℕ) (a : Atom) → WellFormedAtom a → WellFormedAtom (normal_atom left into tag a) × (length (encoded_atom (normal_atom left into tag a)) ≤ length (encoded_atom a))
+module _ (level left : ℕ) (levels : (level + 1) + left ≡ 129) (into : Option ℕ → Item → Item)
+    (serves : (tag : Option ℕ) (i : Item) → WellFormed (level + 1) i → Serves (level + 1) i (into tag i)) where
+  atom_serves : (tag : Option ℕ) (a : Atom) → WellFormedAtom a
+      → WellFormedAtom
+      (normal_atom left into tag a) × (length (encoded_atom (normal_atom left into tag a)) ≤ length (encoded_atom a))
   atom_serves tag (integer n w) h = (normal_fits n w h, omega (arith, ap length (normal_head 0 n w)))
   atom_serves tag (negative n w) h = (normal_fits n w h, omega (arith, ap length (normal_head 1 n w)))
   atom_serves tag (byte_string c) h =
@@ -227,10 +231,23 @@ module _ (level left : ℕ) (levels : (level + 1) + left ≡ 129) (into : Option
       record { well = (h.0, count_fits w _ _ same h.1, s.0); no_longer = container_no_longer 5 _ _ w _ _ same h.1 s.1 }
   with_serves tag (tagged t w i) h =
       let s = serves (Some t) i h.2 in
-      record { well = (h.0, normal_fits t w h.1, s.well); no_longer = omega (arith, s.no_longer, ap length (normal_head 6 t w), length-append (encoded_head 6 t w) (encoded i), length-append (encoded_head 6 t (normal_width w t)) (encoded (into (Some t) i))) }
+      record {
+        well = (h.0, normal_fits t w h.1, s.well);
+        no_longer =
+            omega (
+              arith,
+              s.no_longer,
+              ap length (normal_head 6 t w),
+              length-append (encoded_head 6 t w)
+                  (encoded i),
+              length-append (encoded_head 6 t (normal_width w t)) (encoded (into (Some t) i)),
+            );
+      }
 
 -- The normal form of a well-formed item serves in its place.
-pub normal_serves : (level left : ℕ) → level + left ≡ 129 → (tag : Option ℕ) (i : Item) → WellFormed level i → Serves level i (normal_at left tag i)
+pub normal_serves : (level left : ℕ) → level + left ≡ 129 → (tag : Option ℕ) (i : Item) → WellFormed level i
+    → Serves level i (normal_at left tag i)
 unfolding normal_at
 normal_serves level zero levels tag i h = record { well = h; no_longer = omega arith }
-normal_serves level (suc left) levels tag i h = with_serves level left (omega arith) (normal_at left) (normal_serves (level + 1) left (omega arith)) tag i h
+normal_serves level (suc left) levels tag i h =
+    with_serves level left (omega arith) (normal_at left) (normal_serves (level + 1) left (omega arith)) tag i h

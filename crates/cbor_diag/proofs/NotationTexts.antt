@@ -9,7 +9,7 @@ use Rattle.cbor_diag.specs.ContainerStyle as style
 use Rattle.cbor_diag.specs.ContainerStyle.{ContainerStyle, OneLine, MultiLine}
 use Rattle.cbor_diag.specs.LayoutView.{before_member, after_member}
 
--- a byte that stands behind a backslash is a character
+-- a byte that is escaped is a character
 pub escaped_ascii : (b : ℕ) → is_escaped b ≡ true → b < 128
 escaped_ascii b h = grind (arith, nat_tests)
 

@@ -5,11 +5,9 @@ use Rattle.std.proofs.lemmas.List.{append-nil}
 use Rattle.cbor_notes.specs.Token.{nothing}
 use Rattle.cbor_notes.proofs.Blanks.{Blank-append}
 use Rattle.cbor_diag.specs.declared.syntax.IntegerWidth.TheVariants.{Unknown}
-use Rattle.cbor_diag.specs.Layout.{Layout}
-use Rattle.cbor_diag.specs.Layout.{Compact, Pretty}
+use Rattle.cbor_diag.specs.Layout.{Content, Layout, Compact, Pretty, Context}
 use Rattle.cbor_diag.specs.ContainerStyle.{ContainerStyle}
 use Rattle.cbor_diag.specs.ContainerStyle as style
-use Rattle.cbor_diag.specs.Layout.{Context}
 use Rattle.cbor_diag.specs.Item as spec
 use Rattle.cbor_diag.specs.Item.{Chunk, Atom, integer, negative, byte_string, text_string, byte_chunks, text_chunks, float, simple, Item, atom, array, tagged, Items, no_items, item, Pairs, no_pairs, pair}
 use Rattle.cbor_diag.specs.WellFormed.{IsByteChunk, IsTextChunk, WellFormedAtom, WellFormed, WellFormedItems, WellFormedPairs}
@@ -109,10 +107,15 @@ IsRead level left = (c : Context) (tag : Option ℕ) (i : Item) → c.content �
     → Reads left (text_at left c i) (normal_at left tag i)
 
 module _ (level left : ℕ) (levels : level + left ≡ 129) (reads : IsRead level left) where
-  items_each : (c : Context) (is : Items) → WellFormedItems level is → Each (Reads left) (item_texts (text_at left (inside c.layout c)) is) (list_of (normal_items (normal_at left None) is))
+  items_each : (c : Context) (is : Items) → WellFormedItems level is
+      → Each (Reads left) (item_texts (text_at left (inside c.layout c)) is)
+      (list_of (normal_items (normal_at left None) is))
   items_each c no_items h = tt
-  items_each c (item i is) h =
-      (λ gap b. reads_after left gap (text_at left (inside c.layout c) i) (normal_at left None i) b (reads (inside c.layout c) None i refl h.0), items_each c is h.1)
+  items_each c (item i is) h = (
+    λ gap b. reads_after left gap (text_at left (inside c.layout c) i) (normal_at left None i) b
+        (reads (inside c.layout c) None i refl h.0),
+    items_each c is h.1,
+  )
 
   pairs_each : (c : Context) (l : ContainerStyle) (ps : Pairs) → WellFormedPairs level ps
       → Each (PairOf (Reads left)) (pair_texts (text_at left (inside c.layout c)) (colon l) ps)
@@ -120,20 +123,37 @@ module _ (level left : ℕ) (levels : level + left ≡ 129) (reads : IsRead leve
   pairs_each c l no_pairs h = tt
   pairs_each c l (pair k v ps) h =
       let key = text_at left (inside c.layout c) k in
-      let value = text_at left (inside c.layout c) v in
-      (λ gap b. (gap ++ key, colon_gap l ++ value, sym (append_assoc gap key (colon l ++ value)) ∙ ap (λ t. (gap ++ key) ++ t) (colon_after l value), reads_after left gap key _ b (reads (inside c.layout c) None k refl h.0), reads_after left (colon_gap l) value _ (colon_blank l) (reads (inside c.layout c) None v refl h.1)), pairs_each c l ps h.2)
+      let value = text_at left (inside c.layout c) v in (
+        λ gap b. (
+          gap ++ key,
+          colon_gap l ++ value,
+          sym (append_assoc gap key (colon l ++ value))
+              ∙ ap (λ t. (gap ++ key) ++ t) (colon_after l value),
+          reads_after left gap key _ b
+              (reads (inside c.layout c) None k refl h.0),
+          reads_after left (colon_gap l) value _ (colon_blank l)
+              (reads (inside c.layout c) None v refl h.1),
+        ),
+        pairs_each c l ps h.2,
+      )
 
   -- the bytes of a byte string
-  embedded_read : (c : Context) (b : List ℕ) (o : Option Item) → AllBytes b → embedded_at left b ≡ o → Joined (Notation (Reads left)) (embedded_text (text_at left) c b o) (normal_embedded (normal_at left None) b o)
+  embedded_read : (c : Context) (b : List ℕ) (o : Option Item) → AllBytes b → embedded_at left b ≡ o
+      → Joined (Notation (Reads left)) (embedded_text (text_at left) c b o) (normal_embedded (normal_at left None) b o)
   embedded_read c [] None all h = one (as_items no_items (codes ">>", refl, ([], codes ">>", refl, nothing, inl refl)) refl)
   embedded_read c [] (Some e) all h = absurd (nothing_embedded left e h)
   embedded_read c (x ∷ b) None all h = one (quoted_read (Reads left) c.encoding (x ∷ b) all)
   embedded_read c (x ∷ b) (Some e) all h =
       let well = spells_well level (x ∷ b) e (bytes_at (x ∷ b) all) (embedded_spells level left (x ∷ b) e levels (bytes_at (x ∷ b) all) h) in
       let t = text_at left (inside c.layout c) e in
-      one (as_items (item (normal_at left None e) no_items) (t ++ codes ">>", refl, (t, codes ">>", refl, reads (inside c.layout c) None e refl well, inl refl)) (sym (append-nil (encoded (normal_at left None e)))))
+      one
+      (as_items (item (normal_at left None e) no_items)
+      (t ++ codes ">>", refl, (t, codes ">>", refl, reads (inside c.layout c) None e refl well, inl refl))
+      (sym (append-nil (encoded (normal_at left None e)))))
 
-  sequence_read : (c : Context) (b : List ℕ) → AllBytes b → Joined (Notation (Reads left)) (sequence_text (text_at left) c (sequence_at left b)) (normal_sequence (normal_at left None) (sequence_at left b))
+  sequence_read : (c : Context) (b : List ℕ) → AllBytes b
+      → Joined (Notation (Reads left)) (sequence_text (text_at left) c (sequence_at left b))
+      (normal_sequence (normal_at left None) (sequence_at left b))
   sequence_read c b all =
       let s = sequence_at left b in
       let l = container_style c.layout (estimated_length (array s.0 None)) in
@@ -161,7 +181,11 @@ module _ (level left : ℕ) (levels : level + left ≡ 129) (reads : IsRead leve
       → AtomCore (Reads left) (atom_text left (text_at left) c a) (normal_atom left (normal_at left) tag a)
   atom_read c tag (integer n w) is h = number_read n w h
   atom_read c tag (negative n w) is h = negative_read n w h
-  atom_read c tag (byte_string s) is h = (refl, tt, rw is (content_read tag c s.bytes h.bytes), tt)
+  atom_read c tag (byte_string s) is h =
+      let bytes = normal_content left (normal_at left None) tag s.bytes in
+      let Shows = λ (x : Content). Joined (Notation (Reads left)) (content_text left (text_at left) x c s.bytes)
+      bytes in
+      (refl, tt, subst Shows (sym is) (content_read tag c s.bytes h.bytes), tt)
   atom_read c tag (text_string s) is h = text_read (Reads left) s.bytes h.utf8
   atom_read c tag (byte_chunks cs) is h =
       byte_chunks_read (Reads left) c (container_style c.layout (estimated_atom (byte_chunks cs))) cs h

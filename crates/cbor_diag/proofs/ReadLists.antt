@@ -1,5 +1,6 @@
 -- What is written of members between brackets is read as a list of them.
-use Rattle.std.proofs.Common.{◌≡◌, ℕ, ◌+◌, List, [], ◌∷◌, ◌++◌, codes, Option, Some, None, inl, inr, refl, sym, ap, subst, ◌∙◌, append_assoc, arith}
+use Rattle.std.proofs.Common.{◌≡◌, ℕ, ◌+◌, List, [], ◌∷◌, ◌++◌, codes, Option, Some, None, inl, inr, refl, sym, ap}
+use Rattle.std.proofs.Common.{subst, ◌∙◌, append_assoc, arith}
 use Rattle.std.specs.List.{flat_map}
 use Rattle.cbor_notes.specs.Token.{nothing}
 use Rattle.cbor_notes.proofs.Blanks.{Blank-append}
@@ -22,7 +23,8 @@ regroup : (a b c d : List ℕ) → ((codes "," ++ (a ++ b)) ++ c) ++ d ≡ codes
 regroup a b c d = simp append_assoc
 
 line_apart : (lead gap m rest closing : List ℕ)
-    → lead ++ (((gap ++ (m ++ codes ",")) ++ rest) ++ closing) ≡ (lead ++ (gap ++ m)) ++ (codes "," ++ (rest ++ closing))
+    → lead ++ (((gap ++ (m ++ codes ",")) ++ rest) ++ closing)
+    ≡ (lead ++ (gap ++ m)) ++ (codes "," ++ (rest ++ closing))
 line_apart lead gap m rest closing = simp append_assoc
 
 one_apart : (lead m rest closing : List ℕ) → lead ++ ((m ++ rest) ++ closing) ≡ (lead ++ m) ++ (rest ++ closing)
@@ -45,8 +47,13 @@ module _ {X : Type 0} (Member : List ℕ → X → Type 0) (closing : List ℕ) 
   further_lines k (m ∷ ms) [] h = absurd h
   further_lines k (m ∷ ms) (x ∷ xs) h =
       let rest = members (style.MultiLine k) ms in
-      let apart = line_apart (codes ",") (line (k + 4)) m rest (line k ++ closing) in
-      (line (k + 4) ++ m, codes "," ++ (rest ++ (line k ++ closing)), apart, h.0 (line (k + 4)) (new_line (k + 4)), further_lines k ms xs h.1)
+      let apart = line_apart (codes ",") (line (k + 4)) m rest (line k ++ closing) in (
+        line (k + 4) ++ m,
+        codes "," ++ (rest ++ (line k ++ closing)),
+        apart,
+        h.0 (line (k + 4)) (new_line (k + 4)),
+        further_lines k ms xs h.1,
+      )
 
   none_read : (l : ContainerStyle) (lead : List ℕ) → IsBlank lead → IsBlank (last_line l)
       → Members Member closing (lead ++ (last_line l ++ closing)) []
@@ -78,7 +85,7 @@ module _ {X : Type 0} (Member : List ℕ → X → Type 0) (closing : List ℕ) 
 
 -- ---- brackets
 
--- what an opening bracket is read as, and the blank behind it
+-- what an opening bracket is read as, and the blank after it
 abbrev pub opening_of : List ℕ → Option IntegerWidth → List ℕ
 opening_of bracket (Some w) = bracket
 opening_of bracket None = bracket ++ codes "_"
@@ -112,5 +119,9 @@ opens bracket None = refl
 pub listed : {X : Type 0} (Member : List ℕ → X → Type 0) (l : ContainerStyle) (bracket closing : List ℕ)
     (w : Option IntegerWidth) (ms : List (List ℕ)) (xs : List X) → Each Member ms xs
     → Listed Member (opening_of bracket w) closing (bracketed l (opened l bracket w) ms closing) xs
-listed Member l bracket closing w ms xs h =
-    (lead_of l w ++ (members l ms ++ (last_line l ++ closing)), opened_is l bracket w (members l ms ++ (last_line l ++ closing)), members_read Member closing l (lead_of l w) (lead_blank l w) ms xs h)
+listed Member l bracket closing w ms xs h = (
+  lead_of l w ++ (members l ms ++ (last_line l ++ closing)),
+  opened_is l bracket w
+      (members l ms ++ (last_line l ++ closing)),
+  members_read Member closing l (lead_of l w) (lead_blank l w) ms xs h,
+)

@@ -5,6 +5,6 @@ use Rattle.cbor_diag.specs.Layout.{Compact}
 use Rattle.cbor_diag.specs.Item.{Item}
 use Rattle.cbor_diag.specs.NotationText.{in_encoding, text_at_level}
 
--- an item that stands at this level, its byte strings in this encoding
+-- an item at this level, its byte strings in this encoding
 abbrev pub compact : Encoding → ℕ → Item → List ℕ
 compact e level i = text_at_level level (in_encoding Compact e) i

@@ -10,7 +10,7 @@ pub data Content : Type 0 where
   Sequence : Content
 
 -- All on one line without blanks, or each container on one line where it is short, and then each member on a line.
--- The number is the indent: how many blanks the lines of the container round the item begin with.
+-- The number is the indent: how many blanks the lines round the item begin with.
 pub data Layout : Type 0 where
   Compact : Layout
   Pretty : ℕ → Layout

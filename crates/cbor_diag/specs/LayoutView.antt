@@ -12,7 +12,8 @@ use Rattle.cbor_diag.specs.Layout as content
 use Rattle.cbor_diag.specs.ContainerStyle as style
 use Rattle.cbor_diag.specs.Item as spec
 use Rattle.cbor_diag.specs.WellFormed.{levels_left}
-use Rattle.cbor_diag.specs.NotationText.{indent_of, line, members, members_layout, inside, colon, item_texts, pair_texts}
+use Rattle.cbor_diag.specs.NotationText.{indent_of, line, members, members_layout, inside, colon, item_texts}
+use Rattle.cbor_diag.specs.NotationText.{pair_texts}
 use Rattle.cbor_diag.specs.NotationText.{item_style, content_text, text_at_level}
 
 abbrev pub content_view : declared_content.Content → content.Content

@@ -1,4 +1,4 @@
--- What a text tells of an item: two items have the same compact text exactly where their normal forms are
+-- What a text keeps of an item: two items have the same compact text exactly where their normal forms are
 -- equal.
 use Rattle.std.specs.Prelude.{ℕ, zero, suc, List, ◌++◌, map, Option, Some, None, nat_lt, if◌then◌else◌, ◌==◌}
 use Rattle.cbor_diag.specs.declared.syntax.IntegerWidth.{IntegerWidth}
@@ -9,7 +9,7 @@ use Rattle.cbor_diag.specs.Item.{Chunk, Atom, integer, negative, byte_string, te
 use Rattle.cbor_diag.specs.Written.{encoded, encoded_items, resolve_float}
 use Rattle.cbor_diag.specs.Embedded.{embedded_at, sequence_at}
 
--- an open width of a number or a tag up to 23 is that of the first byte; every other width stays
+-- an unstated width of a number or a tag up to 23 is that of the first byte; every other width stays
 abbrev pub normal_width : IntegerWidth → ℕ → IntegerWidth
 normal_width Unknown n = if nat_lt n 24 then Zero else Unknown
 normal_width w n = w
@@ -41,7 +41,7 @@ normal_embedded into b None = b
 abbrev pub normal_sequence : (Item → Item) → Items × List ℕ → List ℕ
 normal_sequence into s = encoded_items (normal_items into s.0) ++ s.1
 
--- The bytes of a byte string right below this tag, if there is one, so many levels being left below the string:
+-- The bytes of a byte string right below this tag, if there is one, with this many levels left below the string:
 -- below tag 24 those of the one item that they are, below tag 63 those of the items.
 abbrev pub normal_content : ℕ → (Item → Item) → Option ℕ → List ℕ → List ℕ
 normal_content left into None b = b
@@ -68,7 +68,7 @@ normal_with left into tag (array is w) = array (normal_items (into None) is) (no
 normal_with left into tag (spec.map ps w) = spec.map (normal_pairs (into None) ps) (normal_count w)
 normal_with left into tag (tagged t w i) = tagged t (normal_width w t) (into (Some t) i)
 
--- An item with so many levels left for it and what is nested in it, embedded items included: `levels_left`
+-- An item with this many levels left for it and what is nested in it, embedded items included: `levels_left`
 -- of its level. Where none is left there is no item.
 unfoldable pub normal_at : ℕ → Option ℕ → Item → Item
 normal_at zero tag i = i

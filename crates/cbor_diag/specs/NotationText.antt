@@ -1,6 +1,7 @@
 -- Diagnostic notation as it is written (RFC 7049 section 6): what compact and pretty text have in common.
 -- They differ in their `Layout` alone.
-use Rattle.std.specs.Prelude.{ℕ, zero, suc, ◌+◌, List, [], ◌∷◌, ◌++◌, map, replicate, codes, Bool, Option, Some, None, nat_lt, ◌==◌, ◌||◌, if◌then◌else◌}
+use Rattle.std.specs.Prelude.{ℕ, zero, suc, ◌+◌, List, [], ◌∷◌, ◌++◌, map, replicate, codes, Bool, Option, Some, None}
+use Rattle.std.specs.Prelude.{nat_lt, ◌==◌, ◌||◌, if◌then◌else◌}
 use Rattle.std.specs.List.{flat_map}
 use Rattle.std.specs.Fmt.{decimal}
 use Rattle.std.specs.Int.{w16, w32, w64, to_be_bytes}
@@ -37,7 +38,7 @@ indicator width.SixtyFour = codes "_3"
 abbrev pub number : ℕ → IntegerWidth → List ℕ
 number n w = decimal n ++ indicator w
 
--- what stands before the quotes of bytes
+-- the prefix of quoted bytes
 abbrev pub prefix : Encoding → List ℕ
 prefix Base16 = codes "h"
 prefix Base64 = codes "b64"
@@ -52,7 +53,7 @@ encoded_bytes Base64Url b = url_safe b
 abbrev pub quoted : Encoding → List ℕ → List ℕ
 quoted e b = prefix e ++ (codes "'" ++ (encoded_bytes e b ++ codes "'"))
 
--- a quote or a backslash, which stands behind a backslash
+-- a quote or a backslash, which is escaped by a backslash
 abbrev pub is_escaped : ℕ → Bool
 is_escaped b = (b == 34) || (b == 92)
 
@@ -63,7 +64,7 @@ escaped b = if is_escaped b then 92 ∷ b ∷ [] else b ∷ []
 abbrev pub text : List ℕ → List ℕ
 text b = codes "\"" ++ (flat_map escaped b ++ codes "\"")
 
--- a float by its bits, an open width being 64 bits
+-- a float by its bits, an unstated width being 64 bits
 abbrev pub float_bits : ℕ → FloatWidth → List ℕ
 float_bits n float_width.Unknown = to_be_bytes w64 n
 float_bits n float_width.Sixteen = to_be_bytes w16 n
@@ -83,7 +84,7 @@ simple_text n =
 
 -- ---- members of containers
 
--- a new line with so many blanks
+-- a new line with this many blanks
 abbrev pub line : ℕ → List ℕ
 line indent = 10 ∷ replicate indent 32
 
@@ -92,7 +93,7 @@ abbrev pub container_style : Layout → ℕ → ContainerStyle
 container_style Compact size = style.Compact
 container_style (Pretty indent) size = if nat_lt size one_line_limit then OneLine indent else MultiLine indent
 
--- the layout of what stands in the members
+-- the layout of the members
 abbrev pub members_layout : ContainerStyle → Layout
 members_layout style.Compact = Compact
 members_layout (OneLine indent) = Pretty indent
@@ -128,7 +129,7 @@ last_line _ = []
 abbrev pub bracketed : ContainerStyle → List ℕ → List (List ℕ) → List ℕ → List ℕ
 bracketed l opening ms closing = opening ++ (members l ms ++ (last_line l ++ closing))
 
--- an indefinite length has an underscore behind its bracket, and in a row a blank
+-- an indefinite length has an underscore after its bracket, and on one line a blank
 abbrev pub mark : ContainerStyle → List ℕ
 mark (OneLine indent) = codes "_ "
 mark _ = codes "_"
@@ -147,7 +148,7 @@ abbrev pub rest_gap : Layout → List ℕ
 rest_gap Compact = []
 rest_gap (Pretty indent) = codes " "
 
--- ---- where an item stands
+-- ---- where an item is
 
 -- at the beginning of a text
 abbrev pub in_encoding : Layout → Encoding → Context
@@ -221,7 +222,7 @@ sequence_size s = estimated_length (array s.0 None)
 abbrev pub sequence_text : Writer → Context → Items × List ℕ → List ℕ
 sequence_text write c s = sequence_listed write c (container_style c.layout (sequence_size s)) s
 
--- The bytes of a byte string of definite length, so many levels being left below it.
+-- The bytes of a byte string of definite length, with this many levels left below it.
 abbrev pub content_text : ℕ → Writer → Content → Context → List ℕ → List ℕ
 content_text left write content.Bytes c b = quoted c.encoding b
 content_text left write content.Item c b = embedded_text write c b (embedded_at left b)
@@ -254,19 +255,19 @@ array_text write c l is w = items_text write c l (opened l (codes "[") w) is (co
 abbrev pub map_text : Writer → Context → ContainerStyle → Pairs → Option IntegerWidth → List ℕ
 map_text write c l ps w = pairs_text write c l (opened l (codes "{") w) ps (codes "}")
 
--- an item, so many levels being left below it, and the items in it written by `write`
+-- an item with this many levels left below it, and the items in it written by `write`
 abbrev pub text_with : ℕ → Writer → Context → Item → List ℕ
 text_with left write c (atom a) = atom_text left write c a
 text_with left write c (array is w) = array_text write c (item_style c (array is w)) is w
 text_with left write c (spec.map ps w) = map_text write c (item_style c (spec.map ps w)) ps w
 text_with left write c (tagged t w i) = number t w ++ (codes "(" ++ (write (below t c) i ++ codes ")"))
 
--- An item with so many levels left for it and what is nested in it, embedded items included: `levels_left` of its
+-- An item with this many levels left for it and what is nested in it, embedded items included: `levels_left` of its
 -- level. Where none is left there is no item.
 unfoldable pub text_at : ℕ → Context → Item → List ℕ
 text_at zero c i = []
 text_at (suc left) c i = text_with left (text_at left) c i
 
--- writes an item that stands at this level
+-- writes an item at this level
 abbrev pub text_at_level : ℕ → Writer
 text_at_level level = text_at (levels_left level)

@@ -11,7 +11,7 @@ use Rattle.cbor_diag.specs.Embedded.{sequence}
 use Rattle.cbor_diag.specs.NotationText.{number, in_encoding, below, array_text, map_text, sequence_listed}
 use Rattle.cbor_diag.specs.NotationText.{byte_chunks_text, text_chunks_text, text_at_level}
 
--- an item that stands at this level, its byte strings in this encoding, its lines with so many blanks
+-- an item at this level, its byte strings in this encoding, its lines with this many blanks
 abbrev pub pretty : Encoding → ℕ → ℕ → Item → List ℕ
 pretty e level indent i = text_at_level level (in_encoding (Pretty indent) e) i
 

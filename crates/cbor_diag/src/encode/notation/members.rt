@@ -21,7 +21,7 @@ use std::alloc::AllocError;
 /// A line feed, and as many blanks as are written with it at once.
 const LINE: &str = "\n                                                                ";
 
-/// Begins a new line with so many blanks. Lines near the left are most of them, and a text
+/// Begins a new line with this many blanks. Lines near the left are most of them, and a text
 /// whose length is known here is written in less time.
 fn push_line(out: &mut String, indent: usize) -> Result<(), AllocError>
     ensures { AppendsText result out.old out.new (line indent) }

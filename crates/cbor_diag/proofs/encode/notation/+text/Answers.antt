@@ -9,7 +9,8 @@ use Rattle.cbor_diag.specs.View.{view, items_view, pairs_view, byte_chunk, text_
 use Rattle.cbor_diag.specs.declared.encode.notation.context.NotationContext.{NotationContext}
 use Rattle.cbor_diag.specs.Layout.{Context}
 use Rattle.cbor_diag.specs.LayoutView.{style_view, context_view, item_text, content_there, chunks_style}
-use Rattle.cbor_diag.specs.NotationText.{text, inside, members, members_layout, colon, item_texts, pair_texts, rest_text}
+use Rattle.cbor_diag.specs.NotationText.{text, inside, members, members_layout, colon, item_texts, pair_texts}
+use Rattle.cbor_diag.specs.NotationText.{rest_text}
 use Rattle.cbor_diag.specs.NotationText.{byte_chunks_text, text_chunks_text, array_text, map_text, below, sequence_text}
 use Rattle.cbor_diag.specs.NotationText.{sequence_listed, text_at_level}
 use Rattle.cbor_diag.specs.WellFormed.{WellFormedItems, WellFormedPairs}
@@ -163,7 +164,8 @@ push_items-items-preserved t c =
     let l = style_view c.args.style in
     let write = item_text c.inside-inner.result in
     let rest = item_texts write (items_view (drop (i + 1) all)) in
-    let left = ap (λ ms. string_bytes c.items.out ++ members_left l c.items.first ms) (sym (items_rest write all i v c.items-test.true c.item-item.is)) ∙ c.items.invariant.0 in
+    let left = ap (λ ms. string_bytes c.items.out ++ members_left l c.items.first ms)
+    (sym (items_rest write all i v c.items-test.true c.item-item.is)) ∙ c.items.invariant.0 in
     let well = subst (λ vs. WellFormedItems c.inside-inner.result.level (items_view vs))
     (drop_here all i v c.items-test.true c.item-item.is) c.items.invariant.1 in
     let begun = begins_after_member (string_bytes c.args.out.now) (string_bytes c.items.out) (string_bytes c.push_start.new.out)
@@ -204,7 +206,8 @@ push_pairs-pairs-preserved t c =
     ∙ ap (λ x. x ++ write (view v.1))
     (c.in_ok-push_colon.ensures ∙ ap (λ x. x ++ colon l) c.in_ok-push_item.ensures)
     ∙ regroup (string_bytes c.push_start.new.out) (write (view v.0)) (colon l) (write (view v.1)) in
-    let left = ap (λ ms. string_bytes c.pairs.out ++ members_left l c.pairs.first ms) (sym (pairs_rest write (colon l) all i v c.pairs-test.true c.pairs-item.is)) ∙ c.pairs.invariant.0 in
+    let left = ap (λ ms. string_bytes c.pairs.out ++ members_left l c.pairs.first ms)
+    (sym (pairs_rest write (colon l) all i v c.pairs-test.true c.pairs-item.is)) ∙ c.pairs.invariant.0 in
     let well = subst (λ vs. WellFormedPairs c.inside-inner.result.level (pairs_view vs))
     (drop_here all i v c.pairs-test.true c.pairs-item.is) c.pairs.invariant.1 in
     let begun = begins_after_member (string_bytes c.args.out.now) (string_bytes c.pairs.out) (string_bytes c.push_start.new.out)

@@ -13,7 +13,8 @@ use Rattle.cbor_diag.proofs.EmbeddedItems.{embeds_exactly}
 use Rattle.cbor_diag.proofs.syntax.DataItem.to_diag.Goals as goal
 
 pub returns-in_err-push_diag-clause-of_normal : goal.returns-in_err-push_diag-clause-of_normal
-returns-in_err-push_diag-clause-of_normal c = normal_text 1 128 (omega arith) Base16 None (view c.args.self.now) c.requires
+returns-in_err-push_diag-clause-of_normal c =
+    normal_text 1 128 (omega arith) Base16 None (view c.args.self.now) c.requires
 
 pub returns-in_err-push_diag-clause-normal_once : goal.returns-in_err-push_diag-clause-normal_once
 returns-in_err-push_diag-clause-normal_once c = normal_twice 1 128 (omega arith) None (view c.args.self.now) c.requires
@@ -28,7 +29,8 @@ pub returns-clause-read_back : goal.returns-clause-read_back
 returns-clause-read_back c =
     let i = view c.args.self.now in
     let written = c.in_ok-push_diag.ensures.text ∙ ap (λ x. x ++ diag_of i) c.new-out.ensures.bytes in
-    subst (λ x. Reads 128 x (normal_at 128 None i)) (sym written) (reads_back 1 128 (omega arith) (in_encoding Compact Base16) None i refl c.requires)
+    subst (λ x. Reads 128 x (normal_at 128 None i)) (sym written)
+    (reads_back 1 128 (omega arith) (in_encoding Compact Base16) None i refl c.requires)
 
 pub returns-in_err-push_diag-clause-alike : goal.returns-in_err-push_diag-clause-alike
 returns-in_err-push_diag-clause-alike c = λ other well. texts_alike (view c.args.self.now) other c.requires well
