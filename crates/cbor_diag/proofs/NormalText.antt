@@ -387,7 +387,7 @@ module _ (level left : ℕ) (levels : level + left ≡ 129)
   content_normal_text e (Some t) b all =
       elim (tag_kind t) [
         | inl is ↦ rw is (embedded_normal_text e (Some 24) b all)
-        | inr no ↦ elim no [
+        | inr rest ↦ elim rest [
           | inl is ↦ rw is (sequence_normal_text e (Some 63) b all)
           | inr other ↦ rw (other.0, other.1) refl
         ]
@@ -502,7 +502,7 @@ module _ (level left : ℕ) (levels : level + left ≡ 129)
   content_twice (Some t) b all =
       elim (tag_kind t) [
         | inl is ↦ rw is (embedded_twice b all)
-        | inr no ↦ elim no [
+        | inr rest ↦ elim rest [
           | inl is ↦ rw is (sequence_twice b all)
           | inr other ↦ rw (other.0, other.1) refl
         ]

@@ -143,9 +143,9 @@ pub tag_kind : (t : ℕ) → (t ≡ 24) ⊎ ((t ≡ 63) ⊎ ((eqb t 24 ≡ false
 tag_kind t =
     elim (cases_eq t 24) [
       | inl is ↦ inl is
-      | inr no ↦ elim (cases_eq t 63) [
+      | inr differs ↦ elim (cases_eq t 63) [
         | inl is ↦ inr (inl is)
-        | inr none ↦ inr (inr (ne_eqb t 24 no, ne_eqb t 63 none))
+        | inr none ↦ inr (inr (ne_eqb t 24 differs, ne_eqb t 63 none))
       ]
     ]
 
@@ -156,7 +156,7 @@ content_serves level left levels into serves None b all = record { bytes = all; 
 content_serves level left levels into serves (Some t) b all =
     elim (tag_kind t) [
       | inl is ↦ rw is (embedded_serves level left levels into serves b (embedded_at left b) all refl)
-      | inr no ↦ elim no [
+      | inr rest ↦ elim rest [
         | inl is ↦ rw is (sequence_serves level left levels into serves b all)
         | inr other ↦ rw (other.0, other.1) (record { bytes = all; no_longer = omega arith })
       ]

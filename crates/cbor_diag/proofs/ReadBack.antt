@@ -171,7 +171,7 @@ module _ (level left : ℕ) (levels : level + left ≡ 129) (reads : IsRead leve
   content_read (Some t) c b all =
       elim (tag_kind t) [
         | inl is ↦ rw is (embedded_read c b (embedded_at left b) all refl)
-        | inr no ↦ elim no [
+        | inr rest ↦ elim rest [
           | inl is ↦ rw is (sequence_read c b all)
           | inr other ↦ rw (other.0, other.1) (one (quoted_read (Reads left) c.encoding b all))
         ]
