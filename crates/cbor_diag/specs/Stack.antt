@@ -24,11 +24,11 @@ frame (open_item.Tag tag width None) = tag_of tag.0 width
 frame (open_item.Tag tag width (Some value)) = tagged_with tag.0 width (view value)
 
 -- room is made for few members at once, and only where as many bytes follow
-abbrev pub HasRoom : ℕ → Open → Type 0
-HasRoom following (open_item.Array content len) = (vec_capacity content ≤ following) × (vec_capacity content ≤ 32)
-HasRoom following (open_item.Map content key len) =
+abbrev pub ReservesFew : ℕ → Open → Type 0
+ReservesFew following (open_item.Array content len) = (vec_capacity content ≤ following) × (vec_capacity content ≤ 32)
+ReservesFew following (open_item.Map content key len) =
     (2 * vec_capacity content ≤ following) × (vec_capacity content ≤ 32)
-HasRoom following (open_item.Tag tag width value) = Unit {0}
+ReservesFew following (open_item.Tag tag width value) = Unit {0}
 
 -- the last of a list, and those before it
 abbrev pub last_of : List Open → Option Open

@@ -18,23 +18,23 @@ ghost use Rattle.cbor_diag.specs.Written.{encoded};
 ghost use Rattle.cbor_diag.specs.Answer.{Outcome, spelled, HasOutcome, HasAnswer, Gave, GaveItem, GaveRefusal, RefusedSo, MayWantMemory, HasTurns, size};
 ghost use Rattle.cbor_diag.specs.Turns.{item_turns, cut_spent, fault_spent};
 ghost use Rattle.cbor_diag.specs.Facts.{IsItem, IsStrictItem, BeginsWithItem, IsCut, HasFault, IsNoItem, BeginsSo, BeginsInOneWay, IsWellFormed};
-ghost use Rattle.cbor_diag.specs.Reading.{Gives, HoldsContent, too_deep_at};
-ghost use Rattle.cbor_diag.specs.Counting.{Runs, Stops, IsStack, later, wanted_at, atom_at, counted_item};
+ghost use Rattle.cbor_diag.specs.Reading.{Gives, HoldsContent, no_level_left};
+ghost use Rattle.cbor_diag.specs.Counting.{Runs, Stops, IsStack, later, read_item_head, read_atom, counted_item};
 ghost use Rattle.cbor_diag.specs.Stack.{outer_of, top_of, depth, resumed, resumed_with};
 
 use crate::error::{Error, Result};
 use crate::parse::turns::Turns;
 use crate::syntax::{DEEPEST, DataItem, Simple};
-use head::{ItemHead, head_at};
+use head::{ItemHead, read_head};
 use open::Open;
 pub use skip::{Extent, extent};
 use stack::Stack;
 use std::alloc::Global;
-use strings::{byte_chunks_at, bytes_at, text_at, text_chunks_at};
+use strings::{read_byte_chunks, read_byte_string, read_text_string, read_text_chunks};
 
 /// Why no item can stand below the deepest level: there are bytes for one, or there are none.
 fn no_level_left(bytes: &[u8]) -> Error
-    ensures gives { too_deep_at bytes.now ≡ Err result }
+    ensures gives { no_level_left bytes.now ≡ Err result }
     ensures memory { result ≢ Error.Memory }
 {
     if bytes.is_empty() {
@@ -45,28 +45,28 @@ fn no_level_left(bytes: &[u8]) -> Error
 }
 
 /// The head of an item that stands at `level`, from 1 to 129. At level 129 no item can stand.
-fn wanted_head_at(bytes: &[u8], level: usize) -> Result<(ItemHead, &[u8])>
+fn read_item_head(bytes: &[u8], level: usize) -> Result<(ItemHead, &[u8])>
     requires { level ≤ deepest + 1 }
-    ensures gives { Gives (λ x. (x.0, x.1.now)) result (wanted_at (deepest + 1 - level) bytes.now) }
+    ensures gives { Gives (λ x. (x.0, x.1.now)) result (read_item_head (deepest + 1 - level) bytes.now) }
     ensures shorter { IfOk result (λ x. length x.1.now < length bytes.now) }
     ensures memory { result ≢ Err Error.Memory }
 {
     if level > usize::from(DEEPEST) {
         return Err(no_level_left(bytes));
     }
-    head_at(bytes)
+    read_head(bytes)
 }
 
 /// The item without parts behind its head. A break is none, and ends nothing where a head is wanted; the
 /// heads of containers are none either, but `Open::new` takes them before.
-fn atom_at<'a>(
+fn read_atom<'a>(
     alloc: Global,
     head: ItemHead,
     bytes: &'a [u8],
     turns: &mut Turns,
 ) -> Result<(DataItem, &'a [u8])>
     requires { turns.old + 2 * length bytes.now < 2 ^ 126 }
-    ensures gives { Runs (λ x. (view x.0, x.1.now)) turns.old turns.new result (atom_at head bytes.now) }
+    ensures gives { Runs (λ x. (view x.0, x.1.now)) turns.old turns.new result (read_atom head bytes.now) }
     ensures falls { IfOk result (λ x.
         turns.new + 2 * length x.1.now ≤ turns.old + 2 * length bytes.now) }
     ensures few { turns.new ≤ turns.old + 2 * length bytes.now + 1 }
@@ -79,19 +79,19 @@ fn atom_at<'a>(
         ItemHead::Float(bits, bitwidth) => Ok((DataItem::Float { bits, bitwidth }, bytes)),
         ItemHead::Simple(value) => Ok((DataItem::Simple(Simple(value)), bytes)),
         ItemHead::Bytes(count, bitwidth) => {
-            let (string, rest) = bytes_at(alloc, count, bitwidth, bytes)?;
+            let (string, rest) = read_byte_string(alloc, count, bitwidth, bytes)?;
             Ok((DataItem::ByteString(string), rest))
         }
         ItemHead::Text(count, bitwidth) => {
-            let (string, rest) = text_at(alloc, count, bitwidth, bytes)?;
+            let (string, rest) = read_text_string(alloc, count, bitwidth, bytes)?;
             Ok((DataItem::TextString(string), rest))
         }
         ItemHead::OpenBytes => {
-            let (chunks, rest) = byte_chunks_at(alloc, bytes, turns)?;
+            let (chunks, rest) = read_byte_chunks(alloc, bytes, turns)?;
             Ok((DataItem::IndefiniteByteString(chunks), rest))
         }
         ItemHead::OpenText => {
-            let (chunks, rest) = text_chunks_at(alloc, bytes, turns)?;
+            let (chunks, rest) = read_text_chunks(alloc, bytes, turns)?;
             Ok((DataItem::IndefiniteTextString(chunks), rest))
         }
         ItemHead::Array(..)
@@ -132,24 +132,24 @@ fn turn<'a>(
     ensures held { IfOk result (λ x. x.0 ≡ None → 0 < depth stack.new) }
 {
     turns.rise();
-    if let Some(rest) = stack.end_at(bytes) {
+    if let Some(rest) = stack.after_end(bytes) {
         return Ok((Some(stack.close(alloc)?), rest));
     }
-    let (head, rest) = wanted_head_at(bytes, usize::from(level) + stack.depth())?;
+    let (head, rest) = read_item_head(bytes, usize::from(level) + stack.depth())?;
     match Open::new(alloc, head, rest.len())? {
         Some(container) => {
             stack.open(container)?;
             Ok((None, rest))
         }
         None => {
-            let (item, rest) = atom_at(alloc, head, rest, turns)?;
+            let (item, rest) = read_atom(alloc, head, rest, turns)?;
             Ok((Some(item), rest))
         }
     }
 }
 
 /// The item at the front, which stands at `level`, from 1 to 129.
-fn item_at<'a>(
+fn read_item<'a>(
     alloc: Global,
     bytes: &'a [u8],
     level: u8,
@@ -178,7 +178,7 @@ fn item_at<'a>(
 
 /// What stands at the front of the bytes, read from `level`: an item and how many bytes it takes, or
 /// `None` where the bytes end before the item does.
-fn counted_front_at(
+fn read_counted_front(
     alloc: Global,
     bytes: &[u8],
     level: u8,
@@ -194,7 +194,7 @@ fn counted_front_at(
     ensures rises { turns.old < turns.new }
     ensures memory { result ≡ Err Error.Memory → MayWantMemory bytes.now }
 {
-    match item_at(alloc, bytes, level, turns) {
+    match read_item(alloc, bytes, level, turns) {
         Ok((item, rest)) => Ok(Some((item, bytes.len() - rest.len()))),
         Err(error) => match error {
             Error::CutShort => Ok(None),
@@ -204,23 +204,23 @@ fn counted_front_at(
 }
 
 /// The same, with turns that nobody asks for.
-pub(crate) fn front_at(alloc: Global, bytes: &[u8], level: u8) -> Result<Option<(DataItem, usize)>>
+pub(crate) fn read_front(alloc: Global, bytes: &[u8], level: u8) -> Result<Option<(DataItem, usize)>>
     requires from { 1 ≤ level }
     requires to { level ≤ deepest + 1 }
     ensures outcome { HasOutcome level bytes.now result }
     ensures memory { result ≡ Err Error.Memory → MayWantMemory bytes.now }
 {
-    counted_front_at(alloc, bytes, level, &mut Turns::new())
+    read_counted_front(alloc, bytes, level, &mut Turns::new())
 }
 
 /// The one item that the bytes are, all of them, read from `level`.
-pub(crate) fn whole_at(alloc: Global, bytes: &[u8], level: u8) -> Result<DataItem>
+pub(crate) fn read_whole(alloc: Global, bytes: &[u8], level: u8) -> Result<DataItem>
     requires from { 1 ≤ level }
     requires to { level ≤ deepest + 1 }
     ensures answer { HasAnswer level bytes.now result }
     ensures memory { result ≡ Err Error.Memory → MayWantMemory bytes.now }
 {
-    match front_at(alloc, bytes, level)? {
+    match read_front(alloc, bytes, level)? {
         None => Err(Error::CutShort),
         Some((_, used)) if used < bytes.len() => Err(Error::Remaining),
         Some((item, _)) => Ok(item),
@@ -252,7 +252,7 @@ pub fn parse_bytes(alloc: Global, bytes: &[u8]) -> Result<DataItem>
     ensures items_bounded { IfOk result (λ i. size (view i) ≤ length bytes.now) }
     ensures fronts_cut { OnOk result ((n : ℕ) → n < length bytes.now → IsCut (take n bytes.now)) }
 {
-    whole_at(alloc, bytes, 1)
+    read_whole(alloc, bytes, 1)
 }
 
 /// Reads one item from the front of the bytes, and says how many of them it takes; more may follow.
@@ -339,5 +339,5 @@ pub fn parse_bytes_counted(
     ensures within_fault { (e : Error) → (f : HasFault bytes.now e) →
         turns.new ≤ turns.old + (fault_spent f + 1) }
 {
-    counted_front_at(alloc, bytes, 1, turns)
+    read_counted_front(alloc, bytes, 1, turns)
 }

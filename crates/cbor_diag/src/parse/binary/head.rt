@@ -2,7 +2,7 @@
 ghost use Rattle.std.specs.Prelude.{◌≡◌, ◌≢◌, ◌<◌, ◌≤◌, length, IfOk};
 ghost use Rattle.std.specs.Int.{w8, w16, w32, w64};
 ghost use Rattle.cbor_diag.specs.Head.{FitsStated};
-ghost use Rattle.cbor_diag.specs.Reading.{Gives, FitsInfo, number_at, info_at, numbered, unnumbered, simple_or_float, head_of, head_at};
+ghost use Rattle.cbor_diag.specs.Reading.{Gives, FitsInfo, read_number, read_info, numbered, unnumbered, simple_or_float, head_of, read_head};
 
 use crate::error::{Error, Result};
 use crate::syntax::{FloatWidth, IntegerWidth};
@@ -39,8 +39,8 @@ pub(super) enum ItemHead {
     Break,
 }
 
-fn u8_at(bytes: &[u8]) -> Result<(u8, &[u8])>
-    ensures gives { Gives (λ x. (x.0, x.1.now)) result (number_at w8 bytes.now) }
+fn read_u8(bytes: &[u8]) -> Result<(u8, &[u8])>
+    ensures gives { Gives (λ x. (x.0, x.1.now)) result (read_number w8 bytes.now) }
     ensures memory { result ≢ Err Error.Memory }
 {
     match bytes {
@@ -49,8 +49,8 @@ fn u8_at(bytes: &[u8]) -> Result<(u8, &[u8])>
     }
 }
 
-fn u16_at(bytes: &[u8]) -> Result<(u16, &[u8])>
-    ensures gives { Gives (λ x. (x.0, x.1.now)) result (number_at w16 bytes.now) }
+fn read_u16(bytes: &[u8]) -> Result<(u16, &[u8])>
+    ensures gives { Gives (λ x. (x.0, x.1.now)) result (read_number w16 bytes.now) }
     ensures memory { result ≢ Err Error.Memory }
 {
     if bytes.len() < 2 {
@@ -60,8 +60,8 @@ fn u16_at(bytes: &[u8]) -> Result<(u16, &[u8])>
     Ok((u16::from_be_bytes([front[0], front[1]]), rest))
 }
 
-fn u32_at(bytes: &[u8]) -> Result<(u32, &[u8])>
-    ensures gives { Gives (λ x. (x.0, x.1.now)) result (number_at w32 bytes.now) }
+fn read_u32(bytes: &[u8]) -> Result<(u32, &[u8])>
+    ensures gives { Gives (λ x. (x.0, x.1.now)) result (read_number w32 bytes.now) }
     ensures memory { result ≢ Err Error.Memory }
 {
     if bytes.len() < 4 {
@@ -72,8 +72,8 @@ fn u32_at(bytes: &[u8]) -> Result<(u32, &[u8])>
     Ok((number, rest))
 }
 
-fn u64_at(bytes: &[u8]) -> Result<(u64, &[u8])>
-    ensures gives { Gives (λ x. (x.0, x.1.now)) result (number_at w64 bytes.now) }
+fn read_u64(bytes: &[u8]) -> Result<(u64, &[u8])>
+    ensures gives { Gives (λ x. (x.0, x.1.now)) result (read_number w64 bytes.now) }
     ensures memory { result ≢ Err Error.Memory }
 {
     if bytes.len() < 8 {
@@ -87,10 +87,10 @@ fn u64_at(bytes: &[u8]) -> Result<(u64, &[u8])>
 }
 
 /// What the info `bits` of a head says, with the bytes that it asks for; `bits` is below 32.
-#[tactic(auto, unfolding(crate::specs::Reading::info_at, crate::specs::Reading::wide_at))]
-pub(super) fn info_at(bits: u8, bytes: &[u8]) -> Result<(Info, &[u8])>
+#[tactic(auto, unfolding(crate::specs::Reading::read_info, crate::specs::Reading::read_wide))]
+pub(super) fn read_info(bits: u8, bytes: &[u8]) -> Result<(Info, &[u8])>
     requires { bits < 32 }
-    ensures gives { Gives (λ x. (x.0, x.1.now)) result (info_at bits bytes.now) }
+    ensures gives { Gives (λ x. (x.0, x.1.now)) result (read_info bits bytes.now) }
     ensures fits { IfOk result (λ x. FitsInfo x.0) }
     ensures memory { result ≢ Err Error.Memory }
     ensures shorter { IfOk result (λ x. length x.1.now ≤ length bytes.now) }
@@ -98,22 +98,22 @@ pub(super) fn info_at(bits: u8, bytes: &[u8]) -> Result<(Info, &[u8])>
     match bits {
         0..=23 => Ok((Info::Number(u64::from(bits), IntegerWidth::Zero), bytes)),
         24 => {
-            let (number, rest) = u8_at(bytes)?;
+            let (number, rest) = read_u8(bytes)?;
             Ok((Info::Number(u64::from(number), IntegerWidth::Eight), rest))
         }
         25 => {
-            let (number, rest) = u16_at(bytes)?;
+            let (number, rest) = read_u16(bytes)?;
             Ok((Info::Number(u64::from(number), IntegerWidth::Sixteen), rest))
         }
         26 => {
-            let (number, rest) = u32_at(bytes)?;
+            let (number, rest) = read_u32(bytes)?;
             Ok((
                 Info::Number(u64::from(number), IntegerWidth::ThirtyTwo),
                 rest,
             ))
         }
         27 => {
-            let (number, rest) = u64_at(bytes)?;
+            let (number, rest) = read_u64(bytes)?;
             Ok((Info::Number(number, IntegerWidth::SixtyFour), rest))
         }
         28..=30 => Err(Error::Head),
@@ -191,16 +191,16 @@ impl ItemHead {
 }
 
 /// The head at the front.
-#[tactic(auto, unfolding(crate::specs::Reading::head_at))]
-pub(super) fn head_at(bytes: &[u8]) -> Result<(ItemHead, &[u8])>
-    ensures gives { Gives (λ x. (x.0, x.1.now)) result (head_at bytes.now) }
+#[tactic(auto, unfolding(crate::specs::Reading::read_head))]
+pub(super) fn read_head(bytes: &[u8]) -> Result<(ItemHead, &[u8])>
+    ensures gives { Gives (λ x. (x.0, x.1.now)) result (read_head bytes.now) }
     ensures shorter { IfOk result (λ x. length x.1.now < length bytes.now) }
     ensures memory { result ≢ Err Error.Memory }
 {
     match bytes {
         [] => Err(Error::CutShort),
         [first, rest @ ..] => {
-            let (info, rest) = info_at(*first % 32, rest)?;
+            let (info, rest) = read_info(*first % 32, rest)?;
             Ok((ItemHead::new(*first / 32, info)?, rest))
         }
     }

@@ -1,9 +1,9 @@
 //! Containers that are open: what was read of them, and what they still want.
 ghost use Rattle.std.specs.Prelude.{◌≡◌, ◌≤◌, ℕ, Some, IsSome, IfSome, IfOk, IfErr, OnOk, option_map};
 ghost use Rattle.cbor_diag.specs.View.{view};
-ghost use Rattle.cbor_diag.specs.Reading.{break_at};
-ghost use Rattle.cbor_diag.specs.Counting.{put, end_at, wanted_end, width_of, closed, opened};
-ghost use Rattle.cbor_diag.specs.Stack.{wanted, frame, HasRoom};
+ghost use Rattle.cbor_diag.specs.Reading.{after_break};
+ghost use Rattle.cbor_diag.specs.Counting.{put, after_end, wanted_end, width_of, closed, opened};
+ghost use Rattle.cbor_diag.specs.Stack.{wanted, frame, ReservesFew};
 
 use super::head::ItemHead;
 use crate::error::{Error, Result};
@@ -59,7 +59,7 @@ fn room(count: u64, following: usize) -> usize
 
 /// The bytes behind the break at the front, where one stands there.
 fn after_break(bytes: &[u8]) -> Option<&[u8]>
-    ensures { option_map (λ x. x.now) result ≡ break_at bytes.now }
+    ensures { option_map (λ x. x.now) result ≡ after_break bytes.now }
 {
     match bytes {
         [0xff, rest @ ..] => Some(rest),
@@ -80,7 +80,7 @@ impl Length {
 
     /// The bytes behind a container with so many members, where it ends here: the same bytes where none is
     /// wanted any more, or those behind the break.
-    fn end_at(self, held: usize, bytes: &[u8]) -> Option<&[u8]>
+    fn after_end(self, held: usize, bytes: &[u8]) -> Option<&[u8]>
         ensures { option_map (λ x. x.now) result ≡ wanted_end (wanted self held) bytes.now }
     {
         match self {
@@ -96,7 +96,7 @@ impl Open {
     /// where the head opens no container. Room is made for members that can be there, and for few.
     pub(super) fn new(alloc: Global, head: ItemHead, following: usize) -> Result<Option<Open>>
         ensures opens { IfOk result (λ o. option_map frame o ≡ opened head) }
-        ensures room { IfOk result (λ o. IfSome o (λ container. HasRoom following container)) }
+        ensures room { IfOk result (λ o. IfSome o (λ container. ReservesFew following container)) }
         ensures memory { IfErr result (λ e. (e ≡ Error.Memory) × IsSome (opened head)) }
     {
         let (key, value) = (None, None);
@@ -135,16 +135,16 @@ impl Open {
     }
 
     /// The bytes behind the container, where it ends here.
-    pub(super) fn end_at<'a>(&self, bytes: &'a [u8]) -> Option<&'a [u8]>
-        ensures { option_map (λ x. x.now) result ≡ end_at (frame self.now) bytes.now }
+    pub(super) fn after_end<'a>(&self, bytes: &'a [u8]) -> Option<&'a [u8]>
+        ensures { option_map (λ x. x.now) result ≡ after_end (frame self.now) bytes.now }
     {
         match self {
-            Open::Array { content, len } => len.end_at(content.len(), bytes),
+            Open::Array { content, len } => len.after_end(content.len(), bytes),
             Open::Map {
                 content,
                 key: None,
                 len,
-            } => len.end_at(content.len(), bytes),
+            } => len.after_end(content.len(), bytes),
             Open::Tag { value: Some(_), .. } => Some(bytes),
             Open::Map { key: Some(_), .. } | Open::Tag { value: None, .. } => None,
         }

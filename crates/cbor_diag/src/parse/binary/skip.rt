@@ -16,7 +16,7 @@ ghost use Rattle.cbor_diag.specs.Facts.{BeginsWithItem, IsCut, HasFault};
 ghost use Rattle.cbor_diag.specs.Extent.{IfItem, IfFault, FaultEnds, IsExtent};
 ghost use Rattle.cbor_diag.specs.Skipping.{here, Goes, StopsSo, stop_of, kind_of, skip_content, skip_chunks, after_chunk, skip_item, skip_body, opened, begun};
 
-use super::head::{Info, ItemHead, head_at, info_at};
+use super::head::{Info, ItemHead, read_head, read_info};
 use crate::error::Error;
 use crate::syntax::DEEPEST;
 pub use answer::Extent;
@@ -107,7 +107,7 @@ fn after_content(kind: Kind, count: u64, bytes: &[u8]) -> Result<&[u8], Stop>
 }
 
 /// The next chunk of an indefinite string, or its break, and the bytes after it.
-fn chunk_at(kind: Kind, bytes: &[u8]) -> Result<(Chunk, &[u8]), Stop>
+fn read_chunk(kind: Kind, bytes: &[u8]) -> Result<(Chunk, &[u8]), Stop>
     ensures goes { IfOk result (λ x.
         Goes (skip_chunks (kind_of kind)) (after_chunk (kind_of kind) x.0) bytes.now x.1.now) }
     ensures stops { IfErr result (λ stop. StopsSo (skip_chunks (kind_of kind)) bytes.now stop) }
@@ -122,7 +122,7 @@ fn chunk_at(kind: Kind, bytes: &[u8]) -> Result<(Chunk, &[u8]), Stop>
             if *first / 32 != kind.major() {
                 return Err(Stop::Fault { error, after });
             }
-            match info_at(*first % 32, rest) {
+            match read_info(*first % 32, rest) {
                 Ok((Info::Number(count, _), rest)) => {
                     let rest = after_content(kind, count, rest)?;
                     Ok((Chunk::Content, rest))
@@ -142,7 +142,7 @@ fn after_chunks(kind: Kind, bytes: &[u8]) -> Result<&[u8], Stop>
 {
     let mut rest = bytes;
     'chunks: loop {
-        let (chunk, after) = chunk_at(kind, rest)?;
+        let (chunk, after) = read_chunk(kind, rest)?;
         match chunk {
             Chunk::Break => return Ok(after),
             Chunk::Content => rest = after,
@@ -151,7 +151,7 @@ fn after_chunks(kind: Kind, bytes: &[u8]) -> Result<&[u8], Stop>
 }
 
 /// The head of an item, with so many levels left for it, and the bytes after it. No item begins with a break.
-fn wanted_head_at(bytes: &[u8], levels: usize) -> Result<(ItemHead, &[u8]), Stop>
+fn read_item_head(bytes: &[u8], levels: usize) -> Result<(ItemHead, &[u8]), Stop>
     ensures goes { IfOk result (λ x.
         Goes (skip_item levels) (skip_body (levels - 1) x.0) bytes.now x.1.now) }
     ensures stops { IfErr result (λ stop. StopsSo (skip_item levels) bytes.now stop) }
@@ -167,7 +167,7 @@ fn wanted_head_at(bytes: &[u8], levels: usize) -> Result<(ItemHead, &[u8]), Stop
         let error = Error::TooDeep;
         return Err(Stop::Fault { error, after });
     }
-    match head_at(bytes) {
+    match read_head(bytes) {
         Ok((head, rest)) => match head {
             ItemHead::Break => {
                 let error = Error::Head;
@@ -198,13 +198,13 @@ fn after_atom(head: ItemHead, bytes: &[u8]) -> Result<&[u8], Stop>
 
 /// What an item has still to come, with so many levels left for it, and the bytes of that: where its head
 /// opens a container, all of that; else nothing.
-fn part_at(bytes: &[u8], levels: usize) -> Result<(Option<ToCome>, &[u8]), Stop>
+fn read_part(bytes: &[u8], levels: usize) -> Result<(Option<ToCome>, &[u8]), Stop>
     ensures goes { IfOk result (λ x. Goes (skip_item levels) (begun (levels - 1) x.0) bytes.now x.1.now) }
     ensures stops { IfErr result (λ stop. StopsSo (skip_item levels) bytes.now stop) }
     ensures shorter { IfOk result (λ x. length x.1.now < length bytes.now) }
     ensures level { IfOk result (λ x. 0 < levels) }
 {
-    let (head, rest) = wanted_head_at(bytes, levels)?;
+    let (head, rest) = read_item_head(bytes, levels)?;
     if let Some(parts) = ToCome::new(head) {
         return Ok((Some(parts), rest));
     }
@@ -222,14 +222,14 @@ fn after_item(bytes: &[u8]) -> Result<&[u8], Stop>
     let mut top = ToCome::Items(Count::Definite(1));
     let mut rest = bytes;
     'turns: loop {
-        if let Some(after) = top.end_at(rest) {
+        if let Some(after) = top.after_end(rest) {
             rest = after;
             let Some(open) = outer.pop() else {
                 return Ok(rest);
             };
             top = open;
         } else {
-            let (parts, after) = part_at(rest, usize::from(DEEPEST) - outer.len())?;
+            let (parts, after) = read_part(rest, usize::from(DEEPEST) - outer.len())?;
             rest = after;
             top = top.after_part();
             if let Some(parts) = parts {

@@ -1,7 +1,7 @@
 //! The containers that are open while an item is read.
 ghost use Rattle.std.specs.Prelude.{◌≡◌, ◌++◌, [], Some, None, IsSome, IfOk, IfErr, OnOk, option_map, option_and_then, option_to_list};
 ghost use Rattle.cbor_diag.specs.View.{view};
-ghost use Rattle.cbor_diag.specs.Counting.{end_at, closed, pushed, IsStack};
+ghost use Rattle.cbor_diag.specs.Counting.{after_end, closed, pushed, IsStack};
 ghost use Rattle.cbor_diag.specs.Stack.{frame, outer_of, top_of, depth, IsPutIn};
 
 use super::open::Open;
@@ -34,13 +34,13 @@ impl Stack {
     }
 
     /// The bytes behind the innermost container, where it ends here.
-    pub(super) fn end_at<'a>(&self, bytes: &'a [u8]) -> Option<&'a [u8]>
+    pub(super) fn after_end<'a>(&self, bytes: &'a [u8]) -> Option<&'a [u8]>
         ensures { option_map (λ x. x.now) result
-            ≡ option_and_then (λ f. end_at f bytes.now) (top_of self.now) }
+            ≡ option_and_then (λ f. after_end f bytes.now) (top_of self.now) }
     {
         match self.open.last() {
             None => None,
-            Some(top) => top.end_at(bytes),
+            Some(top) => top.after_end(bytes),
         }
     }
 
