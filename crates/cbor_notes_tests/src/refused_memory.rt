@@ -45,7 +45,7 @@ enum Call {
 }
 
 /// Each call that takes memory, with its answer as `answer` shows it.
-const ROWS: [(Call, &str); 28] = [
+const ROWS: &[(Call, &str)] = &[
     (Call::Base32, "666f6f6261"),
     (Call::Base32Hex, "666f6f6261"),
     // the second alphabet that is tried
@@ -259,7 +259,7 @@ fn answer(rt: &impl Abort, alloc: Global, call: Call) -> Result<String, AllocErr
 // A call that always answers out of memory meets its contract, so no proof finds it.
 #[test]
 fn calls_answer_where_memory_is_found(rt: HostRuntime) -> Result<(), Fail> {
-    for (call, want) in ROWS {
+    for &(call, want) in ROWS {
         let got = answer(&rt, rt.alloc(), call)?;
         assert_eq!(rt; got.as_str(), want, "{call:?}");
     }
@@ -271,7 +271,7 @@ fn calls_answer_where_memory_is_found(rt: HostRuntime) -> Result<(), Fail> {
 // gate, this shows no more than the test above.
 #[test]
 fn calls_answer_or_memory_is_refused(rt: HostRuntime) -> Result<(), Fail> {
-    for (call, want) in ROWS {
+    for &(call, want) in ROWS {
         for _ in 0..2 {
             match answer(&rt, rt.alloc(), call) {
                 Ok(got) => {
