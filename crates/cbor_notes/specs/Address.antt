@@ -29,7 +29,7 @@ abbrev pub shortened : List ℕ → ℕ → ℕ → List ℕ
 shortened groups start count =
     groups_text (take start groups) ++ codes "::" ++ groups_text (drop (start + count) groups)
 
--- `count` zero groups stand from the place `start` on
+-- there are `count` zero groups from the place `start` on
 abbrev pub IsZeroRun : List ℕ → ℕ → ℕ → Type 0
 IsZeroRun groups start count =
     (start + count ≤ length groups) × (take count (drop start groups) ≡ replicate count 0)
@@ -49,7 +49,7 @@ abbrev pub longest_run : List ℕ → ℕ
 longest_run [] = 0
 longest_run (group ∷ rest) = max (zeros_first (group ∷ rest)) (longest_run rest)
 
--- the first place from which so many zero groups stand, and no more
+-- the first place with that number of zero groups from there on, and no more
 abbrev pub first_run : ℕ → List ℕ → ℕ
 first_run count [] = 0
 first_run count (group ∷ rest) =
@@ -62,7 +62,7 @@ hex_text groups =
     then shortened groups (first_run (longest_run groups) groups) (longest_run groups)
     else groups_text groups
 
--- the first 96 bits of an address that stands for an IPv4 address: 80 zeros and 16 ones
+-- the first 96 bits of an address that maps an IPv4 address: 80 zeros and 16 ones
 abbrev pub ipv4_prefix : List ℕ
 ipv4_prefix = replicate 10 0 ++ 255 ∷ 255 ∷ []
 

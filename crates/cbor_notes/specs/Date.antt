@@ -86,11 +86,11 @@ unfoldable pub epoch_of_date : List ℕ → Option (List ℕ)
 epoch_of_date text = first_found day_count (λ n.
     if is_day_text text (calendar_day n) then Some (grouped_signed (day_number n)) else None)
 
--- `20:04:00`, so many seconds after midnight
+-- `20:04:00`, the time of day so far after midnight in seconds
 abbrev pub time_text : ℕ → List ℕ
 time_text seconds = clock_text (seconds / 3600) (seconds / 60 % 60) (seconds % 60)
 
--- the text of the moment so many seconds after 1970-01-01T00:00:00Z: whole days of 86,400 seconds give
+-- the text of the moment `seconds` after 1970-01-01T00:00:00Z: whole days of 86,400 seconds give
 -- its date, and the seconds that are left over its time of day
 unfoldable pub datetime_of_epoch : ℤ → Option (List ℕ)
 datetime_of_epoch seconds =

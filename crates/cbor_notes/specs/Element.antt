@@ -29,7 +29,7 @@ size tag = 2 ^ (tag / 16 % 2 + tag % 4)
 abbrev pub element_size : ℕ → Option ℕ
 element_size tag = if is_typed_array tag then Some (size tag) else None
 
--- a number of so many bytes in two's complement, grouped: from half of its range on it is negative
+-- a number of that many bytes in two's complement, grouped: from half of its range on it is negative
 abbrev pub signed_text : ℕ → ℕ → List ℕ
 signed_text bytes number =
     if nat_lt number (2 ^ (8 * bytes - 1)) then grouped number false

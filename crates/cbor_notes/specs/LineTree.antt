@@ -22,7 +22,7 @@ first_line line depth = record { depth = depth; hex = string_bytes (out-Line lin
 abbrev pub forest_lines : List Line → ℕ → List DumpLine
 forest_lines trees depth = flat_map (λ tree. tree_lines tree depth) trees
 
--- how deep the lines of a tree may stand, and how long the hex of a line may be
+-- how deep the lines of a tree may be, and how long the hex of a line may be
 abbrev pub most_levels : ℕ
 most_levels = 140
 

@@ -1,4 +1,4 @@
--- The tokens of diagnostic notation: which texts they are, and what they stand for. A text is the list
+-- The tokens of diagnostic notation: which texts they are, and what they mean. A text is the list
 -- of its bytes in UTF-8.
 use Rattle.std.specs.Prelude.{◌≡◌, ◌≢◌, ◌⊎◌, ℕ, ◌+◌, ◌<◌, ◌≤◌, ◌^◌, min, Bool, not, ◌==◌, ◌&&◌, ◌||◌, if◌then◌else◌, IsTrue, List, [], ◌∷◌, ◌++◌, length, flat_map, codes, Option, Some, None}
 use Rattle.std.specs.List.{AllByRecursion}
@@ -26,7 +26,7 @@ pub data Blank (comments : Bool) : List ℕ → Type 0 where
 
 -- Numbers
 
--- what stands before the digits of a base
+-- what comes before the digits of a base
 abbrev pub prefix : Base → List ℕ
 prefix Decimal = []
 prefix Hexadecimal = codes "0x"
@@ -72,12 +72,12 @@ capped value = min value (2 ^ 64 + 1)
 abbrev pub is_special : ℕ → ℕ → Bool
 is_special quote byte = (byte == quote) || (byte == 92)
 
--- a byte of the content as it stands between such quotes: a special one after a backslash, any other as
+-- a byte of the content as it is written between such quotes: a special one after a backslash, any other as
 -- it is
 abbrev pub escaped_byte : ℕ → ℕ → List ℕ
 escaped_byte quote byte = if is_special quote byte then 92 ∷ byte ∷ [] else byte ∷ []
 
--- content as it stands between such quotes
+-- content as it is written between such quotes
 abbrev pub in_quotes : ℕ → List ℕ → List ℕ
 in_quotes quote content = flat_map (escaped_byte quote) content
 

@@ -17,7 +17,7 @@ ghost use Rattle.cbor_notes.specs.Base32.{
 
 use std::alloc::{AllocError, Global};
 
-/// The characters that stand for the 32 values of five bits.
+/// The characters of the 32 values of five bits.
 #[derive(Clone, Copy)]
 enum Alphabet {
     /// `A` to `Z`, and then `2` to `7`: RFC 4648, section 6.
@@ -30,7 +30,7 @@ enum Alphabet {
 /// another character, a length that is no multiple of eight, padding that is not the last group's, or
 /// an unused bit that is set. No digits encode no bytes.
 ///
-/// The only refusal is want of memory.
+/// The only error is out of memory.
 pub fn base32_decode(alloc: Global, digits: &[u8]) -> Result<Option<Vec<u8>>, AllocError>
     ensures found { IfOk result
         (λ found. IfSome found (λ bytes. AreBytes bytes.items × (digits.now ≡ base32 bytes.items))) }
@@ -46,7 +46,7 @@ pub fn base32_decode(alloc: Global, digits: &[u8]) -> Result<Option<Vec<u8>>, Al
 /// The bytes that `digits` encode in base 32 with the extended hex alphabet (RFC 4648, section 7), or
 /// `None` where they encode none, as `base32_decode` says.
 ///
-/// The only refusal is want of memory.
+/// The only error is out of memory.
 pub fn base32hex_decode(alloc: Global, digits: &[u8]) -> Result<Option<Vec<u8>>, AllocError>
     ensures found { IfOk result
         (λ found. IfSome found (λ bytes. AreBytes bytes.items × (digits.now ≡ base32hex bytes.items))) }
@@ -89,7 +89,7 @@ fn decode(alloc: Global, alphabet: Alphabet, digits: &[u8]) -> Result<Option<Vec
 }
 
 impl Alphabet {
-    /// The five bits that a digit stands for.
+    /// The five bits of a digit.
     fn value(self, digit: u8) -> Option<u8>
         ensures found { IfSome result
             (λ value. (value < 32) × (slice_index (characters self) value ≡ digit)) }
@@ -154,7 +154,7 @@ impl Alphabet {
     }
 }
 
-/// How many digits of a group stand before its padding: the fewest, of 2, 4, 5, 7 and 8, after which
+/// How many digits of a group come before its padding: the fewest, of 2, 4, 5, 7 and 8, after which
 /// all are `=`.
 fn unpadded_len(digits: &[u8]) -> usize
     requires { length digits.now ≡ 8 }

@@ -18,7 +18,7 @@ use std::alloc::{AllocError, Global};
 /// they encode none in either, by another character, a wrong length or padding, or an unused bit that
 /// is set. Digits that are both encode the same bytes in both.
 ///
-/// The only refusal is want of memory.
+/// The only error is out of memory.
 pub fn base64_any_decode(alloc: Global, digits: &[u8]) -> Result<Option<Vec<u8>>, AllocError>
     ensures found { IfOk result (λ found. IfSome found
         (λ bytes. AreBytes bytes.items
@@ -39,7 +39,7 @@ pub fn base64_any_decode(alloc: Global, digits: &[u8]) -> Result<Option<Vec<u8>>
 /// (section 4); or `None` where it encodes nothing in that one. There is a line for each sixteen decoded
 /// bytes: their hex digits, in the last line filled up with blanks to the width of the first one's, then
 /// ` # ` and the bytes as [`quoted_bytes`] writes them. Where nothing is decoded there are no lines. The
-/// only refusal is want of memory.
+/// only error is out of memory.
 ///
 /// [`quoted_bytes`]: crate::quoted_bytes
 pub fn base64_lines(alloc: Global, text: &str, url: bool) -> Result<Option<Vec<String>>, AllocError>

@@ -26,7 +26,7 @@ struct Element {
     size: usize,
 }
 
-/// The bytes of one element of the typed array that `tag` stands before: 1 to 16 for the tags 64 to 75
+/// The bytes of one element of the typed array of `tag`: 1 to 16 for the tags 64 to 75
 /// and 77 to 87, and `None` for every other tag.
 pub fn element_size(tag: u64) -> Option<usize>
     ensures size { result ≡ spec.element_size tag }
@@ -34,10 +34,10 @@ pub fn element_size(tag: u64) -> Option<usize>
     Some(Element::of_tag(tag)?.size)
 }
 
-/// One element of the typed array that `tag` stands before: `unsigned(1,000)`, `signed(-1)`, or
+/// One element of the typed array of `tag`: `unsigned(1,000)`, `signed(-1)`, or
 /// `float(3c00)`, with numbers grouped and the bits of a float in hex, the highest first, whatever the
 /// order of the bytes. `None` for a tag of no typed array, and for bytes that are not as many as one
-/// element has. The only refusal is want of memory.
+/// element has. The only error is out of memory.
 pub fn element_text(alloc: Global, tag: u64, bytes: &[u8]) -> Result<Option<String>, AllocError>
     ensures text { IfOk result
         (λ found. option_map string_bytes found ≡ spec.element_text tag bytes.now) }

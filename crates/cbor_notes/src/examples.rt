@@ -59,7 +59,7 @@ pub(crate) fn lines_of_texts()
     ensures empty { base64_lines false [] ≡ Some [] }
 {}
 
-/// Digits stand in groups of three from the right.
+/// Digits are in groups of three from the right.
 pub(crate) fn numbers_in_groups()
     ensures zero { grouped 0 false ≡ codes "0" }
     ensures one_group { grouped 999 false ≡ codes "999" }
@@ -67,7 +67,7 @@ pub(crate) fn numbers_in_groups()
     ensures three_groups { grouped 1234567 true ≡ codes "-1,234,567" }
 {}
 
-/// Bytes between quotes, and characters that can stand there: of U+0000, U+0085, U+00E9 and U+2028 the
+/// Bytes between quotes, and characters that can be there: of U+0000, U+0085, U+00E9 and U+2028 the
 /// first two are control characters.
 pub(crate) fn escapes()
     ensures bytes { quoted_bytes (0x00 ∷ 0x41 ∷ 0x22 ∷ 0x27 ∷ 0x5c ∷ 0x0a ∷ 0x7f ∷ [])
@@ -224,7 +224,7 @@ pub(crate) fn elements()
     ensures too_long { element_text 64 (1 ∷ 2 ∷ []) ≡ None }
 {}
 
-/// A URL wants a scheme.
+/// A URL needs a scheme.
 pub(crate) fn urls()
     ensures absolute { is_url (codes "http://www.example.com") ≡ true }
     ensures relative { is_url (codes "www.example.com") ≡ false }

@@ -22,14 +22,14 @@ pub(crate) fn calendar_days()
         × (day_of date ≡ calendar_day n) }
 {}
 
-/// The text that stands for a day is that of the date whose day has this number, and for a date's day
+/// The text of a day is that of the date whose day has this number, and for a date's day
 /// there is a text.
 pub(crate) fn dates_of_days()
     ensures found { (number : ℤ) → IfSome (date_of_epoch number) (IsDayText number) }
     ensures some { (date : Date) → IsSome (date_of_epoch (epoch_day date)) }
 {}
 
-/// The number that stands for a text is that of the day of a date with this text, and for the text of a
+/// The number of a text is that of the day of a date with this text, and for the text of a
 /// date from the year 0 on there is a number.
 pub(crate) fn days_of_dates()
     ensures found { (text : List ℕ) → IfSome (epoch_of_date text) (λ day. (date : Date)
@@ -37,7 +37,7 @@ pub(crate) fn days_of_dates()
     ensures some { (text : List ℕ) (date : Date) → IsDateText text date → IsSome (epoch_of_date text) }
 {}
 
-/// The text that stands for seconds is that of the moment after so many seconds, and for seconds on the
+/// The text of a number of seconds is that of the moment after them, and for seconds on the
 /// day of a date there is a text.
 pub(crate) fn moments_of_seconds()
     ensures found { (seconds : ℤ) → IfSome (datetime_of_epoch seconds) (IsMomentText seconds) }
@@ -45,7 +45,7 @@ pub(crate) fn moments_of_seconds()
         → IsSome (datetime_of_epoch seconds) }
 {}
 
-/// The seconds and the fraction that stand for a text are those of a moment with this text, and for the
+/// The seconds and the fraction of a text are those of a moment with this text, and for the
 /// text of a moment there are some.
 pub(crate) fn seconds_of_moments()
     ensures found { (text : List ℕ) → IfSome (epoch_of_datetime text) (λ answer. (seconds : ℤ)

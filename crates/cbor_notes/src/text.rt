@@ -14,9 +14,9 @@ use std::alloc::{AllocError, Global};
 
 /// `bytes` between quotes, as in `"\x00A\n"`.
 ///
-/// A tab, a carriage return and a line feed are `\t`, `\r` and `\n`; `'`, `"` and `\` stand after a
+/// A tab, a carriage return and a line feed are `\t`, `\r` and `\n`; `'`, `"` and `\` come after a
 /// backslash; the other bytes from `0x20` to `0x7e` are as they are; any other byte is `\x` and two
-/// hex digits in lower case. The only refusal is want of memory.
+/// hex digits in lower case. The only error is out of memory.
 pub fn quoted_bytes(alloc: Global, bytes: &[u8]) -> Result<String, AllocError>
     ensures text { IfOk result (λ text. string_bytes text ≡ spec.quoted_bytes bytes.now) }
 {
@@ -138,10 +138,10 @@ pub(crate) fn push_hex_byte(text: &mut String, byte: u8) -> Result<(), AllocErro
     text.push(char::from(digits[1]))
 }
 
-/// `text` with some of its characters escaped: `"` and `\` stand after a backslash; a tab, a carriage
+/// `text` with some of its characters escaped: `"` and `\` come after a backslash; a tab, a carriage
 /// return and a line feed are `\t`, `\r` and `\n`; the other characters of U+0000 to U+001F and
 /// U+007F to U+009F are `\u{h}` with hex digits in lower case and no leading zero. No quotes are put
-/// round it. The only refusal is want of memory.
+/// round it. The only error is out of memory.
 pub fn escaped_text(alloc: Global, text: &str) -> Result<String, AllocError>
     ensures text { IfOk result (λ escaped. string_bytes escaped ≡ spec.escaped_text text.now) }
 {
@@ -221,7 +221,7 @@ fn hex_digit(number: u8) -> char
 }
 
 /// `number` in decimal digits, in groups of three from the right with `,` between them, and with `-`
-/// before it if `negative`: `999`, `1,000`, `-1,234,567`. The only refusal is want of memory.
+/// before it if `negative`: `999`, `1,000`, `-1,234,567`. The only error is out of memory.
 pub fn grouped(alloc: Global, number: u128, negative: bool) -> Result<String, AllocError>
     ensures text { IfOk result (λ text. string_bytes text ≡ spec.grouped number negative) }
     // From the right, each group has three digits.

@@ -38,7 +38,7 @@ pub(crate) fn end_of_blank(text: &[u8], at: usize, comments: bool) -> usize
     end
 }
 
-/// Where the whitespace or the comment at `at` ends, if one stands there.
+/// Where the whitespace or the comment at `at` ends, if there is one.
 fn end_of_piece(text: &[u8], at: usize, comments: bool) -> Option<usize>
     requires { at ≤ length text.now }
     ensures within { IfSome result (λ end. (at < end) × (end ≤ length text.now)) }
@@ -60,7 +60,7 @@ fn end_of_piece(text: &[u8], at: usize, comments: bool) -> Option<usize>
 }
 
 /// Whether a byte is a space, a tab, a line feed or a carriage return. Most bytes of a text are above all of
-/// these, which one comparison tells.
+/// these, so one comparison decides.
 pub(crate) fn is_whitespace(byte: u8) -> bool
     ensures { result ≡ is_whitespace byte }
 {

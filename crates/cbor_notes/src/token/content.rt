@@ -1,4 +1,4 @@
-//! What stands between quotes in diagnostic notation: text with escapes, and digits with blanks.
+//! What is between quotes in diagnostic notation: text with escapes, and digits with blanks.
 
 ghost use Rattle.std.specs.Prelude.{◌≡◌, ◌≢◌, ◌⊎◌, ◌++◌, ◌∷◌, ◌+◌, ◌<◌, ◌≤◌, List, ℕ, drop, length, IfNone, IfOk, IfSome, IsSomeAnd, not, ◌-◌};
 ghost use Rattle.std.specs.List.{position_or_len};
@@ -8,11 +8,11 @@ use super::{end_of_blank, is_whitespace};
 use std::alloc::{AllocError, Global};
 
 /// The content from `at` up to the closing `quote`, which is `'` or `"`, and the place after that quote;
-/// `None` where no such content stands there.
+/// `None` if there is no such content.
 ///
-/// In the content the quote and `\` stand after a `\`, and any other byte for itself, line ends too. So
+/// In the content the quote and `\` come after a `\`, and any other byte is itself, line ends too. So
 /// there is none where the text ends before a closing quote or has a `\` before any other byte. The only
-/// refusal is want of memory.
+/// error is out of memory.
 pub fn quoted_at(
     alloc: Global,
     text: &[u8],
@@ -47,12 +47,12 @@ pub fn quoted_at(
 }
 
 /// The digits from `at` up to the closing `'`, without the blanks before, between and after them, and the
-/// place after that quote; `None` where no such content stands there.
+/// place after that quote; `None` if there is no such content.
 ///
 /// Blanks are those of `blank_end` if `comments` are allowed, and whitespace alone if not. A `'` in a
 /// comment closes nothing. Content of blanks alone is none, unless it is empty. Any byte but whitespace
 /// and `'` counts as a digit, and with comments any but `/` too, which always opens one; which digits a
-/// notation has is for the caller. The only refusal is want of memory.
+/// notation has is for the caller. The only error is out of memory.
 pub fn digits_at(
     alloc: Global,
     text: &[u8],

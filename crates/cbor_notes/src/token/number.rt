@@ -78,7 +78,7 @@ impl Base {
         }
     }
 
-    /// How many bytes stand before the digits.
+    /// How many bytes come before the digits.
     fn prefix_len(self) -> usize
         ensures { result ≡ length (prefix self) }
     {
