@@ -1,5 +1,6 @@
 -- What holds of a number that digits write in base 32.
-use Rattle.std.proofs.Common.{◌≡◌, ℕ, zero, suc, ◌+◌, ◌*◌, ◌^◌, ◌<◌, List, [], ◌∷◌, ◌++◌, map, length, get_or, slice_index, refl, sym, ap, ◌∙◌, arith}
+use Rattle.std.proofs.Common.{◌≡◌, ℕ, zero, suc, ◌+◌, ◌*◌, ◌^◌, ◌<◌, List, [], ◌∷◌, ◌++◌, map, length, get_or}
+use Rattle.std.proofs.Common.{slice_index, refl, sym, ap, ◌∙◌, arith}
 use Rattle.std.proofs.lemmas.List.{map_push, length-map, get_or-map}
 use Rattle.std.proofs.lemmas.Int.Digits.{number_push, number_lt}
 use Rattle.std.specs.Int.Digits.{AllBelowBase, number_from_digits}
@@ -32,7 +33,8 @@ pub written_at : (a : Alphabet) (digits : List ℕ) (number i : ℕ) → Writes 
     → (value : ℕ) × (value < 32) × (slice_index (characters a) value ≡ slice_index digits i)
 written_at a digits number i w small =
     let fits : i < length w.values = rw (w.digits_are, length-map) at small in
-    (get_or w.values i 0, below_at 32 w.values i w.below fits, sym (rw w.digits_are (get_or-map (slice_index (characters a)) w.values i 0 0 fits)))
+    (get_or w.values i 0, below_at 32 w.values i w.below fits,
+        sym (rw w.digits_are (get_or-map (slice_index (characters a)) w.values i 0 0 fits)))
 
 same_values : (a : Alphabet) (xs ys : List ℕ) → AllBelowBase 32 xs → AllBelowBase 32 ys
     → map (slice_index (characters a)) xs ≡ map (slice_index (characters a)) ys → xs ≡ ys
@@ -47,4 +49,5 @@ same_values a (c ∷ xs) (d ∷ ys) x y is =
 -- the same digits write the same number
 pub same_written : (a : Alphabet) (digits : List ℕ) (m n : ℕ) → Writes a digits m → Writes a digits n → m ≡ n
 same_written a digits m n v w =
-    v.number_is ∙ ap (number_from_digits 32) (same_values a v.values w.values v.below w.below (sym v.digits_are ∙ w.digits_are)) ∙ sym w.number_is
+    v.number_is ∙ ap (number_from_digits 32)
+        (same_values a v.values w.values v.below w.below (sym v.digits_are ∙ w.digits_are)) ∙ sym w.number_is

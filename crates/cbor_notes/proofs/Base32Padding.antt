@@ -1,5 +1,6 @@
 -- How many digits a group may have before its padding.
-use Rattle.std.proofs.Common.{◌≡◌, ℕ, zero, suc, ◌-◌, ◌<◌, ◌≤◌, ◌⊎◌, nat_eq, true, false, List, drop, length, ◌∙◌, inl, inr, arith}
+use Rattle.std.proofs.Common.{◌≡◌, ℕ, zero, suc, ◌-◌, ◌<◌, ◌≤◌, ◌⊎◌, nat_eq, true, false, List, drop, length, ◌∙◌, inl}
+use Rattle.std.proofs.Common.{inr, arith}
 use Rattle.std.specs.List.{ends_with}
 use Rattle.std.specs.Cmp.Lexicographic.{pointwise}
 use Rattle.cbor_notes.specs.Base32.{digit_count, IsDigitCount}
@@ -20,7 +21,8 @@ pub digit_counts : (k : ℕ) → IsDigitCount k → IsOneOf k
 digit_counts k is = of_bytes k is.0 is.1 is.2 is.3
 
 -- what holds for each of them holds
-pub by_count : {P : Type 0} (k : ℕ) → IsDigitCount k → (k ≡ 2 → P) → (k ≡ 4 → P) → (k ≡ 5 → P) → (k ≡ 7 → P) → (k ≡ 8 → P) → P
+pub by_count : {P : Type 0} (k : ℕ) → IsDigitCount k → (k ≡ 2 → P) → (k ≡ 4 → P) → (k ≡ 5 → P) → (k ≡ 7 → P)
+    → (k ≡ 8 → P) → P
 by_count k is two four five seven eight =
     elim (digit_counts k is) [
       | inl e ↦ two e

@@ -1,5 +1,7 @@
 -- Where the two encodings in base 64 agree.
-use Rattle.std.proofs.Common.{◌≡◌, ℕ, zero, suc, ◌+◌, ◌*◌, ◌/◌, ◌%◌, ◌<◌, ◌||◌, Bool, true, false, not, List, [], ◌∷◌, ◌++◌, length, replicate, slice_index, codes, Option, Some, None, Result, Ok, Err, IfOk, IfSome, IfNone, IsSomeAnd, refl, sym, ap, ◌∙◌, ◌⊎◌, inl, inr, arith, lit<}
+use Rattle.std.proofs.Common.{◌≡◌, ℕ, zero, suc, ◌+◌, ◌*◌, ◌/◌, ◌%◌, ◌<◌, ◌||◌, Bool, true, false, not, List, [], ◌∷◌}
+use Rattle.std.proofs.Common.{◌++◌, length, replicate, slice_index, codes, Option, Some, None, Result, Ok, Err, IfOk}
+use Rattle.std.proofs.Common.{IfSome, IfNone, IsSomeAnd, refl, sym, ap, ◌∙◌, ◌⊎◌, inl, inr, arith, lit<}
 use Rattle.std.specs.List.{list_any, list_all}
 use Rattle.std.proofs.lemmas.Bool.{cases_Bool, cases_lt}
 use Rattle.std.proofs.lemmas.List.{append-nil, get_or_append_left}
@@ -52,33 +54,40 @@ false_or a b x y = rw (x, y) refl
 
 -- one symbol, and then the same others
 same_first : (k : ℕ) (xs ys : List ℕ) → k < 64 → list_any is_standard_only (slice_index standard_symbols k ∷ xs) ≡ false
-    → (list_any is_standard_only xs ≡ false → xs ≡ ys) → slice_index standard_symbols k ∷ xs ≡ slice_index url_safe_symbols k ∷ ys
+    → (list_any is_standard_only xs ≡ false → xs ≡ ys)
+        → slice_index standard_symbols k ∷ xs ≡ slice_index url_safe_symbols k ∷ ys
 same_first k xs ys small plain more =
     let parts = or_false (is_standard_only (slice_index standard_symbols k)) (list_any is_standard_only xs) plain in
     rw (standard_symbol k small parts.0, more parts.1) refl
 
 -- no digit of an encoding safe in URLs is only in the standard one
-symbols_url_safe : (bytes : List ℕ) → AreBytes bytes → list_any is_standard_only (encode_symbols url_safe_symbols bytes) ≡ false
+symbols_url_safe : (bytes : List ℕ) → AreBytes bytes
+    → list_any is_standard_only (encode_symbols url_safe_symbols bytes) ≡ false
 unfolding encode_symbols
 symbols_url_safe [] all = refl
 symbols_url_safe (a ∷ []) all =
     let x = all.0 in
-    false_or _ _ (url_safe_symbol (a / 4) (omega arith)) (false_or _ _ (url_safe_symbol (a % 4 * 16) (omega arith)) refl)
+    false_or _ _ (url_safe_symbol (a / 4) (omega arith))
+        (false_or _ _ (url_safe_symbol (a % 4 * 16) (omega arith)) refl)
 symbols_url_safe (a ∷ b ∷ []) all =
     let x = all.0 in
     let y = all.1.0 in
-    false_or _ _ (url_safe_symbol (a / 4) (omega arith)) (false_or _ _ (url_safe_symbol (a % 4 * 16 + b / 16) (omega arith))
+    false_or _ _ (url_safe_symbol (a / 4) (omega arith))
+        (false_or _ _ (url_safe_symbol (a % 4 * 16 + b / 16) (omega arith))
     (false_or _ _ (url_safe_symbol (b % 16 * 4) (omega arith)) refl))
 symbols_url_safe (a ∷ b ∷ c ∷ bytes) all =
     let x = all.0 in
     let y = all.1.0 in
     let z = all.1.1.0 in
-    false_or _ _ (url_safe_symbol (a / 4) (omega arith)) (false_or _ _ (url_safe_symbol (a % 4 * 16 + b / 16) (omega arith))
-    (false_or _ _ (url_safe_symbol (b % 16 * 4 + c / 64) (omega arith)) (false_or _ _ (url_safe_symbol (c % 64) (omega arith))
+    false_or _ _ (url_safe_symbol (a / 4) (omega arith))
+        (false_or _ _ (url_safe_symbol (a % 4 * 16 + b / 16) (omega arith))
+    (false_or _ _ (url_safe_symbol (b % 16 * 4 + c / 64) (omega arith))
+        (false_or _ _ (url_safe_symbol (c % 64) (omega arith))
     (symbols_url_safe bytes all.1.1.1))))
 
 -- the symbols of a standard encoding without these digits
-symbols_same : (bytes : List ℕ) → AreBytes bytes → list_any is_standard_only (encode_symbols standard_symbols bytes) ≡ false
+symbols_same : (bytes : List ℕ) → AreBytes bytes
+    → list_any is_standard_only (encode_symbols standard_symbols bytes) ≡ false
     → encode_symbols standard_symbols bytes ≡ encode_symbols url_safe_symbols bytes
 unfolding encode_symbols
 symbols_same [] all plain = refl
@@ -99,15 +108,18 @@ symbols_same (a ∷ b ∷ c ∷ bytes) all plain =
     (λ rest. symbols_same bytes all.1.1.1 rest))))
 
 -- an encoding safe in URLs has no digit that only the standard one has
-url_safe_plain : (digits bytes : List ℕ) → AreBytes bytes → digits ≡ url_safe bytes → list_any is_standard_only digits ≡ false
-url_safe_plain digits bytes all is = ap (list_any is_standard_only) (is ∙ append-nil (encode_symbols url_safe_symbols bytes)) ∙ symbols_url_safe bytes all
+url_safe_plain : (digits bytes : List ℕ) → AreBytes bytes → digits ≡ url_safe bytes
+    → list_any is_standard_only digits ≡ false
+url_safe_plain digits bytes all is = ap (list_any is_standard_only)
+    (is ∙ append-nil (encode_symbols url_safe_symbols bytes)) ∙ symbols_url_safe bytes all
 
 no_padding : (n : ℕ) → list_any is_standard_only (replicate n 61) ≡ false → replicate {A = ℕ} n 61 ≡ []
 no_padding zero plain = refl
 no_padding (suc n) plain = cc plain
 
 -- a standard encoding without these digits is one that is safe in URLs
-standard_plain : (digits bytes : List ℕ) → AreBytes bytes → digits ≡ standard bytes → list_any is_standard_only digits ≡ false → digits ≡ url_safe bytes
+standard_plain : (digits bytes : List ℕ) → AreBytes bytes → digits ≡ standard bytes
+    → list_any is_standard_only digits ≡ false → digits ≡ url_safe bytes
 standard_plain digits bytes all is plain =
     let symbols : List ℕ = encode_symbols standard_symbols bytes in
     let padding : List ℕ = replicate (padding_len (length bytes)) 61 in
@@ -129,12 +141,15 @@ bytes_from [] at = tt
 bytes_from (b ∷ bytes) at = (at 0, bytes_from bytes (λ i. at (suc i)))
 
 -- the encoding that the digits choose
-pub url_safe_chosen : (digits bytes : List ℕ) (marked : Bool) → marked ≡ list_any is_standard_only digits → AreBytes bytes
+pub url_safe_chosen : (digits bytes : List ℕ) (marked : Bool) → marked ≡ list_any is_standard_only digits
+    → AreBytes bytes
     → digits ≡ url_safe bytes → digits ≡ encoding (not marked) bytes
-url_safe_chosen digits bytes true marks all is = let never : true ≡ false = marks ∙ url_safe_plain digits bytes all is in cc never
+url_safe_chosen digits bytes true marks all is = let never : true ≡ false = marks
+    ∙ url_safe_plain digits bytes all is in cc never
 url_safe_chosen digits bytes false marks all is = is
 
-pub standard_chosen : (digits bytes : List ℕ) (marked : Bool) → marked ≡ list_any is_standard_only digits → AreBytes bytes
+pub standard_chosen : (digits bytes : List ℕ) (marked : Bool) → marked ≡ list_any is_standard_only digits
+    → AreBytes bytes
     → digits ≡ standard bytes → digits ≡ encoding (not marked) bytes
 standard_chosen digits bytes true marks all is = is
 standard_chosen digits bytes false marks all is = standard_plain digits bytes all is (sym marks)
@@ -142,7 +157,8 @@ standard_chosen digits bytes false marks all is = standard_plain digits bytes al
 -- what was found, in either encoding
 pub found_either : {V E : Type 0} (r : Result (Option V) E) (items : V → List ℕ) (digits : List ℕ) (url : Bool)
     → IfOk r (λ found. IfSome found (λ v. AreBytes (items v) × (digits ≡ encoding url (items v))))
-    → IfOk r (λ found. IfSome found (λ v. AreBytes (items v) × ((digits ≡ url_safe (items v)) ⊎ (digits ≡ standard (items v)))))
+    → IfOk r (λ found. IfSome found (λ v. AreBytes (items v)
+        × ((digits ≡ url_safe (items v)) ⊎ (digits ≡ standard (items v)))))
 found_either (Ok (Some v)) items digits true is = (is.0, inl is.1)
 found_either (Ok (Some v)) items digits false is = (is.0, inr is.1)
 found_either (Ok None) items digits url is = tt
@@ -162,15 +178,19 @@ some_ok (Ok x) v is = cc
 some_ok (Err e) v is = cc
 
 -- digits that decode are the encoding of what they decode to
-pub decoded_found : (url : Bool) (digits bytes : List ℕ) → AreBytes digits → decoded url digits ≡ Some bytes → digits ≡ encoding url bytes
+pub decoded_found : (url : Bool) (digits bytes : List ℕ) → AreBytes digits → decoded url digits ≡ Some bytes
+    → digits ≡ encoding url bytes
 unfolding decoded decoded_of
 decoded_found true digits bytes all is =
-    decode_of_strict engines.url_safe_no_pad digits bytes (refl, refl) (bytes_at digits all) (some_ok (decode_of engines.url_safe_no_pad digits) bytes is)
+    decode_of_strict engines.url_safe_no_pad digits bytes (refl, refl) (bytes_at digits all)
+        (some_ok (decode_of engines.url_safe_no_pad digits) bytes is)
 decoded_found false digits bytes all is =
-    decode_of_strict engines.standard digits bytes (refl, refl) (bytes_at digits all) (some_ok (decode_of engines.standard digits) bytes is)
+    decode_of_strict engines.standard digits bytes (refl, refl) (bytes_at digits all)
+        (some_ok (decode_of engines.standard digits) bytes is)
 
 -- and the encoding of bytes decodes to them
 pub decoded_every : (url : Bool) (bytes : List ℕ) → AreBytes bytes → decoded url (encoding url bytes) ≡ Some bytes
 unfolding decoded decoded_of
-decoded_every true bytes all = ap result_ok (decode_of-encode_of engines.url_safe_no_pad bytes refl (bytes_at bytes all))
+decoded_every true bytes all = ap result_ok
+    (decode_of-encode_of engines.url_safe_no_pad bytes refl (bytes_at bytes all))
 decoded_every false bytes all = ap result_ok (decode_of-encode_of engines.standard bytes refl (bytes_at bytes all))

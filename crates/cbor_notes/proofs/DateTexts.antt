@@ -1,5 +1,8 @@
 -- What stands at each place of the texts of dates and times.
-use Rattle.std.proofs.Common.{◌⊎◌, inl, inr, neg_ℤ, ◌*◌, ap, ◌∙◌, Option, Some, None, false, IsSome, IsSomeAnd, nat_abs, to_z, of_z, w8, append_assoc, ◌<ℤ◌, Result, Ok, Err, IfOk, IfSome, ◌≡◌, ℕ, ◌+◌, ◌/◌, ◌%◌, ◌<◌, ◌≤◌, ℤ, pos, negsuc, ◌≤ℤ◌, unsigned_abs, List, [], ◌∷◌, ◌++◌, length, get_or, refl, arith}
+use Rattle.std.proofs.Common.{◌⊎◌, inl, inr, neg_ℤ, ◌*◌, ap, ◌∙◌, Option, Some, None, false, IsSome, IsSomeAnd, nat_abs}
+use Rattle.std.proofs.Common.{to_z, of_z, w8, append_assoc, ◌<ℤ◌, Result, Ok, Err, IfOk, IfSome, ◌≡◌, ℕ, ◌+◌, ◌/◌, ◌%◌}
+use Rattle.std.proofs.Common.{◌<◌, ◌≤◌, ℤ, pos, negsuc, ◌≤ℤ◌, unsigned_abs, List, [], ◌∷◌, ◌++◌, length, get_or, refl}
+use Rattle.std.proofs.Common.{arith}
 use Rattle.std.proofs.lemmas.Bool.Decides.{nat_tests}
 use Rattle.std.specs.Int.Signed.{lt_z}
 use Rattle.std.specs.Result.{result_ok}
@@ -15,15 +18,20 @@ use Rattle.cbor_notes.specs.Date.{IsDateText, clock_text, date_text, two_digits,
 use Rattle.cbor_notes.specs.DateTime.{IsOffset, ahead, behind}
 use Rattle.cbor_notes.specs.Text.{grouped}
 
-pub ten_items : (xs : List ℕ) → length xs ≡ 10 → xs ≡ get_or xs 0 0 ∷ get_or xs 1 0 ∷ get_or xs 2 0 ∷ get_or xs 3 0 ∷ get_or xs 4 0 ∷ get_or xs 5 0 ∷ get_or xs 6 0 ∷ get_or xs 7 0 ∷ get_or xs 8 0 ∷ get_or xs 9 0 ∷ []
-ten_items xs h = text_from_reads xs _ h (refl, (refl, (refl, (refl, (refl, (refl, (refl, (refl, (refl, (refl, tt))))))))))
+pub ten_items : (xs : List ℕ) → length xs ≡ 10
+    → xs ≡ get_or xs 0 0 ∷ get_or xs 1 0 ∷ get_or xs 2 0 ∷ get_or xs 3 0 ∷ get_or xs 4 0 ∷ get_or xs 5 0 ∷ get_or xs 6 0
+    ∷ get_or xs 7 0 ∷ get_or xs 8 0 ∷ get_or xs 9 0 ∷ []
+ten_items xs h = text_from_reads xs _ h (refl,
+    (refl, (refl, (refl, (refl, (refl, (refl, (refl, (refl, (refl, tt))))))))))
 
 pub no_minus : (y : ℤ) → pos 0 ≤ℤ y → year_text y ≡ four_digits (unsigned_abs y)
 no_minus (pos n) h = refl
 no_minus (negsuc n) h = absurd (omega (arith, signed_arith))
 
 -- a date from the year 0 on has no minus
-pub date_text-ten : (date : Date) → pos 0 ≤ℤ date.year → date_text date ≡ two_digits (unsigned_abs date.year / 100) ++ two_digits (unsigned_abs date.year % 100) ++ (45 ∷ two_digits date.month) ++ (45 ∷ two_digits date.day)
+pub date_text-ten : (date : Date) → pos 0 ≤ℤ date.year
+    → date_text date ≡ two_digits (unsigned_abs date.year / 100) ++ two_digits (unsigned_abs date.year % 100)
+    ++ (45 ∷ two_digits date.month) ++ (45 ∷ two_digits date.day)
 unfolding date_text
 date_text-ten date h = rw (no_minus date.year h) refl
 
@@ -33,7 +41,8 @@ year_below (pos n) h = omega (arith, signed_arith)
 year_below (negsuc n) h = omega (arith, signed_arith)
 
 -- a time of day is eight characters
-pub clock_text-eight : (hour minute second : ℕ) → clock_text hour minute second ≡ two_digits hour ++ (58 ∷ two_digits minute) ++ (58 ∷ two_digits second)
+pub clock_text-eight : (hour minute second : ℕ)
+    → clock_text hour minute second ≡ two_digits hour ++ (58 ∷ two_digits minute) ++ (58 ∷ two_digits second)
 unfolding clock_text
 clock_text-eight hour minute second = refl
 
@@ -58,7 +67,8 @@ with_minus (pos n) h = absurd (omega (arith, signed_arith))
 with_minus (negsuc n) h = refl
 
 -- five pieces, appended one after the other
-pub five_pieces : (t₀ t₁ t₂ t₃ t₄ a b c d e : List ℕ) → t₁ ≡ t₀ ++ a → t₂ ≡ t₁ ++ b → t₃ ≡ t₂ ++ c → t₄ ≡ t₃ ++ d → t₄ ++ e ≡ t₀ ++ (a ++ b ++ c ++ d ++ e)
+pub five_pieces : (t₀ t₁ t₂ t₃ t₄ a b c d e : List ℕ) → t₁ ≡ t₀ ++ a → t₂ ≡ t₁ ++ b → t₃ ≡ t₂ ++ c → t₄ ≡ t₃ ++ d
+    → t₄ ++ e ≡ t₀ ++ (a ++ b ++ c ++ d ++ e)
 five_pieces t₀ t₁ t₂ t₃ t₄ a b c d e p q r s = rw (s, r, q, p) (simp append_assoc)
 
 -- what holds of the value of an `Ok` holds of what `ok` makes of it
@@ -72,14 +82,18 @@ not_negative (pos n) h = refl
 not_negative (negsuc n) h = absurd (omega (arith, signed_arith))
 
 -- the parts of a date are what a constructor takes
-pub civil_parts : (date : Date) → pos 0 ≤ℤ date.year → IsDate (pos (unsigned_abs date.year)) (pos date.month) (pos date.day)
+pub civil_parts : (date : Date) → pos 0 ≤ℤ date.year
+    → IsDate (pos (unsigned_abs date.year)) (pos date.month) (pos date.day)
 civil_parts date h =
     let m = date.month_in in
     let d = date.day_in in
-    rw (not_negative date.year h) (date.year_in, (omega (arith, signed_arith), omega (arith, signed_arith)), (omega (arith, signed_arith), omega (arith, signed_arith)))
+    rw (not_negative date.year h) (date.year_in, (omega (arith, signed_arith), omega (arith, signed_arith)),
+        (omega (arith, signed_arith), omega (arith, signed_arith)))
 
 -- and gives that date's day
-pub date_found : (found : Option Date) (date : Date) → pos 0 ≤ℤ date.year → IsSome found → IfSome found (IsYmd (pos (unsigned_abs date.year)) (pos date.month) (pos date.day)) → IsSomeAnd found (λ answer. epoch_day answer ≡ epoch_day date)
+pub date_found : (found : Option Date) (date : Date) → pos 0 ≤ℤ date.year → IsSome found
+    → IfSome found (IsYmd (pos (unsigned_abs date.year)) (pos date.month) (pos date.day))
+    → IsSomeAnd found (λ answer. epoch_day answer ≡ epoch_day date)
 date_found None date h some is = cc
 date_found (Some answer) date h some is =
     let m : answer.month ≡ date.month = cc in
@@ -125,10 +139,12 @@ day_below date =
     omega arith
 
 -- a year after a text, with its minus and without one
-pub minus_first : (t₀ t₁ : List ℕ) (y : ℤ) (n : ℕ) → y <ℤ pos 0 → n ≡ unsigned_abs y → t₁ ≡ t₀ ++ (45 ∷ []) → t₁ ++ four_digits n ≡ t₀ ++ year_text y
+pub minus_first : (t₀ t₁ : List ℕ) (y : ℤ) (n : ℕ) → y <ℤ pos 0 → n ≡ unsigned_abs y → t₁ ≡ t₀ ++ (45 ∷ [])
+    → t₁ ++ four_digits n ≡ t₀ ++ year_text y
 minus_first t₀ t₁ y n h e f = rw (f, e, with_minus y h) (append_assoc t₀ (45 ∷ []) (four_digits (unsigned_abs y)))
 
-pub digits_first : (t₀ t₁ : List ℕ) (y : ℤ) (n : ℕ) → pos 0 ≤ℤ y → n ≡ unsigned_abs y → t₁ ≡ t₀ → t₁ ++ four_digits n ≡ t₀ ++ year_text y
+pub digits_first : (t₀ t₁ : List ℕ) (y : ℤ) (n : ℕ) → pos 0 ≤ℤ y → n ≡ unsigned_abs y → t₁ ≡ t₀
+    → t₁ ++ four_digits n ≡ t₀ ++ year_text y
 digits_first t₀ t₁ y n h e f = rw (f, e, no_minus y h) refl
 
 -- a number is grouped by its distance from zero and its sign
@@ -148,10 +164,13 @@ pub record OffsetParts (text : List ℕ) (offset : ℤ) : Type 0 where
   pub colon : get_or text 3 0 ≡ 58
   pub hour_is : get_or text 1 0 ∷ get_or text 2 0 ∷ [] ≡ two_digits hour
   pub minute_is : get_or text 4 0 ∷ get_or text 5 0 ∷ [] ≡ two_digits minute
-  pub sign_is : ((get_or text 0 0 ≡ 43) × (offset ≡ pos (3600 * hour + 60 * minute))) ⊎ ((get_or text 0 0 ≡ 45) × (offset ≡ neg_ℤ (pos (3600 * hour + 60 * minute))))
+  pub sign_is : ((get_or text 0 0 ≡ 43) × (offset ≡ pos (3600 * hour + 60 * minute)))
+      ⊎ ((get_or text 0 0 ≡ 45) × (offset ≡ neg_ℤ (pos (3600 * hour + 60 * minute))))
 
-offset_parts : (text : List ℕ) (offset : ℤ) (sign hour minute : ℕ) → hour ≤ 23 → minute ≤ 59 → text ≡ (sign ∷ two_digits hour) ++ (58 ∷ two_digits minute)
-    → ((sign ≡ 43) × (offset ≡ pos (3600 * hour + 60 * minute))) ⊎ ((sign ≡ 45) × (offset ≡ neg_ℤ (pos (3600 * hour + 60 * minute)))) → OffsetParts text offset
+offset_parts : (text : List ℕ) (offset : ℤ) (sign hour minute : ℕ) → hour ≤ 23 → minute ≤ 59
+    → text ≡ (sign ∷ two_digits hour) ++ (58 ∷ two_digits minute)
+    → ((sign ≡ 43) × (offset ≡ pos (3600 * hour + 60 * minute)))
+        ⊎ ((sign ≡ 45) × (offset ≡ neg_ℤ (pos (3600 * hour + 60 * minute)))) → OffsetParts text offset
 offset_parts text offset sign hour minute h m is signed =
     let first : get_or text 0 0 ≡ sign = ap (λ t. get_or t 0 0) is in
     record {
@@ -168,12 +187,15 @@ offset_parts text offset sign hour minute h m is signed =
 
 pub IsOffset-parts : (text : List ℕ) (offset : ℤ) → IsOffset text offset → OffsetParts text offset
 IsOffset-parts text offset (ahead hour minute h m is o) = offset_parts text offset 43 hour minute h m is (inl (refl, o))
-IsOffset-parts text offset (behind hour minute h m is o) = offset_parts text offset 45 hour minute h m is (inr (refl, o))
+IsOffset-parts text offset (behind hour minute h m is o) =
+    offset_parts text offset 45 hour minute h m is (inr (refl, o))
 
 -- six characters that are a sign, digits and a colon
-pub offset_text : (text : List ℕ) (sign hour minute : ℕ) → length text ≡ 6 → get_or text 0 0 ≡ sign → get_or text 3 0 ≡ 58
+pub offset_text : (text : List ℕ) (sign hour minute : ℕ) → length text ≡ 6 → get_or text 0 0 ≡ sign
+    → get_or text 3 0 ≡ 58
     → get_or text 1 0 ∷ get_or text 2 0 ∷ [] ≡ two_digits hour
     → get_or text 4 0 ∷ get_or text 5 0 ∷ [] ≡ two_digits minute
     → text ≡ (sign ∷ two_digits hour) ++ (58 ∷ two_digits minute)
 offset_text text sign hour minute six first colon a b =
-    text_from_reads text (get_or text 0 0 ∷ get_or text 1 0 ∷ get_or text 2 0 ∷ get_or text 3 0 ∷ get_or text 4 0 ∷ get_or text 5 0 ∷ []) six (refl, (refl, (refl, (refl, (refl, (refl, tt)))))) ∙ cc
+    text_from_reads text (get_or text 0 0 ∷ get_or text 1 0 ∷ get_or text 2 0 ∷ get_or text 3 0 ∷ get_or text 4 0
+        ∷ get_or text 5 0 ∷ []) six (refl, (refl, (refl, (refl, (refl, (refl, tt)))))) ∙ cc

@@ -1,9 +1,11 @@
 -- The lines of decoded bytes, one after the other.
-use Rattle.std.proofs.Common.{◌≡◌, ℕ, ◌+◌, ◌-◌, ◌*◌, ◌/◌, ◌%◌, ◌<◌, ◌≤◌, min, List, [], ◌∷◌, ◌++◌, map, length, take, drop, replicate, slice_index, codes, refl, sym, ap, ◌∙◌, arith}
+use Rattle.std.proofs.Common.{◌≡◌, ℕ, ◌+◌, ◌-◌, ◌*◌, ◌/◌, ◌%◌, ◌<◌, ◌≤◌, min, List, [], ◌∷◌, ◌++◌, map, length, take}
+use Rattle.std.proofs.Common.{drop, replicate, slice_index, codes, refl, sym, ap, ◌∙◌, arith}
 use Rattle.std.specs.Int.{div_ceil}
 use Rattle.std.specs.List.{range_with_len}
 use Rattle.std.specs.Fork.{slice_chunk}
-use Rattle.std.proofs.lemmas.List.{append_assoc, drop-drop, take_at, drop_at, length-drop, replicate_more, take_min, drop_min}
+use Rattle.std.proofs.lemmas.List.{append_assoc, drop-drop, take_at, drop_at, length-drop, replicate_more, take_min}
+use Rattle.std.proofs.lemmas.List.{drop_min}
 use Rattle.std.proofs.lemmas.List.FromFn.{map-range_with_len_more}
 use Rattle.hex.specs.Hex.{encode_lower, encode_with}
 use Rattle.cbor_notes.specs.Text.{quoted_bytes}
@@ -17,20 +19,23 @@ encode_with-append t (x ∷ xs) ys =
     ap (λ (l : List ℕ). slice_index t (x / 16) ∷ slice_index t (x % 16) ∷ l) (encode_with-append t xs ys)
 
 -- one more blank
-pub blanks_more : (line after blank : List ℕ) (counter start : ℕ) → start ≤ counter → after ≡ line ++ replicate (counter - start) 32
+pub blanks_more : (line after blank : List ℕ) (counter start : ℕ) → start ≤ counter
+    → after ≡ line ++ replicate (counter - start) 32
     → blank ≡ 32 ∷ [] → after ++ blank ≡ line ++ replicate (counter + 1 - start) 32
 blanks_more line after blank counter start low is blank_is =
     let more : counter + 1 - start ≡ counter - start + 1 = omega arith in
     rw (is, blank_is, more, append_assoc, replicate_more) refl
 
 -- the line, from its parts
-pub line_is : (piece filled marked line : List ℕ) (width counter : ℕ) → 2 * length piece ≤ width → width ≤ counter → counter ≤ width
+pub line_is : (piece filled marked line : List ℕ) (width counter : ℕ) → 2 * length piece ≤ width → width ≤ counter
+    → counter ≤ width
     → filled ≡ encode_lower piece ++ replicate (counter - 2 * length piece) 32 → marked ≡ filled ++ codes " # "
     → line ≡ marked ++ quoted_bytes piece → line ≡ decoded_line width piece
 unfolding decoded_line
 line_is piece filled marked line width counter fits low high filled_is marked_is is =
     let same : counter ≡ width = omega arith in
-    let whole : line ≡ ((encode_lower piece ++ replicate (counter - 2 * length piece) 32) ++ codes " # ") ++ quoted_bytes piece =
+    let whole : line ≡ ((encode_lower piece ++ replicate (counter - 2 * length piece) 32) ++ codes " # ")
+        ++ quoted_bytes piece =
     is ∙ rw (marked_is, filled_is) refl in
     rw same at whole
 
@@ -44,10 +49,13 @@ pub record AreShown (bytes rest : List ℕ) (lines : List (List ℕ)) (n : ℕ) 
   pub shown : lines ≡ map (λ k. decoded_line (2 * min 16 (length bytes)) (slice_chunk bytes 16 k)) (range_with_len 0 n)
 
 -- a piece of sixteen, or what is left
-cut_at : (rest piece left : List ℕ) → rest ≡ piece ++ left → length piece ≡ min 16 (length rest) → (take 16 rest ≡ piece) × (drop 16 rest ≡ left)
+cut_at : (rest piece left : List ℕ) → rest ≡ piece ++ left → length piece ≡ min 16 (length rest)
+    → (take 16 rest ≡ piece) × (drop 16 rest ≡ left)
 cut_at rest piece left split long = (
-  sym (take_min 16 rest) ∙ ap (λ (k : ℕ). take k rest) (sym long) ∙ ap (take (length piece)) split ∙ take_at piece left (length piece) refl,
-  sym (drop_min 16 rest) ∙ ap (λ (k : ℕ). drop k rest) (sym long) ∙ ap (drop (length piece)) split ∙ drop_at piece left (length piece) refl,
+  sym (take_min 16 rest) ∙ ap (λ (k : ℕ). take k rest) (sym long) ∙ ap (take (length piece)) split
+      ∙ take_at piece left (length piece) refl,
+  sym (drop_min 16 rest) ∙ ap (λ (k : ℕ). drop k rest) (sym long) ∙ ap (drop (length piece)) split
+      ∙ drop_at piece left (length piece) refl,
 )
 
 piece_is : (bytes rest piece left : List ℕ) (n : ℕ) → rest ≡ drop (16 * n) bytes
@@ -70,10 +78,12 @@ shown_more bytes rest piece left line lines n so_far split long some is =
       within = omega arith;
       shown =
           rw (so_far.shown, is, here)
-          (sym (map-range_with_len_more (λ k. decoded_line (2 * min 16 (length bytes)) (slice_chunk bytes 16 k)) 0 n n (omega arith)));
+          (sym (map-range_with_len_more (λ k. decoded_line (2 * min 16 (length bytes)) (slice_chunk bytes 16 k)) 0 n n
+              (omega arith)));
     }
 
-pub shown_all : (bytes rest : List ℕ) (lines : List (List ℕ)) (n : ℕ) → AreShown bytes rest lines n → length rest ≡ 0 → lines ≡ decoded_lines bytes
+pub shown_all : (bytes rest : List ℕ) (lines : List (List ℕ)) (n : ℕ) → AreShown bytes rest lines n → length rest ≡ 0
+    → lines ≡ decoded_lines bytes
 unfolding decoded_lines
 shown_all bytes rest lines n so_far none =
     let long_rest : length rest ≡ length bytes - 16 * n = ap length so_far.left ∙ length-drop (16 * n) bytes in

@@ -1,5 +1,6 @@
 -- Numbers of bytes, and halves of their range.
-use Rattle.std.proofs.Common.{Bool, Option, Some, None, lit<, ◌/◌, zero, [], ◌∷◌, get_or, ◌≡◌, ℕ, suc, ◌+◌, ◌-◌, ◌*◌, ◌%◌, ◌^◌, ◌<◌, ◌≤◌, true, false, List, length, take, refl, sym, ap, ◌∙◌, arith}
+use Rattle.std.proofs.Common.{Bool, Option, Some, None, lit<, ◌/◌, zero, [], ◌∷◌, get_or, ◌≡◌, ℕ, suc, ◌+◌, ◌-◌, ◌*◌}
+use Rattle.std.proofs.Common.{◌%◌, ◌^◌, ◌<◌, ◌≤◌, true, false, List, length, take, refl, sym, ap, ◌∙◌, arith}
 use Rattle.std.proofs.Math.Nat.{pow-le-pow_right, pow-suc, two-pow-succ}
 use Rattle.std.proofs.Math.Pow.{pow-lt}
 use Rattle.std.proofs.lemmas.Bool.Decides.{nat_tests}
@@ -31,7 +32,8 @@ signed_text-lower size number h =
     let test : nat_lt number (2 ^ (8 * size - 1)) ≡ true = grind (arith, nat_tests) in
     rw test refl
 
-pub signed_text-upper : (size number : ℕ) → 2 ^ (8 * size - 1) ≤ number → signed_text size number ≡ grouped (2 ^ (8 * size) - number) true
+pub signed_text-upper : (size number : ℕ) → 2 ^ (8 * size - 1) ≤ number
+    → signed_text size number ≡ grouped (2 ^ (8 * size) - number) true
 signed_text-upper size number h =
     let test : nat_lt number (2 ^ (8 * size - 1)) ≡ false = grind (arith, nat_tests) in
     rw test refl
@@ -58,10 +60,13 @@ take_fits (suc n) (x ∷ xs) fit zero = fit 0
 take_fits (suc n) (x ∷ xs) fit (suc i) = take_fits n xs (λ j. fit (suc j)) i
 
 -- one more byte
-pub next_number : (xs : List ℕ) (i number : ℕ) → ((j : ℕ) → get_or xs j 0 < 256) → i < length xs → length xs ≤ 16 → number ≡ number_from_digits 256 (take i xs)
-    → (number * 256 + get_or xs i 0 ≡ number_from_digits 256 (take (i + 1) xs)) × (number * 256 + get_or xs i 0 < 2 ^ 128)
+pub next_number : (xs : List ℕ) (i number : ℕ) → ((j : ℕ) → get_or xs j 0 < 256) → i < length xs → length xs ≤ 16
+    → number ≡ number_from_digits 256 (take i xs)
+    → (number * 256 + get_or xs i 0 ≡ number_from_digits 256 (take (i + 1) xs))
+        × (number * 256 + get_or xs i 0 < 2 ^ 128)
 next_number xs i number fit inside few is =
-    let more : number * 256 + get_or xs i 0 ≡ number_from_digits 256 (take (i + 1) xs) = rw is (sym (number_more 256 xs i inside)) in
+    let more : number * 256 + get_or xs i 0 ≡ number_from_digits 256 (take (i + 1) xs) =
+        rw is (sym (number_more 256 xs i inside)) in
     let below = number_below (take (i + 1) xs) (take_fits (i + 1) xs fit) in
     let len : 8 * length (take (i + 1) xs) ≤ 128 = omega (arith, length-take-le (i + 1) xs (omega arith)) in
     let most : 2 ^ (8 * length (take (i + 1) xs)) ≤ 2 ^ 128 = pow-le-pow_right (lit< tt) len in

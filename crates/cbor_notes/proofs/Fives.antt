@@ -1,10 +1,12 @@
 -- Base 32 as the values of its digits: the encoding shows them, and then padding.
-use Rattle.std.proofs.Common.{◌≡◌, ℕ, ◌+◌, ◌-◌, ◌*◌, ◌/◌, ◌^◌, ◌<◌, ◌≤◌, List, [], ◌∷◌, ◌++◌, map, length, take, replicate, slice_index, codes, refl, sym, ap, ◌∙◌, arith, lit<}
+use Rattle.std.proofs.Common.{◌≡◌, ℕ, ◌+◌, ◌-◌, ◌*◌, ◌/◌, ◌^◌, ◌<◌, ◌≤◌, List, [], ◌∷◌, ◌++◌, map, length, take}
+use Rattle.std.proofs.Common.{replicate, slice_index, codes, refl, sym, ap, ◌∙◌, arith, lit<}
 use Rattle.std.proofs.lemmas.Nat.{div_below, pow-add}
 use Rattle.std.proofs.Math.Nat.{mul-div_cancel, one-le-pow}
 use Rattle.std.specs.Int.Digits.{AllBelowBase, number_from_digits}
 use Rattle.cbor_notes.specs.AreBytes.{AreBytes}
-use Rattle.cbor_notes.specs.Base32.{characters, IsLastGroup, places, digit_count, forty_bits, encode_group, encode, base32, base32hex}
+use Rattle.cbor_notes.specs.Base32.{characters, IsLastGroup, places, digit_count, forty_bits, encode_group, encode}
+use Rattle.cbor_notes.specs.Base32.{base32, base32hex}
 use Rattle.cbor_notes.specs.declared.base32.Alphabet.{Alphabet}
 use Rattle.cbor_notes.specs.declared.base32.Alphabet.TheVariants.{Standard, ExtendedHex}
 use Rattle.cbor_notes.proofs.Base32Groups.{few_digits, group_bits}
@@ -26,24 +28,29 @@ padding [] = 0
 padding (a ∷ b ∷ c ∷ d ∷ e ∷ bytes) = padding bytes
 padding group = 8 - digit_count (length group)
 
-encode_values : (alphabet : Alphabet) (bytes : List ℕ) → encode alphabet bytes ≡ map (slice_index (characters alphabet)) (fives bytes) ++ replicate (padding bytes) 61
+encode_values : (alphabet : Alphabet) (bytes : List ℕ)
+    → encode alphabet bytes ≡ map (slice_index (characters alphabet)) (fives bytes) ++ replicate (padding bytes) 61
 unfolding encode fives padding
 encode_values alphabet [] = refl
 encode_values alphabet (a ∷ []) = refl
 encode_values alphabet (a ∷ b ∷ []) = refl
 encode_values alphabet (a ∷ b ∷ c ∷ []) = refl
 encode_values alphabet (a ∷ b ∷ c ∷ d ∷ []) = refl
-encode_values alphabet (a ∷ b ∷ c ∷ d ∷ e ∷ bytes) = ap (λ (digits : List ℕ). encode_group alphabet (a ∷ b ∷ c ∷ d ∷ e ∷ []) ++ digits) (encode_values alphabet bytes)
+encode_values alphabet (a ∷ b ∷ c ∷ d ∷ e ∷ bytes) =
+    ap (λ (digits : List ℕ). encode_group alphabet (a ∷ b ∷ c ∷ d ∷ e ∷ []) ++ digits) (encode_values alphabet bytes)
 
-pub base32_values : (bytes : List ℕ) → base32 bytes ≡ map (slice_index (codes "ABCDEFGHIJKLMNOPQRSTUVWXYZ234567")) (fives bytes) ++ replicate (padding bytes) 61
+pub base32_values : (bytes : List ℕ) → base32 bytes ≡ map (slice_index (codes "ABCDEFGHIJKLMNOPQRSTUVWXYZ234567"))
+    (fives bytes) ++ replicate (padding bytes) 61
 base32_values bytes = encode_values Standard bytes
 
-pub base32hex_values : (bytes : List ℕ) → base32hex bytes ≡ map (slice_index (codes "0123456789ABCDEFGHIJKLMNOPQRSTUV")) (fives bytes) ++ replicate (padding bytes) 61
+pub base32hex_values : (bytes : List ℕ) → base32hex bytes ≡ map (slice_index (codes "0123456789ABCDEFGHIJKLMNOPQRSTUV"))
+    (fives bytes) ++ replicate (padding bytes) 61
 base32hex_values bytes = encode_values ExtendedHex bytes
 
 -- ---- a group's bytes from its values
 
-values_are : (group : List ℕ) (k : ℕ) → k ≤ 8 → take k (places 32 8 (forty_bits group)) ≡ places 32 k (forty_bits group / 32 ^ (8 - k))
+values_are : (group : List ℕ) (k : ℕ) → k ≤ 8
+    → take k (places 32 8 (forty_bits group)) ≡ places 32 k (forty_bits group / 32 ^ (8 - k))
 values_are group k few =
     let eight : 8 - k + k ≡ 8 = omega arith in
     ap (λ (n : ℕ). take k (places 32 n (forty_bits group))) (sym eight) ∙ take-places 32 k (8 - k) (forty_bits group)
@@ -51,10 +58,12 @@ values_are group k few =
 pub values_below : (group : List ℕ) → length group ≤ 5 → AllBelowBase 32 (group_values group)
 values_below group small =
     let k : ℕ = digit_count (length group) in
-    rw (values_are group k (few_digits (length group) small)) (AllBelowBase-places 32 k (forty_bits group / 32 ^ (8 - k)) (lit< tt))
+    rw (values_are group k (few_digits (length group) small))
+        (AllBelowBase-places 32 k (forty_bits group / 32 ^ (8 - k)) (lit< tt))
 
 -- the number that the values make, filled up with zero bits, is the group's forty bits
-bits_again : (group : List ℕ) → IsLastGroup group → (length (group_values group) ≡ digit_count (length group)) × (number_from_digits 32 (group_values group) * 32 ^ (8 - digit_count (length group)) ≡ forty_bits group)
+bits_again : (group : List ℕ) → IsLastGroup group → (length (group_values group) ≡ digit_count (length group))
+    × (number_from_digits 32 (group_values group) * 32 ^ (8 - digit_count (length group)) ≡ forty_bits group)
 bits_again group is =
     let k : ℕ = digit_count (length group) in
     let few : k ≤ 8 = few_digits (length group) is.2 in
@@ -62,12 +71,15 @@ bits_again group is =
     let number : ℕ = forty_bits group / 32 ^ (8 - k) in
     let scaled : forty_bits group < 32 ^ k * 32 ^ (8 - k) =
     rw (← pow-add 32 k (8 - k)) (let whole : k + (8 - k) ≡ 8 = omega arith in rw whole bits.small) in
-    let small : number < 32 ^ k = div_below (forty_bits group) (32 ^ (8 - k)) (32 ^ k) (one-le-pow (8 - k) 32 (lit< tt)) scaled in (
+    let small : number < 32 ^ k = div_below (forty_bits group) (32 ^ (8 - k)) (32 ^ k) (one-le-pow (8 - k) 32 (lit< tt))
+        scaled in (
       ap length (values_are group k few) ∙ length-places 32 k number,
-      ap (λ (v : List ℕ). number_from_digits 32 v * 32 ^ (8 - k)) (values_are group k few) ∙ (ap (λ (n : ℕ). n * 32 ^ (8 - k)) (number-places 32 k number (lit< tt) small) ∙ bits.whole),
+      ap (λ (v : List ℕ). number_from_digits 32 v * 32 ^ (8 - k)) (values_are group k few)
+          ∙ (ap (λ (n : ℕ). n * 32 ^ (8 - k)) (number-places 32 k number (lit< tt) small) ∙ bits.whole),
     )
 
-bytes_again : (group : List ℕ) (n : ℕ) → n ≡ length group → n ≤ 5 → AreBytes group → take n (places 256 5 (number_from_digits 256 group * 256 ^ (5 - n))) ≡ group
+bytes_again : (group : List ℕ) (n : ℕ) → n ≡ length group → n ≤ 5 → AreBytes group
+    → take n (places 256 5 (number_from_digits 256 group * 256 ^ (5 - n))) ≡ group
 bytes_again group n n_is few all =
     let number : ℕ = number_from_digits 256 group in
     let five : 5 - n + n ≡ 5 = omega arith in
@@ -77,7 +89,8 @@ bytes_again group n n_is few all =
     ∙ (ap (λ (m : ℕ). places 256 m number) n_is ∙ places-number 256 group (lit< tt) all)))
 
 pub group_again : (group : List ℕ) → IsLastGroup group
-    → let values = group_values group in take (5 * length values / 8) (places 256 5 (number_from_digits 32 values * 32 ^ (8 - length values))) ≡ group
+    → let values = group_values group in take (5 * length values / 8)
+        (places 256 5 (number_from_digits 32 values * 32 ^ (8 - length values))) ≡ group
 group_again group is =
     let bits = bits_again group is in
     let count = (group_bits group is).count in

@@ -1,21 +1,27 @@
 -- Digits that are read one after the other, and indicators.
-use Rattle.std.proofs.Common.{◌≡◌, ℕ, ◌+◌, ◌*◌, ◌^◌, ◌<◌, ◌≤◌, min, true, false, ◌==◌, ◌&&◌, nat_lt, nat_le, List, [], ◌∷◌, ◌++◌, length, get_or, drop, Option, Some, None, refl, sym, ap, ◌∙◌, inl, inr, subst, arith}
+use Rattle.std.proofs.Common.{◌≡◌, ℕ, ◌+◌, ◌*◌, ◌^◌, ◌<◌, ◌≤◌, min, true, false, ◌==◌, ◌&&◌, nat_lt, nat_le, List, []}
+use Rattle.std.proofs.Common.{◌∷◌, ◌++◌, length, get_or, drop, Option, Some, None, refl, sym, ap, ◌∙◌, inl, inr, subst}
+use Rattle.std.proofs.Common.{arith}
 use Rattle.std.specs.Char.{digit_value}
 use Rattle.std.specs.Str.Parse.{AllDigits, digits_value_after, digits_value}
 use Rattle.std.proofs.Math.Nat.{mul-le-mul_left, mul-le-mul_right}
 use Rattle.std.proofs.lemmas.List.{length-append, drop_more}
-use Rattle.std.proofs.lemmas.Bool.{and_parts, cond_both, cond-true, cond-false, cases_Bool, cases_lt, eqb-true, lt-ltb, ltb-true, ltb-false, le-leb, lt-leb, leb-true, false≢true}
+use Rattle.std.proofs.lemmas.Bool.{and_parts, cond_both, cond-true, cond-false, cases_Bool, cases_lt, eqb-true, lt-ltb}
+use Rattle.std.proofs.lemmas.Bool.{ltb-true, ltb-false, le-leb, lt-leb, leb-true, false≢true}
 use Rattle.cbor_notes.specs.Token.{AreDigits, Indicates, capped}
 use Rattle.cbor_notes.specs.TokenReading.{starts_with_digit, digit_run, small_run, indicator_of}
 
 -- digits that are read, and how reading goes on
-pub digit_run-append : (base value : ℕ) (digits rest : List ℕ) → AllDigits base digits → digit_run base value (digits ++ rest) ≡ digit_run base (digits_value_after base value digits) rest
+pub digit_run-append : (base value : ℕ) (digits rest : List ℕ) → AllDigits base digits
+    → digit_run base value (digits ++ rest) ≡ digit_run base (digits_value_after base value digits) rest
 digit_run-append base value [] rest all = refl
 digit_run-append base value (d ∷ digits) rest all =
-    cond-true (nat_lt (digit_value d) base) _ _ (lt-ltb (digit_value d) base all.0) ∙ digit_run-append base (value * base + digit_value d) digits rest all.1
+    cond-true (nat_lt (digit_value d) base) _ _ (lt-ltb (digit_value d) base all.0)
+        ∙ digit_run-append base (value * base + digit_value d) digits rest all.1
 
 -- no digit of this base stands first
-pub digit_run-stops : (base value : ℕ) (rest : List ℕ) → starts_with_digit base rest ≡ false → digit_run base value rest ≡ (value, rest)
+pub digit_run-stops : (base value : ℕ) (rest : List ℕ) → starts_with_digit base rest ≡ false
+    → digit_run base value rest ≡ (value, rest)
 digit_run-stops base value [] stops = refl
 digit_run-stops base value (byte ∷ rest) stops = cond-false (nat_lt (digit_value byte) base) _ _ stops
 
@@ -51,12 +57,16 @@ after_ge : (value : ℕ) (digits : List ℕ) → value ≤ digits_value_after 10
 after_ge value [] = omega arith
 after_ge value (d ∷ digits) = omega (arith, after_ge (value * 10 + digit_value d) digits)
 
-pub small_run-append : (value : ℕ) (digits rest : List ℕ) → digits_value_after 10 value digits ≤ 3 → small_run value (digits ++ rest) ≡ small_run (digits_value_after 10 value digits) rest
+pub small_run-append : (value : ℕ) (digits rest : List ℕ) → digits_value_after 10 value digits ≤ 3
+    → small_run value (digits ++ rest) ≡ small_run (digits_value_after 10 value digits) rest
 small_run-append value [] rest small = refl
 small_run-append value (d ∷ digits) rest small =
-    cond-true (nat_le (value * 10 + digit_value d) 3) _ _ (le-leb _ 3 (omega (arith, after_ge (value * 10 + digit_value d) digits, small))) ∙ small_run-append (value * 10 + digit_value d) digits rest small
+    cond-true (nat_le (value * 10 + digit_value d) 3) _ _
+        (le-leb _ 3 (omega (arith, after_ge (value * 10 + digit_value d) digits, small)))
+        ∙ small_run-append (value * 10 + digit_value d) digits rest small
 
-pub small_run-stops : (value : ℕ) (rest : List ℕ) → starts_with_digit 10 rest ≡ false → small_run value rest ≡ (value, rest)
+pub small_run-stops : (value : ℕ) (rest : List ℕ) → starts_with_digit 10 rest ≡ false
+    → small_run value rest ≡ (value, rest)
 small_run-stops value [] stops = refl
 small_run-stops value (byte ∷ rest) stops =
     let large : 10 ≤ digit_value byte = ltb-false (digit_value byte) 10 stops in
@@ -91,14 +101,18 @@ length-small_run value text few =
     omega (arith, ap length run.text_is, length-append run.digits (small_run value text).1)
 
 -- an indicator is read, and digits that keep it small
-pub indicator_of-append : (text rest : List ℕ) (indicator : ℕ) → Indicates text (Some indicator) → indicator_of (text ++ rest) ≡ Some (small_run indicator rest)
+pub indicator_of-append : (text rest : List ℕ) (indicator : ℕ) → Indicates text (Some indicator)
+    → indicator_of (text ++ rest) ≡ Some (small_run indicator rest)
 indicator_of-append text rest indicator is =
-    rw is.1 (read is.0 is.2.0.1 is.2.0.0 (subst (λ (n : ℕ). n ≤ 3) is.2.1 is.3) ∙ ap (λ (n : ℕ). Some (small_run n rest)) (sym is.2.1))
+    rw is.1 (read is.0 is.2.0.1 is.2.0.0 (subst (λ (n : ℕ). n ≤ 3) is.2.1 is.3)
+        ∙ ap (λ (n : ℕ). Some (small_run n rest)) (sym is.2.1))
   where
-    read : (digits : List ℕ) → AllDigits 10 digits → 0 < length digits → digits_value 10 digits ≤ 3 → indicator_of (95 ∷ (digits ++ rest)) ≡ Some (small_run (digits_value 10 digits) rest)
+    read : (digits : List ℕ) → AllDigits 10 digits → 0 < length digits → digits_value 10 digits ≤ 3
+        → indicator_of (95 ∷ (digits ++ rest)) ≡ Some (small_run (digits_value 10 digits) rest)
     read [] all some small = absurd (omega arith)
     read (d ∷ digits) all some small =
-        cond-true (nat_lt (digit_value d) 4) _ None (lt-ltb (digit_value d) 4 (omega (arith, after_ge (0 * 10 + digit_value d) digits, small)))
+        cond-true (nat_lt (digit_value d) 4) _ None
+            (lt-ltb (digit_value d) 4 (omega (arith, after_ge (0 * 10 + digit_value d) digits, small)))
         ∙ ap (λ (r : ℕ × List ℕ). Some r) (small_run-append 0 (d ∷ digits) rest small)
 
 -- what is read is an indicator
@@ -110,33 +124,46 @@ some_small [] starts = absurd (false≢true starts)
 some_small (d ∷ rest) starts =
     let small : 0 * 10 + digit_value d ≤ 3 = omega (arith, ltb-true (digit_value d) 4 starts) in
     let next = is_small_run (0 * 10 + digit_value d) rest small in
-    let step : small_run 0 (d ∷ rest) ≡ small_run (0 * 10 + digit_value d) rest = cond-true (nat_le (0 * 10 + digit_value d) 3) _ _ (le-leb _ 3 small) in
+    let step : small_run 0 (d ∷ rest) ≡ small_run (0 * 10 + digit_value d) rest =
+        cond-true (nat_le (0 * 10 + digit_value d) 3) _ _ (le-leb _ 3 small) in
     subst (SmallDigits (d ∷ rest)) (sym step)
-    (d ∷ next.digits, ap (λ (t : List ℕ). d ∷ t) next.text_is, (((omega arith, (omega (arith, small), next.all)), next.value_is)), next.small)
+    (d ∷ next.digits, ap (λ (t : List ℕ). d ∷ t) next.text_is,
+        (((omega arith, (omega (arith, small), next.all)), next.value_is)), next.small)
 
-pub Indicates-indicator_of : (text : List ℕ) (read : ℕ × List ℕ) → indicator_of text ≡ Some read → (front : List ℕ) × (text ≡ front ++ read.1) × Indicates front (Some read.0)
+pub Indicates-indicator_of : (text : List ℕ) (read : ℕ × List ℕ) → indicator_of text ≡ Some read
+    → (front : List ℕ) × (text ≡ front ++ read.1) × Indicates front (Some read.0)
 Indicates-indicator_of [] read is = cc is
 Indicates-indicator_of (byte ∷ rest) read is =
     elim (cases_Bool ((byte == 95) && starts_with_digit 4 rest)) [
       | inl opens ↦
           let parts = and_parts (byte == 95) (starts_with_digit 4 rest) opens in
-          let same : ◌≡◌ {A = Option (ℕ × List ℕ)} (Some (small_run 0 rest)) (Some read) = sym (cond-true _ (Some (small_run 0 rest)) None opens) ∙ is in
+          let same : ◌≡◌ {A = Option (ℕ × List ℕ)} (Some (small_run 0 rest)) (Some read) =
+              sym (cond-true _ (Some (small_run 0 rest)) None opens) ∙ is in
           let run : ◌≡◌ {A = ℕ × List ℕ} (small_run 0 rest) read = cc same in
           let found = subst (SmallDigits rest) run (some_small rest parts.1) in
-          (95 ∷ found.0, ap (λ (b : ℕ). b ∷ rest) (eqb-true byte 95 parts.0) ∙ ap (λ (t : List ℕ). 95 ∷ t) found.1, (found.0, refl, found.2, found.3))
-      | inr none ↦ let never : ◌≡◌ {A = Option (ℕ × List ℕ)} None (Some read) = sym (cond-false _ (Some (small_run 0 rest)) None none) ∙ is in cc never
+          (95 ∷ found.0, ap (λ (b : ℕ). b ∷ rest) (eqb-true byte 95 parts.0) ∙ ap (λ (t : List ℕ). 95 ∷ t) found.1,
+              (found.0, refl, found.2, found.3))
+      | inr none ↦ let never : ◌≡◌ {A = Option (ℕ × List ℕ)} None (Some read) =
+          sym (cond-false _ (Some (small_run 0 rest)) None none) ∙ is in cc never
     ]
 
 -- one more digit of a run
-pub run_more : (base value digit : ℕ) (text : List ℕ) (at : ℕ) → at < length text → digit_value (get_or text at 0) < base → digit ≡ digit_value (get_or text at 0) → digit_run base value (drop at text) ≡ digit_run base (value * base + digit) (drop (at + 1) text)
+pub run_more : (base value digit : ℕ) (text : List ℕ) (at : ℕ) → at < length text
+    → digit_value (get_or text at 0) < base → digit ≡ digit_value (get_or text at 0)
+    → digit_run base value (drop at text) ≡ digit_run base (value * base + digit) (drop (at + 1) text)
 run_more base value digit text at within small is =
-    rw is (ap (digit_run base value) (drop_more text at 0 within) ∙ cond-true _ (digit_run base (value * base + digit_value (get_or text at 0)) (drop (at + 1) text)) _ (lt-ltb _ base small))
+    rw is (ap (digit_run base value) (drop_more text at 0 within)
+        ∙ cond-true _ (digit_run base (value * base + digit_value (get_or text at 0)) (drop (at + 1) text)) _
+        (lt-ltb _ base small))
 
 -- the same of runs whose value stays small
-pub small_more : (value digit : ℕ) (text : List ℕ) (at : ℕ) → at < length text → value * 10 + digit ≤ 3 → digit ≡ digit_value (get_or text at 0) → small_run value (drop at text) ≡ small_run (value * 10 + digit) (drop (at + 1) text)
+pub small_more : (value digit : ℕ) (text : List ℕ) (at : ℕ) → at < length text → value * 10 + digit ≤ 3
+    → digit ≡ digit_value (get_or text at 0)
+    → small_run value (drop at text) ≡ small_run (value * 10 + digit) (drop (at + 1) text)
 small_more value digit text at within small is =
     let few : value * 10 + digit_value (get_or text at 0) ≤ 3 = rw (← is) small in
-    rw is (ap (small_run value) (drop_more text at 0 within) ∙ cond-true _ (small_run (value * 10 + digit_value (get_or text at 0)) (drop (at + 1) text)) _ (le-leb _ 3 few))
+    rw is (ap (small_run value) (drop_more text at 0 within)
+        ∙ cond-true _ (small_run (value * 10 + digit_value (get_or text at 0)) (drop (at + 1) text)) _ (le-leb _ 3 few))
 
 -- no small digit was read, or some were
 pub none_small : (text : List ℕ) (value : ℕ) → small_run 0 text ≡ (value, text) → starts_with_digit 4 text ≡ false
@@ -145,12 +172,15 @@ none_small (d ∷ rest) value is =
     elim (cases_Bool (nat_lt (digit_value d) 4)) [
       | inl small ↦
           let few : 0 * 10 + digit_value d ≤ 3 = omega (arith, ltb-true (digit_value d) 4 small) in
-          let step : small_run 0 (d ∷ rest) ≡ small_run (0 * 10 + digit_value d) rest = cond-true _ _ _ (le-leb _ 3 few) in
-          absurd (omega (arith, length-small_run (0 * 10 + digit_value d) rest few, ap (λ (r : ℕ × List ℕ). length r.1) (sym step ∙ is)))
+          let step : small_run 0 (d ∷ rest) ≡ small_run (0 * 10 + digit_value d) rest =
+              cond-true _ _ _ (le-leb _ 3 few) in
+          absurd (omega (arith, length-small_run (0 * 10 + digit_value d) rest few,
+              ap (λ (r : ℕ × List ℕ). length r.1) (sym step ∙ is)))
       | inr large ↦ large
     ]
 
-pub starts_small : (text : List ℕ) (run : ℕ × List ℕ) → small_run 0 text ≡ run → length run.1 < length text → starts_with_digit 4 text ≡ true
+pub starts_small : (text : List ℕ) (run : ℕ × List ℕ) → small_run 0 text ≡ run → length run.1 < length text
+    → starts_with_digit 4 text ≡ true
 starts_small [] run is shorter = absurd (omega arith)
 starts_small (d ∷ rest) run is shorter =
     elim (cases_Bool (nat_lt (digit_value d) 4)) [
@@ -162,7 +192,8 @@ starts_small (d ∷ rest) run is shorter =
     ]
 
 -- a value past 2^64 stays one with more digits
-pub capped_more : (value base digit : ℕ) → 1 ≤ base → min (capped value * base + digit) (2 ^ 64 + 1) ≡ capped (value * base + digit)
+pub capped_more : (value base digit : ℕ) → 1 ≤ base
+    → min (capped value * base + digit) (2 ^ 64 + 1) ≡ capped (value * base + digit)
 capped_more value base digit some =
     elim (cases_lt value (2 ^ 64 + 1)) [
       | inl small ↦ let same : capped value ≡ value = omega arith in rw same refl

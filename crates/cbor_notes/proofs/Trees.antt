@@ -1,5 +1,6 @@
 -- The lines of trees, one after the other.
-use Rattle.std.proofs.Common.{◌≡◌, ℕ, ◌+◌, ◌≤◌, ◌<◌, List, [], ◌∷◌, ◌++◌, map, max, length, drop, get_or, refl, sym, ap, ◌∙◌, arith, subst, append_assoc, ◌↔◌}
+use Rattle.std.proofs.Common.{◌≡◌, ℕ, ◌+◌, ◌≤◌, ◌<◌, List, [], ◌∷◌, ◌++◌, map, max, length, drop, get_or, refl, sym, ap}
+use Rattle.std.proofs.Common.{◌∙◌, arith, subst, append_assoc, ◌↔◌}
 use Rattle.std.proofs.lemmas.Bool.Decides.{nat_tests}
 use Rattle.std.proofs.lemmas.Grind.{flat_map-append}
 use Rattle.std.specs.List.{AllByRecursion, flat_map}
@@ -8,16 +9,20 @@ use Rattle.cbor_notes.specs.declared.line.Line.{Line, out-Line, fold_out-Line}
 use Rattle.cbor_notes.specs.Layout.{DumpLine, reach, width_of}
 use Rattle.cbor_notes.specs.LineTree.{IsFit, first_line, forest_lines, tree_lines, tree_step}
 
-sublines_are : (trees : List Line) (depth : ℕ) → flat_map (λ (tree : ℕ → List DumpLine). tree depth) (map tree_lines trees) ≡ forest_lines trees depth
+sublines_are : (trees : List Line) (depth : ℕ)
+    → flat_map (λ (tree : ℕ → List DumpLine). tree depth) (map tree_lines trees) ≡ forest_lines trees depth
 sublines_are [] depth = refl
 sublines_are (tree ∷ trees) depth = ap (λ rest. tree_lines tree depth ++ rest) (sublines_are trees depth)
 
 -- a tree is its first line and its sublines
-pub tree_is : (line : Line) (depth : ℕ) → tree_lines line depth ≡ first_line line depth ∷ forest_lines (out-Line line).sublines.items (depth + 1)
+pub tree_is : (line : Line) (depth : ℕ) → tree_lines line depth ≡ first_line line depth
+    ∷ forest_lines (out-Line line).sublines.items (depth + 1)
 tree_is line depth =
-    ap (λ (lines : ℕ → List DumpLine). lines depth) (fold_out-Line (ℕ → List DumpLine) tree_step line) ∙ ap (λ rest. first_line line depth ∷ rest) (sublines_are (out-Line line).sublines.items (depth + 1))
+    ap (λ (lines : ℕ → List DumpLine). lines depth) (fold_out-Line (ℕ → List DumpLine) tree_step line)
+        ∙ ap (λ rest. first_line line depth ∷ rest) (sublines_are (out-Line line).sublines.items (depth + 1))
 
-pub all_both : (P : DumpLine → Type 0) (xs ys : List DumpLine) → AllByRecursion P xs → AllByRecursion P ys → AllByRecursion P (xs ++ ys)
+pub all_both : (P : DumpLine → Type 0) (xs ys : List DumpLine) → AllByRecursion P xs → AllByRecursion P ys
+    → AllByRecursion P (xs ++ ys)
 all_both P [] ys h k = k
 all_both P (x ∷ xs) ys h k = (h.0, all_both P xs ys h.1 k)
 
@@ -38,7 +43,8 @@ fit_reach : (line : DumpLine) → IsFit line → reach line ≤ 484
 fit_reach line fit = grind (arith, nat_tests)
 
 -- A loop over trees stands at its i-th one.
-module _ (trees : List Line) (i depth : ℕ) (tree : Line) (is : tree ≡ get_or trees i tree) (inside : i < length trees) where
+module _ (trees : List Line) (i depth : ℕ) (tree : Line) (is : tree ≡ get_or trees i tree)
+    (inside : i < length trees) where
   abbrev rest : List DumpLine
   rest = forest_lines (drop i trees) depth
 
@@ -47,7 +53,8 @@ module _ (trees : List Line) (i depth : ℕ) (tree : Line) (is : tree ≡ get_or
 
   pub forest_more : rest ≡ tree_lines tree depth ++ others
   forest_more =
-      ap (λ lines. forest_lines lines depth) (drop_more trees i tree inside) ∙ ap (λ here. tree_lines here depth ++ others) (sym is)
+      ap (λ lines. forest_lines lines depth) (drop_more trees i tree inside)
+          ∙ ap (λ here. tree_lines here depth ++ others) (sym is)
 
   pub fit_here : AllByRecursion IsFit rest → AllByRecursion IsFit (tree_lines tree depth)
   fit_here fit = all_front IsFit (tree_lines tree depth) others (subst (AllByRecursion IsFit) forest_more fit)
@@ -56,9 +63,11 @@ module _ (trees : List Line) (i depth : ℕ) (tree : Line) (is : tree ≡ get_or
   fit_others fit = all_back IsFit (tree_lines tree depth) others (subst (AllByRecursion IsFit) forest_more fit)
 
   -- where the tree fits, all fit exactly where the others do
-  pub fit_more : (all : Type 0) → (AllByRecursion IsFit rest ↔ all) → AllByRecursion IsFit (tree_lines tree depth) → AllByRecursion IsFit others ↔ all
+  pub fit_more : (all : Type 0) → (AllByRecursion IsFit rest ↔ all) → AllByRecursion IsFit (tree_lines tree depth)
+      → AllByRecursion IsFit others ↔ all
   fit_more all so_far fit = (
-    λ left. so_far.0 (subst (AllByRecursion IsFit) (sym forest_more) (all_both IsFit (tree_lines tree depth) others fit left)),
+    λ left. so_far.0 (subst (AllByRecursion IsFit) (sym forest_more)
+        (all_both IsFit (tree_lines tree depth) others fit left)),
     λ whole. fit_others (so_far.1 whole),
   )
 
@@ -69,8 +78,10 @@ module _ (trees : List Line) (i depth : ℕ) (tree : Line) (is : tree ≡ get_or
   pub text_more : (write : DumpLine → List ℕ) (out new : List ℕ) → new ≡ out ++ flat_map write (tree_lines tree depth)
       → new ++ flat_map write others ≡ out ++ flat_map write rest
   text_more write out new written =
-      ap (λ text. text ++ flat_map write others) written ∙ append_assoc out (flat_map write (tree_lines tree depth)) (flat_map write others)
-      ∙ ap (λ text. out ++ text) (sym (flat_map-append write (tree_lines tree depth) others) ∙ sym (ap (flat_map write) forest_more))
+      ap (λ text. text ++ flat_map write others) written
+          ∙ append_assoc out (flat_map write (tree_lines tree depth)) (flat_map write others)
+      ∙ ap (λ text. out ++ text) (sym (flat_map-append write (tree_lines tree depth) others)
+          ∙ sym (ap (flat_map write) forest_more))
 
 -- the digits of lines that fit reach no farther than the deepest and longest
 pub fit_width : (lines : List DumpLine) → AllByRecursion IsFit lines → width_of lines ≤ 484

@@ -1,5 +1,6 @@
 -- The elements of typed arrays: RFC 8746, section 2.
-use Rattle.std.specs.Prelude.{ℕ, ◌+◌, ◌-◌, ◌*◌, ◌/◌, ◌%◌, ◌^◌, ◌==◌, nat_le, nat_lt, Bool, true, false, not, ◌&&◌, if◌then◌else◌, Option, Some, None, List, ◌++◌, length, reverse, codes}
+use Rattle.std.specs.Prelude.{ℕ, ◌+◌, ◌-◌, ◌*◌, ◌/◌, ◌%◌, ◌^◌, ◌==◌, nat_le, nat_lt, Bool, true, false, not, ◌&&◌}
+use Rattle.std.specs.Prelude.{if◌then◌else◌, Option, Some, None, List, ◌++◌, length, reverse, codes}
 use Rattle.std.specs.Int.Digits.{number_from_digits}
 use Rattle.hex.specs.Hex.{encode_lower}
 use Rattle.cbor_notes.specs.declared.element.Kind.{Kind}

@@ -10,8 +10,8 @@ use std::alloc::{AllocError, Global};
 /// The characters for the digits 0 to 57: digits and letters but for `0`, `I`, `O` and `l`.
 const CHARACTERS: [u8; 58] = *b"123456789ABCDEFGHJKLMNPQRSTUVWXYZabcdefghijkmnopqrstuvwxyz";
 
-/// The base 58 text of sixteen bytes: one `1` for each leading zero byte, and then the digits of the
-/// number that the bytes are, the first byte highest; none for zero.
+/// The base 58 text of sixteen bytes: one `1` for each leading zero byte, and then the digits of
+/// the number that the bytes are, the first byte highest; none for zero.
 ///
 /// The only error is out of memory.
 pub fn base58(alloc: Global, bytes: &[u8; 16]) -> Result<String, AllocError>

@@ -1,6 +1,7 @@
 //! Dates, as texts and as days from 1970-01-01.
 
-ghost use Rattle.std.specs.Prelude.{◌≡◌, ◌↔◌, ◌++◌, ℕ, ◌<◌, [], ◌∷◌, pos, IsSome, IfSome, IfOk, OnOk, IsSomeAnd, option_map};
+ghost use Rattle.std.specs.Prelude.{◌≡◌, ◌↔◌, ◌++◌, ℕ, ◌<◌, [], ◌∷◌, pos, IsSome, IfSome, IfOk};
+ghost use Rattle.std.specs.Prelude.{OnOk, IsSomeAnd, option_map};
 ghost use Rattle.std.specs.String.{string_bytes};
 ghost use Rattle.jiff.specs.Types.{Date as CivilDate};
 ghost use Rattle.jiff.specs.Words.{IsDate, IsEpochDay, IsYear, IsYmd, epoch_day};
@@ -17,7 +18,8 @@ use std::alloc::{AllocError, Global};
 /// which is 2932896. The calendar is the Gregorian one, for all years. The only error is
 /// out of memory.
 pub fn date_of_epoch(alloc: Global, day: i64) -> Result<Option<String>, AllocError>
-    ensures found { IfOk result (λ found. IfSome found (λ text. IsDayText day (string_bytes text))) }
+    ensures found { IfOk result (λ found. IfSome found
+        (λ text. IsDayText day (string_bytes text))) }
     ensures range { IfOk result (λ found. IsSome found ↔ IsEpochDay day) }
     ensures value { IfOk result
         (λ found. option_map string_bytes found ≡ spec.date_of_epoch day) }
@@ -47,7 +49,8 @@ pub fn epoch_of_date(alloc: Global, text: &str) -> Result<Option<String>, AllocE
         (λ found. option_map string_bytes found ≡ spec.epoch_of_date text.now) }
     // No text is that of two dates.
     ensures only { (date : CivilDate) → IsDateText text.now date
-        → IfOk result (λ found. IsSomeAnd found (λ day. string_bytes day ≡ spec.grouped_signed (epoch_day date))) }
+        → IfOk result (λ found. IsSomeAnd found
+            (λ day. string_bytes day ≡ spec.grouped_signed (epoch_day date))) }
 {
     let Some(date) = text_date(text) else {
         return Ok(None);
@@ -129,7 +132,8 @@ pub(crate) fn two_digits(tens: u8, ones: u8) -> Option<u8>
 
 /// Appends a date, as [`date_of_epoch`] writes it. After an error `text` may end with a part of it.
 pub(crate) fn push_date(text: &mut String, date: Date) -> Result<(), AllocError>
-    ensures text { OnOk result (string_bytes text.new ≡ string_bytes text.old ++ spec.date_text date) }
+    ensures text { OnOk result (string_bytes text.new ≡ string_bytes text.old
+        ++ spec.date_text date) }
 {
     push_year(text, date.year())?;
     text.push('-')?;
@@ -141,7 +145,8 @@ pub(crate) fn push_date(text: &mut String, date: Date) -> Result<(), AllocError>
 /// Appends a year of at most four digits, with a `-` before a negative one.
 fn push_year(text: &mut String, year: i16) -> Result<(), AllocError>
     requires { IsYear year }
-    ensures text { OnOk result (string_bytes text.new ≡ string_bytes text.old ++ spec.year_text year) }
+    ensures text { OnOk result (string_bytes text.new ≡ string_bytes text.old
+        ++ spec.year_text year) }
 {
     if year < 0 {
         text.push('-')?;

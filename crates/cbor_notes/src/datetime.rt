@@ -1,6 +1,8 @@
 //! Dates with a time of day, as texts and as seconds from 1970-01-01T00:00:00Z.
 
-ghost use Rattle.std.specs.Prelude.{IsTrue, length, take_while, ◌≡◌, ◌↔◌, ◌++◌, ℕ, ◌+◌, ◌*◌, ◌/◌, ◌%◌, ◌<◌, ◌≤◌, pos, ◌+ℤ◌, ◌-ℤ◌, ◌*ℤ◌, ℤ, List, IsSome, IfSome, IfOk, OnOk, IsSomeAnd, option_map};
+ghost use Rattle.std.specs.Prelude.{IsTrue, length, take_while, ◌≡◌, ◌↔◌, ◌++◌, ℕ, ◌+◌, ◌*◌, ◌/◌};
+ghost use Rattle.std.specs.Prelude.{◌%◌, ◌<◌, ◌≤◌, pos, ◌+ℤ◌, ◌-ℤ◌, ◌*ℤ◌, ℤ, List, IsSome, IfSome};
+ghost use Rattle.std.specs.Prelude.{IfOk, OnOk, IsSomeAnd, option_map};
 ghost use Rattle.std.specs.Int.{int_div_euclid};
 ghost use Rattle.std.specs.Char.{is_ascii_digit};
 ghost use Rattle.std.specs.List.{list_all};
@@ -93,8 +95,8 @@ fn read_datetime(text: &[u8]) -> Option<(i64, &[u8])>
     Some((moment_seconds(date, clock, offset), digits))
 }
 
-/// The seconds from 1970-01-01T00:00:00Z to `clock` seconds after the midnight of a date, on a clock
-/// that is `offset` seconds ahead of UTC.
+/// The seconds from 1970-01-01T00:00:00Z to `clock` seconds after the midnight of a date, on a
+/// clock that is `offset` seconds ahead of UTC.
 fn moment_seconds(date: Date, clock: u32, offset: i32) -> i64
     ensures { result ≡ (epoch_day date *ℤ pos 86400 +ℤ pos clock) -ℤ offset }
 {
@@ -198,7 +200,8 @@ fn push_clock(text: &mut String, seconds: u32) -> Result<(), AllocError>
     push_two_digits(text, (seconds % 60) as u8)
 }
 
-/// Appends a fraction, cut to nine digits: `.` and 3, 6 or 9 digits, or nothing where they are zeros.
+/// Appends a fraction, cut to nine digits: `.` and 3, 6 or 9 digits, or nothing where they are
+/// zeros.
 fn push_fraction(text: &mut String, digits: &[u8]) -> Result<(), AllocError>
     requires { IsTrue (list_all is_ascii_digit digits.now) }
     ensures text { OnOk result
