@@ -1,5 +1,5 @@
-//! Base 32, 58 and 64. The vectors of `foobar` are those of RFC 4648, section 10; the encodings of all
-//! bytes and the texts in base 58 were made by an independent implementation.
+//! Base 32, 58 and 64. The vectors of `foobar` are those of RFC 4648, section 10; the encodings of
+//! all bytes and the texts in base 58 were made by an independent implementation.
 
 use cbor_notes::{base32_decode, base32hex_decode, base58, base64_any_decode, base64_lines};
 use std::alloc::{AllocError, Global};
@@ -225,8 +225,8 @@ fn other_digits_are_refused(rt: HostRuntime) -> Result<(), Fail> {
     Ok(())
 }
 
-/// Texts, whether they are in the encoding for URLs, and the lines of what they encode, each with a line
-/// feed, or `none` where they encode nothing.
+/// Texts, whether they are in the encoding for URLs, and the lines of what they encode, each with a
+/// line feed, or `none` where they encode nothing.
 const LINES: &[(&str, bool, &str)] = &[
     (
         "AAAAAAAAAAAAAAAAAAAAAAA=",

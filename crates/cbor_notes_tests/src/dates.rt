@@ -1,5 +1,5 @@
-// Dates and times. Days were counted by Python's `datetime`, and for years before 1 by it after whole
-// cycles of 400 years, which have 146,097 days each.
+// Dates and times. Days were counted by Python's `datetime`, and for years before 1 by it after
+// whole cycles of 400 years, which have 146,097 days each.
 
 use cbor_notes::{date_of_epoch, datetime_of_epoch, epoch_of_date, epoch_of_datetime};
 use std::alloc::{AllocError, Global};

@@ -53,8 +53,8 @@ fn sizes_of_elements(rt: HostRuntime) -> Result<(), Fail> {
     Ok(())
 }
 
-/// Tags, bytes in hex, and the text of the element: whole numbers by their values, floats by their bits;
-/// `-` where there is none.
+/// Tags, bytes in hex, and the text of the element: whole numbers by their values, floats by their
+/// bits; `-` where there is none.
 const ELEMENTS: &[(u64, &str, &str)] = &[
     (64, "ff", "unsigned(255)"),
     (68, "80", "unsigned(128)"),
@@ -130,7 +130,8 @@ fn elements(rt: HostRuntime) -> Result<(), Fail> {
     Ok(())
 }
 
-/// Tags of arrays whose elements have one byte, or more, and a text after the element 7 was appended.
+/// Tags of arrays whose elements have one byte, or more, and a text after the element 7 was
+/// appended.
 const APPENDED: &[(u64, bool, &str)] = &[
     (64, true, "a unsigned(7)"),
     (76, false, "a unsigned(7)"),

@@ -84,7 +84,7 @@ fn long_and_foreign_digits_do_not_fit(rt: HostRuntime) -> Result<(), Fail> {
     Ok(())
 }
 
-/// A tree of so many levels, of one line each.
+/// A tree of `count` levels, of one line each.
 fn levels(alloc: Global, count: usize) -> Result<Line, AllocError> {
     let mut tree = line(alloc, "00", "")?;
     for _ in 1..count {

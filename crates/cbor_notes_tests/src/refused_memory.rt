@@ -1,5 +1,5 @@
-// Calls where memory is found, and where it is refused. What each has to answer is an example of the tests
-// on its subject.
+// Calls where memory is found, and where it is refused. What each has to answer is an example of
+// the tests on its subject.
 
 use cbor_notes::{
     Line, base32_decode, base32hex_decode, base58, base64_any_decode, base64_lines, date_of_epoch,
@@ -266,9 +266,9 @@ fn calls_answer_where_memory_is_found(rt: HostRuntime) -> Result<(), Fail> {
     Ok(())
 }
 
-// `compare/failing_calls` runs this while it refuses requests for memory, and reads the lines: a call that a
-// request was refused in has to print `memory`, and any other `ok`. Where nothing is refused, as in the
-// gate, this shows no more than the test above.
+// `compare/failing_calls` runs this while it refuses requests for memory, and reads the lines: a
+// call that a request was refused in has to print `memory`, and any other `ok`. Where nothing is
+// refused, as in the gate, this shows no more than the test above.
 #[test]
 fn calls_answer_or_memory_is_refused(rt: HostRuntime) -> Result<(), Fail> {
     for &(call, want) in ROWS {

@@ -1,6 +1,6 @@
-// The texts of `cbor_notes` that know no item. Where a comment names no source, the values were written
-// by hand from the rules of docs/NOTES.md; base 58 and base 64 of the UUIDs of RFC 4122 were computed by an
-// independent implementation.
+// The texts of `cbor_notes`, which need no item. Where a comment names no source, the values were
+// written by hand from the rules of docs/NOTES.md; base 58 and base 64 of the UUIDs of RFC 4122
+// were computed by an independent implementation.
 
 use cbor_notes::{escaped_text, grouped, ipv4_text, ipv6_text, mac_text, quoted_bytes, uuid_lines};
 use std::alloc::{AllocError, Global};

@@ -201,8 +201,8 @@ fn quoted_content_escapes_the_quote_and_the_backslash(rt: HostRuntime) -> Result
     Ok(())
 }
 
-/// Texts, a place in each, whether comments are allowed, and the digits up to the quote, with the place
-/// after it.
+/// Texts, a place in each, whether comments are allowed, and the digits up to the quote, with the
+/// place after it.
 const DIGITS: &[(&str, usize, bool, &str, usize)] = &[
     ("'", 0, true, "", 1),
     ("0 1'", 0, true, "01", 4),
@@ -253,7 +253,7 @@ fn digits_stand_between_blanks(rt: HostRuntime) -> Result<(), Fail> {
     Ok(())
 }
 
-/// A piece so many times, and what follows it.
+/// A piece `times` times, and what follows it.
 fn repeated(alloc: Global, piece: &str, times: u32, after: &str) -> Result<Vec<u8>, AllocError> {
     let mut text = Vec::new(alloc);
     for _ in 0..times {

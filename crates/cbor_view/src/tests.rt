@@ -90,8 +90,8 @@ fn converts(rt: HostRuntime) {
     }
 }
 
-/// Strings of no chunks: a text in notation, its bytes, and what is written of either as a dump, on one line
-/// and over several.
+/// Strings of no chunks: a text in notation, its bytes, and what is written of either as a dump, on
+/// one line and over several.
 const OF_NO_CHUNKS: &[(&str, &[u8], &str, &str, &str)] = &[
     (
         "''_",

@@ -7,8 +7,8 @@ use crate::words::To;
 use std::alloc::{AllocError, Global};
 use std::test::Fail;
 
-/// A form, items one after the other, perhaps with something else after them, what is written of the items,
-/// and why no item follows them, if so.
+/// A form, items one after the other, perhaps with something else after them, what is written of
+/// the items, and why no item follows them, if so.
 const SEQUENCES: &[(&str, &[u8], &[u8], &str)] = &[
     ("bytes", b"\xf8\x14\x80\x18\x64", b"\xf4\x80\x18\x64", ""),
     ("bytes", b"\xf8\x14\x80", b"\xf4\x80", ""),
@@ -47,7 +47,7 @@ fn converts_each_item_up_to_what_is_none(rt: HostRuntime) {
     }
 }
 
-/// So many times the same bytes.
+/// The same bytes `count` times.
 pub(crate) fn repeated(alloc: Global, piece: &[u8], count: usize) -> Result<Vec<u8>, AllocError> {
     let mut bytes = Vec::new(alloc);
     for _ in 0..count {
@@ -59,8 +59,8 @@ pub(crate) fn repeated(alloc: Global, piece: &[u8], count: usize) -> Result<Vec<
 /// The number 256 in two bytes. Their length does not divide that of a block.
 const NUMBER: [u8; 3] = [0x19, 0x01, 0x00];
 
-/// How many of these numbers, as bytes, fill a block: 65,538 bytes are the first whole outputs that are
-/// no shorter than 65,536.
+/// How many of these numbers, as bytes, fill a block: 65,538 bytes are the first whole outputs that
+/// are no shorter than 65,536.
 const IN_A_BLOCK: usize = 21_846;
 
 /// Counts of items that end just before a block, with it, after it, and in others.
