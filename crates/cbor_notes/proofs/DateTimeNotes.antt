@@ -20,7 +20,7 @@ use Rattle.cbor_notes.specs.Date.{civil_seconds, clock_text, date_text, day_seco
 use Rattle.cbor_notes.specs.DateTime.{IsDateTimeText, IsFraction, no_fraction, some_digits, IsOffset, ahead, behind}
 use Rattle.cbor_notes.specs.DateTime.{IsZone, dotted, epoch_of_datetime, epoch_text, is_civil_text, offset_text}
 use Rattle.cbor_notes.specs.DateTime.{read_civil, read_digits, read_zone, signed_seconds}
-use Rattle.cbor_notes.specs.Days.{CalendarDay, calendar_day, day_count, day_number, day_of}
+use Rattle.cbor_notes.specs.Days.{CalendarDay, calendar_day, day_count, day_of}
 use Rattle.cbor_notes.specs.Search.{first_minute}
 use Rattle.cbor_notes.proofs.CalendarDays.{date_on, place, place_of}
 use Rattle.cbor_notes.proofs.DateNotes.{Decides-int_le, IfSome-option_map, IsSome-option_map, text_of}

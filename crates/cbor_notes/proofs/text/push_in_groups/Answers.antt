@@ -1,6 +1,5 @@
-use Rattle.std.proofs.Transfers.{starts_with_of_eq, starts_with_of_append, starts_with_trans}
-use Rattle.std.proofs.Common.{string_bytes, ◌≡◌, ◌++◌}
-use Rattle.std.specs.Io.{StartsWith}
+use Rattle.std.proofs.Transfers.{starts_with_of_append, starts_with_trans}
+use Rattle.std.proofs.Common.{string_bytes}
 use Rattle.cbor_notes.proofs.Fronts.{on_err}
 use Rattle.cbor_notes.proofs.text.push_in_groups.Goals as goal
 
