@@ -1,7 +1,7 @@
 -- What is written of members between brackets is read as a list of them.
 use Rattle.std.proofs.Common.{◌≡◌, ℕ, ◌+◌, true, false, List, [], ◌∷◌, ◌++◌, codes, Option, Some, None, inl, inr, refl, sym, ap, subst, ◌∙◌, append_assoc, arith}
 use Rattle.cbor_notes.specs.Token.{nothing}
-use Rattle.cbor_notes.proofs.Blanks.{Blank-append}
+use Rattle.cbor_notes.proofs.tokens.Blanks.{Blank-append}
 use Rattle.cbor_diag.specs.declared.syntax.IntegerWidth.{IntegerWidth}
 use Rattle.cbor_diag.specs.declared.encode.notation.context.Listing.{Listing}
 use Rattle.cbor_diag.specs.declared.encode.notation.context.Listing.TheVariants as listing

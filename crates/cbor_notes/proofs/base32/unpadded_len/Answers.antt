@@ -1,5 +1,5 @@
 use Rattle.std.proofs.Common.{refl, arith, codes}
-use Rattle.cbor_notes.proofs.Base32Padding.{by_count, not_padded}
+use Rattle.cbor_notes.proofs.bases.Base32Padding.{by_count, not_padded}
 use Rattle.cbor_notes.proofs.base32.unpadded_len.Goals as goal
 
 pub returns-then-ends_with-3-clause-least : goal.returns-then-ends_with-3-clause-least

@@ -2,7 +2,7 @@ use Rattle.std.proofs.Common.{◌≡◌, ◌++◌, replicate, map, slice_index, 
 use Rattle.std.specs.Int.Digits.{digits_of, number_from_digits}
 use Rattle.std.specs.String.{string_bytes}
 use Rattle.cbor_notes.specs.Base58.{base58_of, characters, leading_zeros}
-use Rattle.cbor_notes.proofs.Base58Lemmas.{from_be_bytes-digits}
+use Rattle.cbor_notes.proofs.bases.Base58Lemmas.{from_be_bytes-digits}
 use Rattle.cbor_notes.proofs.base58_text.push_base58.Goals as goal
 
 pub returns : goal.returns

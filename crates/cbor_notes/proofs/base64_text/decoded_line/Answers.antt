@@ -1,7 +1,7 @@
 use Rattle.std.proofs.Common.{◌∙◌, arith}
 use Rattle.std.specs.String.{string_bytes}
 use Rattle.hex.specs.Hex.{encode_lower}
-use Rattle.cbor_notes.proofs.DecodedLineLemmas.{blanks_more, line_is}
+use Rattle.cbor_notes.proofs.bases.DecodedLineLemmas.{blanks_more, line_is}
 use Rattle.cbor_notes.proofs.base64_text.decoded_line.Goals as goal
 
 pub blanks-preserved : goal.blanks-preserved

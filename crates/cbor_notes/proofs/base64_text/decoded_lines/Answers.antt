@@ -5,7 +5,7 @@ use Rattle.std.specs.Slice.Iter.{chunks_rest}
 use Rattle.std.proofs.lemmas.List.{map_push}
 use Rattle.std.proofs.Math.Nat.{min_comm}
 use Rattle.cbor_notes.specs.DecodedLines.{decoded_line}
-use Rattle.cbor_notes.proofs.DecodedLineLemmas.{shown_more, shown_all}
+use Rattle.cbor_notes.proofs.bases.DecodedLineLemmas.{shown_more, shown_all}
 use Rattle.cbor_notes.proofs.base64_text.decoded_lines.Goals as goal
 
 pub loop-piece-preserved : goal.loop-piece-preserved

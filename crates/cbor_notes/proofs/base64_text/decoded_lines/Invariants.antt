@@ -1,7 +1,7 @@
 use Rattle.std.proofs.Common.{◌≡◌, map, vec_len}
 use Rattle.std.specs.String.{string_bytes}
 use Rattle.std.specs.Slice.Iter.{chunks_rest, chunks_size}
-use Rattle.cbor_notes.proofs.DecodedLineLemmas.{AreShown}
+use Rattle.cbor_notes.proofs.bases.DecodedLineLemmas.{AreShown}
 use Rattle.cbor_notes.proofs.base64_text.decoded_lines.Given as goal
 
 abbrev pub invariant-loop-piece : goal.invariant-loop-piece

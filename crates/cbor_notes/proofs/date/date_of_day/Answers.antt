@@ -3,7 +3,7 @@ use Rattle.std.proofs.lemmas.Result.{IfOk-weaker}
 use Rattle.std.proofs.lemmas.Int.{to_z-of_z}
 use Rattle.jiff.proofs.SpanFacts.{signed_arith, date_add-days, can_add-days}
 use Rattle.jiff.specs.Words.{epoch_day}
-use Rattle.cbor_notes.proofs.DateTexts.{IfSome-result_ok, epoch_day-1970}
+use Rattle.cbor_notes.proofs.dates.DateTexts.{IfSome-result_ok, epoch_day-1970}
 use Rattle.cbor_notes.proofs.date.date_of_day.Goals as goal
 
 pub returns-clause-found : goal.returns-clause-found

@@ -5,8 +5,8 @@ use Rattle.jiff.proofs.Family.{epoch_day_range}
 use Rattle.jiff.specs.Words.{IsEpochDay, epoch_day}
 use Rattle.std.specs.String.{string_bytes}
 use Rattle.cbor_notes.specs.Date.{date_of_epoch, date_text}
-use Rattle.cbor_notes.proofs.DateTexts.{date_text_same}
-use Rattle.cbor_notes.proofs.DateNotes.{date_of_epoch-out, date_of_epoch_is, date_of_epoch_some, same_text}
+use Rattle.cbor_notes.proofs.dates.DateTexts.{date_text_same}
+use Rattle.cbor_notes.proofs.dates.DateNotes.{date_of_epoch-out, date_of_epoch_is, date_of_epoch_some, same_text}
 use Rattle.cbor_notes.proofs.date.date_of_epoch.Goals as goal
 
 pub returns-in_default-clause-only : goal.returns-in_default-clause-only

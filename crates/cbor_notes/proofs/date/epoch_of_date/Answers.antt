@@ -7,8 +7,8 @@ use Rattle.jiff.proofs.SpanFacts.{signed_arith}
 use Rattle.jiff.specs.Words.{epoch_day}
 use Rattle.cbor_notes.specs.Text.{grouped}
 use Rattle.cbor_notes.specs.Date.{epoch_of_date, grouped_signed}
-use Rattle.cbor_notes.proofs.DateTexts.{grouped_signed-is}
-use Rattle.cbor_notes.proofs.DateNotes.{epoch_of_date_is, epoch_of_date_some, no_text, same_text}
+use Rattle.cbor_notes.proofs.dates.DateTexts.{grouped_signed-is}
+use Rattle.cbor_notes.proofs.dates.DateNotes.{epoch_of_date_is, epoch_of_date_some, no_text, same_text}
 use Rattle.cbor_notes.proofs.date.epoch_of_date.Goals as goal
 
 abbrev Written : goal.In_ok-push_grouped → Type 0

@@ -3,7 +3,7 @@ use Rattle.std.proofs.lemmas.Int.{to_z-of_z}
 use Rattle.std.proofs.lemmas.Result.{on_ok_weaker}
 use Rattle.jiff.proofs.SpanFacts.{signed_arith}
 use Rattle.cbor_notes.specs.Date.{date_text}
-use Rattle.cbor_notes.proofs.DateTexts.{day_below, five_pieces, small_part}
+use Rattle.cbor_notes.proofs.dates.DateTexts.{day_below, five_pieces, small_part}
 use Rattle.cbor_notes.proofs.date.push_date.Goals as goal
 
 pub returns : goal.returns

@@ -3,7 +3,7 @@ use Rattle.std.proofs.lemmas.Int.{to_z-of_z}
 use Rattle.std.proofs.lemmas.Result.{on_ok_weaker}
 use Rattle.std.specs.String.{string_bytes}
 use Rattle.jiff.proofs.SpanFacts.{signed_arith}
-use Rattle.cbor_notes.proofs.DateTexts.{digits_first, minus_first}
+use Rattle.cbor_notes.proofs.dates.DateTexts.{digits_first, minus_first}
 use Rattle.cbor_notes.proofs.date.push_year.Goals as goal
 use Rattle.cbor_notes.proofs.date.push_year.Goals.{then-year-lt0+in_ok-push, else-year-lt0}
 

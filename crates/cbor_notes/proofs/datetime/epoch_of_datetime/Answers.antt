@@ -2,8 +2,8 @@ use Rattle.std.proofs.Common.{◌≡◌, ◌∙◌, rules, refl, sym}
 use Rattle.std.proofs.lemmas.Option.{IfSome_then}
 use Rattle.std.specs.String.{string_bytes}
 use Rattle.cbor_notes.specs.DateTime.{epoch_of_datetime, epoch_text}
-use Rattle.cbor_notes.proofs.DateNotes.{no_text, same_text}
-use Rattle.cbor_notes.proofs.DateTimeNotes.{epoch_of_datetime_is, epoch_of_datetime_some}
+use Rattle.cbor_notes.proofs.dates.DateNotes.{no_text, same_text}
+use Rattle.cbor_notes.proofs.dates.DateTimeNotes.{epoch_of_datetime_is, epoch_of_datetime_some}
 use Rattle.cbor_notes.proofs.datetime.epoch_of_datetime.Goals as goal
 
 pub returns-in_default-clause-only : goal.returns-in_default-clause-only

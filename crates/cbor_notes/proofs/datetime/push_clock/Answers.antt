@@ -1,7 +1,7 @@
 use Rattle.std.proofs.Common.{◌∙◌, arith}
 use Rattle.std.proofs.lemmas.Result.{on_ok_weaker}
 use Rattle.cbor_notes.specs.Date.{clock_text}
-use Rattle.cbor_notes.proofs.DateTexts.{five_pieces}
+use Rattle.cbor_notes.proofs.dates.DateTexts.{five_pieces}
 use Rattle.cbor_notes.proofs.datetime.push_clock.Goals as goal
 
 pub returns : goal.returns

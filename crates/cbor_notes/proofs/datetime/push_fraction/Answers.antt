@@ -4,7 +4,7 @@ use Rattle.std.proofs.lemmas.Str.{IsAscii-take}
 use Rattle.std.specs.Str.{IsAscii}
 use Rattle.std.specs.String.{string_bytes}
 use Rattle.cbor_notes.specs.DateTime.{fraction_text, nine_digits, shown}
-use Rattle.cbor_notes.proofs.DateTimeTexts.{fraction_none, fraction_shown, nine_ascii}
+use Rattle.cbor_notes.proofs.dates.DateTimeTexts.{fraction_none, fraction_shown, nine_ascii}
 use Rattle.cbor_notes.proofs.datetime.push_fraction.Goals as goal
 
 pub returns-then-shown-eq0 : goal.returns-then-shown-eq0

@@ -1,5 +1,5 @@
 use Rattle.std.proofs.Common.{◌∷◌, [], ◌∙◌, ap, get_or, inl, inr, arith}
-use Rattle.cbor_notes.proofs.DateTexts.{clock_of_parts, clock_text-eight}
+use Rattle.cbor_notes.proofs.dates.DateTexts.{clock_of_parts, clock_text-eight}
 use Rattle.cbor_notes.proofs.datetime.read_clock.Goals as goal
 
 pub returns-then-first-ne58-clause-only : goal.returns-then-first-ne58-clause-only

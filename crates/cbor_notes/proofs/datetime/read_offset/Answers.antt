@@ -1,8 +1,8 @@
 use Rattle.std.proofs.Common.{sym, ◌+◌, ◌*◌, ◌∙◌, ap, inl, inr, pos, w32, arith}
 use Rattle.cbor_notes.specs.DateTime.{ahead, behind}
 use Rattle.std.proofs.lemmas.Int.{to_z_pos}
-use Rattle.cbor_notes.proofs.DateTexts.{IsOffset-parts, offset_text}
-use Rattle.cbor_notes.proofs.DateTimeTexts.{negated}
+use Rattle.cbor_notes.proofs.dates.DateTexts.{IsOffset-parts, offset_text}
+use Rattle.cbor_notes.proofs.dates.DateTimeTexts.{negated}
 use Rattle.cbor_notes.proofs.datetime.read_offset.Goals as goal
 
 pub returns-then-colon-ne58-clause-only : goal.returns-then-colon-ne58-clause-only

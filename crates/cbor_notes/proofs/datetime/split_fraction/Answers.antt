@@ -1,6 +1,6 @@
 use Rattle.std.proofs.Common.{◌<◌, ℕ, List, ◌-◌, ◌∷◌, length, take, drop, ◌∙◌, arith}
 use Rattle.std.proofs.lemmas.Bool.Decides.{nat_tests}
-use Rattle.cbor_notes.proofs.DateTimeTexts.{dot_first, fraction_only, fraction_read, fraction_some, rest_is}
+use Rattle.cbor_notes.proofs.dates.DateTimeTexts.{dot_first, fraction_only, fraction_read, fraction_some, rest_is}
 use Rattle.cbor_notes.proofs.datetime.split_fraction.Goals as goal
 
 abbrev rest : List ℕ → List ℕ

@@ -1,6 +1,6 @@
 use Rattle.std.proofs.Common.{◌∙◌, sym}
 use Rattle.std.specs.String.{string_bytes}
-use Rattle.cbor_notes.proofs.ElementLemmas.{none_is, some_is}
+use Rattle.cbor_notes.proofs.texts.ElementLemmas.{none_is, some_is}
 use Rattle.cbor_notes.specs.Element.{element_text}
 use Rattle.cbor_notes.proofs.element.element_text.Goals as goal
 

@@ -1,6 +1,6 @@
 use Rattle.std.proofs.Common.{◌<◌, ℕ, get_or, arith}
 use Rattle.std.proofs.lemmas.List.{take_all}
-use Rattle.cbor_notes.proofs.ElementLemmas.{number_below, next_number}
+use Rattle.cbor_notes.proofs.texts.ElementLemmas.{number_below, next_number}
 use Rattle.cbor_notes.proofs.element.number.Goals as goal
 
 pub overflow_mul-number : goal.overflow_mul-number

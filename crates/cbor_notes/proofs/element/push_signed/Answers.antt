@@ -3,7 +3,7 @@ use Rattle.std.proofs.lemmas.Result.{on_ok_weaker}
 use Rattle.std.specs.Int.Digits.{number_from_digits}
 use Rattle.std.specs.String.{string_bytes}
 use Rattle.cbor_notes.specs.Text.{grouped}
-use Rattle.cbor_notes.proofs.ElementLemmas.{half_is, halves, signed_text-lower, signed_text-upper}
+use Rattle.cbor_notes.proofs.texts.ElementLemmas.{half_is, halves, signed_text-lower, signed_text-upper}
 use Rattle.cbor_notes.proofs.element.push_signed.Goals as goal
 
 pub returns-then-number-half-clause-text : goal.returns-then-number-half-clause-text

@@ -1,7 +1,7 @@
 use Rattle.std.proofs.Common.{◌≡◌, ◌≢◌, ℕ, List, [], codes, refl, arith}
 use Rattle.std.specs.List.{AllByRecursion}
 use Rattle.cbor_notes.specs.Token.{nothing, whitespace, comment}
-use Rattle.cbor_notes.proofs.Blanks.{after_blank-all}
+use Rattle.cbor_notes.proofs.tokens.Blanks.{after_blank-all}
 use Rattle.cbor_notes.proofs.examples.blanks.Goals as goal
 
 words : AllByRecursion (λ byte. byte ≢ 47) (codes "x 'y")

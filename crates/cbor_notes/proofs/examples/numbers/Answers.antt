@@ -2,7 +2,7 @@ use Rattle.std.proofs.Common.{◌≡◌, ℕ, List, [], ◌∷◌, ◌++◌, cod
 use Rattle.cbor_notes.specs.declared.token.number.Base.TheVariants.{Decimal, Hexadecimal, Binary}
 use Rattle.cbor_notes.specs.Token.{IsNumber, IsSomeNumber}
 use Rattle.cbor_notes.specs.TokenReading.{number_of}
-use Rattle.cbor_notes.proofs.Numbers.{longest_number, number_of-append}
+use Rattle.cbor_notes.proofs.tokens.Numbers.{longest_number, number_of-append}
 use Rattle.cbor_notes.proofs.examples.numbers.Goals as goal
 
 -- what is read of a text that is a number leaves nothing

@@ -1,6 +1,6 @@
 use Rattle.std.proofs.Common.{◌≡◌, ℕ, true, false, List, [], codes, refl, arith, inl, inr}
 use Rattle.cbor_notes.specs.Token.{Blank, nothing, whitespace, comment, blank, digit}
-use Rattle.cbor_notes.proofs.Spaced.{only_digits, none_digits}
+use Rattle.cbor_notes.proofs.tokens.Spaced.{only_digits, none_digits}
 use Rattle.cbor_notes.proofs.examples.spaced.Goals as goal
 
 space : Blank true (codes " ")

@@ -2,7 +2,7 @@ use Rattle.std.proofs.Common.{List, refl, sym, subst}
 use Rattle.std.specs.List.{AllByRecursion}
 use Rattle.cbor_notes.specs.LineTree.{IsFit, forest_lines}
 use Rattle.cbor_notes.specs.declared.line.Line.{Line}
-use Rattle.cbor_notes.proofs.Trees.{tree_is, fit_here, fit_more}
+use Rattle.cbor_notes.proofs.columns.Trees.{tree_is, fit_here, fit_more}
 use Rattle.cbor_notes.proofs.line.+fits.Goals as goal
 
 pub Line::fits_at-returns-then-is_fit : goal.Line::fits_at-returns-then-is_fit

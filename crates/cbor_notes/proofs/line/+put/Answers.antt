@@ -4,7 +4,7 @@ use Rattle.std.proofs.lemmas.Grind.{common_steps}
 use Rattle.cbor_notes.specs.Layout.{line_text, width_of}
 use Rattle.cbor_notes.specs.LineTree.{first_line}
 use Rattle.cbor_notes.specs.declared.line.Line.{the_lemmas}
-use Rattle.cbor_notes.proofs.Trees.{tree_is, fit_here, fit_others, text_more, width_more}
+use Rattle.cbor_notes.proofs.columns.Trees.{tree_is, fit_here, fit_others, text_more, width_more}
 use Rattle.cbor_notes.proofs.line.+put.Goals as goal
 
 pub Line::put_at-put_all_at-requires : goal.Line::put_at-put_all_at-requires

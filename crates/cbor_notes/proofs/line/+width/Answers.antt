@@ -1,7 +1,7 @@
 use Rattle.std.proofs.Common.{arith, rules, ap}
 use Rattle.cbor_notes.specs.Layout.{width_of}
 use Rattle.cbor_notes.specs.declared.line.Line.{the_lemmas}
-use Rattle.cbor_notes.proofs.Trees.{tree_is, fit_here, fit_others, width_more}
+use Rattle.cbor_notes.proofs.columns.Trees.{tree_is, fit_here, fit_others, width_more}
 use Rattle.cbor_notes.proofs.line.+width.Goals as goal
 
 pub Line::width_at-reach-requires : goal.Line::width_at-reach-requires

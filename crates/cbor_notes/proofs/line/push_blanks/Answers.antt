@@ -1,6 +1,6 @@
 use Rattle.std.proofs.Common.{◌≡◌, ◌++◌, ◌-◌, ◌∙◌, ap, replicate, arith, string_bytes}
 use Rattle.std.proofs.lemmas.Grind.{common_steps}
-use Rattle.cbor_notes.proofs.Spaces.{blanks_split}
+use Rattle.cbor_notes.proofs.columns.Spaces.{blanks_split}
 use Rattle.cbor_notes.proofs.line.push_blanks.Goals as goal
 
 pub more-preserved : goal.more-preserved

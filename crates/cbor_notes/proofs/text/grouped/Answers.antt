@@ -1,7 +1,7 @@
 use Rattle.std.proofs.Common.{◌≡◌, string_bytes, arith}
 use Rattle.std.proofs.lemmas.Grind.{common_steps}
 use Rattle.cbor_notes.specs.Text as spec
-use Rattle.cbor_notes.proofs.Groups.{number_is_grouped}
+use Rattle.cbor_notes.proofs.texts.Groups.{number_is_grouped}
 use Rattle.cbor_notes.proofs.text.grouped.Goals as goal
 
 pub returns-clause-by_three : goal.returns-clause-by_three

@@ -1,7 +1,7 @@
 use Rattle.std.proofs.Common.{◌≡◌, ◌++◌, ◌+◌, length, sym, ap, ◌∙◌, arith}
 use Rattle.std.specs.String.{string_bytes}
 use Rattle.std.proofs.lemmas.List.{length-append, take-append-drop}
-use Rattle.cbor_notes.proofs.HexLemmas.{hex_more, hex_end}
+use Rattle.cbor_notes.proofs.texts.HexLemmas.{hex_more, hex_end}
 use Rattle.cbor_notes.proofs.text.push_hex.Goals as goal
 
 pub pieces-preserved : goal.pieces-preserved

@@ -1,6 +1,6 @@
 use Rattle.std.proofs.Transfers.{starts_with_of_append, starts_with_trans}
 use Rattle.std.proofs.Common.{string_bytes}
-use Rattle.cbor_notes.proofs.Fronts.{on_err}
+use Rattle.cbor_notes.proofs.texts.Fronts.{on_err}
 use Rattle.cbor_notes.proofs.text.push_in_groups.Goals as goal
 
 pub returns-in_err-push-clause-front : goal.returns-in_err-push-clause-front

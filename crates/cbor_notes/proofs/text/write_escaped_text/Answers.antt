@@ -4,7 +4,7 @@ use Rattle.std.proofs.lemmas.Iterator.Consumers.{YieldsList-end}
 use Rattle.std.proofs.lemmas.List.{map-id}
 use Rattle.std.specs.List.{flat_map}
 use Rattle.cbor_notes.specs.Text as spec
-use Rattle.cbor_notes.proofs.Fronts.{front_before, on_err}
+use Rattle.cbor_notes.proofs.texts.Fronts.{front_before, on_err}
 use Rattle.cbor_notes.proofs.text.write_escaped_text.Goals as goal
 
 -- the loop has gone over the characters of the text

@@ -1,5 +1,5 @@
 use Rattle.std.proofs.Common.{string_bytes}
-use Rattle.cbor_notes.proofs.Fronts.{front_before, on_err}
+use Rattle.cbor_notes.proofs.texts.Fronts.{front_before, on_err}
 use Rattle.cbor_notes.proofs.text.write_quoted_bytes.Goals as goal
 
 pub returns-in_err-push_escaped_byte-clause-front : goal.returns-in_err-push_escaped_byte-clause-front

@@ -1,4 +1,4 @@
-use Rattle.cbor_notes.proofs.Blanks.{longest_blank_at}
+use Rattle.cbor_notes.proofs.tokens.Blanks.{longest_blank_at}
 use Rattle.std.proofs.Common.{true}
 use Rattle.cbor_notes.proofs.token.blank_end.Goals as goal
 

@@ -3,8 +3,8 @@ use Rattle.std.proofs.lemmas.List.{take_rest, drop-drop}
 use Rattle.std.proofs.lemmas.Iterator.{YieldsList-from_slice}
 use Rattle.std.proofs.lemmas.Iterator.Search.{position_from_yields_List}
 use Rattle.cbor_notes.specs.TokenReading.{after_blank}
-use Rattle.cbor_notes.proofs.Blanks.{comment_left, slash_left}
-use Rattle.cbor_notes.proofs.TextPlaces.{first_at, first_nowhere, from_byte}
+use Rattle.cbor_notes.proofs.tokens.Blanks.{comment_left, slash_left}
+use Rattle.cbor_notes.proofs.tokens.TextPlaces.{first_at, first_nowhere, from_byte}
 use Rattle.cbor_notes.proofs.token.end_of_piece.Goals as goal
 
 pub returns-in_err-words-clause-none : goal.returns-in_err-words-clause-none

@@ -1,6 +1,6 @@
 use Rattle.std.proofs.Common.{◌≡◌, ◌/◌, ◌-◌, ◌^◌, refl}
 use Rattle.cbor_notes.specs.Base32.{forty_bits}
-use Rattle.cbor_notes.proofs.Base32Groups.{last_is_read, last_digits}
+use Rattle.cbor_notes.proofs.bases.Base32Groups.{last_is_read, last_digits}
 use Rattle.cbor_notes.proofs.base32.Alphabet.last_group.Goals as goal
 
 pub returns-in_err-number-clause-only : goal.returns-in_err-number-clause-only

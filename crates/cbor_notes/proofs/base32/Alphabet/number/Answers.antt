@@ -1,7 +1,7 @@
 use Rattle.std.proofs.Common.{◌≡◌, ◌<◌, ◌≤◌, ◌^◌, ℕ, take, ap, Some, arith, lit<}
 use Rattle.std.proofs.lemmas.List.{take_more, take_all, length-take-le}
 use Rattle.std.proofs.Math.Nat.{pow-le-pow_right}
-use Rattle.cbor_notes.proofs.Base32Numbers.{written-lt, written_at, same_written, writes_more}
+use Rattle.cbor_notes.proofs.bases.Base32Numbers.{written-lt, written_at, same_written, writes_more}
 use Rattle.cbor_notes.proofs.base32.Alphabet.number.Goals as goal
 
 -- a number that fewer than eight digits write

@@ -1,7 +1,7 @@
 use Rattle.std.proofs.Common.{sym, ◌∙◌, ap, Some}
-use Rattle.cbor_notes.proofs.Base32Numbers.{written-lt}
-use Rattle.cbor_notes.proofs.Places.{same_digits}
-use Rattle.cbor_notes.proofs.Base32Groups.{whole_digits, whole_encoded}
+use Rattle.cbor_notes.proofs.bases.Base32Numbers.{written-lt}
+use Rattle.cbor_notes.proofs.dates.Places.{same_digits}
+use Rattle.cbor_notes.proofs.bases.Base32Groups.{whole_digits, whole_encoded}
 use Rattle.cbor_notes.proofs.base32.Alphabet.whole_group.Goals as goal
 
 pub five_bytes-requires : goal.five_bytes-requires

@@ -3,11 +3,11 @@ use Rattle.std.proofs.Common.{◌∙◌, arith}
 use Rattle.std.proofs.lemmas.List.{drop_all, length-drop, nil_from_length}
 use Rattle.std.proofs.lemmas.Bool.{eqb-true, eqb-false}
 use Rattle.cbor_notes.specs.TokenReading.{after_blank, digits_in, digits_of, with_front}
-use Rattle.cbor_notes.proofs.TextPlaces.{from_byte}
-use Rattle.cbor_notes.proofs.Blanks.{after_blank-again}
-use Rattle.cbor_notes.proofs.Contents.{with_front-append, with_front-nil}
-use Rattle.cbor_notes.proofs.Spaced.{digits_in-after_blank, run_to, none_from, digits_closed, digits_of-some}
-use Rattle.cbor_notes.proofs.Spaced.{digits_of-blank, digits_of-none, DigitsBetween-digits_of, only_digits, none_digits}
+use Rattle.cbor_notes.proofs.tokens.TextPlaces.{from_byte}
+use Rattle.cbor_notes.proofs.tokens.Blanks.{after_blank-again}
+use Rattle.cbor_notes.proofs.tokens.Contents.{with_front-append, with_front-nil}
+use Rattle.cbor_notes.proofs.tokens.Spaced.{digits_in-after_blank, run_to, none_from, digits_closed, digits_of-some}
+use Rattle.cbor_notes.proofs.tokens.Spaced.{digits_of-blank, digits_of-none, DigitsBetween-digits_of, only_digits, none_digits}
 use Rattle.cbor_notes.proofs.token.content.digits_at.Goals as goal
 use Rattle.cbor_notes.proofs.token.content.digits_at.Goals.{After-drop-digits, After-drop-digits-then-end-text}
 use Rattle.cbor_notes.proofs.token.content.digits_at.Goals.{After-drop-digits-then-end-at, Joined-else-is_empty}

@@ -3,7 +3,7 @@ use Rattle.std.proofs.lemmas.List.{take_rest, length-drop}
 use Rattle.std.proofs.lemmas.Iterator.{YieldsList-from_slice}
 use Rattle.std.proofs.lemmas.Iterator.Search.{position_from_yields_List}
 use Rattle.cbor_notes.specs.Token.{is_digit}
-use Rattle.cbor_notes.proofs.TextPlaces.{first_at, first_nowhere}
+use Rattle.cbor_notes.proofs.tokens.TextPlaces.{first_at, first_nowhere}
 use Rattle.cbor_notes.proofs.token.content.digits_end.Goals as goal
 
 pub returns-in-Some-clause-first : goal.returns-in-Some-clause-first

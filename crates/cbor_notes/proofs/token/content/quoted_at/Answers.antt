@@ -2,10 +2,10 @@ use Rattle.std.proofs.Common.{◌≡◌, ℕ, ◌+◌, ◌<◌, false, true, Lis
 use Rattle.std.proofs.Common.{Some, None, refl, sym, ap, ◌∙◌, arith}
 use Rattle.std.proofs.lemmas.List.{append-nil, drop_all, length-drop}
 use Rattle.cbor_notes.specs.TokenReading.{unquoted, with_front}
-use Rattle.cbor_notes.proofs.TextPlaces.{from_byte}
-use Rattle.cbor_notes.proofs.Contents.{with_front-append}
-use Rattle.cbor_notes.proofs.Quoted.{plain_to, plain_to_end, closes, opens, escape_is, no_escape, in_quotes-unquoted}
-use Rattle.cbor_notes.proofs.Quoted.{only_quoted, none_quoted, no_backslash}
+use Rattle.cbor_notes.proofs.tokens.TextPlaces.{from_byte}
+use Rattle.cbor_notes.proofs.tokens.Contents.{with_front-append}
+use Rattle.cbor_notes.proofs.tokens.Quoted.{plain_to, plain_to_end, closes, opens, escape_is, no_escape, in_quotes-unquoted}
+use Rattle.cbor_notes.proofs.tokens.Quoted.{only_quoted, none_quoted, no_backslash}
 use Rattle.cbor_notes.proofs.token.content.quoted_at.Goals as goal
 use Rattle.cbor_notes.proofs.token.content.quoted_at.Goals.{Then-text-end, After-drop-content-then-end-text}
 use Rattle.cbor_notes.proofs.token.content.quoted_at.Goals.{After-drop-content-2, then-end-text-via-then-end-text}

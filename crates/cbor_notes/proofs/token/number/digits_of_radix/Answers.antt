@@ -1,6 +1,6 @@
 use Rattle.std.proofs.Common.{◌≡◌, ℕ, ◌+◌, ◌*◌, ◌<◌, sym, subst, ◌∙◌, arith}
 use Rattle.std.specs.Char.{digit_value}
-use Rattle.cbor_notes.proofs.NumberRuns.{run_more, capped_more}
+use Rattle.cbor_notes.proofs.tokens.NumberRuns.{run_more, capped_more}
 use Rattle.cbor_notes.proofs.token.number.digits_of_radix.Goals as goal
 
 pub loop-end-preserved : goal.loop-end-preserved

@@ -2,8 +2,8 @@ use Rattle.std.proofs.Common.{ℕ, ◌+◌, List, drop, Some, None, ap, ◌∙�
 use Rattle.std.proofs.lemmas.List.{length-drop}
 use Rattle.std.proofs.lemmas.Bool.{cond-true, cond-false}
 use Rattle.cbor_notes.specs.TokenReading.{indicator_of, small_run}
-use Rattle.cbor_notes.proofs.TextPlaces.{from_byte}
-use Rattle.cbor_notes.proofs.NumberRuns.{none_small, starts_small}
+use Rattle.cbor_notes.proofs.tokens.TextPlaces.{from_byte}
+use Rattle.cbor_notes.proofs.tokens.NumberRuns.{none_small, starts_small}
 use Rattle.cbor_notes.proofs.token.number.indicator_at.Goals as goal
 
 pub returns-then-end-start-clause-none : goal.returns-then-end-start-clause-none

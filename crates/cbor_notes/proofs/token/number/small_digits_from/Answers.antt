@@ -1,7 +1,7 @@
 use Rattle.std.proofs.Common.{◌≡◌, ◌-◌, get_or, sym, ◌∙◌, arith}
 use Rattle.std.specs.Char.{digit_value}
 use Rattle.std.proofs.lemmas.Str.{digit_value_digit}
-use Rattle.cbor_notes.proofs.NumberRuns.{small_more}
+use Rattle.cbor_notes.proofs.tokens.NumberRuns.{small_more}
 use Rattle.cbor_notes.proofs.token.number.small_digits_from.Goals as goal
 
 pub loop-end-preserved : goal.loop-end-preserved

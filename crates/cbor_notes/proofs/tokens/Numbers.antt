@@ -12,10 +12,10 @@ use Rattle.cbor_notes.specs.declared.token.number.Base.TheVariants.{Decimal, Hex
 use Rattle.cbor_notes.specs.Token.{AreDigits, Indicates, IsNumber, IsSomeNumber, IsLongest, prefix, radix}
 use Rattle.cbor_notes.specs.TokenReading.{starts_with_digit, base_of, digit_run, indicator_of, with_indicator}
 use Rattle.cbor_notes.specs.TokenReading.{after_run, number_in, number_of}
-use Rattle.cbor_notes.proofs.NumberRuns.{digit_run-append, digit_run-stops, IsRun, is_run, length-digit_run}
-use Rattle.cbor_notes.proofs.NumberRuns.{small_run-stops, length-small_run, indicator_of-append, Indicates-indicator_of}
-use Rattle.cbor_notes.proofs.Longest.{one_longest}
-use Rattle.cbor_notes.proofs.TextPlaces.{part_and_rest, part_is}
+use Rattle.cbor_notes.proofs.tokens.NumberRuns.{digit_run-append, digit_run-stops, IsRun, is_run, length-digit_run}
+use Rattle.cbor_notes.proofs.tokens.NumberRuns.{small_run-stops, length-small_run, indicator_of-append, Indicates-indicator_of}
+use Rattle.cbor_notes.proofs.tokens.Longest.{one_longest}
+use Rattle.cbor_notes.proofs.tokens.TextPlaces.{part_and_rest, part_is}
 
 -- the prefix of this base begins the text, and a digit of this base stands after it
 abbrev Begins : List ℕ → Base → Type 0

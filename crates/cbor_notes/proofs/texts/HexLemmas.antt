@@ -8,7 +8,7 @@ use Rattle.std.specs.List.{list_all}
 use Rattle.std.specs.Str.{IsAscii}
 use Rattle.hex.specs.Hex.{encode_lower, encode_with, lower_digits}
 use Rattle.hex.proofs.HexLemmas.{IsAscii-encode_with}
-use Rattle.cbor_notes.proofs.DecodedLineLemmas.{encode_with-append}
+use Rattle.cbor_notes.proofs.bases.DecodedLineLemmas.{encode_with-append}
 
 -- bytes that pass a test of each are ASCII
 pub IsAscii-from_test : (bs : List ℕ) → list_all (λ b. ltb b 128) bs ≡ true → IsAscii bs

@@ -20,7 +20,7 @@ use Rattle.jiff.proofs.SpanFacts.{signed_arith}
 use Rattle.cbor_notes.specs.DateTime.{IsFraction, no_fraction, some_digits, IsZone, ahead, behind, IsDateTimeText}
 use Rattle.cbor_notes.specs.DateTime.{fraction_text, nine_digits, shown}
 use Rattle.cbor_notes.specs.Date.{clock_text, date_text}
-use Rattle.cbor_notes.proofs.DateTexts.{clock_text-eight, date_text-ten}
+use Rattle.cbor_notes.proofs.dates.DateTexts.{clock_text-eight, date_text-ten}
 use Rattle.jiff.specs.Types.{Date}
 
 -- seconds of a zone behind UTC

@@ -22,12 +22,12 @@ use Rattle.cbor_notes.specs.DateTime.{IsZone, dotted, epoch_of_datetime, epoch_t
 use Rattle.cbor_notes.specs.DateTime.{read_civil, read_digits, read_zone, signed_seconds}
 use Rattle.cbor_notes.specs.Days.{CalendarDay, calendar_day, day_count, day_of}
 use Rattle.cbor_notes.specs.Search.{first_minute}
-use Rattle.cbor_notes.proofs.CalendarDays.{date_on, place, place_of}
-use Rattle.cbor_notes.proofs.DateNotes.{Decides-int_le, IfSome-option_map, IsSome-option_map, text_of}
-use Rattle.cbor_notes.proofs.DateTexts.{clock_text-eight, date_text-ten}
-use Rattle.cbor_notes.proofs.DateTimeTexts.{all_digits, digits_then, zone_first}
-use Rattle.cbor_notes.proofs.Searches.{IfSome-first_found, IfSome-first_minute, IfSome-option_or, IfSome-tested}
-use Rattle.cbor_notes.proofs.Searches.{IsSome-first_found, IsSome-first_minute, IsSome-option_or, IsSome-tested}
+use Rattle.cbor_notes.proofs.dates.CalendarDays.{date_on, place, place_of}
+use Rattle.cbor_notes.proofs.dates.DateNotes.{Decides-int_le, IfSome-option_map, IsSome-option_map, text_of}
+use Rattle.cbor_notes.proofs.dates.DateTexts.{clock_text-eight, date_text-ten}
+use Rattle.cbor_notes.proofs.dates.DateTimeTexts.{all_digits, digits_then, zone_first}
+use Rattle.cbor_notes.proofs.dates.Searches.{IfSome-first_found, IfSome-first_minute, IfSome-option_or, IfSome-tested}
+use Rattle.cbor_notes.proofs.dates.Searches.{IsSome-first_found, IsSome-first_minute, IsSome-option_or, IsSome-tested}
 
 -- zones
 signed_seconds_is : (text : List ℕ) (hour minute : ℕ) → hour < 24 → minute < 60

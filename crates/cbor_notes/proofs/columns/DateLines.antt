@@ -11,10 +11,10 @@ use Rattle.jiff.specs.Types.{Date}
 use Rattle.cbor_notes.specs.Date.{IsMomentText, clock_text, date_of_epoch, date_text, datetime_of_epoch, epoch_of_date}
 use Rattle.cbor_notes.specs.Date.{four_digits, grouped_signed, two_digits, year_text}
 use Rattle.cbor_notes.specs.DateTime.{epoch_of_datetime, epoch_text, fraction_text, nine_digits, shown}
-use Rattle.cbor_notes.proofs.DateNotes.{date_of_epoch_is, datetime_of_epoch_is, epoch_of_date_is}
-use Rattle.cbor_notes.proofs.DateTimeNotes.{IsMomentNote, epoch_of_datetime_is}
-use Rattle.cbor_notes.proofs.DateTimeTexts.{fraction_digits}
-use Rattle.cbor_notes.proofs.OneLine.{Free, decimal_line, free_both, free_cond, from_test, grouped_line}
+use Rattle.cbor_notes.proofs.dates.DateNotes.{date_of_epoch_is, datetime_of_epoch_is, epoch_of_date_is}
+use Rattle.cbor_notes.proofs.dates.DateTimeNotes.{IsMomentNote, epoch_of_datetime_is}
+use Rattle.cbor_notes.proofs.dates.DateTimeTexts.{fraction_digits}
+use Rattle.cbor_notes.proofs.columns.OneLine.{Free, decimal_line, free_both, free_cond, from_test, grouped_line}
 
 -- what is found has no line feed, and neither has nothing
 line_of : (found : Option (List ℕ)) → IfSome found (Free 10) → Free 10 (unwrap_or found [])

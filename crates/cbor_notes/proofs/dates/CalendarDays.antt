@@ -8,7 +8,7 @@ use Rattle.jiff.proofs.Family.{epoch_day_range}
 use Rattle.jiff.proofs.SpanFacts.{signed_arith}
 use Rattle.jiff.specs.Types.{Date}
 use Rattle.jiff.specs.Words.{IsEpochDay, days_in_month, epoch_day}
-use Rattle.cbor_notes.proofs.DateTexts.{not_negative}
+use Rattle.cbor_notes.proofs.dates.DateTexts.{not_negative}
 use Rattle.cbor_notes.specs.Days.{IsDateOn, calendar_day, day_count, day_number, day_of, next_day}
 
 month_long : (year : ℤ) (month : ℕ) → 1 ≤ days_in_month year month

@@ -6,8 +6,8 @@ use Rattle.std.proofs.lemmas.Int.Digits.{number_push, number_lt}
 use Rattle.std.specs.Int.Digits.{AllBelowBase, number_from_digits}
 use Rattle.cbor_notes.specs.Base32.{characters, Writes}
 use Rattle.cbor_notes.specs.declared.base32.Alphabet.{Alphabet}
-use Rattle.cbor_notes.proofs.Base32Alphabet.{same_value}
-use Rattle.cbor_notes.proofs.Places.{AllBelowBase_push}
+use Rattle.cbor_notes.proofs.bases.Base32Alphabet.{same_value}
+use Rattle.cbor_notes.proofs.dates.Places.{AllBelowBase_push}
 
 -- one more digit
 pub writes_more : (a : Alphabet) (digits more : List ℕ) (number digit value : ℕ) → Writes a digits number

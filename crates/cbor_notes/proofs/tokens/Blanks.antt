@@ -8,8 +8,8 @@ use Rattle.std.proofs.lemmas.Bool.{cond_both, and_parts, or_cases, eqb-true, eqb
 use Rattle.std.proofs.Math.Numerals.{one-add}
 use Rattle.cbor_notes.specs.Token.{Blank, nothing, whitespace, comment, IsLongest, is_whitespace}
 use Rattle.cbor_notes.specs.TokenReading.{after_blank_in, after_blank}
-use Rattle.cbor_notes.proofs.Longest.{one_longest}
-use Rattle.cbor_notes.proofs.TextPlaces.{part_and_rest, part_is}
+use Rattle.cbor_notes.proofs.tokens.Longest.{one_longest}
+use Rattle.cbor_notes.proofs.tokens.TextPlaces.{part_and_rest, part_is}
 
 -- what holds at each of the four holds of all whitespace
 pub at_whitespace : (P : ℕ → Type 0) → P 32 → P 9 → P 10 → P 13 → (byte : ℕ) → IsTrue (is_whitespace byte) → P byte

@@ -13,9 +13,9 @@ use Rattle.jiff.specs.Words.{IsEpochDay, epoch_day}
 use Rattle.cbor_notes.specs.Date.{IsDateText, IsDayText, IsMomentText, date_of_epoch, datetime_of_epoch, date_text}
 use Rattle.cbor_notes.specs.Date.{day_text, epoch_of_date, grouped_signed, is_day_text, time_text}
 use Rattle.cbor_notes.specs.Days.{CalendarDay, calendar_day, day_count, day_number, day_of, is_day_number}
-use Rattle.cbor_notes.proofs.CalendarDays.{date_on, place, place_in, place_of}
-use Rattle.cbor_notes.proofs.Moments.{day_and_clock, moment_found, moment_text}
-use Rattle.cbor_notes.proofs.Searches.{IfSome-first_found, IfSome-tested, IsSome-first_found, IsSome-tested}
+use Rattle.cbor_notes.proofs.dates.CalendarDays.{date_on, place, place_in, place_of}
+use Rattle.cbor_notes.proofs.dates.Moments.{day_and_clock, moment_found, moment_text}
+use Rattle.cbor_notes.proofs.dates.Searches.{IfSome-first_found, IfSome-tested, IsSome-first_found, IsSome-tested}
 
 -- a text is the answer where there is one and it is no other, and none is where there is none
 pub same_text : {A : Type 0} (text : A) (answer : Option A) → IfSome answer (λ other. text ≡ other) → IsSome answer

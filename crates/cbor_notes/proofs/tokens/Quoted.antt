@@ -9,7 +9,7 @@ use Rattle.std.proofs.lemmas.Bool.{cond-true, cond-false, or_parts, or_cases, eq
 use Rattle.std.proofs.Math.Numerals.{one-add}
 use Rattle.cbor_notes.specs.Token.{is_special, escaped_byte, in_quotes}
 use Rattle.cbor_notes.specs.TokenReading.{with_front, unquoted}
-use Rattle.cbor_notes.proofs.Contents.{from_front, with_front-append, with_front-nil}
+use Rattle.cbor_notes.proofs.tokens.Contents.{from_front, with_front-append, with_front-nil}
 
 -- the text that is read, with the `\` before it in an escape
 abbrev opened : Bool → List ℕ → List ℕ

@@ -6,7 +6,7 @@ use Rattle.jiff.proofs.SpanFacts.{signed_arith}
 use Rattle.jiff.specs.Types.{Date}
 use Rattle.jiff.specs.Words.{epoch_day}
 use Rattle.cbor_notes.specs.Date.{IsMomentText, clock_text, date_text}
-use Rattle.cbor_notes.proofs.DateTexts.{date_text_same}
+use Rattle.cbor_notes.proofs.dates.DateTexts.{date_text_same}
 
 -- the day and the seconds from midnight
 pub day_and_clock : (s q r : ℤ) → q ≡ int_div_euclid s (pos 86400) → r ≡ int_rem_euclid s (pos 86400)

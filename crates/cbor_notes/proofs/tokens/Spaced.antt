@@ -11,9 +11,9 @@ use Rattle.std.proofs.Math.Numerals.{one-add}
 use Rattle.cbor_notes.specs.Token.{Blank, nothing, whitespace, comment, Spaced, blank, digit, DigitsBetween}
 use Rattle.cbor_notes.specs.Token.{is_whitespace, is_digit}
 use Rattle.cbor_notes.specs.TokenReading.{with_front, after_blank_in, after_blank, digits_in, some_digits, digits_of}
-use Rattle.cbor_notes.proofs.Blanks.{Blank-append, all_push, at_whitespace, blank_left, length-after_blank}
-use Rattle.cbor_notes.proofs.TextPlaces.{from_byte}
-use Rattle.cbor_notes.proofs.Contents.{from_front, with_front-append, with_front-nil}
+use Rattle.cbor_notes.proofs.tokens.Blanks.{Blank-append, all_push, at_whitespace, blank_left, length-after_blank}
+use Rattle.cbor_notes.proofs.tokens.TextPlaces.{from_byte}
+use Rattle.cbor_notes.proofs.tokens.Contents.{from_front, with_front-append, with_front-nil}
 
 -- a blank before digits
 pub Spaced-blank : {comments : Bool} {front text digits : List ℕ} → Blank comments front → Spaced comments text digits
