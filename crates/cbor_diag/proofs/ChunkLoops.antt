@@ -5,7 +5,7 @@ use Rattle.cbor_diag.specs.declared.error.Error.{Error}
 use Rattle.cbor_diag.specs.declared.error.Error.TheVariants as refusal
 use Rattle.cbor_diag.specs.Item.{Chunk}
 use Rattle.cbor_diag.specs.Bytes.{StringKind}
-use Rattle.cbor_diag.specs.Reading.{Read, Fails, chunk_at}
+use Rattle.cbor_diag.specs.Reading.{Read, Fails, read_chunk}
 use Rattle.cbor_diag.specs.Counting.{Counted, later, go_on, ◌>>-◌, Stops, counted_more, counted_chunks}
 use Rattle.cbor_diag.proofs.Counting.{later_later, then_later, then_then, then_same, then_grows}
 
@@ -39,7 +39,7 @@ no_room : (n : ℕ) (b : List ℕ) (k : ℕ) → k < length b → length b ≤ n
 no_room zero b k lt le = absurd (omega arith)
 no_room (suc m) b k lt le = (m, refl, omega arith)
 
-pub more_chunk : (kind : StringKind) (front : List Chunk) (t n : ℕ) (b : List ℕ) (c : Chunk) (after : List ℕ) (total : Counted (List Chunk)) → chunk_at kind b ≡ Ok (Some c, after) → length after < length b → length b ≤ n
+pub more_chunk : (kind : StringKind) (front : List Chunk) (t n : ℕ) (b : List ℕ) (c : Chunk) (after : List ℕ) (total : Counted (List Chunk)) → read_chunk kind b ≡ Ok (Some c, after) → length after < length b → length b ≤ n
     → later t (onto front (counted_chunks n kind b)) ≡ total → (m : ℕ) × (length after ≤ m) × (later (t + 1) (onto (front ++ c ∷ []) (counted_chunks m kind after)) ≡ total)
 unfolding counted_chunks
 more_chunk kind front t n b c after total e lt le so_far =
@@ -55,13 +55,13 @@ more_chunk kind front t n b c after total e lt le so_far =
 
 -- memory ran out for the chunk that was read
 pub chunk_wants : (kind : StringKind) (front : List Chunk) (t n : ℕ) (b : List ℕ) (c : Chunk) (after : List ℕ)
-    (total : Counted (List Chunk)) → chunk_at kind b ≡ Ok (Some c, after) → length after < length b → length b ≤ n
+    (total : Counted (List Chunk)) → read_chunk kind b ≡ Ok (Some c, after) → length after < length b → length b ≤ n
     → later t (onto front (counted_chunks n kind b)) ≡ total → Stops refusal.Memory (t + 1) total
 chunk_wants kind front t n b c after total e lt le so_far =
     let next = more_chunk kind front t n b c after total e lt le so_far in
     omega (arith, ap (λ (d : Counted (List Chunk)). d.0) next.2)
 
-pub no_more_chunk : (kind : StringKind) (front : List Chunk) (t n : ℕ) (b after : List ℕ) (total : Counted (List Chunk)) → chunk_at kind b ≡ Ok (None, after) → length after < length b → length b ≤ n
+pub no_more_chunk : (kind : StringKind) (front : List Chunk) (t n : ℕ) (b after : List ℕ) (total : Counted (List Chunk)) → read_chunk kind b ≡ Ok (None, after) → length after < length b → length b ≤ n
     → later t (onto front (counted_chunks n kind b)) ≡ total → total ≡ (t + 1, Ok (front, after))
 unfolding counted_chunks
 no_more_chunk kind front t n b after total e lt le so_far =
@@ -69,13 +69,13 @@ no_more_chunk kind front t n b after total e lt le so_far =
     let here : counted_chunks n kind b ≡ (1, Ok ([], after)) = ap (λ k. counted_chunks k kind b) r.1 ∙ ap (λ x. go_on 1 x (λ y. counted_more (counted_chunks r.0 kind) y.0 y.1)) e in
     sym so_far ∙ ap (λ x. later t (onto front x)) here ∙ ap (λ cs. (t + 1, Ok (cs, after))) (append-nil front)
 
-chunks_stop : (e : Error) (kind : StringKind) (n : ℕ) (b : List ℕ) → length b ≤ n → Fails e (chunk_at kind b) → Stops e 1 (counted_chunks n kind b)
-unfolding counted_chunks chunk_at
-chunks_stop e kind zero [] le h = stops_go e 1 (chunk_at kind []) (λ _. (0, Err refusal.CutShort)) h
+chunks_stop : (e : Error) (kind : StringKind) (n : ℕ) (b : List ℕ) → length b ≤ n → Fails e (read_chunk kind b) → Stops e 1 (counted_chunks n kind b)
+unfolding counted_chunks read_chunk
+chunks_stop e kind zero [] le h = stops_go e 1 (read_chunk kind []) (λ _. (0, Err refusal.CutShort)) h
 chunks_stop e kind zero (x ∷ b) le h = absurd (omega arith)
-chunks_stop e kind (suc n) b le h = stops_go e 1 (chunk_at kind b) (λ c. counted_more (counted_chunks n kind) c.0 c.1) h
+chunks_stop e kind (suc n) b le h = stops_go e 1 (read_chunk kind b) (λ c. counted_more (counted_chunks n kind) c.0 c.1) h
 
-pub chunk_fails : (e : Error) (kind : StringKind) (front : List Chunk) (t n : ℕ) (b : List ℕ) (total : Counted (List Chunk)) → length b ≤ n → Fails e (chunk_at kind b)
+pub chunk_fails : (e : Error) (kind : StringKind) (front : List Chunk) (t n : ℕ) (b : List ℕ) (total : Counted (List Chunk)) → length b ≤ n → Fails e (read_chunk kind b)
     → later t (onto front (counted_chunks n kind b)) ≡ total → Stops e (t + 1) total
 chunk_fails e kind front t n b total le h so_far =
     subst (λ c. Stops e (t + 1) c) so_far (stops_later e t 1 _ (stops_then e 1 (counted_chunks n kind b) _ (chunks_stop e kind n b le h)))

@@ -11,7 +11,7 @@ use Rattle.cbor_diag.specs.declared.parse.binary.head.Info.TheVariants as info
 use Rattle.cbor_diag.specs.Item.{Chunk}
 use Rattle.cbor_diag.specs.Head.{break_byte}
 use Rattle.cbor_diag.specs.Bytes.{StringKind, bytes_kind, text_kind, major_of, IsContent, ChunkThen, SpellsChunks}
-use Rattle.cbor_diag.specs.Reading.{Read, ◌>>=◌, info_at, split_at, content_at, chunk_of, chunk_at, more_chunks, chunks_at}
+use Rattle.cbor_diag.specs.Reading.{Read, ◌>>=◌, read_info, split_at, read_content, chunk_of, read_chunk, more_chunks, read_chunks}
 use Rattle.cbor_diag.proofs.Heads.{IsBytes, IsBytes-drop, IsBytes-rest, bind_ok, guard_ok, guard_held, ok_is, head_append, head_front, head_shorter, InfoIs, info_takes, head_then, opened}
 
 -- ---- content
@@ -30,8 +30,8 @@ split_again s rest =
 abbrev ContentIs : StringKind → ℕ → IntegerWidth → List ℕ → Chunk → List ℕ → Type 0
 ContentIs kind n w b c rest = (c.width ≡ w) × (length c.bytes ≡ n) × IsContent kind c.bytes × (b ≡ c.bytes ++ rest) × IsBytes rest
 
-pub content_takes : (kind : StringKind) (n : ℕ) (w : IntegerWidth) (b rest : List ℕ) (c : Chunk) → IsBytes b → content_at kind n w b ≡ Ok (c, rest) → (c.width ≡ w) × (length c.bytes ≡ n) × IsContent kind c.bytes × (b ≡ c.bytes ++ rest) × IsBytes rest
-unfolding content_at
+pub content_takes : (kind : StringKind) (n : ℕ) (w : IntegerWidth) (b rest : List ℕ) (c : Chunk) → IsBytes b → read_content kind n w b ≡ Ok (c, rest) → (c.width ≡ w) × (length c.bytes ≡ n) × IsContent kind c.bytes × (b ≡ c.bytes ++ rest) × IsBytes rest
+unfolding read_content
 content_takes bytes_kind n w b rest c fits e =
     let a = bind_ok (split_at n b) (λ s. Ok (record { bytes = s.0; width = w }, s.1)) (c, rest) e in
     let t = split_takes n b a.0.0 a.0.1 fits a.1 in
@@ -42,8 +42,8 @@ content_takes text_kind n w b rest c fits e =
     let g = guard_held (is_utf8 a.0.0) refusal.Utf8 (record { bytes = a.0.0; width = w }, a.0.1) (c, rest) a.2 in
     subst (λ (x : Chunk × List ℕ). ContentIs text_kind n w b x.0 x.1) g.1 (refl, t.0, IsUtf8-from_is_utf8 a.0.0 g.0, t.1, t.2)
 
-pub content_again : (kind : StringKind) (c : Chunk) (rest : List ℕ) → IsContent kind c.bytes → content_at kind (length c.bytes) c.width (c.bytes ++ rest) ≡ Ok (c, rest)
-unfolding content_at
+pub content_again : (kind : StringKind) (c : Chunk) (rest : List ℕ) → IsContent kind c.bytes → read_content kind (length c.bytes) c.width (c.bytes ++ rest) ≡ Ok (c, rest)
+unfolding read_content
 content_again bytes_kind c rest is = rw (split_again c.bytes rest) refl
 content_again text_kind c rest is = rw (split_again c.bytes rest, is_utf8-from_IsUtf8 c.bytes is) refl
 
@@ -54,10 +54,10 @@ none_left b = Ok (None, b)
 
 -- the three ways of a first byte: a break, a head of that kind, and what can't stand there
 pub chunk_ways : (kind : StringKind) (first : ℕ) (b : List ℕ)
-    → ((first ≡ break_byte) × (chunk_at kind (first ∷ b) ≡ none_left b))
-    ⊎ (((first ≢ break_byte) × (first / 32 ≡ major_of kind) × (chunk_at kind (first ∷ b) ≡ (info_at (first % 32) b >>= λ i. chunk_of kind i.0 i.1)))
-    ⊎ ((first ≢ break_byte) × (first / 32 ≢ major_of kind) × (chunk_at kind (first ∷ b) ≡ Err refusal.Head)))
-unfolding chunk_at
+    → ((first ≡ break_byte) × (read_chunk kind (first ∷ b) ≡ none_left b))
+    ⊎ (((first ≢ break_byte) × (first / 32 ≡ major_of kind) × (read_chunk kind (first ∷ b) ≡ (read_info (first % 32) b >>= λ i. chunk_of kind i.0 i.1)))
+    ⊎ ((first ≢ break_byte) × (first / 32 ≢ major_of kind) × (read_chunk kind (first ∷ b) ≡ Err refusal.Head)))
+unfolding read_chunk
 chunk_ways kind first b =
     elim (cases_eq first break_byte) [
       | inl is ↦ inl (is, rw (eq-eqb first break_byte is) refl)
@@ -70,7 +70,7 @@ chunk_ways kind first b =
 chunk_of_takes : (kind : StringKind) (bits : ℕ) (i : Info) (tail b rest : List ℕ) (o : Option Chunk) → InfoIs bits i tail b → chunk_of kind i b ≡ Ok (o, rest)
     → (c : Chunk) × (o ≡ Some c) × ChunkThen kind c ((32 * major_of kind + bits) ∷ tail) (λ r. r ≡ rest) × IsBytes rest
 chunk_of_takes kind bits (info.Number n w) tail b rest o is e =
-    let a = bind_ok (content_at kind n w b) (λ c. Ok (Some c.0, c.1)) (o, rest) e in
+    let a = bind_ok (read_content kind n w b) (λ c. Ok (Some c.0, c.1)) (o, rest) e in
     let c : Chunk = a.0.0 in
     let t = content_takes kind n w b a.0.1 c is.3 a.1 in
     let h = head_then (major_of kind) bits n w tail b is in
@@ -85,15 +85,15 @@ abbrev pub ChunkIs : (kind : StringKind) (b rest : List ℕ) → Option Chunk �
 ChunkIs kind b rest None = b ≡ break_byte ∷ rest
 ChunkIs kind b rest (Some c) = ChunkThen kind c b (λ r. r ≡ rest) × IsBytes rest
 
-pub one_takes : (kind : StringKind) (b rest : List ℕ) (o : Option Chunk) → IsBytes b → chunk_at kind b ≡ Ok (o, rest) → ChunkIs kind b rest o
-unfolding chunk_at
+pub one_takes : (kind : StringKind) (b rest : List ℕ) (o : Option Chunk) → IsBytes b → read_chunk kind b ≡ Ok (o, rest) → ChunkIs kind b rest o
+unfolding read_chunk
 one_takes kind [] rest o fits e = absurd cc
 one_takes kind (first ∷ b) rest o fits e =
     elim (chunk_ways kind first b) [
       | inl w ↦ subst (λ (p : Option Chunk × List ℕ). ChunkIs kind (first ∷ b) p.1 p.0) (ok_is (None, b) (o, rest) (sym w.1 ∙ e)) (rw w.0 refl)
       | inr v ↦ elim v [
         | inl w ↦
-            let a = bind_ok (info_at (first % 32) b) (λ i. chunk_of kind i.0 i.1) (o, rest) (sym w.2 ∙ e) in
+            let a = bind_ok (read_info (first % 32) b) (λ i. chunk_of kind i.0 i.1) (o, rest) (sym w.2 ∙ e) in
             let is = info_takes (first % 32) b a.0.1 a.0.0 (IsBytes-rest first b fits) a.1 in
             let t = chunk_of_takes kind (first % 32) a.0.0 b a.0.1 rest o is a.2 in
             let whole : 32 * major_of kind + first % 32 ≡ first = rw (← w.1) (omega arith) in
@@ -102,10 +102,10 @@ one_takes kind (first ∷ b) rest o fits e =
       ]
     ]
 
-pub chunk_takes : (kind : StringKind) (b rest : List ℕ) (c : Chunk) → IsBytes b → chunk_at kind b ≡ Ok (Some c, rest) → ChunkThen kind c b (λ r. r ≡ rest) × IsBytes rest
+pub chunk_takes : (kind : StringKind) (b rest : List ℕ) (c : Chunk) → IsBytes b → read_chunk kind b ≡ Ok (Some c, rest) → ChunkThen kind c b (λ r. r ≡ rest) × IsBytes rest
 chunk_takes kind b rest c fits e = one_takes kind b rest (Some c) fits e
 
-pub chunk_again : (kind : StringKind) (b rest : List ℕ) (c : Chunk) → ChunkThen kind c b (λ r. r ≡ rest) → chunk_at kind b ≡ Ok (Some c, rest)
+pub chunk_again : (kind : StringKind) (b rest : List ℕ) (c : Chunk) → ChunkThen kind c b (λ r. r ≡ rest) → read_chunk kind b ≡ Ok (Some c, rest)
 chunk_again kind b rest c h =
     let o = opened (major_of kind) (length c.bytes) c.width b h.1.1 (h.1.0, h.1.1, h.1.2, refl) in
     let r-is : h.1.1 ≡ c.bytes ++ rest = h.1.3.1 ∙ ap (λ (r : List ℕ). c.bytes ++ r) h.1.3.2 in
@@ -113,7 +113,7 @@ chunk_again kind b rest c h =
     elim (chunk_ways kind o.first o.tail) [
       | inl w ↦ absurd (let wrong : 255 % 32 < 28 = rw w.0 at bits in omega arith)
       | inr v ↦ elim v [
-        | inl w ↦ ap (chunk_at kind) o.parts ∙ w.2 ∙ rw (o.info_is, r-is, content_again kind c rest h.0) refl
+        | inl w ↦ ap (read_chunk kind) o.parts ∙ w.2 ∙ rw (o.info_is, r-is, content_again kind c rest h.0) refl
         | inr w ↦ absurd (w.1 o.major_is)
       ]
     ]
@@ -168,19 +168,19 @@ more_takes kind read b r rest (Some c) cs fits is others e =
     let t = others a.0.0 is.1 (a.1 ∙ ap (λ (x : List ℕ). Ok (a.0.0, x)) rest-is) in
     rw (← cs-is) (chunk_with kind b r c (λ x. SpellsChunks kind x a.0.0 (break_byte ∷ rest)) is.0 t.0, t.1)
 
-pub chunks_takes : (n : ℕ) (kind : StringKind) (b rest : List ℕ) (cs : List Chunk) → IsBytes b → chunks_at n kind b ≡ Ok (cs, rest) → SpellsChunks kind b cs (break_byte ∷ rest) × IsBytes rest
-unfolding chunks_at
+pub chunks_takes : (n : ℕ) (kind : StringKind) (b rest : List ℕ) (cs : List Chunk) → IsBytes b → read_chunks n kind b ≡ Ok (cs, rest) → SpellsChunks kind b cs (break_byte ∷ rest) × IsBytes rest
+unfolding read_chunks
 chunks_takes zero kind b rest cs fits e = absurd cc
 chunks_takes (suc n) kind b rest cs fits e =
-    let a = bind_ok (chunk_at kind b) (λ c. more_chunks (chunks_at n kind) c.0 c.1) (cs, rest) e in
-    more_takes kind (chunks_at n kind) b a.0.1 rest a.0.0 cs fits (one_takes kind b a.0.1 a.0.0 fits a.1) (chunks_takes n kind a.0.1 rest) a.2
+    let a = bind_ok (read_chunk kind b) (λ c. more_chunks (read_chunks n kind) c.0 c.1) (cs, rest) e in
+    more_takes kind (read_chunks n kind) b a.0.1 rest a.0.0 cs fits (one_takes kind b a.0.1 a.0.0 fits a.1) (chunks_takes n kind a.0.1 rest) a.2
 
-chunk_at_break : (kind : StringKind) (rest : List ℕ) → chunk_at kind (break_byte ∷ rest) ≡ Ok (None, rest)
-unfolding chunk_at
+chunk_at_break : (kind : StringKind) (rest : List ℕ) → read_chunk kind (break_byte ∷ rest) ≡ Ok (None, rest)
+unfolding read_chunk
 chunk_at_break kind rest = refl
 
-pub chunks_again : (n : ℕ) (kind : StringKind) (b rest : List ℕ) (cs : List Chunk) → length b ≤ n → SpellsChunks kind b cs (break_byte ∷ rest) → chunks_at n kind b ≡ Ok (cs, rest)
-unfolding chunks_at
+pub chunks_again : (n : ℕ) (kind : StringKind) (b rest : List ℕ) (cs : List Chunk) → length b ≤ n → SpellsChunks kind b cs (break_byte ∷ rest) → read_chunks n kind b ≡ Ok (cs, rest)
+unfolding read_chunks
 chunks_again zero kind b rest [] le h = absurd (omega (arith, ap length h))
 chunks_again (suc n) kind b rest [] le h = rw (h, chunk_at_break kind rest) refl
 chunks_again zero kind b rest (c ∷ cs) le h = absurd (omega (arith, (chunk_parts kind b c _ h).shorter))

@@ -2,8 +2,8 @@
 use Rattle.std.proofs.Common.{◌≡◌, ℕ, zero, suc, ◌+◌, ◌-◌, ◌<◌, ◌≤◌, List, [], ◌∷◌, ◌++◌, length, Option, Some, None, Ok, Err, refl, sym, ap, ◌∙◌, arith}
 use Rattle.cbor_diag.specs.declared.error.Error.{Error}
 use Rattle.cbor_diag.specs.Item.{Item}
-use Rattle.cbor_diag.specs.Reading.{Read, head_at}
-use Rattle.cbor_diag.specs.Counting.{Counted, later, go_on, ◌>>-◌, Frame, put, end_at, closed, close_or, goes_on, parts_at, opened, part_at, counted_item, closing, resume, deliver}
+use Rattle.cbor_diag.specs.Reading.{Read, read_head}
+use Rattle.cbor_diag.specs.Counting.{Counted, later, go_on, ◌>>-◌, Frame, put, after_end, closed, close_or, goes_on, read_parts, opened, read_part, counted_item, closing, resume, deliver}
 
 -- ---- turns before
 
@@ -47,14 +47,14 @@ pub closing_grows : (left : ℕ) (fs : List Frame) (c : Counted Item) → c.0 �
 unfolding closing
 closing_grows left [] c = omega arith
 closing_grows left (f ∷ fs) c =
-    let more : Item × List ℕ → Counted Item = λ i. parts_at (counted_item left) (put f i.0) i.1 in
+    let more : Item × List ℕ → Counted Item = λ i. read_parts (counted_item left) (put f i.0) i.1 in
     omega (arith, closing_grows (left - 1) fs c, then_grows (closing (left - 1) fs c) more)
 
 pub deliver_grows : (left : ℕ) (outer : List Frame) (top : Option Frame) (c : Counted Item)
     → c.0 ≤ (deliver left outer top c).0
 deliver_grows left outer None c = omega arith
 deliver_grows left outer (Some f) c =
-    let more : Item × List ℕ → Counted Item = λ i. parts_at (counted_item (left - 1 - length outer)) (put f i.0) i.1 in
+    let more : Item × List ℕ → Counted Item = λ i. read_parts (counted_item (left - 1 - length outer)) (put f i.0) i.1 in
     omega (arith, then_grows c more, closing_grows (left - 1) outer (c >>- more))
 
 -- ---- each item and each part of a container takes a turn
@@ -62,24 +62,24 @@ deliver_grows left outer (Some f) c =
 item_counts : (left : ℕ) (b : List ℕ) → 1 ≤ (counted_item left b).0
 unfolding counted_item
 item_counts zero b = omega arith
-item_counts (suc left) b = then_grows (1, head_at b) (λ h. part_at (counted_item left) (opened h.0) h.0 h.1)
+item_counts (suc left) b = then_grows (1, read_head b) (λ h. read_part (counted_item left) (opened h.0) h.0 h.1)
 
 close_counts : (o : Option Item) (e : Option (List ℕ)) (more : Counted Item) → 1 ≤ more.0 → 1 ≤ (close_or o e more).0
 close_counts (Some i) (Some after) more h = omega arith
 close_counts (Some i) None more h = h
 close_counts None e more h = h
 
-parts_count : (left : ℕ) (f : Frame) (b : List ℕ) → 1 ≤ (parts_at (counted_item left) f b).0
+parts_count : (left : ℕ) (f : Frame) (b : List ℕ) → 1 ≤ (read_parts (counted_item left) f b).0
 unfolding goes_on
 parts_count left f b =
     let read : List ℕ → Counted Item = counted_item left in
     let more : Item × List ℕ → Counted Item = λ i. goes_on (length b) read (put f i.0) i.1 in
-    close_counts (closed f) (end_at f b) (read b >>- more) (omega (arith, item_counts left b, then_grows (read b) more))
+    close_counts (closed f) (after_end f b) (read b >>- more) (omega (arith, item_counts left b, then_grows (read b) more))
 
 pub resume_counts : (left : ℕ) (outer : List Frame) (top : Option Frame) (b : List ℕ) → 1 ≤ (resume left outer top b).0
 resume_counts left outer None b = item_counts left b
 resume_counts left outer (Some f) b =
-    let held : Counted Item = parts_at (counted_item (left - 1 - length outer)) f b in
+    let held : Counted Item = read_parts (counted_item (left - 1 - length outer)) f b in
     omega (arith, parts_count (left - 1 - length outer) f b, closing_grows (left - 1) outer held)
 
 -- ---- the parts of one container
@@ -94,22 +94,22 @@ unfolding goes_on
 enough read short zero m f b lt gt = absurd (omega arith)
 enough read short (suc n) zero f b lt gt = absurd (omega arith)
 enough read short (suc n) (suc m) f b lt gt =
-    ap (close_or (closed f) (end_at f b)) (then_same (read b) _ _ (λ x e. let s = short b x e in enough read short n m (put f x.0) x.1 (omega arith) (omega arith)))
+    ap (close_or (closed f) (after_end f b)) (then_same (read b) _ _ (λ x e. let s = short b x e in enough read short n m (put f x.0) x.1 (omega arith) (omega arith)))
 
-pub parts_step : (read : List ℕ → Counted Item) → Shortens read → (f : Frame) (b : List ℕ) → parts_at read f b ≡ close_or (closed f) (end_at f b) (read b >>- λ i. parts_at read (put f i.0) i.1)
+pub parts_step : (read : List ℕ → Counted Item) → Shortens read → (f : Frame) (b : List ℕ) → read_parts read f b ≡ close_or (closed f) (after_end f b) (read b >>- λ i. read_parts read (put f i.0) i.1)
 unfolding goes_on
 parts_step read short f b =
-    ap (close_or (closed f) (end_at f b)) (then_same (read b) _ _ (λ x e. let s = short b x e in enough read short (length b) (suc (length x.1)) (put f x.0) x.1 (omega arith) (omega arith)))
+    ap (close_or (closed f) (after_end f b)) (then_same (read b) _ _ (λ x e. let s = short b x e in enough read short (length b) (suc (length x.1)) (put f x.0) x.1 (omega arith) (omega arith)))
 
-pub parts_end : (read : List ℕ → Counted Item) → Shortens read → (f : Frame) (b after : List ℕ) (i : Item) → closed f ≡ Some i → end_at f b ≡ Some after → parts_at read f b ≡ (1, Ok (i, after))
+pub parts_end : (read : List ℕ → Counted Item) → Shortens read → (f : Frame) (b after : List ℕ) (i : Item) → closed f ≡ Some i → after_end f b ≡ Some after → read_parts read f b ≡ (1, Ok (i, after))
 parts_end read short f b after i is ends = parts_step read short f b ∙ rw (is, ends) refl
 
 open_or : (o : Option Item) (e : Option (List ℕ)) (more : Counted Item) → e ≡ None → close_or o e more ≡ more
 open_or (Some i) e more none = rw none refl
 open_or None e more none = refl
 
-pub parts_more : (read : List ℕ → Counted Item) → Shortens read → (f : Frame) (b : List ℕ) → end_at f b ≡ None → parts_at read f b ≡ (read b >>- λ i. parts_at read (put f i.0) i.1)
-parts_more read short f b none = parts_step read short f b ∙ open_or (closed f) (end_at f b) _ none
+pub parts_more : (read : List ℕ → Counted Item) → Shortens read → (f : Frame) (b : List ℕ) → after_end f b ≡ None → read_parts read f b ≡ (read b >>- λ i. read_parts read (put f i.0) i.1)
+parts_more read short f b none = parts_step read short f b ∙ open_or (closed f) (after_end f b) _ none
 
 -- ---- all containers that are open
 
@@ -117,27 +117,27 @@ pub closing_later : (left : ℕ) (fs : List Frame) (k : ℕ) (c : Counted Item) 
 unfolding closing
 closing_later left [] k c = refl
 closing_later left (f ∷ fs) k c =
-    ap (λ d. d >>- λ i. parts_at (counted_item left) (put f i.0) i.1) (closing_later (left - 1) fs k c) ∙ then_later k (closing (left - 1) fs c) _
+    ap (λ d. d >>- λ i. read_parts (counted_item left) (put f i.0) i.1) (closing_later (left - 1) fs k c) ∙ then_later k (closing (left - 1) fs c) _
 
 pub closing_err : (left : ℕ) (fs : List Frame) (n : ℕ) (e : Error) → closing left fs (n, Err e) ≡ (n, Err e)
 unfolding closing
 closing_err left [] n e = refl
-closing_err left (f ∷ fs) n e = ap (λ d. d >>- λ i. parts_at (counted_item left) (put f i.0) i.1) (closing_err (left - 1) fs n e)
+closing_err left (f ∷ fs) n e = ap (λ d. d >>- λ i. read_parts (counted_item left) (put f i.0) i.1) (closing_err (left - 1) fs n e)
 
-pub closing_append : (left : ℕ) (fs : List Frame) (f : Frame) (c : Counted Item) → closing left (fs ++ f ∷ []) c ≡ closing left fs (c >>- λ i. parts_at (counted_item (left - length fs)) (put f i.0) i.1)
+pub closing_append : (left : ℕ) (fs : List Frame) (f : Frame) (c : Counted Item) → closing left (fs ++ f ∷ []) c ≡ closing left fs (c >>- λ i. read_parts (counted_item (left - length fs)) (put f i.0) i.1)
 unfolding closing
-closing_append left [] f c = let e : left ≡ left - 0 = omega arith in ap (λ n. c >>- λ i. parts_at (counted_item n) (put f i.0) i.1) e
+closing_append left [] f c = let e : left ≡ left - 0 = omega arith in ap (λ n. c >>- λ i. read_parts (counted_item n) (put f i.0) i.1) e
 closing_append left (g ∷ fs) f c =
     let e : left - 1 - length fs ≡ left - suc (length fs) = omega arith in
-    ap (λ d. d >>- λ i. parts_at (counted_item left) (put g i.0) i.1) (closing_append (left - 1) fs f c
-    ∙ ap (λ n. closing (left - 1) fs (c >>- λ i. parts_at (counted_item n) (put f i.0) i.1)) e)
+    ap (λ d. d >>- λ i. read_parts (counted_item left) (put g i.0) i.1) (closing_append (left - 1) fs f c
+    ∙ ap (λ n. closing (left - 1) fs (c >>- λ i. read_parts (counted_item n) (put f i.0) i.1)) e)
 
 -- ---- one turn
 
 pub deliver_later : (left : ℕ) (outer : List Frame) (top : Option Frame) (k : ℕ) (c : Counted Item) → deliver left outer top (later k c) ≡ later k (deliver left outer top c)
 deliver_later left outer None k c = refl
 deliver_later left outer (Some f) k c =
-    ap (closing (left - 1) outer) (then_later k c (λ i. parts_at (counted_item (left - 1 - length outer)) (put f i.0) i.1)) ∙ closing_later (left - 1) outer k _
+    ap (closing (left - 1) outer) (then_later k c (λ i. read_parts (counted_item (left - 1 - length outer)) (put f i.0) i.1)) ∙ closing_later (left - 1) outer k _
 
 pub deliver_err : (left : ℕ) (outer : List Frame) (top : Option Frame) (n : ℕ) (e : Error) → deliver left outer top (n, Err e) ≡ (n, Err e)
 deliver_err left outer None n e = refl

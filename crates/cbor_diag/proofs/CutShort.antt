@@ -3,7 +3,7 @@ use Rattle.std.proofs.Common.{◌≡◌, ℕ, zero, suc, ◌+◌, List, Err, ref
 use Rattle.cbor_diag.specs.declared.error.Error.{Error}
 use Rattle.cbor_diag.specs.declared.error.Error.TheVariants as refusal
 use Rattle.cbor_diag.specs.Refused.{Cut, nothing, in_head, in_content, in_chunk, in_part, Fault, too_deep, bad_head, bad_text, bad_chunk_head, bad_chunk_text, bad_part}
-use Rattle.cbor_diag.specs.Reading.{item_at}
+use Rattle.cbor_diag.specs.Reading.{read_item}
 use Rattle.cbor_diag.proofs.Heads.{IsBytes}
 use Rattle.cbor_diag.proofs.HeadRefusals.{head_cut}
 use Rattle.cbor_diag.proofs.StringRefusals.{short_content, cut_chunk}
@@ -22,11 +22,11 @@ cut_from : {level : ℕ} {b : List ℕ} {e : Error} → Refusal level b e → e 
 cut_from (is_cut c) is = c
 cut_from (is_fault f) is = absurd (fault_no_cut f is)
 
-pub cut_takes : (level left : ℕ) (b : List ℕ) → level + left ≡ 129 → IsBytes b → item_at left b ≡ Err refusal.CutShort → Cut level b
+pub cut_takes : (level left : ℕ) (b : List ℕ) → level + left ≡ 129 → IsBytes b → read_item left b ≡ Err refusal.CutShort → Cut level b
 cut_takes level left b levels fits h = cut_from (refused left level b refusal.CutShort levels fits h) refl
 
-pub cut_again : (level left : ℕ) (b : List ℕ) → level + left ≡ 129 → Cut level b → item_at left b ≡ Err refusal.CutShort
-unfolding item_at
+pub cut_again : (level left : ℕ) (b : List ℕ) → level + left ≡ 129 → Cut level b → read_item left b ≡ Err refusal.CutShort
+unfolding read_item
 cut_again level left b levels (nothing le) = item_nothing left
 cut_again level zero b levels (in_head le h) = absurd (omega arith)
 cut_again level (suc left) b levels (in_head le h) = rw (head_cut b h) refl

@@ -38,7 +38,7 @@ use Rattle.cbor_diag.specs.Dump.{row, embedded_note, failed_note, whole_note, it
 use Rattle.cbor_diag.specs.Dump.{count_if_definite, break_line, atom_lines, container_line, close_lines, inside, below, shared_in, shared_from, items_lines, pairs_lines, parts_lines, lines_at, top}
 use Rattle.cbor_diag.specs.Embedded.{if_whole, sequence_at}
 use Rattle.cbor_diag.specs.Notes.{value_note}
-use Rattle.cbor_diag.specs.Reading.{Read, item_at}
+use Rattle.cbor_diag.specs.Reading.{Read, read_item}
 use Rattle.cbor_diag.specs.Refusals.{text_of}
 use Rattle.cbor_diag.proofs.Elements.{Small, element_small, element_cut}
 use Rattle.cbor_diag.proofs.EmbeddedItems.{embedded_spells, sequence_spells}
@@ -344,9 +344,9 @@ bytes_well level (tagged t w i) well = tt
 
 -- what is embedded stands at a level, and its dump is good
 module _ (level left : ℕ) (levels : level + left ≡ 129) (dump : Item → List DumpLine) (each : (e : Item) → WellFormed level e → AllByRecursion IsGood (dump e)) where
-  item_embedded : (b : List ℕ) → AllBytes b → AllByRecursion (Free 10) (whole_note dump (item_at left b))
+  item_embedded : (b : List ℕ) → AllBytes b → AllByRecursion (Free 10) (whole_note dump (read_item left b))
   item_embedded b all =
-      whole_line dump (item_at left b) (λ e is. each e (spells_well level b e (bytes_at b all) (embedded_spells level left b e levels (bytes_at b all) (ap if_whole is))))
+      whole_line dump (read_item left b) (λ e is. each e (spells_well level b e (bytes_at b all) (embedded_spells level left b e levels (bytes_at b all) (ap if_whole is))))
 
   items_embedded : (is : Items) → WellFormedItems level is → (rest : List (List ℕ)) → AllByRecursion (Free 10) rest → AllByRecursion (AllByRecursion (Free 10)) (items_notes dump is ++ rest ∷ [])
   items_embedded no_items well rest said = (said, tt)
@@ -356,7 +356,7 @@ module _ (level left : ℕ) (levels : level + left ≡ 129) (dump : Item → Lis
   sequence_embedded b all =
       let s = sequence_at left b in
       let so = sequence_spells level left levels (length b) b (omega arith) (bytes_at b all) in
-      items_embedded s.0 (items_well level s.0 b s.1 all so.spelled_so).0 (rest_note s.1 (item_at left s.1)) (rest_line s.1 (item_at left s.1))
+      items_embedded s.0 (items_well level s.0 b s.1 all so.spelled_so).0 (rest_note s.1 (read_item left s.1)) (rest_line s.1 (read_item left s.1))
 
   encoded_item_line : (bytes : Option (List ℕ)) → IfSome bytes AllBytes → AllByRecursion (Free 10) (encoded_item_note left dump bytes)
   encoded_item_line (Some b) all = item_embedded b all

@@ -17,7 +17,7 @@ use Rattle.cbor_diag.specs.Bytes.{any, Spells}
 use Rattle.cbor_diag.specs.Embedded.{and_then, sequence_of, before as item_before}
 use Rattle.cbor_diag.specs.Dump.{note_line, note_lines, row, sequence_notes, failed_note, embedded_note, lines_at, top, whole_note}
 use Rattle.cbor_diag.specs.Parts.{taken}
-use Rattle.cbor_diag.specs.Reading.{item_at}
+use Rattle.cbor_diag.specs.Reading.{read_item}
 use Rattle.cbor_diag.specs.Sinks.{Held, step}
 use Rattle.cbor_diag.proofs.DumpFits.{row_line}
 use Rattle.cbor_diag.proofs.Found.{item_again}
@@ -88,7 +88,7 @@ utf8_after bs xs ys utf8 e =
 -- ---- a sequence
 
 abbrev pub sequence_dumps : ℕ → List ℕ → ℕ → List (List (List ℕ))
-sequence_dumps level rest steps = sequence_notes (129 - level) (lines_at (129 - level) top 0) (sequence_of (item_at (129 - level)) steps rest)
+sequence_dumps level rest steps = sequence_notes (129 - level) (lines_at (129 - level) top 0) (sequence_of (read_item (129 - level)) steps rest)
 
 -- Of a sequence, these bytes are left, and the sink has taken the items before.
 pub record SequenceLeft (level depth : ℕ) (now : Held) (rest : List ℕ) (whole : Held) : Type 0 where
@@ -105,8 +105,8 @@ module _ (level depth : ℕ) (le : level ≤ 129) (now : Held) (rest : List ℕ)
   left = 129 - level
 
   -- an item more was read
-  more_of : (steps : ℕ) (i : Item) (used : ℕ) → length rest ≤ steps → 1 ≤ used → used ≤ length rest → item_at left rest ≡ Ok (i, drop used rest)
-      → (m : ℕ) × (length (drop used rest) ≤ m) × (sequence_of (item_at left) steps rest ≡ item_before i (sequence_of (item_at left) m (drop used rest)))
+  more_of : (steps : ℕ) (i : Item) (used : ℕ) → length rest ≤ steps → 1 ≤ used → used ≤ length rest → read_item left rest ≡ Ok (i, drop used rest)
+      → (m : ℕ) × (length (drop used rest) ≤ m) × (sequence_of (read_item left) steps rest ≡ item_before i (sequence_of (read_item left) m (drop used rest)))
   unfolding sequence_of
   more_of zero i used enough some within e = absurd (omega arith)
   more_of (suc m) i used enough some within e = (m, omega (arith, length-drop used rest), rw e refl)
@@ -122,26 +122,26 @@ module _ (level depth : ℕ) (le : level ≤ 129) (now : Held) (rest : List ℕ)
       (record { steps = m.0; enough = m.1; bytes = IsBytes-drop used rest s.bytes; same = ap (λ v. taken step v others) took ∙ sym split ∙ s.same }, omega (arith, length-drop used rest))
 
   -- none more can be
-  none_of : (steps : ℕ) (e : Error) → item_at left rest ≡ Err e → sequence_dumps level rest steps ≡ sequence_notes left (lines_at left top 0) (sequence_of (item_at left) zero rest)
+  none_of : (steps : ℕ) (e : Error) → read_item left rest ≡ Err e → sequence_dumps level rest steps ≡ sequence_notes left (lines_at left top 0) (sequence_of (read_item left) zero rest)
   unfolding sequence_of
   none_of zero e h = refl
-  none_of (suc n) e h = ap (λ read. sequence_notes left (lines_at left top 0) (and_then (sequence_of (item_at left) n) rest read)) h
+  none_of (suc n) e h = ap (λ read. sequence_notes left (lines_at left top 0) (and_then (sequence_of (read_item left) n) rest read)) h
 
   pub sequence_empty : SequenceLeft level depth now rest whole → rest ≡ [] → now ≡ whole
   unfolding sequence_of
   sequence_empty s empty =
-      let ends : item_at left rest ≡ Err refusal.CutShort = ap (item_at left) empty ∙ item_nothing left in
+      let ends : read_item left rest ≡ Err refusal.CutShort = ap (read_item left) empty ∙ item_nothing left in
       let all = none_of s.steps refusal.CutShort ends in
-      let last : taken step now (flat_map (note_lines depth) (sequence_notes left (lines_at left top 0) (sequence_of (item_at left) zero rest))) ≡ now = rw empty refl in
+      let last : taken step now (flat_map (note_lines depth) (sequence_notes left (lines_at left top 0) (sequence_of (read_item left) zero rest))) ≡ now = rw empty refl in
       sym last ∙ sym (ap (λ ns. taken step now (flat_map (note_lines depth) ns)) all) ∙ s.same
 
-  failed_of : (bytes : List ℕ) (e : Error) → 0 < length bytes → item_at left bytes ≡ Err e
-      → flat_map (note_lines depth) (sequence_notes left (lines_at left top 0) (sequence_of (item_at left) zero bytes)) ≡ note_lines depth (failed_note (codes "failed to parse remaining encoded cbor sequence") e)
+  failed_of : (bytes : List ℕ) (e : Error) → 0 < length bytes → read_item left bytes ≡ Err e
+      → flat_map (note_lines depth) (sequence_notes left (lines_at left top 0) (sequence_of (read_item left) zero bytes)) ≡ note_lines depth (failed_note (codes "failed to parse remaining encoded cbor sequence") e)
   unfolding sequence_of
   failed_of [] e some h = absurd (omega arith)
   failed_of (b ∷ bytes) e some h = rw h refl
 
-  pub sequence_failed : SequenceLeft level depth now rest whole → (e : Error) (next : Held) → 0 < length rest → item_at left rest ≡ Err e
+  pub sequence_failed : SequenceLeft level depth now rest whole → (e : Error) (next : Held) → 0 < length rest → read_item left rest ≡ Err e
       → next ≡ taken step now (note_lines depth (failed_note (codes "failed to parse remaining encoded cbor sequence") e)) → next ≡ whole
   sequence_failed s e next some h took =
       took ∙ ap (taken step now) (sym (failed_of rest e some h)) ∙ sym (ap (λ ns. taken step now (flat_map (note_lines depth) ns)) (none_of s.steps e h)) ∙ s.same
@@ -149,15 +149,15 @@ module _ (level depth : ℕ) (le : level ≤ 129) (now : Held) (rest : List ℕ)
 -- ---- one item
 
 module _ (level : ℕ) (b : List ℕ) (le : level ≤ 129) (dump : Item → List DumpLine) where
-  pub whole_dumped : (i : Item) → Spells any level b i → whole_note dump (item_at (129 - level) b) ≡ embedded_note (dump i)
+  pub whole_dumped : (i : Item) → Spells any level b i → whole_note dump (read_item (129 - level) b) ≡ embedded_note (dump i)
   whole_dumped i s =
-      ap (whole_note dump) (ap (item_at (129 - level)) (sym (append-nil b)) ∙ item_again level (129 - level) b i [] (omega arith) s)
+      ap (whole_note dump) (ap (read_item (129 - level)) (sym (append-nil b)) ∙ item_again level (129 - level) b i [] (omega arith) s)
 
   rest_failed : (i : Item) (r : List ℕ) → 0 < length r → whole_note dump (Ok (i, r)) ≡ failed_note (codes "failed to parse encoded cbor data item") refusal.Remaining
   rest_failed i [] some = absurd (omega arith)
   rest_failed i (x ∷ r) some = refl
 
-  pub whole_failed : (e : Error) → IsRefused level b e → whole_note dump (item_at (129 - level) b) ≡ failed_note (codes "failed to parse encoded cbor data item") e
+  pub whole_failed : (e : Error) → IsRefused level b e → whole_note dump (read_item (129 - level) b) ≡ failed_note (codes "failed to parse encoded cbor data item") e
   whole_failed refusal.CutShort h = ap (whole_note dump) (outcome_reads level (129 - level) b cut (omega arith) h)
   whole_failed refusal.Head h = ap (whole_note dump) (outcome_reads level (129 - level) b (fault refusal.Head) (omega arith) h)
   whole_failed refusal.Utf8 h = ap (whole_note dump) (outcome_reads level (129 - level) b (fault refusal.Utf8) (omega arith) h)

@@ -11,7 +11,7 @@ use Rattle.cbor_diag.specs.Bytes.{any, Spells}
 use Rattle.cbor_diag.specs.Refused.{Cut, Fault}
 use Rattle.cbor_diag.specs.Answer.{Outcome, spelled, cut, fault, IsOutcome, OneOutcome}
 use Rattle.cbor_diag.specs.Facts.{BeginsWithItem, IsCut, HasFault}
-use Rattle.cbor_diag.specs.Reading.{Read, item_at}
+use Rattle.cbor_diag.specs.Reading.{Read, read_item}
 use Rattle.cbor_diag.specs.Extent.{IfItem, IfFault, FaultEnds, IsExtent}
 use Rattle.cbor_diag.specs.Skipping.{rest_of, here, Goes, Shows, skip_item}
 use Rattle.cbor_diag.proofs.Heads.{IsBytes, IsBytes-take}
@@ -41,12 +41,12 @@ at_least_one b i n le s =
 
 pub item_extent : (b rest : List ℕ) → IsBytes b → Goes (skip_item deepest) here b rest → IsExtent b (extent.Item (length b - length rest))
 item_extent b rest fits goes =
-    let read = rest_ok (item_at 128 b) rest (goes_at goes) in
+    let read = rest_ok (read_item 128 b) rest (goes_at goes) in
     let found = found_outcome 1 128 b read.0 rest refl fits read.1 in
     (read.0, at_least_one b read.0 (length b - length rest) found.0 found.1)
 
 pub cut_extent : (b : List ℕ) → IsBytes b → skip_item deepest b ≡ Err refusal.CutShort → IsCut b
-cut_extent b fits e = cut_takes 1 128 b refl fits (rest_err (item_at 128 b) refusal.CutShort e)
+cut_extent b fits e = cut_takes 1 128 b refl fits (rest_err (read_item 128 b) refusal.CutShort e)
 
 -- ---- a fault
 
@@ -56,13 +56,13 @@ cut_front x y fits c =
     let one = one_outcome 1 128 x refl fits in
     is_cut one.outcome one.holds
   where
-    read_cut : item_at 128 (x ++ y) ≡ Err refusal.CutShort
+    read_cut : read_item 128 (x ++ y) ≡ Err refusal.CutShort
     read_cut = cut_again 1 128 (x ++ y) refl c
 
     is_cut : (o : Outcome) → IsOutcome 1 x o → Cut 1 x
     is_cut (spelled i n) h =
         let parts : x ++ y ≡ take n x ++ (drop n x ++ y) = ap (λ (z : List ℕ). z ++ y) (sym (take-append-drop n x)) ∙ append_assoc (take n x) (drop n x) y in
-        let read = sym read_cut ∙ ap (item_at 128) parts ∙ item_again 1 128 (take n x) i (drop n x ++ y) refl h.1 in
+        let read = sym read_cut ∙ ap (read_item 128) parts ∙ item_again 1 128 (take n x) i (drop n x ++ y) refl h.1 in
         absurd cc
     is_cut cut h = h
     is_cut (fault e) h =
@@ -81,10 +81,10 @@ fault_extent b e after fits s =
     let end : length b - after ≡ length shown = omega (arith, length-append shown s.behind, ap length whole, s.count) in
     let front : take (length b - after) b ≡ shown = ap (take (length b - after)) whole ∙ front_is (length b - after) shown s.behind end in
     let fits_shown : IsBytes shown = subst IsBytes front (IsBytes-take (length b - after) b fits) in
-    let faulty : Fault 1 shown e = fault_takes 1 128 shown e refl fits_shown s.other (rest_err (item_at 128 shown) e s.fails) in
+    let faulty : Fault 1 shown e = fault_takes 1 128 shown e refl fits_shown s.other (rest_err (read_item 128 shown) e s.fails) in
     let before : take (length s.before) b ≡ s.before = ap (take (length s.before)) s.parts ∙ front_is (length s.before) s.before (s.last ∷ s.behind) refl in
     let fits_before : IsBytes s.before = subst IsBytes before (IsBytes-take (length s.before) b fits) in
-    let cut_before : Cut 1 s.before = cut_takes 1 128 s.before refl fits_before (rest_err (item_at 128 s.before) refusal.CutShort s.cut) in
+    let cut_before : Cut 1 s.before = cut_takes 1 128 s.before refl fits_before (rest_err (read_item 128 s.before) refusal.CutShort s.cut) in
     let shows : FaultEnds b e (length b - after) = (omega (arith, length-append s.before (s.last ∷ [])), omega arith, subst (λ (x : List ℕ). Fault 1 x e) (sym front) faulty) in (
       shows,
       λ n lt.

@@ -5,7 +5,7 @@ use Rattle.cbor_diag.specs.declared.error.Error.TheVariants as refusal
 use Rattle.cbor_diag.specs.Head.{head, opening, break_byte}
 use Rattle.cbor_diag.specs.Bytes.{StringKind, text_kind}
 use Rattle.cbor_diag.specs.Refused.{BadHead, no_info, no_length, BadText, Next, part, part_or_break, Inside, in_tag, in_array, in_map, in_open_array, at_open_key, at_open_value, InsideString, NoChunk, no_chunk, NoBreakAt, Fault, too_deep, bad_head, bad_text, bad_chunk_head, bad_chunk_text, bad_part}
-use Rattle.cbor_diag.specs.Reading.{item_at}
+use Rattle.cbor_diag.specs.Reading.{read_item}
 use Rattle.cbor_diag.proofs.Heads.{IsBytes, cons_is, head_append}
 use Rattle.cbor_diag.proofs.Chunks.{chunks_append}
 use Rattle.cbor_diag.proofs.HeadRefusals.{err_is, head_bad}
@@ -19,21 +19,21 @@ fault_from : {level : ℕ} {b : List ℕ} {e : Error} → Refusal level b e → 
 fault_from (is_cut c) other = absurd (other refl)
 fault_from (is_fault f) other = f
 
-pub fault_takes : (level left : ℕ) (b : List ℕ) (e : Error) → level + left ≡ 129 → IsBytes b → e ≢ refusal.CutShort → item_at left b ≡ Err e → Fault level b e
+pub fault_takes : (level left : ℕ) (b : List ℕ) (e : Error) → level + left ≡ 129 → IsBytes b → e ≢ refusal.CutShort → read_item left b ≡ Err e → Fault level b e
 fault_takes level left b e levels fits other h = fault_from (refused left level b e levels fits h) other
 
 -- ---- a fault is found
 
-pub bad_head_refuses : (left : ℕ) (b : List ℕ) → BadHead b → item_at (suc left) b ≡ Err refusal.Head
-unfolding item_at
+pub bad_head_refuses : (left : ℕ) (b : List ℕ) → BadHead b → read_item (suc left) b ≡ Err refusal.Head
+unfolding read_item
 bad_head_refuses left b h =
     elim (head_bad b h) [
       | inl head ↦ rw head refl
       | inr at_break ↦ rw at_break.1 refl
     ]
 
-pub fault_refuses : (level left : ℕ) (b : List ℕ) (e : Error) → level + left ≡ 129 → Fault level b e → item_at left b ≡ Err e
-unfolding item_at
+pub fault_refuses : (level left : ℕ) (b : List ℕ) (e : Error) → level + left ≡ 129 → Fault level b e → read_item left b ≡ Err e
+unfolding read_item
 fault_refuses level zero b e levels (too_deep deep) = refl
 fault_refuses level (suc left) b e levels (too_deep deep) = absurd (omega arith)
 fault_refuses level zero b e levels (bad_head le h) = absurd (omega arith)
@@ -90,7 +90,7 @@ inside_append {b = b} {rest = rest} c (at_open_value k whole opens parts) = at_o
 fault_not_empty : (level : ℕ) (e : Error) → Fault level [] e → ⊥
 fault_not_empty level e f =
     let at = left_at level (fault_level f) in
-    fault_no_cut f (err_is (item_at at.0 []) e refusal.CutShort (fault_refuses level at.0 [] e at.1 f) (item_nothing at.0))
+    fault_no_cut f (err_is (read_item at.0 []) e refusal.CutShort (fault_refuses level at.0 [] e at.1 f) (item_nothing at.0))
 
 no_break_append : (next : Next) (level : ℕ) (b c : List ℕ) (e : Error) → NoBreakAt next b → Fault level b e → NoBreakAt next (b ++ c)
 no_break_append part level b c e no_break f = tt

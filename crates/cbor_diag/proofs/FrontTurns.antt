@@ -10,17 +10,17 @@ use Rattle.cbor_diag.specs.Bytes.{any, Spells}
 use Rattle.cbor_diag.specs.Refused.{Cut, Fault}
 use Rattle.cbor_diag.specs.Turns.{item_turns, cut_spent, fault_spent}
 use Rattle.cbor_diag.specs.Answer.{HasOutcome, HasTurns, RefusedSo}
-use Rattle.cbor_diag.specs.Reading.{Fails, item_at}
+use Rattle.cbor_diag.specs.Reading.{Fails, read_item}
 use Rattle.cbor_diag.specs.Counting.{Counted, later, Stops, Runs, counted_item}
 use Rattle.cbor_diag.proofs.Uncounted.{item_first}
 use Rattle.cbor_diag.proofs.ItemTurns.{counted_is, counted_again, turns_few}
 use Rattle.cbor_diag.proofs.Spent.{cut_turns, fault_turns}
 
 -- what reading gives
-pub first_ok : (left old new : ℕ) (b rest : List ℕ) (i : Item) → later old (counted_item left b) ≡ (new, Ok (i, rest)) → item_at left b ≡ Ok (i, rest)
+pub first_ok : (left old new : ℕ) (b rest : List ℕ) (i : Item) → later old (counted_item left b) ≡ (new, Ok (i, rest)) → read_item left b ≡ Ok (i, rest)
 first_ok left old new b rest i h = sym (item_first left b) ∙ ap (λ (c : Counted Item). c.1) h
 
-pub first_fails : (left old new : ℕ) (b : List ℕ) (e : Error) → Stops e new (later old (counted_item left b)) → Fails e (item_at left b)
+pub first_fails : (left old new : ℕ) (b : List ℕ) (e : Error) → Stops e new (later old (counted_item left b)) → Fails e (read_item left b)
 first_fails left old new b refusal.Memory h = tt
 first_fails left old new b e h = sym (item_first left b) ∙ ap (λ (c : Counted Item). c.1) h
 

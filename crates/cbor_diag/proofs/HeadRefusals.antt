@@ -11,7 +11,7 @@ use Rattle.cbor_diag.specs.declared.parse.binary.head.Info.{Info}
 use Rattle.cbor_diag.specs.declared.parse.binary.head.Info.TheVariants as info
 use Rattle.cbor_diag.specs.declared.parse.binary.head.ItemHead.TheVariants as item_head
 use Rattle.cbor_diag.specs.Refused.{CutHead, cut_head, BadHead, no_info, no_length}
-use Rattle.cbor_diag.specs.Reading.{◌>>=◌, number_at, wide_at, info_at, unnumbered, head_of, head_at}
+use Rattle.cbor_diag.specs.Reading.{◌>>=◌, read_number, read_wide, read_info, unnumbered, head_of, read_head}
 use Rattle.cbor_diag.proofs.Heads.{IsBytes, IsBytes-rest, bind_err, branch, info_takes}
 
 -- a step's refusal is the refusal
@@ -25,10 +25,10 @@ pub data InfoRefusal : ℕ → List ℕ → Error → Type 0 where
   cut_info : {bits : ℕ} {b : List ℕ} (k : ℕ) → k ≤ 3 → bits ≡ 24 + k → length b < 2 ^ k → InfoRefusal bits b refusal.CutShort
   bad_info : {bits : ℕ} {b : List ℕ} → 28 ≤ bits → bits ≤ 30 → InfoRefusal bits b refusal.Head
 
-wide_refused : (w : Width) (width : IntegerWidth) (b : List ℕ) (e : Error) → wide_at w width b ≡ Err e → (length b < byte_len w) × (refusal.CutShort ≡ e)
-unfolding wide_at
+wide_refused : (w : Width) (width : IntegerWidth) (b : List ℕ) (e : Error) → read_wide w width b ≡ Err e → (length b < byte_len w) × (refusal.CutShort ≡ e)
+unfolding read_wide
 wide_refused w width b e h =
-    elim (bind_err (number_at w b) (λ n. Ok (info.Number n.0 width, n.1)) e h) [
+    elim (bind_err (read_number w b) (λ n. Ok (info.Number n.0 width, n.1)) e h) [
       | inl short ↦ elim (branch (ltb (length b) (byte_len w)) (Err refusal.CutShort) (Ok (from_be_bytes w (take (byte_len w) b), drop (byte_len w) b)) (Err e) short) [
         | inl t ↦ (ltb-true _ _ t.0, cc)
         | inr t ↦ absurd cc
@@ -36,17 +36,17 @@ wide_refused w width b e h =
       | inr read ↦ absurd cc
     ]
 
-wide_cut : (w : Width) (width : IntegerWidth) (b : List ℕ) → length b < byte_len w → wide_at w width b ≡ Err refusal.CutShort
-unfolding wide_at
+wide_cut : (w : Width) (width : IntegerWidth) (b : List ℕ) → length b < byte_len w → read_wide w width b ≡ Err refusal.CutShort
+unfolding read_wide
 wide_cut w width b short = rw (lt-ltb (length b) (byte_len w) short) refl
 
-cut_width : (w : Width) (width : IntegerWidth) (bits k : ℕ) (b : List ℕ) (e : Error) → k ≤ 3 → bits ≡ 24 + k → byte_len w ≡ 2 ^ k → wide_at w width b ≡ Err e → InfoRefusal bits b e
+cut_width : (w : Width) (width : IntegerWidth) (bits k : ℕ) (b : List ℕ) (e : Error) → k ≤ 3 → bits ≡ 24 + k → byte_len w ≡ 2 ^ k → read_wide w width b ≡ Err e → InfoRefusal bits b e
 cut_width w width bits k b e small is len h =
     let c = wide_refused w width b e h in
     subst (λ (d : Error). InfoRefusal bits b d) c.1 (cut_info k small is (rw (← len) c.0))
 
-pub info_refused : (bits : ℕ) (b : List ℕ) (e : Error) → bits < 32 → info_at bits b ≡ Err e → InfoRefusal bits b e
-unfolding info_at
+pub info_refused : (bits : ℕ) (b : List ℕ) (e : Error) → bits < 32 → read_info bits b ≡ Err e → InfoRefusal bits b e
+unfolding read_info
 info_refused bits b e small h =
     elim (branch (ltb bits 24) _ _ (Err e) h) [
       | inl t ↦ absurd cc
@@ -76,8 +76,8 @@ info_refused bits b e small h =
       ]
     ]
 
-pub info_refuses : (bits : ℕ) (b : List ℕ) (e : Error) → InfoRefusal bits b e → info_at bits b ≡ Err e
-unfolding info_at
+pub info_refuses : (bits : ℕ) (b : List ℕ) (e : Error) → InfoRefusal bits b e → read_info bits b ≡ Err e
+unfolding read_info
 info_refuses bits b e (cut_info zero small is short) = rw is (wide_cut w8 Eight b short)
 info_refuses bits b e (cut_info (suc zero) small is short) = rw is (wide_cut w16 Sixteen b short)
 info_refuses bits b e (cut_info (suc (suc zero)) small is short) = rw is (wide_cut w32 ThirtyTwo b short)
@@ -86,8 +86,8 @@ info_refuses bits b e (cut_info (suc (suc (suc (suc k)))) small is short) = absu
 info_refuses bits b e (bad_info least most) = rw (le-ltb bits 24 (omega arith), ne_eqb bits 24 (omega arith), ne_eqb bits 25 (omega arith), ne_eqb bits 26 (omega arith), ne_eqb bits 27 (omega arith), ne_eqb bits 31 (omega arith)) refl
 
 -- info 31 asks for no bytes
-pub info_opens : (bits : ℕ) (b : List ℕ) → bits ≡ 31 → info_at bits b ≡ Ok (info.Indefinite, b)
-unfolding info_at
+pub info_opens : (bits : ℕ) (b : List ℕ) → bits ≡ 31 → read_info bits b ≡ Ok (info.Indefinite, b)
+unfolding read_info
 info_opens bits b is = rw is refl
 
 -- ---- a head
@@ -132,18 +132,18 @@ info_head : (first : ℕ) (b : List ℕ) (e : Error) → InfoRefusal (first % 32
 info_head first b e (cut_info k small is short) = short_head (cut_head k small is short)
 info_head first b e (bad_info least most) = bad_head (no_info least most)
 
-unread : (first : ℕ) (b rest : List ℕ) (i : Info) (e : Error) → IsBytes b → info_at (first % 32) b ≡ Ok (i, rest) → head_of (first / 32) i ≡ Err e → HeadRefusal (first ∷ b) e
+unread : (first : ℕ) (b rest : List ℕ) (i : Info) (e : Error) → IsBytes b → read_info (first % 32) b ≡ Ok (i, rest) → head_of (first / 32) i ≡ Err e → HeadRefusal (first ∷ b) e
 unread first b rest (info.Number n w) e fits read h = absurd cc
 unread first b rest info.Indefinite e fits read h =
     let u = unnumbered_refused (first / 32) e h in
     let t = info_takes (first % 32) b rest info.Indefinite fits read in
     subst (λ (d : Error). HeadRefusal (first ∷ b) d) u.1 (bad_head (no_length t.0 u.0))
 
-pub head_refused : (b : List ℕ) (e : Error) → IsBytes b → head_at b ≡ Err e → HeadRefusal b e
-unfolding head_at
+pub head_refused : (b : List ℕ) (e : Error) → IsBytes b → read_head b ≡ Err e → HeadRefusal b e
+unfolding read_head
 head_refused [] e fits h = let is : refusal.CutShort ≡ e = cc in subst (λ (d : Error). HeadRefusal [] d) is no_head
 head_refused (first ∷ b) e fits h =
-    elim (bind_err (info_at (first % 32) b) (λ i. head_of (first / 32) i.0 >>= λ h. Ok (h, i.1)) e h) [
+    elim (bind_err (read_info (first % 32) b) (λ i. head_of (first / 32) i.0 >>= λ h. Ok (h, i.1)) e h) [
       | inl refused ↦ info_head first b e (info_refused (first % 32) b e (omega arith) refused)
       | inr read ↦ elim (bind_err (head_of (first / 32) read.0.0) (λ h. Ok (h, read.0.1)) e read.2) [
         | inl refused ↦ unread first b read.0.1 read.0.0 e (IsBytes-rest first b fits) read.1 refused
@@ -151,13 +151,13 @@ head_refused (first ∷ b) e fits h =
       ]
     ]
 
-pub head_cut : (b : List ℕ) → CutHead b → head_at b ≡ Err refusal.CutShort
-unfolding head_at
+pub head_cut : (b : List ℕ) → CutHead b → read_head b ≡ Err refusal.CutShort
+unfolding read_head
 head_cut b (cut_head {first = first} {rest = rest} k small is short) = rw (info_refuses (first % 32) rest refusal.CutShort (cut_info k small is short)) refl
 
 -- the head is refused, or it is a break, which is refused after it
-pub head_bad : (b : List ℕ) → BadHead b → (head_at b ≡ Err refusal.Head) ⊎ ((rest : List ℕ) × (head_at b ≡ Ok (item_head.Break, rest)))
-unfolding head_at unnumbered
+pub head_bad : (b : List ℕ) → BadHead b → (read_head b ≡ Err refusal.Head) ⊎ ((rest : List ℕ) × (read_head b ≡ Ok (item_head.Break, rest)))
+unfolding read_head unnumbered
 head_bad b (no_info {first = first} {rest = rest} least most) = inl (rw (info_refuses (first % 32) rest refusal.Head (bad_info least most)) refl)
 head_bad b (no_length {first = first} {rest = rest} is major) =
     elim (cases_eq (first / 32) 7) [

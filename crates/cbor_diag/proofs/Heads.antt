@@ -15,7 +15,7 @@ use Rattle.cbor_diag.specs.declared.parse.binary.head.ItemHead.{ItemHead}
 use Rattle.cbor_diag.specs.declared.parse.binary.head.ItemHead.TheVariants as item_head
 use Rattle.cbor_diag.specs.Head.{FitsStated, head, opening, break_byte, HeadThen}
 use Rattle.cbor_diag.specs.Bytes.{any, SpellsSimple}
-use Rattle.cbor_diag.specs.Reading.{◌>>=◌, number_at, wide_at, info_at, simple_or_float, numbered, unnumbered, head_of, head_at}
+use Rattle.cbor_diag.specs.Reading.{◌>>=◌, read_number, read_wide, read_info, simple_or_float, numbered, unnumbered, head_of, read_head}
 
 -- ---- bytes
 
@@ -122,7 +122,7 @@ guard_held true d x y e = (refl, cc)
 guard_held false d x y e = absurd cc
 
 -- what a number took from the front, where a number of n bytes was read
-pub number_takes : (w : Width) (limit : ℕ) (wide : IsWide w limit) (b : List ℕ) (n : ℕ) (rest : List ℕ) → IsBytes b → number_at w b ≡ Ok (n, rest) → (b ≡ to_be_bytes w n ++ rest) × (n < limit) × IsBytes rest
+pub number_takes : (w : Width) (limit : ℕ) (wide : IsWide w limit) (b : List ℕ) (n : ℕ) (rest : List ℕ) → IsBytes b → read_number w b ≡ Ok (n, rest) → (b ≡ to_be_bytes w n ++ rest) × (n < limit) × IsBytes rest
 number_takes w limit wide b n rest fits e =
     let g = guard_ok (ltb (length b) (byte_len w)) refusal.CutShort (from_be_bytes w (take (byte_len w) b), drop (byte_len w) b) (n, rest) e in
     let long : byte_len w ≤ length b = ltb-false _ _ g.0 in
@@ -131,7 +131,7 @@ number_takes w limit wide b n rest fits e =
     let front : to_be_bytes w n ≡ take (byte_len w) b = rw (← n-is) (wide.back (take (byte_len w) b) (omega (arith, length-take (byte_len w) b)) (IsBytes-take (byte_len w) b fits)) in
     (rw (front, ← rest-is) (sym (take-append-drop (byte_len w) b)), rw (← n-is) (wide.below (take (byte_len w) b) (IsBytes-take (byte_len w) b fits)), rw (← rest-is) (IsBytes-drop (byte_len w) b fits))
 
-pub number_again : (w : Width) (limit : ℕ) (wide : IsWide w limit) (n : ℕ) (rest : List ℕ) → n < limit → number_at w (to_be_bytes w n ++ rest) ≡ Ok (n, rest)
+pub number_again : (w : Width) (limit : ℕ) (wide : IsWide w limit) (n : ℕ) (rest : List ℕ) → n < limit → read_number w (to_be_bytes w n ++ rest) ≡ Ok (n, rest)
 number_again w limit wide n rest lt =
     let len = wide.len n in
     let long : ltb (length (to_be_bytes w n ++ rest)) (byte_len w) ≡ false = le-ltb _ _ (omega (arith, length-append (to_be_bytes w n) rest)) in
@@ -169,28 +169,28 @@ abbrev pub InfoIs : ℕ → Info → List ℕ → List ℕ → Type 0
 InfoIs bits (info.Number n w) b rest = FitsStated w n × (bits ≡ bits_of w n) × (b ≡ number_bytes w n ++ rest) × IsBytes rest
 InfoIs bits info.Indefinite b rest = (bits ≡ 31) × (b ≡ rest) × IsBytes rest
 
-wide_takes : (wide_w : Width) (limit : ℕ) (wide : IsWide wide_w limit) (w : IntegerWidth) (b rest : List ℕ) (i : Info) → IsBytes b → wide_at wide_w w b ≡ Ok (i, rest) → (n : ℕ) × (info.Number n w ≡ i) × (n < limit) × (b ≡ to_be_bytes wide_w n ++ rest) × IsBytes rest
-unfolding wide_at
+wide_takes : (wide_w : Width) (limit : ℕ) (wide : IsWide wide_w limit) (w : IntegerWidth) (b rest : List ℕ) (i : Info) → IsBytes b → read_wide wide_w w b ≡ Ok (i, rest) → (n : ℕ) × (info.Number n w ≡ i) × (n < limit) × (b ≡ to_be_bytes wide_w n ++ rest) × IsBytes rest
+unfolding read_wide
 wide_takes wide_w limit wide w b rest i fits e =
-    let a = bind_ok (number_at wide_w b) (λ n. Ok (info.Number n.0 w, n.1)) (i, rest) e in
+    let a = bind_ok (read_number wide_w b) (λ n. Ok (info.Number n.0 w, n.1)) (i, rest) e in
     let n : ℕ = a.0.0 in
     let made : (info.Number n w, a.0.1) ≡ (i, rest) = ok_is (info.Number n w, a.0.1) (i, rest) a.2 in
     let rest-is : a.0.1 ≡ rest = ap (λ (p : Info × List ℕ). p.1) made in
     let t = number_takes wide_w limit wide b n a.0.1 fits a.1 in
     (n, ap (λ (p : Info × List ℕ). p.0) made, t.1, subst (λ (r : List ℕ). b ≡ to_be_bytes wide_w n ++ r) rest-is t.0, subst IsBytes rest-is t.2)
 
-wide_again : (wide_w : Width) (limit : ℕ) (wide : IsWide wide_w limit) (w : IntegerWidth) (n : ℕ) (rest : List ℕ) → n < limit → wide_at wide_w w (to_be_bytes wide_w n ++ rest) ≡ Ok (info.Number n w, rest)
-unfolding wide_at
+wide_again : (wide_w : Width) (limit : ℕ) (wide : IsWide wide_w limit) (w : IntegerWidth) (n : ℕ) (rest : List ℕ) → n < limit → read_wide wide_w w (to_be_bytes wide_w n ++ rest) ≡ Ok (info.Number n w, rest)
+unfolding read_wide
 wide_again wide_w limit wide w n rest lt = rw (number_again wide_w limit wide n rest lt) refl
 
-wide_is : (bits : ℕ) (wide_w : Width) (limit : ℕ) (wide : IsWide wide_w limit) (w : IntegerWidth) (b rest : List ℕ) (i : Info) → IsBytes b → wide_at wide_w w b ≡ Ok (i, rest)
+wide_is : (bits : ℕ) (wide_w : Width) (limit : ℕ) (wide : IsWide wide_w limit) (w : IntegerWidth) (b rest : List ℕ) (i : Info) → IsBytes b → read_wide wide_w w b ≡ Ok (i, rest)
     → ((n : ℕ) → n < limit → b ≡ to_be_bytes wide_w n ++ rest → IsBytes rest → InfoIs bits (info.Number n w) b rest) → InfoIs bits i b rest
 wide_is bits wide_w limit wide w b rest i fits e found =
     let t = wide_takes wide_w limit wide w b rest i fits e in
     subst (λ (x : Info). InfoIs bits x b rest) t.1 (found t.0 t.2 t.3 t.4)
 
-pub info_takes : (bits : ℕ) (b rest : List ℕ) (i : Info) → IsBytes b → info_at bits b ≡ Ok (i, rest) → InfoIs bits i b rest
-unfolding info_at
+pub info_takes : (bits : ℕ) (b rest : List ℕ) (i : Info) → IsBytes b → read_info bits b ≡ Ok (i, rest) → InfoIs bits i b rest
+unfolding read_info
 info_takes bits b rest i fits e =
     elim (cases_lt bits 24) [
       | inl lt ↦
@@ -218,8 +218,8 @@ info_takes bits b rest i fits e =
       ]
     ]
 
-pub info_again : (w : IntegerWidth) (n : ℕ) (rest : List ℕ) → FitsStated w n → info_at (bits_of w n) (number_bytes w n ++ rest) ≡ Ok (info.Number n w, rest)
-unfolding info_at
+pub info_again : (w : IntegerWidth) (n : ℕ) (rest : List ℕ) → FitsStated w n → read_info (bits_of w n) (number_bytes w n ++ rest) ≡ Ok (info.Number n w, rest)
+unfolding read_info
 info_again Unknown n rest fits = absurd fits
 info_again Zero n rest fits = rw (lt-ltb n 24 fits) refl
 info_again Eight n rest fits = wide_again w8 (2 ^ 8) wide8 Eight n rest fits
@@ -273,7 +273,7 @@ pub record Opened (major n : ℕ) (w : IntegerWidth) (b rest : List ℕ) : Type 
   pub parts : b ≡ first ∷ tail
   pub major_is : first / 32 ≡ major
   pub bits_are : first % 32 < 28
-  pub info_is : info_at (first % 32) tail ≡ Ok (info.Number n w, rest)
+  pub info_is : read_info (first % 32) tail ≡ Ok (info.Number n w, rest)
 
 pub opened : (major n : ℕ) (w : IntegerWidth) (b rest : List ℕ) → HeadThen major n w b (λ r. r ≡ rest) → Opened major n w b rest
 opened major n w b rest h =
@@ -289,14 +289,14 @@ opened major n w b rest h =
       info_is = rw bits-is (info_again w n rest h.0);
     }
 
-pub head_again : (major n : ℕ) (w : IntegerWidth) (b rest : List ℕ) → major ≤ 7 → HeadThen major n w b (λ r. r ≡ rest) → head_at b ≡ Ok (numbered major n w, rest)
-unfolding head_at
+pub head_again : (major n : ℕ) (w : IntegerWidth) (b rest : List ℕ) → major ≤ 7 → HeadThen major n w b (λ r. r ≡ rest) → read_head b ≡ Ok (numbered major n w, rest)
+unfolding read_head
 head_again major n w b rest le h =
     let o = opened major n w b rest h in
-    ap head_at o.parts ∙ rw (o.info_is, o.major_is) refl
+    ap read_head o.parts ∙ rw (o.info_is, o.major_is) refl
 
-pub open_again : (major : ℕ) (h : ItemHead) (rest : List ℕ) → major ≤ 7 → unnumbered major ≡ Ok h → head_at (opening major ∷ rest) ≡ Ok (h, rest)
-unfolding head_at info_at
+pub open_again : (major : ℕ) (h : ItemHead) (rest : List ℕ) → major ≤ 7 → unnumbered major ≡ Ok h → read_head (opening major ∷ rest) ≡ Ok (h, rest)
+unfolding read_head read_info
 open_again major h rest le e =
     let bits-are : (32 * major + 31) % 32 ≡ 31 = omega arith in
     let major-is : (32 * major + 31) / 32 ≡ major = omega arith in
@@ -352,11 +352,11 @@ pub info_rest : (bits : ℕ) (i : Info) (b rest : List ℕ) → InfoIs bits i b 
 info_rest bits (info.Number n w) b rest is = is.3
 info_rest bits info.Indefinite b rest is = is.2
 
-pub head_takes : (b rest : List ℕ) (h : ItemHead) → IsBytes b → head_at b ≡ Ok (h, rest) → HeadIs h b rest × IsBytes rest
-unfolding head_at
+pub head_takes : (b rest : List ℕ) (h : ItemHead) → IsBytes b → read_head b ≡ Ok (h, rest) → HeadIs h b rest × IsBytes rest
+unfolding read_head
 head_takes [] rest h fits e = absurd cc
 head_takes (first ∷ b) rest h fits e =
-    let a = bind_ok (info_at (first % 32) b) (λ i. head_of (first / 32) i.0 >>= λ h. Ok (h, i.1)) (h, rest) e in
+    let a = bind_ok (read_info (first % 32) b) (λ i. head_of (first / 32) i.0 >>= λ h. Ok (h, i.1)) (h, rest) e in
     let c = bind_ok (head_of (first / 32) a.0.0) (λ h. Ok (h, a.0.1)) (h, rest) a.2 in
     let is = info_takes (first % 32) b a.0.1 a.0.0 (IsBytes-rest first b fits) a.1 in
     let byte : first < 256 = fits 0 in

@@ -8,9 +8,9 @@ use Rattle.cbor_diag.specs.Item as spec
 use Rattle.cbor_diag.specs.Item.{Chunk, Atom, byte_string, text_string, byte_chunks, text_chunks, Item, atom, array, tagged, Items, no_items, item, Pairs, no_pairs, pair, item_count, pair_count}
 use Rattle.cbor_diag.specs.Bytes.{StringKind, bytes_kind, text_kind, any, MembersThen, Spells, SpellsItems, SpellsPairs}
 use Rattle.cbor_diag.specs.Head.{break_byte}
-use Rattle.cbor_diag.specs.Reading.{Read, ◌>>=◌, head_at, content_at, chunk_at, break_at, item_at}
+use Rattle.cbor_diag.specs.Reading.{Read, ◌>>=◌, read_head, read_content, read_chunk, after_break, read_item}
 use Rattle.cbor_diag.specs.Turns.{atom_turns, item_turns, items_turns, pairs_turns}
-use Rattle.cbor_diag.specs.Counting.{Counted, go_on, ◌>>-◌, counted_more, counted_chunks, joined, joined_pairs, so_many, to_break, Frame, items_in, pairs_in, value_of, tag_of, tagged_with, put, goes_on, opened, part_at, counted_item}
+use Rattle.cbor_diag.specs.Counting.{Counted, go_on, ◌>>-◌, counted_more, counted_chunks, joined, joined_pairs, so_many, to_break, Frame, items_in, pairs_in, value_of, tag_of, tagged_with, put, goes_on, opened, read_part, counted_item}
 use Rattle.cbor_diag.proofs.Heads.{head_shorter}
 use Rattle.cbor_diag.proofs.Found.{item_again}
 use Rattle.cbor_diag.proofs.Sizes.{open_bound, one_byte}
@@ -48,7 +48,7 @@ more_cost read (Some c) b h =
 pub chunks_costs : (n : ℕ) (kind : StringKind) (b : List ℕ) → Costs 0 chunks_cost (counted_chunks n kind b).0 (counted_chunks n kind b).1
 unfolding counted_chunks
 chunks_costs zero kind b = tt
-chunks_costs (suc n) kind b = costs_go 0 chunks_cost 1 (chunk_at kind b) _ (λ x e. more_cost (counted_chunks n kind) x.0 x.1 (chunks_costs n kind x.1))
+chunks_costs (suc n) kind b = costs_go 0 chunks_cost 1 (read_chunk kind b) _ (λ x e. more_cost (counted_chunks n kind) x.0 x.1 (chunks_costs n kind x.1))
 
 -- ---- containers
 
@@ -85,14 +85,14 @@ module _ (read : List ℕ → Counted Item) (costs : ItemCosts read) where
   parts_cost (suc n) (items_in is (so_many zero w)) b = omega arith
   parts_cost (suc n) (items_in is (so_many (suc k) w)) b = next_cost n (items_in is (so_many (suc k) w)) b (λ i. joined_turns is i) (λ x. parts_cost n (items_in (joined is (item x.0 no_items)) (so_many k w)) x.1)
   parts_cost (suc n) (items_in is to_break) b =
-      elim (break_cases (break_at b)) [
+      elim (break_cases (after_break b)) [
         | inl stops ↦ rw stops.1 (omega arith)
         | inr none ↦ rw none (next_cost n (items_in is to_break) b (λ i. joined_turns is i) (λ x. parts_cost n (items_in (joined is (item x.0 no_items)) to_break) x.1))
       ]
   parts_cost (suc n) (pairs_in ps (so_many zero w)) b = omega arith
   parts_cost (suc n) (pairs_in ps (so_many (suc k) w)) b = next_cost n (pairs_in ps (so_many (suc k) w)) b (λ i. refl) (λ x. parts_cost n (value_of ps x.0 (so_many k w)) x.1)
   parts_cost (suc n) (pairs_in ps to_break) b =
-      elim (break_cases (break_at b)) [
+      elim (break_cases (after_break b)) [
         | inl stops ↦ rw stops.1 (omega arith)
         | inr none ↦ rw none (next_cost n (pairs_in ps to_break) b (λ i. refl) (λ x. parts_cost n (value_of ps x.0 to_break) x.1))
       ]
@@ -111,11 +111,11 @@ module _ (read : List ℕ → Counted Item) (costs : ItemCosts read) where
       let c : Counted (List Chunk) = counted_chunks (length b) kind b in
       costs_go 1 item_turns c.0 c.1 _ (λ x e. let is = cost_of chunks_cost c.0 c.1 x (chunks_costs (length b) kind b) e in omega (arith, two x.0))
 
-  body_cost : (h : ItemHead) (b : List ℕ) → Costs 1 item_turns (part_at read (opened h) h b).0 (part_at read (opened h) h b).1
+  body_cost : (h : ItemHead) (b : List ℕ) → Costs 1 item_turns (read_part read (opened h) h b).0 (read_part read (opened h) h b).1
   body_cost (item_head.Integer n w) b = refl
   body_cost (item_head.Negative n w) b = refl
-  body_cost (item_head.Bytes n w) b = string_cost (content_at bytes_kind n w b) byte_string (λ c. refl)
-  body_cost (item_head.Text n w) b = string_cost (content_at text_kind n w b) text_string (λ c. refl)
+  body_cost (item_head.Bytes n w) b = string_cost (read_content bytes_kind n w b) byte_string (λ c. refl)
+  body_cost (item_head.Text n w) b = string_cost (read_content text_kind n w b) text_string (λ c. refl)
   body_cost (item_head.Array n w) b = parts_cost (suc (length b)) (items_in no_items (so_many n w)) b
   body_cost (item_head.Map n w) b = parts_cost (suc (length b)) (pairs_in no_pairs (so_many n w)) b
   body_cost (item_head.Tag n w) b = parts_cost (suc (length b)) (tag_of n w) b
@@ -131,9 +131,9 @@ pub item_cost : (left : ℕ) (b : List ℕ) → Costs 0 item_turns (counted_item
 unfolding counted_item
 item_cost zero [] = tt
 item_cost zero (first ∷ b) = tt
-item_cost (suc left) b = costs_go 0 item_turns 1 (head_at b) _ (λ h e. body_cost (counted_item left) (λ c. item_cost left c) h.0 h.1)
+item_cost (suc left) b = costs_go 0 item_turns 1 (read_head b) _ (λ h e. body_cost (counted_item left) (λ c. item_cost left c) h.0 h.1)
 
-pub counted_is : (left : ℕ) (b rest : List ℕ) (i : Item) → item_at left b ≡ Ok (i, rest) → counted_item left b ≡ (item_turns i, Ok (i, rest))
+pub counted_is : (left : ℕ) (b rest : List ℕ) (i : Item) → read_item left b ≡ Ok (i, rest) → counted_item left b ≡ (item_turns i, Ok (i, rest))
 counted_is left b rest i e =
     let c : Counted Item = counted_item left b in
     let ok : c.1 ≡ Ok (i, rest) = item_first left b ∙ e in

@@ -6,7 +6,7 @@ use Rattle.cbor_diag.specs.Item.{Item, no_items, item, no_pairs, pair}
 use Rattle.cbor_diag.specs.Head.{break_byte}
 use Rattle.cbor_diag.specs.Bytes.{any, Spells}
 use Rattle.cbor_diag.specs.Refused.{SpelledParts, Next, part, part_or_break, BeginsWithBreak, NoBreakAt}
-use Rattle.cbor_diag.specs.Reading.{Read, ◌>>=◌, items_at, pair_at, pairs_at, break_at, unless_break, open_items_at, open_pairs_at}
+use Rattle.cbor_diag.specs.Reading.{Read, ◌>>=◌, read_items, read_pair, read_pairs, after_break, unless_break, read_open_items, read_open_pairs}
 use Rattle.cbor_diag.proofs.Heads.{IsBytes, bind_ok, bind_err, ok_is}
 use Rattle.cbor_diag.proofs.HeadRefusals.{err_is}
 use Rattle.cbor_diag.proofs.Found.{Finds, FindsAgain, break_ways, spelled_begins, no_break_at, begins_longer}
@@ -29,10 +29,10 @@ pub record Stops (level : ℕ) (read : List ℕ → Read Item) (next : Next) (k 
 
 -- ---- a break
 
-no_break_from : (b : List ℕ) → break_at b ≡ None → ¬ (BeginsWithBreak b)
-no_break_from b e starts = let f : break_at (break_byte ∷ starts.0) ≡ None = rw starts.1 at e in absurd cc
+no_break_from : (b : List ℕ) → after_break b ≡ None → ¬ (BeginsWithBreak b)
+no_break_from b e starts = let f : after_break (break_byte ∷ starts.0) ≡ None = rw starts.1 at e in absurd cc
 
-pub break_none : (b : List ℕ) → ¬ (BeginsWithBreak b) → break_at b ≡ None
+pub break_none : (b : List ℕ) → ¬ (BeginsWithBreak b) → after_break b ≡ None
 break_none b other =
     elim (break_ways b) [
       | inl starts ↦ absurd (other (starts.0, starts.1))
@@ -45,7 +45,7 @@ unless_refused (Some b) none r e h = absurd cc
 
 -- ---- a pair
 
-pair_refused : (read : List ℕ → Read Item) (b : List ℕ) (e : Error) → pair_at read b ≡ Err e → (read b ≡ Err e) ⊎ ((k : Item × List ℕ) × (read b ≡ Ok k) × (read k.1 ≡ Err e))
+pair_refused : (read : List ℕ → Read Item) (b : List ℕ) (e : Error) → read_pair read b ≡ Err e → (read b ≡ Err e) ⊎ ((k : Item × List ℕ) × (read b ≡ Ok k) × (read k.1 ≡ Err e))
 pair_refused read b e h =
     elim (bind_err (read b) (λ k. read k.1 >>= λ v. Ok ((k.0, v.0), v.1)) e h) [
       | inl refused ↦ inl refused
@@ -55,7 +55,7 @@ pair_refused read b e h =
       ]
     ]
 
-pair_read : (read : List ℕ → Read Item) (b : List ℕ) (p : (Item × Item) × List ℕ) → pair_at read b ≡ Ok p → (k v : Item × List ℕ) × (read b ≡ Ok k) × (read k.1 ≡ Ok v) × (v.1 ≡ p.1)
+pair_read : (read : List ℕ → Read Item) (b : List ℕ) (p : (Item × Item) × List ℕ) → read_pair read b ≡ Ok p → (k v : Item × List ℕ) × (read b ≡ Ok k) × (read k.1 ≡ Ok v) × (v.1 ≡ p.1)
 pair_read read b p h =
     let key = bind_ok (read b) (λ k. read k.1 >>= λ v. Ok ((k.0, v.0), v.1)) p h in
     let value = bind_ok (read key.0.1) (λ v. Ok ((key.0.0, v.0), v.1)) p key.2 in
@@ -95,13 +95,13 @@ module _ (level : ℕ) (read : List ℕ → Read Item) (reads : Reads level read
       let t = reads.takes b x.0 x.1 fits ok in
       rw t.parts (begins_longer t.front x.1 (spelled_begins level t.front x.0 t.spells))
 
-  pub items_stop : (n : ℕ) (b : List ℕ) (e : Error) → IsBytes b → items_at read n b ≡ Err e → (k : ℕ) × (k < n) × Stops level read part k b e
-  unfolding items_at
+  pub items_stop : (n : ℕ) (b : List ℕ) (e : Error) → IsBytes b → read_items read n b ≡ Err e → (k : ℕ) × (k < n) × Stops level read part k b e
+  unfolding read_items
   items_stop zero b e fits h = absurd cc
   items_stop (suc n) b e fits h =
-      elim (bind_err (read b) (λ i. items_at read n i.1 >>= λ is. Ok (item i.0 is.0, is.1)) e h) [
+      elim (bind_err (read b) (λ i. read_items read n i.1 >>= λ is. Ok (item i.0 is.0, is.1)) e h) [
         | inl refused ↦ (0, omega arith, stops_here part b e fits tt refused)
-        | inr i ↦ elim (bind_err (items_at read n i.0.1) (λ is. Ok (item i.0.0 is.0, is.1)) e i.2) [
+        | inr i ↦ elim (bind_err (read_items read n i.0.1) (λ is. Ok (item i.0.0 is.0, is.1)) e i.2) [
           | inl more ↦
               let s = items_stop n i.0.1 e (fits_after b i.0 fits i.1) more in
               (suc s.0, omega arith, stops_later part s.0 b i.0 e fits i.1 s.2)
@@ -109,16 +109,16 @@ module _ (level : ℕ) (read : List ℕ → Read Item) (reads : Reads level read
         ]
       ]
 
-  pub pairs_stop : (n : ℕ) (b : List ℕ) (e : Error) → IsBytes b → pairs_at read n b ≡ Err e → (k : ℕ) × (k < 2 * n) × Stops level read part k b e
-  unfolding pairs_at
+  pub pairs_stop : (n : ℕ) (b : List ℕ) (e : Error) → IsBytes b → read_pairs read n b ≡ Err e → (k : ℕ) × (k < 2 * n) × Stops level read part k b e
+  unfolding read_pairs
   pairs_stop zero b e fits h = absurd cc
   pairs_stop (suc n) b e fits h =
-      elim (bind_err (pair_at read b) (λ p. pairs_at read n p.1 >>= λ ps. Ok (pair p.0.0 p.0.1 ps.0, ps.1)) e h) [
+      elim (bind_err (read_pair read b) (λ p. read_pairs read n p.1 >>= λ ps. Ok (pair p.0.0 p.0.1 ps.0, ps.1)) e h) [
         | inl refused ↦ elim (pair_refused read b e refused) [
           | inl key ↦ (0, omega arith, stops_here part b e fits tt key)
           | inr k ↦ (1, omega arith, stops_later part 0 b k.0 e fits k.1 (stops_here part k.0.1 e (fits_after b k.0 fits k.1) tt k.2))
         ]
-        | inr p ↦ elim (bind_err (pairs_at read n p.0.1) (λ ps. Ok (pair p.0.0.0 p.0.0.1 ps.0, ps.1)) e p.2) [
+        | inr p ↦ elim (bind_err (read_pairs read n p.0.1) (λ ps. Ok (pair p.0.0.0 p.0.0.1 ps.0, ps.1)) e p.2) [
           | inl more ↦
               let r = pair_read read b p.0 p.1 in
               let key_fits = fits_after b r.0 fits r.2 in
@@ -134,15 +134,15 @@ module _ (level : ℕ) (read : List ℕ → Read Item) (reads : Reads level read
   stops_empty [] e fits bound is = stops_here part_or_break [] e fits (λ starts. let never : [] ≡ break_byte ∷ starts.0 = starts.1 in cc) (subst (λ (d : Error). read [] ≡ Err d) is reads.nothing)
   stops_empty (first ∷ b) e fits bound is = absurd (omega arith)
 
-  pub open_items_stop : (n : ℕ) (b : List ℕ) (e : Error) → IsBytes b → length b ≤ n → open_items_at read n b ≡ Err e → (k : ℕ) × Stops level read part_or_break k b e
-  unfolding open_items_at
+  pub open_items_stop : (n : ℕ) (b : List ℕ) (e : Error) → IsBytes b → length b ≤ n → read_open_items read n b ≡ Err e → (k : ℕ) × Stops level read part_or_break k b e
+  unfolding read_open_items
   open_items_stop zero b e fits bound h = (0, stops_empty b e fits bound cc)
   open_items_stop (suc n) b e fits bound h =
-      let u = unless_refused (break_at b) no_items (read b >>= λ i. open_items_at read n i.1 >>= λ is. Ok (item i.0 is.0, is.1)) e h in
+      let u = unless_refused (after_break b) no_items (read b >>= λ i. read_open_items read n i.1 >>= λ is. Ok (item i.0 is.0, is.1)) e h in
       let no_break = no_break_from b u.0 in
-      elim (bind_err (read b) (λ i. open_items_at read n i.1 >>= λ is. Ok (item i.0 is.0, is.1)) e u.1) [
+      elim (bind_err (read b) (λ i. read_open_items read n i.1 >>= λ is. Ok (item i.0 is.0, is.1)) e u.1) [
         | inl refused ↦ (0, stops_here part_or_break b e fits no_break refused)
-        | inr i ↦ elim (bind_err (open_items_at read n i.0.1) (λ is. Ok (item i.0.0 is.0, is.1)) e i.2) [
+        | inr i ↦ elim (bind_err (read_open_items read n i.0.1) (λ is. Ok (item i.0.0 is.0, is.1)) e i.2) [
           | inl more ↦
               let s = open_items_stop n i.0.1 e (fits_after b i.0 fits i.1) (omega (arith, shorter_after b i.0 fits i.1)) more in
               (suc s.0, stops_later part_or_break s.0 b i.0 e fits i.1 s.1)
@@ -151,18 +151,18 @@ module _ (level : ℕ) (read : List ℕ → Read Item) (reads : Reads level read
       ]
 
   -- before a key, where a break may stand, or before a value
-  pub open_pairs_stop : (n : ℕ) (b : List ℕ) (e : Error) → IsBytes b → length b ≤ n → open_pairs_at read n b ≡ Err e → (k : ℕ) × (Stops level read part_or_break (2 * k) b e ⊎ Stops level read part (2 * k + 1) b e)
-  unfolding open_pairs_at
+  pub open_pairs_stop : (n : ℕ) (b : List ℕ) (e : Error) → IsBytes b → length b ≤ n → read_open_pairs read n b ≡ Err e → (k : ℕ) × (Stops level read part_or_break (2 * k) b e ⊎ Stops level read part (2 * k + 1) b e)
+  unfolding read_open_pairs
   open_pairs_stop zero b e fits bound h = (0, inl (stops_empty b e fits bound cc))
   open_pairs_stop (suc n) b e fits bound h =
-      let u = unless_refused (break_at b) no_pairs (pair_at read b >>= λ p. open_pairs_at read n p.1 >>= λ ps. Ok (pair p.0.0 p.0.1 ps.0, ps.1)) e h in
+      let u = unless_refused (after_break b) no_pairs (read_pair read b >>= λ p. read_open_pairs read n p.1 >>= λ ps. Ok (pair p.0.0 p.0.1 ps.0, ps.1)) e h in
       let no_break = no_break_from b u.0 in
-      elim (bind_err (pair_at read b) (λ p. open_pairs_at read n p.1 >>= λ ps. Ok (pair p.0.0 p.0.1 ps.0, ps.1)) e u.1) [
+      elim (bind_err (read_pair read b) (λ p. read_open_pairs read n p.1 >>= λ ps. Ok (pair p.0.0 p.0.1 ps.0, ps.1)) e u.1) [
         | inl refused ↦ elim (pair_refused read b e refused) [
           | inl key ↦ (0, inl (stops_here part_or_break b e fits no_break key))
           | inr k ↦ (0, inr (stops_later part 0 b k.0 e fits k.1 (stops_here part k.0.1 e (fits_after b k.0 fits k.1) tt k.2)))
         ]
-        | inr p ↦ elim (bind_err (open_pairs_at read n p.0.1) (λ ps. Ok (pair p.0.0.0 p.0.0.1 ps.0, ps.1)) e p.2) [
+        | inr p ↦ elim (bind_err (read_open_pairs read n p.0.1) (λ ps. Ok (pair p.0.0.0 p.0.0.1 ps.0, ps.1)) e p.2) [
           | inl more ↦
               let r = pair_read read b p.0 p.1 in
               let key_fits = fits_after b r.0 fits r.2 in
@@ -181,15 +181,15 @@ module _ (level : ℕ) (read : List ℕ → Read Item) (reads : Reads level read
 
   -- ---- whole parts and a part that is refused are refused
 
-  pub items_refuse : (k n : ℕ) (whole rest : List ℕ) (e : Error) → SpelledParts level k whole → k < n → read rest ≡ Err e → items_at read n (whole ++ rest) ≡ Err e
-  unfolding items_at
+  pub items_refuse : (k n : ℕ) (whole rest : List ℕ) (e : Error) → SpelledParts level k whole → k < n → read rest ≡ Err e → read_items read n (whole ++ rest) ≡ Err e
+  unfolding read_items
   items_refuse k zero whole rest e spelled few h = absurd (omega arith)
   items_refuse zero (suc n) whole rest e spelled few h = rw (spelled, h) refl
   items_refuse (suc k) (suc n) whole rest e spelled few h =
       rw (spelled.3, append_assoc spelled.0 spelled.1 rest, reads.again spelled.0 spelled.2 (spelled.1 ++ rest) spelled.4, items_refuse k n spelled.1 rest e spelled.5 (omega arith) h) refl
 
-  pub pairs_refuse : (k n : ℕ) (whole rest : List ℕ) (e : Error) → SpelledParts level k whole → k < 2 * n → read rest ≡ Err e → pairs_at read n (whole ++ rest) ≡ Err e
-  unfolding pairs_at
+  pub pairs_refuse : (k n : ℕ) (whole rest : List ℕ) (e : Error) → SpelledParts level k whole → k < 2 * n → read rest ≡ Err e → read_pairs read n (whole ++ rest) ≡ Err e
+  unfolding read_pairs
   pairs_refuse k zero whole rest e spelled few h = absurd (omega arith)
   pairs_refuse zero (suc n) whole rest e spelled few h = rw (spelled, h) refl
   pairs_refuse (suc zero) (suc n) whole rest e spelled few h =
@@ -207,11 +207,11 @@ module _ (level : ℕ) (read : List ℕ → Read Item) (reads : Reads level read
   left_after whole x w rest i is spells = rw (is, append_assoc x w rest) (begins_longer x (w ++ rest) (spelled_begins level x i spells))
 
   -- a part does not begin with a break
-  part_no_break : (x w rest : List ℕ) (i : Item) → Spells any level x i → break_at (x ++ (w ++ rest)) ≡ None
+  part_no_break : (x w rest : List ℕ) (i : Item) → Spells any level x i → after_break (x ++ (w ++ rest)) ≡ None
   part_no_break x w rest i spells = no_break_at x (w ++ rest) (spelled_begins level x i spells)
 
-  pub open_items_refuse : (k n : ℕ) (whole rest : List ℕ) (e : Error) → SpelledParts level k whole → length (whole ++ rest) ≤ n → ¬ (BeginsWithBreak rest) → read rest ≡ Err e → open_items_at read n (whole ++ rest) ≡ Err e
-  unfolding open_items_at
+  pub open_items_refuse : (k n : ℕ) (whole rest : List ℕ) (e : Error) → SpelledParts level k whole → length (whole ++ rest) ≤ n → ¬ (BeginsWithBreak rest) → read rest ≡ Err e → read_open_items read n (whole ++ rest) ≡ Err e
+  unfolding read_open_items
   open_items_refuse zero zero whole rest e spelled bound no_break h = ap Err (empty_refused rest e (rw spelled at bound) h)
   open_items_refuse zero (suc n) whole rest e spelled bound no_break h = rw (spelled, break_none rest no_break, h) refl
   open_items_refuse (suc k) zero whole rest e spelled bound no_break h = absurd (omega (arith, left_after whole spelled.0 spelled.1 rest spelled.2 spelled.3 spelled.4))
@@ -220,8 +220,8 @@ module _ (level : ℕ) (read : List ℕ → Read Item) (reads : Reads level read
       rw (spelled.3, append_assoc spelled.0 spelled.1 rest, part_no_break spelled.0 spelled.1 rest spelled.2 spelled.4, reads.again spelled.0 spelled.2 (spelled.1 ++ rest) spelled.4, open_items_refuse k n spelled.1 rest e spelled.5 left no_break h) refl
 
   -- an even number of parts ends before a key, where the rest is no break
-  pub open_pairs_refuse : (k n : ℕ) (whole rest : List ℕ) (e : Error) → SpelledParts level k whole → length (whole ++ rest) ≤ n → ((j : ℕ) → k ≡ 2 * j → ¬ (BeginsWithBreak rest)) → read rest ≡ Err e → open_pairs_at read n (whole ++ rest) ≡ Err e
-  unfolding open_pairs_at
+  pub open_pairs_refuse : (k n : ℕ) (whole rest : List ℕ) (e : Error) → SpelledParts level k whole → length (whole ++ rest) ≤ n → ((j : ℕ) → k ≡ 2 * j → ¬ (BeginsWithBreak rest)) → read rest ≡ Err e → read_open_pairs read n (whole ++ rest) ≡ Err e
+  unfolding read_open_pairs
   open_pairs_refuse zero zero whole rest e spelled bound no_break h = ap Err (empty_refused rest e (rw spelled at bound) h)
   open_pairs_refuse zero (suc n) whole rest e spelled bound no_break h = rw (spelled, break_none rest (no_break 0 refl), h) refl
   open_pairs_refuse (suc k) zero whole rest e spelled bound no_break h = absurd (omega (arith, left_after whole spelled.0 spelled.1 rest spelled.2 spelled.3 spelled.4))

@@ -14,24 +14,24 @@ use Rattle.cbor_diag.specs.View.{view, items_view, pairs_view}
 use Rattle.cbor_diag.specs.WellFormed.{WellFormed, WellFormedItems, WellFormedPairs, FitsCount}
 use Rattle.cbor_diag.specs.Bytes.{StringKind, text_kind}
 use Rattle.cbor_diag.specs.Reading.{Read, ◌>>=◌, Fails}
-use Rattle.cbor_diag.specs.NotationReading.{or_refused, after_byte, blank_at, pair_at, first_start, rest_of, core_of, core_at, item_at, piece_of, piece_at, begins_piece, begins_string, pieces_at, string_of, string_at, byte_string_at}
+use Rattle.cbor_diag.specs.NotationReading.{or_refused, after_byte, skip_blank, read_pair, first_start, rest_of, core_of, read_core, read_item, piece_of, read_piece, begins_piece, begins_string, read_pieces, string_of, read_string, read_byte_string}
 use Rattle.cbor_diag.proofs.Loops.{Fails-bind, onto, onto_fails}
 use Rattle.cbor_diag.proofs.Views.{view-Array, view-Map, item_count_view, pair_count_view}
 
-pub core_by : (read : List ℕ → Read Item) (text rest : List ℕ) (s : Start) → s ≡ first_start text → rest ≡ rest_of text → core_at read text ≡ core_of read s text rest
-unfolding core_at
+pub core_by : (read : List ℕ → Read Item) (text rest : List ℕ) (s : Start) → s ≡ first_start text → rest ≡ rest_of text → read_core read text ≡ core_of read s text rest
+unfolding read_core
 core_by read [] rest s is behind = sym (ap (λ s. core_of read s [] rest) is)
 core_by read (b ∷ text) rest s is behind = ap (λ s. core_of read s (b ∷ text) text) (sym is) ∙ ap (core_of read s (b ∷ text)) (sym behind)
 
 -- what bytes begin with
-pub bytes_core : (read : List ℕ → Read Item) (text rest : List ℕ) (s : Start) → (s ≡ start.Apostrophe) ⊎ ((s ≡ start.Angle) ⊎ ((s ≡ start.LetterB) ⊎ (s ≡ start.LetterH))) → core_of read s text rest ≡ byte_string_at read text
+pub bytes_core : (read : List ℕ → Read Item) (text rest : List ℕ) (s : Start) → (s ≡ start.Apostrophe) ⊎ ((s ≡ start.Angle) ⊎ ((s ≡ start.LetterB) ⊎ (s ≡ start.LetterH))) → core_of read s text rest ≡ read_byte_string read text
 bytes_core read text rest s (inl e) = rw e refl
 bytes_core read text rest s (inr (inl e)) = rw e refl
 bytes_core read text rest s (inr (inr (inl e))) = rw e refl
 bytes_core read text rest s (inr (inr (inr e))) = rw e refl
 
-pub piece_by : (read : List ℕ → Read Item) (text rest : List ℕ) (s : Start) → s ≡ first_start text → rest ≡ rest_of text → piece_at read text ≡ piece_of read s rest
-unfolding piece_at
+pub piece_by : (read : List ℕ → Read Item) (text rest : List ℕ) (s : Start) → s ≡ first_start text → rest ≡ rest_of text → read_piece read text ≡ piece_of read s rest
+unfolding read_piece
 piece_by read [] rest s is behind = sym (ap (λ s. piece_of read s rest) is)
 piece_by read (b ∷ text) rest s is behind = ap (λ s. piece_of read s text) (sym is) ∙ ap (piece_of read s) (sym behind)
 
@@ -48,59 +48,59 @@ pub no_text : (s : Start) → s ≢ start.Quote → begins_string text_kind s �
 no_text start.Quote q = absurd (q refl)
 no_text _ q = refl
 
-pub string_by : (read : List ℕ → Read Item) (kind : StringKind) (text : List ℕ) (t : Bool) → begins_string kind (first_start text) ≡ t → string_at read kind text ≡ string_of read kind text t
-unfolding string_at
+pub string_by : (read : List ℕ → Read Item) (kind : StringKind) (text : List ℕ) (t : Bool) → begins_string kind (first_start text) ≡ t → read_string read kind text ≡ string_of read kind text t
+unfolding read_string
 string_by read kind text t e = ap (string_of read kind text) e
 
-pub item_none : (n : ℕ) (text : List ℕ) → n ≡ 0 → item_at n text ≡ Err refusal.TooDeep
-unfolding item_at
-item_none n text e = ap (λ k. item_at k text) e
+pub item_none : (n : ℕ) (text : List ℕ) → n ≡ 0 → read_item n text ≡ Err refusal.TooDeep
+unfolding read_item
+item_none n text e = ap (λ k. read_item k text) e
 
-pub item_some : (n m : ℕ) (text : List ℕ) → n ≡ suc m → item_at n text ≡ (core_at (item_at m) (blank_at text) >>= λ i. Ok (i.0, blank_at i.1))
-unfolding item_at
-item_some n m text e = ap (λ k. item_at k text) e
+pub item_some : (n m : ℕ) (text : List ℕ) → n ≡ suc m → read_item n text ≡ (read_core (read_item m) (skip_blank text) >>= λ i. Ok (i.0, skip_blank i.1))
+unfolding read_item
+item_some n m text e = ap (λ k. read_item k text) e
 
 -- ---- the pieces of a string
 
-pub pieces_begin : (read : List ℕ → Read Item) (texts : Bool) (text content : List ℕ) → content ≡ [] → (n : ℕ) × (length text < n) × (onto (λ xs. content ++ xs) (pieces_at read texts n text) ≡ pieces_at read texts (suc (length text)) text)
-pieces_begin read texts text content none = (suc (length text), omega arith, rw none (onto_nothing (pieces_at read texts (suc (length text)) text))) where
+pub pieces_begin : (read : List ℕ → Read Item) (texts : Bool) (text content : List ℕ) → content ≡ [] → (n : ℕ) × (length text < n) × (onto (λ xs. content ++ xs) (read_pieces read texts n text) ≡ read_pieces read texts (suc (length text)) text)
+pieces_begin read texts text content none = (suc (length text), omega arith, rw none (onto_nothing (read_pieces read texts (suc (length text)) text))) where
   onto_nothing : (r : Read (List ℕ)) → onto (λ xs. [] ++ xs) r ≡ r
   onto_nothing (Ok r) = refl
   onto_nothing (Err e) = refl
 
-module _ (read : List ℕ → Read Item) (texts : Bool) (front : List ℕ) (n : ℕ) (text : List ℕ) (total : Read (List ℕ)) (room : length text < n) (so_far : onto (λ xs. front ++ xs) (pieces_at read texts n text) ≡ total) where
+module _ (read : List ℕ → Read Item) (texts : Bool) (front : List ℕ) (n : ℕ) (text : List ℕ) (total : Read (List ℕ)) (room : length text < n) (so_far : onto (λ xs. front ++ xs) (read_pieces read texts n text) ≡ total) where
   room_left : (k : ℕ) → length text < k → (m : ℕ) × (k ≡ suc m)
   room_left zero lt = absurd (omega arith)
   room_left (suc m) lt = (m, refl)
 
-  begun : (k m : ℕ) → k ≡ suc m → begins_piece texts (first_start text) ≡ true → pieces_at read texts k text ≡ (piece_at read text >>= λ x. pieces_at read texts m (blank_at x.1) >>= λ xs. Ok (x.0 ++ xs.0, xs.1))
-  unfolding pieces_at
-  begun k m e begins = ap (λ j. pieces_at read texts j text) e ∙ rw (begins, pieces_at) refl
+  begun : (k m : ℕ) → k ≡ suc m → begins_piece texts (first_start text) ≡ true → read_pieces read texts k text ≡ (read_piece read text >>= λ x. read_pieces read texts m (skip_blank x.1) >>= λ xs. Ok (x.0 ++ xs.0, xs.1))
+  unfolding read_pieces
+  begun k m e begins = ap (λ j. read_pieces read texts j text) e ∙ rw (begins, read_pieces) refl
 
   pub pieces_end : begins_piece texts (first_start text) ≡ false → total ≡ Ok (front, text)
-  unfolding pieces_at
+  unfolding read_pieces
   pieces_end none =
       let left = room_left n room in
-      let here : pieces_at read texts n text ≡ Ok ([], text) = ap (λ j. pieces_at read texts j text) left.1 ∙ rw (none, pieces_at) refl in
+      let here : read_pieces read texts n text ≡ Ok ([], text) = ap (λ j. read_pieces read texts j text) left.1 ∙ rw (none, read_pieces) refl in
       sym so_far ∙ ap (onto (λ xs. front ++ xs)) here ∙ ap (λ xs. Ok (xs, text)) (append-nil front)
 
-  pub piece_fails : (e : Error) → begins_piece texts (first_start text) ≡ true → Fails e (piece_at read text) → Fails e total
+  pub piece_fails : (e : Error) → begins_piece texts (first_start text) ≡ true → Fails e (read_piece read text) → Fails e total
   piece_fails e begins h =
       let left = room_left n room in
-      let failed = Fails-bind e (piece_at read text) (λ x. pieces_at read texts left.0 (blank_at x.1) >>= λ xs. Ok (x.0 ++ xs.0, xs.1)) h in
-      onto_fails e (λ xs. front ++ xs) (pieces_at read texts n text) total (subst (λ r. Fails e r) (sym (begun n left.0 left.1 begins)) failed) so_far
+      let failed = Fails-bind e (read_piece read text) (λ x. read_pieces read texts left.0 (skip_blank x.1) >>= λ xs. Ok (x.0 ++ xs.0, xs.1)) h in
+      onto_fails e (λ xs. front ++ xs) (read_pieces read texts n text) total (subst (λ r. Fails e r) (sym (begun n left.0 left.1 begins)) failed) so_far
 
   joined : (piece : List ℕ) (r : Read (List ℕ)) → onto (λ xs. front ++ xs) (r >>= λ xs. Ok (piece ++ xs.0, xs.1)) ≡ onto (λ xs. (front ++ piece) ++ xs) r
   joined piece (Ok r) = ap (λ xs. Ok (xs, r.1)) (sym (append_assoc front piece r.0))
   joined piece (Err e) = refl
 
-  pub piece_more : (piece after rest : List ℕ) → begins_piece texts (first_start text) ≡ true → piece_at read text ≡ Ok (piece, after) → rest ≡ blank_at after → length after < length text → length rest ≤ length after
-      → (m : ℕ) × (length rest < m) × (onto (λ xs. (front ++ piece) ++ xs) (pieces_at read texts m rest) ≡ total)
+  pub piece_more : (piece after rest : List ℕ) → begins_piece texts (first_start text) ≡ true → read_piece read text ≡ Ok (piece, after) → rest ≡ skip_blank after → length after < length text → length rest ≤ length after
+      → (m : ℕ) × (length rest < m) × (onto (λ xs. (front ++ piece) ++ xs) (read_pieces read texts m rest) ≡ total)
   piece_more piece after rest begins r blank less shorter =
       let left = room_left n room in
-      let many = λ (x : List ℕ × List ℕ). pieces_at read texts left.0 (blank_at x.1) >>= λ xs. Ok (x.0 ++ xs.0, xs.1) in
-      let here : pieces_at read texts n text ≡ (pieces_at read texts left.0 (blank_at after) >>= λ xs. Ok (piece ++ xs.0, xs.1)) = begun n left.0 left.1 begins ∙ ap (λ o. o >>= many) r in
-      (left.0, omega (arith, left.1), ap (λ b. onto (λ xs. (front ++ piece) ++ xs) (pieces_at read texts left.0 b)) blank ∙ sym (joined piece (pieces_at read texts left.0 (blank_at after))) ∙ sym (ap (onto (λ xs. front ++ xs)) here) ∙ so_far)
+      let many = λ (x : List ℕ × List ℕ). read_pieces read texts left.0 (skip_blank x.1) >>= λ xs. Ok (x.0 ++ xs.0, xs.1) in
+      let here : read_pieces read texts n text ≡ (read_pieces read texts left.0 (skip_blank after) >>= λ xs. Ok (piece ++ xs.0, xs.1)) = begun n left.0 left.1 begins ∙ ap (λ o. o >>= many) r in
+      (left.0, omega (arith, left.1), ap (λ b. onto (λ xs. (front ++ piece) ++ xs) (read_pieces read texts left.0 b)) blank ∙ sym (joined piece (read_pieces read texts left.0 (skip_blank after))) ∙ sym (ap (onto (λ xs. front ++ xs)) here) ∙ so_far)
 
 -- ---- well formed members
 
@@ -111,24 +111,24 @@ items_push level (w ∷ vs) v held well = (held.0, items_push level vs v held.1 
 -- ---- a key, `:` and its value, one after the other
 
 module _ (read : List ℕ → Read Item) (text : List ℕ) where
-  pub no_key : (e : Error) → Fails e (read text) → Fails e (pair_at read text)
+  pub no_key : (e : Error) → Fails e (read text) → Fails e (read_pair read text)
   no_key e h = Fails-bind e (read text) (λ k. or_refused (after_byte 58 k.1) >>= λ rest. read rest >>= λ v. Ok ((k.0, v.0), v.1)) h
 
   module _ (key : Item) (behind : List ℕ) (read_key : read text ≡ Ok (key, behind)) where
-    behind_key : pair_at read text ≡ (or_refused (after_byte 58 behind) >>= λ rest. read rest >>= λ v. Ok ((key, v.0), v.1))
+    behind_key : read_pair read text ≡ (or_refused (after_byte 58 behind) >>= λ rest. read rest >>= λ v. Ok ((key, v.0), v.1))
     behind_key = ap (λ r. r >>= λ k. or_refused (after_byte 58 k.1) >>= λ rest. read rest >>= λ v. Ok ((k.0, v.0), v.1)) read_key
 
-    pub no_colon : (e : Error) → Fails e (or_refused (after_byte 58 behind)) → Fails e (pair_at read text)
+    pub no_colon : (e : Error) → Fails e (or_refused (after_byte 58 behind)) → Fails e (read_pair read text)
     no_colon e h = subst (λ r. Fails e r) (sym behind_key) (Fails-bind e (or_refused (after_byte 58 behind)) (λ rest. read rest >>= λ v. Ok ((key, v.0), v.1)) h)
 
     module _ (next : List ℕ) (colon : or_refused (after_byte 58 behind) ≡ Ok next) where
-      behind_colon : pair_at read text ≡ (read next >>= λ v. Ok ((key, v.0), v.1))
+      behind_colon : read_pair read text ≡ (read next >>= λ v. Ok ((key, v.0), v.1))
       behind_colon = behind_key ∙ ap (λ r. r >>= λ rest. read rest >>= λ v. Ok ((key, v.0), v.1)) colon
 
-      pub no_value : (e : Error) → Fails e (read next) → Fails e (pair_at read text)
+      pub no_value : (e : Error) → Fails e (read next) → Fails e (read_pair read text)
       no_value e h = subst (λ r. Fails e r) (sym behind_colon) (Fails-bind e (read next) (λ v. Ok ((key, v.0), v.1)) h)
 
-      pub pair_read : (value : Item) (after : List ℕ) → read next ≡ Ok (value, after) → pair_at read text ≡ Ok ((key, value), after)
+      pub pair_read : (value : Item) (after : List ℕ) → read next ≡ Ok (value, after) → read_pair read text ≡ Ok ((key, value), after)
       pair_read value after e = behind_colon ∙ ap (λ r. r >>= λ v. Ok ((key, v.0), v.1)) e
 
 abbrev pub pair_view : DataItem × DataItem → Item × Item

@@ -16,20 +16,20 @@ use Rattle.cbor_notes.proofs.tokens.Quoted.{in_quotes-unquoted, unquoted-in_quot
 use Rattle.cbor_notes.proofs.tokens.Spaced.{DigitsBetween-digits_of, digits_of-DigitsBetween}
 use Rattle.cbor_notes.proofs.tokens.TextPlaces.{part_and_rest}
 use Rattle.cbor_diag.specs.Reading.{◌>>=◌}
-use Rattle.cbor_diag.specs.NotationReading.{or_refused, blank_at, number_at, after_byte, after_space, numeral}
+use Rattle.cbor_diag.specs.NotationReading.{or_refused, skip_blank, read_number, after_byte, after_space, numeral}
 
-pub blank_left : (text : List ℕ) (end : ℕ) → IsLongest (Blank true) (slice_range text 0 end) (drop end text) → take (length text - end) (drop end text) ≡ blank_at text
+pub blank_left : (text : List ℕ) (end : ℕ) → IsLongest (Blank true) (slice_range text 0 end) (drop end text) → take (length text - end) (drop end text) ≡ skip_blank text
 blank_left text end longest = take_rest text end ∙ after_longest_blank true (slice_range text 0 end) (drop end text) longest ∙ ap (after_blank true) (sym (part_and_rest text 0 end (omega arith)))
 
 pub number_found : (text : List ℕ) (end value : ℕ) (indicator : Option ℕ) → IsNumber (slice_range text 0 end) value indicator → IsLongest IsSomeNumber (slice_range text 0 end) (drop end text)
-    → number_at text ≡ Ok ((value, indicator), take (length text - end) (drop end text))
+    → read_number text ≡ Ok ((value, indicator), take (length text - end) (drop end text))
 number_found text end value indicator is longest =
     let here : number_of text ≡ Some (value, indicator, drop end text) = ap number_of (part_and_rest text 0 end (omega arith)) ∙ number_of-longest (slice_range text 0 end) (drop end text) value indicator is longest in
     ap (λ r. or_refused r >>= λ x. Ok ((x.0, x.1), x.2)) here ∙ ap (λ rest. Ok ((value, indicator), rest)) (sym (take_rest text end))
 
-pub number_missing : (text : List ℕ) → ((front rest : List ℕ) → drop 0 text ≡ front ++ rest → ¬ (IsSomeNumber front)) → number_at text ≡ Err refusal.Notation
+pub number_missing : (text : List ℕ) → ((front rest : List ℕ) → drop 0 text ≡ front ++ rest → ¬ (IsSomeNumber front)) → read_number text ≡ Err refusal.Notation
 number_missing text none = from_none (number_of text) refl where
-  from_none : (r : Option (ℕ × Option ℕ × List ℕ)) → number_of text ≡ r → number_at text ≡ Err refusal.Notation
+  from_none : (r : Option (ℕ × Option ℕ × List ℕ)) → number_of text ≡ r → read_number text ≡ Err refusal.Notation
   from_none None e = ap (λ r. or_refused r >>= λ x. Ok ((x.0, x.1), x.2)) e
   from_none (Some read) e =
       let found = IsNumber-number_of text read e in

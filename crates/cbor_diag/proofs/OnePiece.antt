@@ -11,7 +11,7 @@ use Rattle.cbor_diag.specs.declared.error.Error.{Error}
 use Rattle.cbor_diag.specs.Item.{Item, Atom, Chunk, atom, text_string}
 use Rattle.cbor_diag.specs.Bytes.{bytes_kind, text_kind}
 use Rattle.cbor_diag.specs.Reading.{Read, ◌>>=◌}
-use Rattle.cbor_diag.specs.NotationReading.{after_word, or_refused, blank_at, start_of, first_start, begins_piece, ends_string, one_string, piece_at, pieces_at, string_at, checked, base16_of, decoded_at, byte_string_at, text_string_at}
+use Rattle.cbor_diag.specs.NotationReading.{after_word, or_refused, skip_blank, start_of, first_start, begins_piece, ends_string, one_string, read_piece, read_pieces, read_string, checked, base16_of, read_decoded, read_byte_string, read_text_string}
 
 -- What stands before the first quote or backslash of a text is its content, where that is the quote.
 pub plain : (text content rest : List ℕ) (place : Option ℕ) (n : ℕ) → place ≡ position (is_special 34) text → place ≡ Some n → content ≡ take n text → drop n text ≡ 34 ∷ rest → unquoted 34 false text ≡ Some (content, rest)
@@ -28,22 +28,22 @@ ends_with : (b : ℕ) (rest : List ℕ) → ends_string (b ∷ rest) ≡ true �
 ends_with b rest ends = search (rules, tests)
 
 -- is no blank, no piece, and no `_`
-ends_plainly : (texts : Bool) (rest : List ℕ) → ends_string rest ≡ true → (blank_at rest ≡ rest) × (begins_piece texts (first_start rest) ≡ false) × (starts_with nat_eq rest (codes "_") ≡ false)
+ends_plainly : (texts : Bool) (rest : List ℕ) → ends_string rest ≡ true → (skip_blank rest ≡ rest) × (begins_piece texts (first_start rest) ≡ false) × (starts_with nat_eq rest (codes "_") ≡ false)
 unfolding start_of
 ends_plainly texts [] never = cc never
 ends_plainly texts (b ∷ rest) ends = by_byte (ends_with b rest ends) where
-  by_byte : (b ≡ 44) ⊎ (b ≡ 58) ⊎ (b ≡ 93) ⊎ (b ≡ 125) → (blank_at (b ∷ rest) ≡ b ∷ rest) × (begins_piece texts (first_start (b ∷ rest)) ≡ false) × (starts_with nat_eq (b ∷ rest) (codes "_") ≡ false)
+  by_byte : (b ≡ 44) ⊎ (b ≡ 58) ⊎ (b ≡ 93) ⊎ (b ≡ 125) → (skip_blank (b ∷ rest) ≡ b ∷ rest) × (begins_piece texts (first_start (b ∷ rest)) ≡ false) × (starts_with nat_eq (b ∷ rest) (codes "_") ≡ false)
   by_byte (inl e) = rw e (refl, refl, refl)
   by_byte (inr (inl e)) = rw e (refl, refl, refl)
   by_byte (inr (inr (inl e))) = rw e (refl, refl, refl)
   by_byte (inr (inr (inr e))) = rw e (refl, refl, refl)
 
 -- so a piece before it is the only one
-one_piece : (read : List ℕ → Read Item) (texts : Bool) (n : ℕ) (text content rest : List ℕ) → begins_piece texts (first_start text) ≡ true → piece_at read text ≡ Ok (content, rest) → ends_string rest ≡ true → pieces_at read texts (suc (suc n)) text ≡ Ok (content, rest)
-unfolding pieces_at
+one_piece : (read : List ℕ → Read Item) (texts : Bool) (n : ℕ) (text content rest : List ℕ) → begins_piece texts (first_start text) ≡ true → read_piece read text ≡ Ok (content, rest) → ends_string rest ≡ true → read_pieces read texts (suc (suc n)) text ≡ Ok (content, rest)
+unfolding read_pieces
 one_piece read texts n text content rest begins piece ends =
     let plainly = ends_plainly texts rest ends in
-    rw (begins, piece, plainly.0, plainly.1, pieces_at) (ap (λ t. Ok (content ++ [], t)) plainly.0 ∙ ap (λ xs. Ok (xs, rest)) (append-nil content))
+    rw (begins, piece, plainly.0, plainly.1, read_pieces) (ap (λ t. Ok (content ++ [], t)) plainly.0 ∙ ap (λ xs. Ok (xs, rest)) (append-nil content))
 
 -- so it is not `""_` before it
 no_empty : (inner content rest : List ℕ) → unquoted 34 false inner ≡ Some (content, rest) → ends_string rest ≡ true → after_word (codes "\"\"_") (34 ∷ inner) ≡ None
@@ -70,15 +70,15 @@ one leaf rest (Ok c) = refl
 one leaf rest (Err e) = refl
 
 -- A text without escapes, and behind it what ends a string: what the rules give.
-pub plain_text : (read : List ℕ → Read Item) (text inner content rest : List ℕ) → text ≡ 34 ∷ inner → unquoted 34 false inner ≡ Some (content, rest) → ends_string rest ≡ true → text_string_at read text ≡ one_string text_kind content rest
-unfolding string_at piece_at start_of
+pub plain_text : (read : List ℕ → Read Item) (text inner content rest : List ℕ) → text ≡ 34 ∷ inner → unquoted 34 false inner ≡ Some (content, rest) → ends_string rest ≡ true → read_text_string read text ≡ one_string text_kind content rest
+unfolding read_string read_piece start_of
 plain_text read text inner content rest front is ends =
     let pieces = one_piece read true (length inner) (34 ∷ inner) content rest refl (ap or_refused is) ends in
-    ap (text_string_at read) front ∙ rw (no_empty inner content rest is ends, pieces) (one text_string rest (checked text_kind content))
+    ap (read_text_string read) front ∙ rw (no_empty inner content rest is ends, pieces) (one text_string rest (checked text_kind content))
 
 -- Hex digits, and behind them what ends a string: what the rules give.
-pub plain_hex : (read : List ℕ → Read Item) (text inner bytes rest : List ℕ) → text ≡ 104 ∷ 39 ∷ inner → decoded_at true base16_of inner ≡ Ok (bytes, rest) → ends_string rest ≡ true → byte_string_at read text ≡ one_string bytes_kind bytes rest
-unfolding string_at piece_at start_of
+pub plain_hex : (read : List ℕ → Read Item) (text inner bytes rest : List ℕ) → text ≡ 104 ∷ 39 ∷ inner → read_decoded true base16_of inner ≡ Ok (bytes, rest) → ends_string rest ≡ true → read_byte_string read text ≡ one_string bytes_kind bytes rest
+unfolding read_string read_piece start_of
 plain_hex read text inner bytes rest front is ends =
     let pieces = one_piece read false (suc (length inner)) (104 ∷ 39 ∷ inner) bytes rest refl is ends in
-    ap (byte_string_at read) front ∙ rw pieces refl
+    ap (read_byte_string read) front ∙ rw pieces refl

@@ -11,7 +11,7 @@ use Rattle.cbor_diag.specs.Item.{Item}
 use Rattle.cbor_diag.specs.Head.{HeadThen}
 use Rattle.cbor_diag.specs.Refused.{Fault, too_deep, bad_head, bad_text, bad_chunk_head, bad_chunk_text, bad_part}
 use Rattle.cbor_diag.specs.Answer.{spelled, IsOutcome, HasOutcome, HasAnswer, MayWantMemory}
-use Rattle.cbor_diag.specs.Reading.{Fails, HoldsContent, head_at, item_at}
+use Rattle.cbor_diag.specs.Reading.{Fails, HoldsContent, read_head, read_item}
 use Rattle.cbor_diag.proofs.Heads.{IsBytes, HeadIs, head_takes}
 use Rattle.cbor_diag.proofs.Found.{item_takes}
 use Rattle.cbor_diag.proofs.Faults.{fault_takes}
@@ -45,19 +45,19 @@ head_opens b rest item_head.OpenMap is holds = rw is (omega arith, omega arith, 
 head_opens b rest item_head.Break is holds = absurd holds
 
 -- memory is wanted only behind a head that holds content
-pub memory_opens : (b rest : List ℕ) (h : ItemHead) → IsBytes b → head_at b ≡ Ok (h, rest) → HoldsContent h → MayWantMemory b
+pub memory_opens : (b rest : List ℕ) (h : ItemHead) → IsBytes b → read_head b ≡ Ok (h, rest) → HoldsContent h → MayWantMemory b
 memory_opens b rest h fits e holds = head_opens b rest h (head_takes b rest h fits e).0 holds
 
 -- ---- what the front of an input is
 
-pub found_outcome : (level left : ℕ) (b : List ℕ) (i : Item) (rest : List ℕ) → level + left ≡ 129 → IsBytes b → item_at left b ≡ Ok (i, rest) → IsOutcome level b (spelled i (length b - length rest))
+pub found_outcome : (level left : ℕ) (b : List ℕ) (i : Item) (rest : List ℕ) → level + left ≡ 129 → IsBytes b → read_item left b ≡ Ok (i, rest) → IsOutcome level b (spelled i (length b - length rest))
 found_outcome level left b i rest levels fits e =
     let t = item_takes level left b i rest levels fits e in
     let counted : length b - length rest ≡ length t.front = omega (arith, length-append t.front rest, ap length t.parts) in
     let front : take (length b - length rest) b ≡ t.front = ap (λ n. take n b) counted ∙ ap (take (length t.front)) t.parts ∙ take_at t.front rest (length t.front) refl in
     (omega arith, rw front t.spells)
 
-pub refusal_outcome : (level left : ℕ) (b : List ℕ) (e : Error) → level + left ≡ 129 → IsBytes b → e ≢ refusal.CutShort → Fails e (item_at left b) → HasOutcome level b (Err e)
+pub refusal_outcome : (level left : ℕ) (b : List ℕ) (e : Error) → level + left ≡ 129 → IsBytes b → e ≢ refusal.CutShort → Fails e (read_item left b) → HasOutcome level b (Err e)
 refusal_outcome level left b refusal.Memory levels fits other h = tt
 refusal_outcome level left b e levels fits other h = fault_takes level left b e levels fits other h
 

@@ -17,7 +17,7 @@ use Rattle.cbor_diag.specs.Item.{Chunk, Atom, integer, negative, byte_string, te
 use Rattle.cbor_diag.specs.WellFormed.{IsByteChunk, IsTextChunk, WellFormedAtom, WellFormed, WellFormedItems, WellFormedPairs}
 use Rattle.cbor_diag.specs.Bytes.{bytes_kind, text_kind}
 use Rattle.cbor_diag.specs.Written.{encoded, encoded_items}
-use Rattle.cbor_diag.specs.Reading.{item_at}
+use Rattle.cbor_diag.specs.Reading.{read_item}
 use Rattle.cbor_diag.specs.Embedded.{if_whole, embedded_at, sequence_at}
 use Rattle.cbor_diag.specs.Estimate.{full_atom, full}
 use Rattle.cbor_diag.specs.Notation.{IsBlank, Blanked, list_of, pairs_list, PairOf, Notation, as_items, Joined, one, more, StringOf, AtomCore, Core, Reads}
@@ -84,7 +84,7 @@ colon_blank (listing.Lines k) = one_space
 
 -- no bytes are no item
 nothing_embedded : (left : ℕ) (e : Item) → embedded_at left [] ≡ Some e → ⊥
-nothing_embedded left e h = let none : if_whole (item_at left []) ≡ None = ap if_whole (item_nothing left) in absurd cc
+nothing_embedded left e h = let none : if_whole (read_item left []) ≡ None = ap if_whole (item_nothing left) in absurd cc
 
 -- what of a sequence is no item follows it
 rest_read : {Read : List ℕ → Item → Type 0} (c : Context) (shown bytes rest : List ℕ) → Notation Read shown bytes → AllBytes rest → Joined (Notation Read) (shown ++ rest_text c rest) (bytes ++ rest)

@@ -12,7 +12,7 @@ use Rattle.cbor_diag.specs.Head.{FitsWidth, stated, head, opening, break_byte}
 use Rattle.cbor_diag.specs.WellFormed.{FitsFloat, WellFormedAtom, FitsCount, WellFormed, WellFormedItems, WellFormedPairs}
 use Rattle.cbor_diag.specs.Bytes.{StringKind, bytes_kind, text_kind, major_of, IsContent, any, strict, SpellsFloat, ChunkThen, OpenThen, SpellsChunks, SpellsAtom, MembersThen, Spells, SpellsItems, SpellsPairs}
 use Rattle.cbor_diag.specs.Written.{encoded, resolve_chunk, resolve_float, resolve_atom, resolve_count, resolve, resolve_items, resolve_pairs}
-use Rattle.cbor_diag.specs.Reading.{item_at}
+use Rattle.cbor_diag.specs.Reading.{read_item}
 use Rattle.cbor_diag.proofs.Heads.{IsBytes, IsBytes-take, IsBytes-drop, ok_is}
 use Rattle.cbor_diag.proofs.Chunks.{chunk_parts}
 use Rattle.cbor_diag.proofs.Found.{item_again}
@@ -188,13 +188,13 @@ encoded_strict level b i bytes h is =
     subst (λ (x : List ℕ). Spells strict level x i) is (subst (λ (j : Item). Spells strict level (encoded i) j) (resolved level b i h) written)
 
 -- what is written is read as that item
-pub written_again : (i : Item) (rest : List ℕ) → WellFormed 1 i → item_at 128 (encoded i ++ rest) ≡ Ok (resolve i, rest)
+pub written_again : (i : Item) (rest : List ℕ) → WellFormed 1 i → read_item 128 (encoded i ++ rest) ≡ Ok (resolve i, rest)
 written_again i rest h = item_again 1 128 (encoded i) (resolve i) rest refl (strict_any 1 (encoded i) (resolve i) (strict_encoded 1 i h))
 
 -- items with the same encoding are read as one item
 pub written_alike : (i j : Item) → WellFormed 1 i → WellFormed 1 j → encoded i ≡ encoded j → resolve i ≡ resolve j
 written_alike i j i-well j-well same =
-    let read = sym (written_again i [] i-well) ∙ ap (λ (x : List ℕ). item_at 128 (x ++ [])) same ∙ written_again j [] j-well in
+    let read = sym (written_again i [] i-well) ∙ ap (λ (x : List ℕ). read_item 128 (x ++ [])) same ∙ written_again j [] j-well in
     ap (λ (p : Item × List ℕ). p.0) (ok_is (resolve i, []) (resolve j, []) read)
 
 -- and items that are read as one item have the same encoding

@@ -16,7 +16,7 @@ use Rattle.cbor_diag.specs.Item.{Item, atom, byte_string, text_string, byte_chun
 use Rattle.cbor_diag.specs.Head.{break_byte}
 use Rattle.cbor_diag.specs.WellFormed.{deepest}
 use Rattle.cbor_diag.specs.Bytes.{bytes_kind, text_kind}
-use Rattle.cbor_diag.specs.Reading.{Read, ◌>>=◌, content_at, chunks_at, items_at, pair_at, pairs_at, break_at, unless_break, open_items_at, open_pairs_at, item_at}
+use Rattle.cbor_diag.specs.Reading.{Read, ◌>>=◌, read_content, read_chunks, read_items, read_pair, read_pairs, after_break, unless_break, read_open_items, read_open_pairs, read_item}
 use Rattle.cbor_diag.specs.declared.syntax.IntegerWidth.{IntegerWidth}
 use Rattle.cbor_diag.specs.Skipping.{Skip, rest_of, here, Goes, Shows, StopsSo, skip_content, skip_chunks, skip_item, skip_body, one_less, count_end, end_of, after_part, opened, skip_items, skip_pairs, skip_parts, begun, closing, skip_open}
 use Rattle.cbor_diag.proofs.Heads.{bind_ok, ok_is, cons_is}
@@ -37,12 +37,12 @@ bind_here (Ok b) = refl
 bind_here (Err e) = refl
 
 -- whether a break stands here, by the first byte alone
-break_front : (first : ℕ) (x y : List ℕ) → break_at (first ∷ y) ≡ None → break_at (first ∷ x) ≡ None
+break_front : (first : ℕ) (x y : List ℕ) → after_break (first ∷ y) ≡ None → after_break (first ∷ x) ≡ None
 break_front first x y none =
     elim (break_ways (first ∷ x)) [
       | inl at ↦
           let is : first ≡ break_byte = (cons_is first break_byte x at.0 at.1).0 in
-          let wrong : break_at (break_byte ∷ y) ≡ None = subst (λ (k : ℕ). break_at (k ∷ y) ≡ None) is none in
+          let wrong : after_break (break_byte ∷ y) ≡ None = subst (λ (k : ℕ). after_break (k ∷ y) ≡ None) is none in
           absurd cc
       | inr none ↦ none
     ]
@@ -51,72 +51,72 @@ break_front first x y none =
 
 module _ (left : ℕ) where
   -- how many parts are looked for at most makes no difference
-  open_items_same : (n m : ℕ) (b : List ℕ) → length b ≤ n → length b ≤ m → open_items_at (item_at left) n b ≡ open_items_at (item_at left) m b
-  unfolding open_items_at
+  open_items_same : (n m : ℕ) (b : List ℕ) → length b ≤ n → length b ≤ m → read_open_items (read_item left) n b ≡ read_open_items (read_item left) m b
+  unfolding read_open_items
   open_items_same zero zero b le_n le_m = refl
   open_items_same zero (suc m) [] le_n le_m = rw (item_nothing left) refl
   open_items_same zero (suc m) (first ∷ b) le_n le_m = absurd (omega arith)
   open_items_same (suc n) zero [] le_n le_m = rw (item_nothing left) refl
   open_items_same (suc n) zero (first ∷ b) le_n le_m = absurd (omega arith)
   open_items_same (suc n) (suc m) b le_n le_m =
-      ap (unless_break (break_at b) no_items) (bind_same (item_at left b) _ _ (λ i e.
+      ap (unless_break (after_break b) no_items) (bind_same (read_item left b) _ _ (λ i e.
       let lt : length i.1 < length b = item_shorter left b i.0 i.1 e in
       ap (λ r. r >>= λ is. Ok (item i.0 is.0, is.1)) (open_items_same n m i.1 (omega arith) (omega arith))))
 
-  pair_shorter : (b : List ℕ) (p : (Item × Item) × List ℕ) → pair_at (item_at left) b ≡ Ok p → length p.1 < length b
+  pair_shorter : (b : List ℕ) (p : (Item × Item) × List ℕ) → read_pair (read_item left) b ≡ Ok p → length p.1 < length b
   pair_shorter b p h =
-      let key = bind_ok (item_at left b) (λ k. item_at left k.1 >>= λ v. Ok ((k.0, v.0), v.1)) p h in
-      let value = bind_ok (item_at left key.0.1) (λ v. Ok ((key.0.0, v.0), v.1)) p key.2 in
+      let key = bind_ok (read_item left b) (λ k. read_item left k.1 >>= λ v. Ok ((k.0, v.0), v.1)) p h in
+      let value = bind_ok (read_item left key.0.1) (λ v. Ok ((key.0.0, v.0), v.1)) p key.2 in
       let made = ok_is ((key.0.0, value.0.0), value.0.1) p value.2 in
       let rest : value.0.1 ≡ p.1 = ap (λ (x : (Item × Item) × List ℕ). x.1) made in
       omega (arith, item_shorter left b key.0.0 key.0.1 key.1, item_shorter left key.0.1 value.0.0 value.0.1 value.1, ap length rest)
 
-  open_pairs_same : (n m : ℕ) (b : List ℕ) → length b ≤ n → length b ≤ m → open_pairs_at (item_at left) n b ≡ open_pairs_at (item_at left) m b
-  unfolding open_pairs_at
+  open_pairs_same : (n m : ℕ) (b : List ℕ) → length b ≤ n → length b ≤ m → read_open_pairs (read_item left) n b ≡ read_open_pairs (read_item left) m b
+  unfolding read_open_pairs
   open_pairs_same zero zero b le_n le_m = refl
   open_pairs_same zero (suc m) [] le_n le_m = rw (item_nothing left) refl
   open_pairs_same zero (suc m) (first ∷ b) le_n le_m = absurd (omega arith)
   open_pairs_same (suc n) zero [] le_n le_m = rw (item_nothing left) refl
   open_pairs_same (suc n) zero (first ∷ b) le_n le_m = absurd (omega arith)
   open_pairs_same (suc n) (suc m) b le_n le_m =
-      ap (unless_break (break_at b) no_pairs) (bind_same (pair_at (item_at left) b) _ _ (λ p e.
+      ap (unless_break (after_break b) no_pairs) (bind_same (read_pair (read_item left) b) _ _ (λ p e.
       let lt : length p.1 < length b = pair_shorter b p e in
       ap (λ r. r >>= λ ps. Ok (pair p.0.0 p.0.1 ps.0, ps.1)) (open_pairs_same n m p.1 (omega arith) (omega arith))))
 
   -- a key, its value, and then what else
-  pair_then : {Y Z : Type 0} (b : List ℕ) (g : List ℕ → Read Y) (f : Item × Item → Y → Z) → rest_of (pair_at (item_at left) b >>= λ p. g p.1 >>= λ y. Ok (f p.0 y.0, y.1)) ≡ (skip_item left b >>= λ r. skip_item left r >>= λ s. rest_of (g s))
+  pair_then : {Y Z : Type 0} (b : List ℕ) (g : List ℕ → Read Y) (f : Item × Item → Y → Z) → rest_of (read_pair (read_item left) b >>= λ p. g p.1 >>= λ y. Ok (f p.0 y.0, y.1)) ≡ (skip_item left b >>= λ r. skip_item left r >>= λ s. rest_of (g s))
   pair_then b g f =
-      rest_then (pair_at (item_at left) b) g f
-      ∙ ap (λ r. r >>= λ s. rest_of (g s)) (rest_then (item_at left b) (item_at left) (λ k v. (k, v)))
+      rest_then (read_pair (read_item left) b) g f
+      ∙ ap (λ r. r >>= λ s. rest_of (g s)) (rest_then (read_item left b) (read_item left) (λ k v. (k, v)))
       ∙ bind_assoc (skip_item left b) (skip_item left) (λ s. rest_of (g s))
 
   items_next : (c : Count) (b : List ℕ) → count_end c b ≡ None → skip_items left c b ≡ (skip_item left b >>= skip_items left (one_less c))
-  unfolding items_at open_items_at
+  unfolding read_items read_open_items
   items_next (Definite zero) b none = absurd cc
   items_next (Definite (suc n)) b none =
       let same : n ≡ suc n - 1 = omega arith in
-      rest_then (item_at left b) (items_at (item_at left) n) item ∙ ap (λ k. skip_item left b >>= λ r. rest_of (items_at (item_at left) k r)) same
+      rest_then (read_item left b) (read_items (read_item left) n) item ∙ ap (λ k. skip_item left b >>= λ r. rest_of (read_items (read_item left) k r)) same
   items_next ToBreak [] none = rw (item_nothing left) refl
   items_next ToBreak (first ∷ b) none =
-      ap (λ o. rest_of (unless_break o no_items (item_at left (first ∷ b) >>= λ i. open_items_at (item_at left) (length b) i.1 >>= λ is. Ok (item i.0 is.0, is.1)))) none
-      ∙ ap rest_of (bind_same (item_at left (first ∷ b)) _ (λ i. open_items_at (item_at left) (length i.1) i.1 >>= λ is. Ok (item i.0 is.0, is.1)) (λ i e.
+      ap (λ o. rest_of (unless_break o no_items (read_item left (first ∷ b) >>= λ i. read_open_items (read_item left) (length b) i.1 >>= λ is. Ok (item i.0 is.0, is.1)))) none
+      ∙ ap rest_of (bind_same (read_item left (first ∷ b)) _ (λ i. read_open_items (read_item left) (length i.1) i.1 >>= λ is. Ok (item i.0 is.0, is.1)) (λ i e.
       let lt : length i.1 < suc (length b) = item_shorter left (first ∷ b) i.0 i.1 e in
       ap (λ r. r >>= λ is. Ok (item i.0 is.0, is.1)) (open_items_same (length b) (length i.1) i.1 (omega arith) (omega arith))))
-      ∙ rest_then (item_at left (first ∷ b)) (λ r. open_items_at (item_at left) (length r) r) item
+      ∙ rest_then (read_item left (first ∷ b)) (λ r. read_open_items (read_item left) (length r) r) item
 
   pairs_next : (c : Count) (b : List ℕ) → count_end c b ≡ None → skip_pairs left c b ≡ (skip_item left b >>= λ r. skip_item left r >>= skip_pairs left (one_less c))
-  unfolding pairs_at open_pairs_at
+  unfolding read_pairs read_open_pairs
   pairs_next (Definite zero) b none = absurd cc
   pairs_next (Definite (suc n)) b none =
       let same : n ≡ suc n - 1 = omega arith in
-      pair_then b (pairs_at (item_at left) n) (λ p ps. pair p.0 p.1 ps) ∙ ap (λ k. skip_item left b >>= λ r. skip_item left r >>= λ s. rest_of (pairs_at (item_at left) k s)) same
+      pair_then b (read_pairs (read_item left) n) (λ p ps. pair p.0 p.1 ps) ∙ ap (λ k. skip_item left b >>= λ r. skip_item left r >>= λ s. rest_of (read_pairs (read_item left) k s)) same
   pairs_next ToBreak [] none = rw (item_nothing left) refl
   pairs_next ToBreak (first ∷ b) none =
-      ap (λ o. rest_of (unless_break o no_pairs (pair_at (item_at left) (first ∷ b) >>= λ p. open_pairs_at (item_at left) (length b) p.1 >>= λ ps. Ok (pair p.0.0 p.0.1 ps.0, ps.1)))) none
-      ∙ ap rest_of (bind_same (pair_at (item_at left) (first ∷ b)) _ (λ p. open_pairs_at (item_at left) (length p.1) p.1 >>= λ ps. Ok (pair p.0.0 p.0.1 ps.0, ps.1)) (λ p e.
+      ap (λ o. rest_of (unless_break o no_pairs (read_pair (read_item left) (first ∷ b) >>= λ p. read_open_pairs (read_item left) (length b) p.1 >>= λ ps. Ok (pair p.0.0 p.0.1 ps.0, ps.1)))) none
+      ∙ ap rest_of (bind_same (read_pair (read_item left) (first ∷ b)) _ (λ p. read_open_pairs (read_item left) (length p.1) p.1 >>= λ ps. Ok (pair p.0.0 p.0.1 ps.0, ps.1)) (λ p e.
       let lt : length p.1 < suc (length b) = pair_shorter (first ∷ b) p e in
       ap (λ r. r >>= λ ps. Ok (pair p.0.0 p.0.1 ps.0, ps.1)) (open_pairs_same (length b) (length p.1) p.1 (omega arith) (omega arith))))
-      ∙ pair_then (first ∷ b) (λ r. open_pairs_at (item_at left) (length r) r) (λ p ps. pair p.0 p.1 ps)
+      ∙ pair_then (first ∷ b) (λ r. read_open_pairs (read_item left) (length r) r) (λ p ps. pair p.0 p.1 ps)
 
   -- a part that is wanted
   pub part_next : (t : ToCome) (b : List ℕ) → end_of t b ≡ None → skip_parts left t b ≡ (skip_item left b >>= skip_parts left (after_part t))
@@ -126,7 +126,7 @@ module _ (left : ℕ) where
 
   -- no part is wanted
   items_end : (c : Count) (b after : List ℕ) → count_end c b ≡ Some after → Goes (skip_items left c) here b after
-  unfolding items_at open_items_at
+  unfolding read_items read_open_items
   items_end (Definite zero) b after some = let is : b ≡ after = cc in subst (Goes (skip_items left (Definite zero)) here b) is (goes_here b (λ c. refl))
   items_end (Definite (suc n)) b after some = absurd cc
   items_end ToBreak b after some =
@@ -136,7 +136,7 @@ module _ (left : ℕ) where
       ]
 
   pairs_end : (c : Count) (b after : List ℕ) → count_end c b ≡ Some after → Goes (skip_pairs left c) here b after
-  unfolding pairs_at open_pairs_at
+  unfolding read_pairs read_open_pairs
   pairs_end (Definite zero) b after some = let is : b ≡ after = cc in subst (Goes (skip_pairs left (Definite zero)) here b) is (goes_here b (λ c. refl))
   pairs_end (Definite (suc n)) b after some = absurd cc
   pairs_end ToBreak b after some =
@@ -153,18 +153,18 @@ module _ (left : ℕ) where
   -- ---- an item behind its head
 
   one_part : (b : List ℕ) → skip_item left b ≡ skip_items left (Definite 1) b
-  unfolding items_at
+  unfolding read_items
   one_part b = sym (items_next (Definite 1) b refl ∙ bind_here (skip_item left b))
 
   same_parts : (u t : ToCome) → Some u ≡ Some t → (b : List ℕ) → skip_parts left u b ≡ skip_parts left t b
   same_parts u t is b = let same : u ≡ t = cc in ap (λ x. skip_parts left x b) same
 
   opened_same : (h : ItemHead) (t : ToCome) → opened h ≡ Some t → (b : List ℕ) → skip_body left h b ≡ skip_parts left t b
-  opened_same (item_head.Array n w) t is b = rest_made (items_at (item_at left) n b) (λ is. array is (Some w)) ∙ same_parts (Items (Definite n)) t is b
-  opened_same (item_head.Map n w) t is b = rest_made (pairs_at (item_at left) n b) (λ ps. spec.map ps (Some w)) ∙ same_parts (Pairs (Definite n)) t is b
-  opened_same (item_head.Tag n w) t is b = rest_made (item_at left b) (λ i. tagged n w i) ∙ one_part b ∙ same_parts (Items (Definite 1)) t is b
-  opened_same item_head.OpenArray t is b = rest_made (open_items_at (item_at left) (length b) b) (λ is. array is None) ∙ same_parts (Items ToBreak) t is b
-  opened_same item_head.OpenMap t is b = rest_made (open_pairs_at (item_at left) (length b) b) (λ ps. spec.map ps None) ∙ same_parts (Pairs ToBreak) t is b
+  opened_same (item_head.Array n w) t is b = rest_made (read_items (read_item left) n b) (λ is. array is (Some w)) ∙ same_parts (Items (Definite n)) t is b
+  opened_same (item_head.Map n w) t is b = rest_made (read_pairs (read_item left) n b) (λ ps. spec.map ps (Some w)) ∙ same_parts (Pairs (Definite n)) t is b
+  opened_same (item_head.Tag n w) t is b = rest_made (read_item left b) (λ i. tagged n w i) ∙ one_part b ∙ same_parts (Items (Definite 1)) t is b
+  opened_same item_head.OpenArray t is b = rest_made (read_open_items (read_item left) (length b) b) (λ is. array is None) ∙ same_parts (Items ToBreak) t is b
+  opened_same item_head.OpenMap t is b = rest_made (read_open_pairs (read_item left) (length b) b) (λ ps. spec.map ps None) ∙ same_parts (Pairs ToBreak) t is b
   opened_same h t is b = absurd cc
 
   pub opened_goes : (h : ItemHead) (t : ToCome) (b : List ℕ) → opened h ≡ Some t → Goes (skip_body left h) (begun left (Some t)) b b
@@ -173,16 +173,16 @@ module _ (left : ℕ) where
 -- ---- items without parts
 
 pub bytes_same : (left n : ℕ) (w : IntegerWidth) (b : List ℕ) → skip_body left (item_head.Bytes n w) b ≡ skip_content bytes_kind n w b
-bytes_same left n w b = rest_made (content_at bytes_kind n w b) (λ c. atom (byte_string c))
+bytes_same left n w b = rest_made (read_content bytes_kind n w b) (λ c. atom (byte_string c))
 
 pub text_same : (left n : ℕ) (w : IntegerWidth) (b : List ℕ) → skip_body left (item_head.Text n w) b ≡ skip_content text_kind n w b
-text_same left n w b = rest_made (content_at text_kind n w b) (λ c. atom (text_string c))
+text_same left n w b = rest_made (read_content text_kind n w b) (λ c. atom (text_string c))
 
 pub byte_chunks_same : (left : ℕ) (b : List ℕ) → skip_body left item_head.OpenBytes b ≡ skip_chunks bytes_kind b
-byte_chunks_same left b = rest_made (chunks_at (length b) bytes_kind b) (λ cs. atom (byte_chunks cs))
+byte_chunks_same left b = rest_made (read_chunks (length b) bytes_kind b) (λ cs. atom (byte_chunks cs))
 
 pub text_chunks_same : (left : ℕ) (b : List ℕ) → skip_body left item_head.OpenText b ≡ skip_chunks text_kind b
-text_chunks_same left b = rest_made (chunks_at (length b) text_kind b) (λ cs. atom (text_chunks cs))
+text_chunks_same left b = rest_made (read_chunks (length b) text_kind b) (λ cs. atom (text_chunks cs))
 
 -- ---- containers in containers
 

@@ -17,7 +17,7 @@ use Rattle.cbor_diag.specs.Head.{break_byte}
 use Rattle.cbor_diag.specs.WellFormed.{deepest}
 use Rattle.cbor_diag.specs.Bytes.{StringKind, bytes_kind, text_kind, major_of, IsContent}
 use Rattle.cbor_diag.specs.Refused.{BadHead, no_info, no_length}
-use Rattle.cbor_diag.specs.Reading.{Read, ◌>>=◌, Fails, info_at, head_of, head_at, content_at, chunk_of, chunk_at, more_chunks, chunks_at, body_at, item_at}
+use Rattle.cbor_diag.specs.Reading.{Read, ◌>>=◌, Fails, read_info, head_of, read_head, read_content, chunk_of, read_chunk, more_chunks, read_chunks, read_body, read_item}
 use Rattle.cbor_diag.specs.Skipping.{Skip, rest_of, here, Goes, Shows, StopsSo, stop_of, skip_content, skip_chunks, skip_item, skip_body}
 use Rattle.cbor_diag.proofs.Heads.{IsBytes, IsBytes-rest, bind_ok, ok_is, cons_is, number_bytes, InfoIs, info_takes, info_again, head_takes}
 use Rattle.cbor_diag.proofs.Shorter.{Leaves, chunk_leaves}
@@ -149,19 +149,19 @@ content_shows text_kind n w b long bad = content_bad n w b long bad
 -- ---- chunks
 
 -- how many chunks are looked for at most makes no difference
-chunks_same : (n m : ℕ) (kind : StringKind) (b : List ℕ) → length b ≤ n → length b ≤ m → chunks_at n kind b ≡ chunks_at m kind b
-unfolding chunks_at chunk_at
+chunks_same : (n m : ℕ) (kind : StringKind) (b : List ℕ) → length b ≤ n → length b ≤ m → read_chunks n kind b ≡ read_chunks m kind b
+unfolding read_chunks read_chunk
 chunks_same zero zero kind b le_n le_m = refl
 chunks_same zero (suc m) kind [] le_n le_m = refl
 chunks_same zero (suc m) kind (first ∷ b) le_n le_m = absurd (omega arith)
 chunks_same (suc n) zero kind [] le_n le_m = refl
 chunks_same (suc n) zero kind (first ∷ b) le_n le_m = absurd (omega arith)
 chunks_same (suc n) (suc m) kind b le_n le_m =
-    bind_same (chunk_at kind b) _ _ (λ c e.
+    bind_same (read_chunk kind b) _ _ (λ c e.
     let lt : length c.1 < length b = subst (Leaves (length b)) e (chunk_leaves kind b) in
     more_same c.0 c.1 (chunks_same n m kind c.1 (omega arith) (omega arith)))
   where
-    more_same : (o : Option Chunk) (r : List ℕ) → chunks_at n kind r ≡ chunks_at m kind r → more_chunks (chunks_at n kind) o r ≡ more_chunks (chunks_at m kind) o r
+    more_same : (o : Option Chunk) (r : List ℕ) → read_chunks n kind r ≡ read_chunks m kind r → more_chunks (read_chunks n kind) o r ≡ more_chunks (read_chunks m kind) o r
     more_same None r same = refl
     more_same (Some c) r same = ap (λ read. read >>= λ cs. Ok (c ∷ cs.0, cs.1)) same
 
@@ -174,43 +174,43 @@ abbrev chunks_after : StringKind → Read (Option Chunk) → Skip
 chunks_after kind (Ok x) = chunk_then kind x.0 x.1
 chunks_after kind (Err e) = Err e
 
-one_then : (kind : StringKind) (n : ℕ) (o : Option Chunk) (r : List ℕ) → length r ≤ n → rest_of (more_chunks (chunks_at n kind) o r) ≡ chunk_then kind o r
+one_then : (kind : StringKind) (n : ℕ) (o : Option Chunk) (r : List ℕ) → length r ≤ n → rest_of (more_chunks (read_chunks n kind) o r) ≡ chunk_then kind o r
 one_then kind n None r le = refl
-one_then kind n (Some c) r le = rest_made (chunks_at n kind r) (λ cs. c ∷ cs) ∙ ap rest_of (chunks_same n (length r) kind r le (omega arith))
+one_then kind n (Some c) r le = rest_made (read_chunks n kind r) (λ cs. c ∷ cs) ∙ ap rest_of (chunks_same n (length r) kind r le (omega arith))
 
-next_then : (kind : StringKind) (n : ℕ) (read : Read (Option Chunk)) → Leaves (suc n) read → rest_of (read >>= λ c. more_chunks (chunks_at n kind) c.0 c.1) ≡ chunks_after kind read
+next_then : (kind : StringKind) (n : ℕ) (read : Read (Option Chunk)) → Leaves (suc n) read → rest_of (read >>= λ c. more_chunks (read_chunks n kind) c.0 c.1) ≡ chunks_after kind read
 next_then kind n (Ok x) lt = one_then kind n x.0 x.1 (omega arith)
 next_then kind n (Err e) lt = refl
 
-none_next : (kind : StringKind) → skip_chunks kind [] ≡ chunks_after kind (chunk_at kind [])
-unfolding chunks_at chunk_at
+none_next : (kind : StringKind) → skip_chunks kind [] ≡ chunks_after kind (read_chunk kind [])
+unfolding read_chunks read_chunk
 none_next kind = refl
 
-chunks_next : (kind : StringKind) (b : List ℕ) → skip_chunks kind b ≡ chunks_after kind (chunk_at kind b)
-unfolding chunks_at
+chunks_next : (kind : StringKind) (b : List ℕ) → skip_chunks kind b ≡ chunks_after kind (read_chunk kind b)
+unfolding read_chunks
 chunks_next kind [] = none_next kind
-chunks_next kind (first ∷ b) = next_then kind (length b) (chunk_at kind (first ∷ b)) (chunk_leaves kind (first ∷ b))
+chunks_next kind (first ∷ b) = next_then kind (length b) (read_chunk kind (first ∷ b)) (chunk_leaves kind (first ∷ b))
 
 -- a break
 pub break_goes : (kind : StringKind) (b : List ℕ) → Goes (skip_chunks kind) here (break_byte ∷ b) b
-unfolding chunk_at
+unfolding read_chunk
 break_goes kind b = record { over = break_byte ∷ []; parts = refl; along = λ c. chunks_next kind (break_byte ∷ c) }
 
 -- the number behind five bits of info, whatever stands after it
-info_over : (bits : ℕ) (i : Info) (b rest : List ℕ) → InfoIs bits i b rest → (x : List ℕ) × (b ≡ x ++ rest) × ((c : List ℕ) → info_at bits (x ++ c) ≡ Ok (i, c))
-info_over bits (info.Number n w) b rest is = (number_bytes w n, is.2, λ c. ap (λ k. info_at k (number_bytes w n ++ c)) is.1 ∙ info_again w n c is.0)
+info_over : (bits : ℕ) (i : Info) (b rest : List ℕ) → InfoIs bits i b rest → (x : List ℕ) × (b ≡ x ++ rest) × ((c : List ℕ) → read_info bits (x ++ c) ≡ Ok (i, c))
+info_over bits (info.Number n w) b rest is = (number_bytes w n, is.2, λ c. ap (λ k. read_info k (number_bytes w n ++ c)) is.1 ∙ info_again w n c is.0)
 info_over bits info.Indefinite b rest is = ([], is.1, λ c. info_opens bits c is.0)
 
 -- a chunk's head, with its content and more chunks after it
 content_then : (kind : StringKind) (n : ℕ) (w : IntegerWidth) (c : List ℕ) → chunks_after kind (chunk_of kind (info.Number n w) c) ≡ (skip_content kind n w c >>= skip_chunks kind)
-content_then kind n w c = after (content_at kind n w c)
+content_then kind n w c = after (read_content kind n w c)
   where
     after : (read : Read Chunk) → chunks_after kind (read >>= λ c. Ok (Some c.0, c.1)) ≡ (rest_of read >>= skip_chunks kind)
     after (Ok x) = refl
     after (Err e) = refl
 
 -- what a chunk is where its info is read so
-chunk_reads : (kind : StringKind) (first : ℕ) (b : List ℕ) (read : Read Info) → first ≢ break_byte → first / 32 ≡ major_of kind → info_at (first % 32) b ≡ read → chunk_at kind (first ∷ b) ≡ (read >>= λ i. chunk_of kind i.0 i.1)
+chunk_reads : (kind : StringKind) (first : ℕ) (b : List ℕ) (read : Read Info) → first ≢ break_byte → first / 32 ≡ major_of kind → read_info (first % 32) b ≡ read → read_chunk kind (first ∷ b) ≡ (read >>= λ i. chunk_of kind i.0 i.1)
 chunk_reads kind first b read no_break major e =
     elim (chunk_ways kind first b) [
       | inl way ↦ absurd (no_break way.0)
@@ -220,7 +220,7 @@ chunk_reads kind first b read no_break major e =
       ]
     ]
 
-pub chunk_goes : (kind : StringKind) (first n : ℕ) (w : IntegerWidth) (b rest : List ℕ) → IsBytes b → first ≢ break_byte → first / 32 ≡ major_of kind → info_at (first % 32) b ≡ Ok (info.Number n w, rest)
+pub chunk_goes : (kind : StringKind) (first n : ℕ) (w : IntegerWidth) (b rest : List ℕ) → IsBytes b → first ≢ break_byte → first / 32 ≡ major_of kind → read_info (first % 32) b ≡ Ok (info.Number n w, rest)
     → Goes (skip_chunks kind) (λ c. skip_content kind n w c >>= skip_chunks kind) (first ∷ b) rest
 chunk_goes kind first n w b rest fits no_break major e =
     let f = info_over (first % 32) (info.Number n w) b rest (info_takes (first % 32) b rest (info.Number n w) fits e) in
@@ -231,8 +231,8 @@ chunk_goes kind first n w b rest fits no_break major e =
     }
 
 -- no chunk begins so, which the first byte shows
-chunk_shows : (kind : StringKind) (first : ℕ) (b : List ℕ) → chunk_at kind (first ∷ []) ≡ Err refusal.Head → Shows (skip_chunks kind) (first ∷ b) refusal.Head (length b)
-unfolding chunks_at
+chunk_shows : (kind : StringKind) (first : ℕ) (b : List ℕ) → read_chunk kind (first ∷ []) ≡ Err refusal.Head → Shows (skip_chunks kind) (first ∷ b) refusal.Head (length b)
+unfolding read_chunks
 chunk_shows kind first b e = shows_first (skip_chunks kind) first b refusal.Head refl (chunks_next kind (first ∷ []) ∙ ap (chunks_after kind) e) (λ same. absurd cc)
 
 pub kind_shows : (kind : StringKind) (first : ℕ) (b : List ℕ) → first ≢ break_byte → first / 32 ≢ major_of kind → Shows (skip_chunks kind) (first ∷ b) refusal.Head (length b)
@@ -259,26 +259,26 @@ bad_info_from : {bits : ℕ} {b : List ℕ} {e : Error} → InfoRefusal bits b e
 bad_info_from (cut_info k small is short) other = absurd (other refl)
 bad_info_from (bad_info least most) other = (bad_info least most, refl)
 
-info_shows : (kind : StringKind) (first : ℕ) (b : List ℕ) (e : Error) → first ≢ break_byte → first / 32 ≡ major_of kind → info_at (first % 32) b ≡ Err e → e ≢ refusal.CutShort → Shows (skip_chunks kind) (first ∷ b) e (length b)
+info_shows : (kind : StringKind) (first : ℕ) (b : List ℕ) (e : Error) → first ≢ break_byte → first / 32 ≡ major_of kind → read_info (first % 32) b ≡ Err e → e ≢ refusal.CutShort → Shows (skip_chunks kind) (first ∷ b) e (length b)
 info_shows kind first b e no_break major h other =
     let bad = bad_info_from (info_refused (first % 32) b e (omega arith) h) other in
     subst (λ d. Shows (skip_chunks kind) (first ∷ b) d (length b)) bad.1 (chunk_shows kind first b (chunk_reads kind first [] (Err refusal.Head) no_break major (info_refuses (first % 32) [] refusal.Head bad.0)))
 
-pub indefinite_shows : (kind : StringKind) (first : ℕ) (b rest : List ℕ) → IsBytes b → first ≢ break_byte → first / 32 ≡ major_of kind → info_at (first % 32) b ≡ Ok (info.Indefinite, rest) → Shows (skip_chunks kind) (first ∷ b) refusal.Head (length b)
+pub indefinite_shows : (kind : StringKind) (first : ℕ) (b rest : List ℕ) → IsBytes b → first ≢ break_byte → first / 32 ≡ major_of kind → read_info (first % 32) b ≡ Ok (info.Indefinite, rest) → Shows (skip_chunks kind) (first ∷ b) refusal.Head (length b)
 indefinite_shows kind first b rest fits no_break major e =
     let is = info_takes (first % 32) b rest info.Indefinite fits e in
     chunk_shows kind first b (chunk_reads kind first [] (Ok (info.Indefinite, [])) no_break major (info_opens (first % 32) [] is.0))
 
-info_cut : (kind : StringKind) (first : ℕ) (b : List ℕ) → first ≢ break_byte → first / 32 ≡ major_of kind → info_at (first % 32) b ≡ Err refusal.CutShort → skip_chunks kind (first ∷ b) ≡ Err refusal.CutShort
+info_cut : (kind : StringKind) (first : ℕ) (b : List ℕ) → first ≢ break_byte → first / 32 ≡ major_of kind → read_info (first % 32) b ≡ Err refusal.CutShort → skip_chunks kind (first ∷ b) ≡ Err refusal.CutShort
 info_cut kind first b no_break major e = chunks_next kind (first ∷ b) ∙ ap (chunks_after kind) (chunk_reads kind first b (Err refusal.CutShort) no_break major e)
 
-pub info_stops : (kind : StringKind) (first : ℕ) (b : List ℕ) (e : Error) → first ≢ break_byte → first / 32 ≡ major_of kind → Fails e (info_at (first % 32) b) → e ≢ refusal.Memory → StopsSo (skip_chunks kind) (first ∷ b) (stop_of e (length b))
+pub info_stops : (kind : StringKind) (first : ℕ) (b : List ℕ) (e : Error) → first ≢ break_byte → first / 32 ≡ major_of kind → Fails e (read_info (first % 32) b) → e ≢ refusal.Memory → StopsSo (skip_chunks kind) (first ∷ b) (stop_of e (length b))
 info_stops kind first b e no_break major h some =
-    let is = fails_is e (info_at (first % 32) b) h some in
+    let is = fails_is e (read_info (first % 32) b) h some in
     stop_either (skip_chunks kind) (first ∷ b) e (length b) (λ cut. info_cut kind first b no_break major (is ∙ ap (λ d. Err d) cut)) (info_shows kind first b e no_break major is)
 
 pub no_chunks : (kind : StringKind) → skip_chunks kind [] ≡ Err refusal.CutShort
-unfolding chunks_at
+unfolding read_chunks
 no_chunks kind = refl
 
 -- more chunks after a content
@@ -288,10 +288,10 @@ more_keeps kind e = refl
 -- ---- heads
 
 -- a head that is read, whatever stands after it
-head_over : (h : ItemHead) (first : ℕ) (b rest : List ℕ) → IsBytes (first ∷ b) → head_at (first ∷ b) ≡ Ok (h, rest) → (x : List ℕ) × (b ≡ x ++ rest) × ((c : List ℕ) → head_at (first ∷ (x ++ c)) ≡ Ok (h, c))
-unfolding head_at
+head_over : (h : ItemHead) (first : ℕ) (b rest : List ℕ) → IsBytes (first ∷ b) → read_head (first ∷ b) ≡ Ok (h, rest) → (x : List ℕ) × (b ≡ x ++ rest) × ((c : List ℕ) → read_head (first ∷ (x ++ c)) ≡ Ok (h, c))
+unfolding read_head
 head_over h first b rest fits e =
-    let a = bind_ok (info_at (first % 32) b) (λ i. head_of (first / 32) i.0 >>= λ h. Ok (h, i.1)) (h, rest) e in
+    let a = bind_ok (read_info (first % 32) b) (λ i. head_of (first / 32) i.0 >>= λ h. Ok (h, i.1)) (h, rest) e in
     let o = bind_ok (head_of (first / 32) a.0.0) (λ h. Ok (h, a.0.1)) (h, rest) a.2 in
     let made = ok_is (o.0, a.0.1) (h, rest) o.2 in
     let h-is : o.0 ≡ h = ap (λ (p : ItemHead × List ℕ). p.0) made in
@@ -303,8 +303,8 @@ head_over h first b rest fits e =
           ap (λ r. r >>= λ i. head_of (first / 32) i.0 >>= λ h. Ok (h, i.1)) (f.2 c) ∙ (ap (λ r. r >>= λ h. Ok (h, c)) o.1 ∙ ap (λ x. Ok (x, c)) h-is),
     )
 
-pub head_goes : (left : ℕ) (h : ItemHead) (first : ℕ) (b rest : List ℕ) → 0 < left → IsBytes (first ∷ b) → head_at (first ∷ b) ≡ Ok (h, rest) → Goes (skip_item left) (skip_body (left - 1) h) (first ∷ b) rest
-unfolding item_at
+pub head_goes : (left : ℕ) (h : ItemHead) (first : ℕ) (b rest : List ℕ) → 0 < left → IsBytes (first ∷ b) → read_head (first ∷ b) ≡ Ok (h, rest) → Goes (skip_item left) (skip_body (left - 1) h) (first ∷ b) rest
+unfolding read_item
 head_goes zero h first b rest some fits e = absurd (omega arith)
 head_goes (suc left) h first b rest some fits e =
     let f = head_over h first b rest fits e in
@@ -312,7 +312,7 @@ head_goes (suc left) h first b rest some fits e =
     record {
       over = first ∷ f.0;
       parts = ap (λ (z : List ℕ). first ∷ z) f.1;
-      along = λ c. ap (λ r. rest_of (r >>= λ h. body_at (item_at left) h.0 h.1)) (f.2 c) ∙ ap (λ l. skip_body l h c) same;
+      along = λ c. ap (λ r. rest_of (r >>= λ h. read_body (read_item left) h.0 h.1)) (f.2 c) ∙ ap (λ l. skip_body l h c) same;
     }
 
 bad_head_from : {b : List ℕ} {e : Error} → HeadRefusal b e → e ≢ refusal.CutShort → BadHead b × (refusal.Head ≡ e)
@@ -329,32 +329,32 @@ bad_shows : (left first : ℕ) (b : List ℕ) → 0 < left → BadHead (first �
 bad_shows zero first b some bad = absurd (omega arith)
 bad_shows (suc left) first b some bad = shows_first (skip_item (suc left)) first b refusal.Head (ap rest_of (item_nothing (suc left))) (ap rest_of (bad_head_refuses left (first ∷ []) (bad_alone bad))) (λ same. absurd cc)
 
-head_shows : (left first : ℕ) (b : List ℕ) (e : Error) → 0 < left → IsBytes (first ∷ b) → head_at (first ∷ b) ≡ Err e → e ≢ refusal.CutShort → Shows (skip_item left) (first ∷ b) e (length b)
+head_shows : (left first : ℕ) (b : List ℕ) (e : Error) → 0 < left → IsBytes (first ∷ b) → read_head (first ∷ b) ≡ Err e → e ≢ refusal.CutShort → Shows (skip_item left) (first ∷ b) e (length b)
 head_shows left first b e some fits h other =
     let bad = bad_head_from (head_refused (first ∷ b) e fits h) other in
     subst (λ d. Shows (skip_item left) (first ∷ b) d (length b)) bad.1 (bad_shows left first b some bad.0)
 
-pub break_shows : (left first : ℕ) (b rest : List ℕ) → 0 < left → IsBytes (first ∷ b) → head_at (first ∷ b) ≡ Ok (item_head.Break, rest) → Shows (skip_item left) (first ∷ b) refusal.Head (length b)
+pub break_shows : (left first : ℕ) (b rest : List ℕ) → 0 < left → IsBytes (first ∷ b) → read_head (first ∷ b) ≡ Ok (item_head.Break, rest) → Shows (skip_item left) (first ∷ b) refusal.Head (length b)
 break_shows left first b rest some fits e =
     let is = (cons_is first break_byte b rest (head_takes (first ∷ b) rest item_head.Break fits e).0).0 in
     let info : first % 32 ≡ 31 = rw is refl in
     bad_shows left first b some (no_length info (inr (rw is (omega arith))))
 
-head_short : (left : ℕ) (b : List ℕ) → 0 < left → head_at b ≡ Err refusal.CutShort → skip_item left b ≡ Err refusal.CutShort
-unfolding item_at
+head_short : (left : ℕ) (b : List ℕ) → 0 < left → read_head b ≡ Err refusal.CutShort → skip_item left b ≡ Err refusal.CutShort
+unfolding read_item
 head_short zero b some e = absurd (omega arith)
-head_short (suc left) b some e = ap (λ r. rest_of (r >>= λ h. body_at (item_at left) h.0 h.1)) e
+head_short (suc left) b some e = ap (λ r. rest_of (r >>= λ h. read_body (read_item left) h.0 h.1)) e
 
-pub head_stops : (left first : ℕ) (b : List ℕ) (e : Error) → 0 < left → IsBytes (first ∷ b) → Fails e (head_at (first ∷ b)) → e ≢ refusal.Memory → StopsSo (skip_item left) (first ∷ b) (stop_of e (length b))
+pub head_stops : (left first : ℕ) (b : List ℕ) (e : Error) → 0 < left → IsBytes (first ∷ b) → Fails e (read_head (first ∷ b)) → e ≢ refusal.Memory → StopsSo (skip_item left) (first ∷ b) (stop_of e (length b))
 head_stops left first b e some fits h no_memory =
-    let is = fails_is e (head_at (first ∷ b)) h no_memory in
+    let is = fails_is e (read_head (first ∷ b)) h no_memory in
     stop_either (skip_item left) (first ∷ b) e (length b) (λ cut. head_short left (first ∷ b) some (is ∙ ap (λ d. Err d) cut)) (head_shows left first b e some fits is)
 
 pub no_item : (left : ℕ) → skip_item left [] ≡ Err refusal.CutShort
 no_item left = ap rest_of (item_nothing left)
 
 pub deep_shows : (left first : ℕ) (b : List ℕ) → left ≡ 0 → Shows (skip_item left) (first ∷ b) refusal.TooDeep (length b)
-unfolding item_at
+unfolding read_item
 deep_shows zero first b none = shows_first (skip_item 0) first b refusal.TooDeep refl refl (λ same. absurd cc)
 deep_shows (suc left) first b none = absurd (omega arith)
 

@@ -9,8 +9,8 @@ use Rattle.cbor_diag.specs.Head.{HeadThen}
 use Rattle.cbor_diag.specs.Bytes.{StringKind, bytes_kind, text_kind, major_of, SpellsChunks}
 use Rattle.cbor_diag.specs.Refused.{SpelledParts, Next, Inside, in_tag, in_array, in_map, in_open_array, at_open_key, at_open_value, InsideString, Cut, nothing, in_head, in_content, in_chunk, in_part, BeginsWithBreak, NoBreakAt, BadHead, Fault, too_deep, bad_head, bad_text, bad_chunk_head, bad_chunk_text, bad_part}
 use Rattle.cbor_diag.specs.Turns.{item_turns, parts_turns, front_turns, cut_spent, fault_spent}
-use Rattle.cbor_diag.specs.Reading.{numbered, unnumbered, head_at, break_at}
-use Rattle.cbor_diag.specs.Counting.{Counted, later, ◌>>-◌, counted_chunks, so_many, to_break, Frame, items_in, pairs_in, value_of, tag_of, tagged_with, put, end_at, parts_at, counted_item}
+use Rattle.cbor_diag.specs.Reading.{numbered, unnumbered, read_head, after_break}
+use Rattle.cbor_diag.specs.Counting.{Counted, later, ◌>>-◌, counted_chunks, so_many, to_break, Frame, items_in, pairs_in, value_of, tag_of, tagged_with, put, after_end, read_parts, counted_item}
 use Rattle.cbor_diag.proofs.Heads.{head_again, open_again}
 use Rattle.cbor_diag.proofs.Chunks.{chunk_again, chunk_parts}
 use Rattle.cbor_diag.proofs.HeadRefusals.{head_cut, head_bad}
@@ -54,7 +54,7 @@ Wants k rest (value_of ps key to_break) = (j : ℕ) → k ≡ 2 * j + 1 → ¬ (
 Wants k rest (tag_of t w) = k ≡ 0
 Wants k rest (tagged_with t w i) = ⊥
 
-wants_rest : (rest : List ℕ) (f : Frame) → Wants 0 rest f → end_at f rest ≡ None
+wants_rest : (rest : List ℕ) (f : Frame) → Wants 0 rest f → after_end f rest ≡ None
 wants_rest rest (items_in is (so_many zero w)) h = absurd (omega arith)
 wants_rest rest (items_in is (so_many (suc n) w)) h = refl
 wants_rest rest (items_in is to_break) h = break_none rest h
@@ -65,7 +65,7 @@ wants_rest rest (value_of ps key wanted) h = refl
 wants_rest rest (tag_of t w) h = refl
 wants_rest rest (tagged_with t w i) h = absurd h
 
-wants_part : (k : ℕ) (b rest : List ℕ) (f : Frame) → Wants (suc k) rest f → break_at b ≡ None → end_at f b ≡ None
+wants_part : (k : ℕ) (b rest : List ℕ) (f : Frame) → Wants (suc k) rest f → after_break b ≡ None → after_end f b ≡ None
 wants_part k b rest (items_in is (so_many zero w)) h none = absurd (omega arith)
 wants_part k b rest (items_in is (so_many (suc n) w)) h none = refl
 wants_part k b rest (items_in is to_break) h none = none
@@ -93,10 +93,10 @@ module _ (level left : ℕ) (levels : level + left ≡ 129) where
   read = counted_item left
 
   -- whole parts, and one that fails
-  parts_spent : (k : ℕ) (whole rest : List ℕ) (f : Frame) (t : ℕ) (e : Error) → (spelled : SpelledParts level k whole) → Wants k rest f → counted_item left rest ≡ (t, Err e) → parts_at (counted_item left) f (whole ++ rest) ≡ (parts_turns level k whole spelled + t, Err e)
+  parts_spent : (k : ℕ) (whole rest : List ℕ) (f : Frame) (t : ℕ) (e : Error) → (spelled : SpelledParts level k whole) → Wants k rest f → counted_item left rest ≡ (t, Err e) → read_parts (counted_item left) f (whole ++ rest) ≡ (parts_turns level k whole spelled + t, Err e)
   parts_spent zero whole rest f t e spelled wants fails =
       let sum : t ≡ 0 + t = omega arith in
-      rw spelled (parts_more (counted_item left) (item_shortens left) f rest (wants_rest rest f wants) ∙ ap (λ c. c >>- λ i. parts_at (counted_item left) (put f i.0) i.1) fails ∙ ap (λ n. (n, Err e)) sum)
+      rw spelled (parts_more (counted_item left) (item_shortens left) f rest (wants_rest rest f wants) ∙ ap (λ c. c >>- λ i. read_parts (counted_item left) (put f i.0) i.1) fails ∙ ap (λ n. (n, Err e)) sum)
   parts_spent (suc k) whole rest f t e spelled wants fails =
       let x = spelled.0 in
       let more = spelled.1 ++ rest in
@@ -105,9 +105,9 @@ module _ (level left : ℕ) (levels : level + left ≡ 129) where
       let whole_is : whole ++ rest ≡ x ++ more = ap (λ (y : List ℕ). y ++ rest) spelled.3 ∙ append_assoc x spelled.1 rest in
       let others = parts_spent k spelled.1 rest (put f i) t e spelled.5 (wants_put k rest f i wants) fails in
       let sum : item_turns i + (parts_turns level k spelled.1 spelled.5 + t) ≡ item_turns i + parts_turns level k spelled.1 spelled.5 + t = omega arith in
-      ap (λ y. parts_at (counted_item left) f y) whole_is
+      ap (λ y. read_parts (counted_item left) f y) whole_is
       ∙ parts_more (counted_item left) (item_shortens left) f (x ++ more) none
-      ∙ ap (λ c. c >>- λ j. parts_at (counted_item left) (put f j.0) j.1) (counted_again level left x i more levels spelled.4)
+      ∙ ap (λ c. c >>- λ j. read_parts (counted_item left) (put f j.0) j.1) (counted_again level left x i more levels spelled.4)
       ∙ ap (later (item_turns i)) others ∙ ap (λ n. (n, Err e)) sum
 
 front_sum : (front t : ℕ) (e : Error) (c : Counted Item) → c ≡ (front + t, Err e) → later 1 c ≡ (1 + front + t, Err e)
@@ -151,7 +151,7 @@ one_more : (front spent : ℕ) (e : Error) (c : Counted Item) → c ≡ (front +
 one_more front spent e c h = let sum : front + (spent + 1) ≡ front + spent + 1 = omega arith in h ∙ ap (λ n. (n, Err e)) sum
 
 pub cut_turns : (level left : ℕ) (b : List ℕ) → level + left ≡ 129 → (c : Cut level b) → counted_item left b ≡ (cut_spent c + 1, Err refusal.CutShort)
-unfolding counted_item head_at
+unfolding counted_item read_head
 cut_turns level zero b levels (nothing le) = refl
 cut_turns level (suc left) b levels (nothing le) = refl
 cut_turns level zero b levels (in_head le h) = absurd (omega arith)

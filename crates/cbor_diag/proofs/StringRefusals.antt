@@ -14,7 +14,7 @@ use Rattle.cbor_diag.specs.Item.{Chunk}
 use Rattle.cbor_diag.specs.Head.{break_byte, HeadThen}
 use Rattle.cbor_diag.specs.Bytes.{StringKind, bytes_kind, text_kind, major_of, SpellsChunks}
 use Rattle.cbor_diag.specs.Refused.{CutHead, cut_head, BadText, CutChunk, NoChunk, no_chunk}
-use Rattle.cbor_diag.specs.Reading.{info_at, split_at, content_at, chunk_of, chunk_at, more_chunks, chunks_at}
+use Rattle.cbor_diag.specs.Reading.{read_info, split_at, read_content, chunk_of, read_chunk, more_chunks, read_chunks}
 use Rattle.cbor_diag.proofs.Heads.{IsBytes, IsBytes-rest, bind_err, branch, info_takes, head_then, opened}
 use Rattle.cbor_diag.proofs.Chunks.{chunk_ways, chunk_takes, chunk_again, chunk_with, chunk_parts}
 use Rattle.cbor_diag.proofs.HeadRefusals.{err_is, InfoRefusal, cut_info, bad_info, info_refused, info_refuses, info_opens}
@@ -36,8 +36,8 @@ split_ways n b =
 short_is : (kind : StringKind) (n : ℕ) (b : List ℕ) (e : Error) → length b < n → refusal.CutShort ≡ e → ContentRefusal kind n b e
 short_is kind n b e short is = subst (λ (d : Error). ContentRefusal kind n b d) is (short_content short)
 
-pub content_refused : (kind : StringKind) (n : ℕ) (w : IntegerWidth) (b : List ℕ) (e : Error) → content_at kind n w b ≡ Err e → ContentRefusal kind n b e
-unfolding content_at
+pub content_refused : (kind : StringKind) (n : ℕ) (w : IntegerWidth) (b : List ℕ) (e : Error) → read_content kind n w b ≡ Err e → ContentRefusal kind n b e
+unfolding read_content
 content_refused bytes_kind n w b e h =
     elim (split_ways n b) [
       | inl s ↦ short_is bytes_kind n b e s.0 (let f = rw s.1 at h in cc)
@@ -57,8 +57,8 @@ content_refused text_kind n w b e h =
           ]
     ]
 
-pub content_refuses : (kind : StringKind) (n : ℕ) (w : IntegerWidth) (b : List ℕ) (e : Error) → ContentRefusal kind n b e → content_at kind n w b ≡ Err e
-unfolding content_at
+pub content_refuses : (kind : StringKind) (n : ℕ) (w : IntegerWidth) (b : List ℕ) (e : Error) → ContentRefusal kind n b e → read_content kind n w b ≡ Err e
+unfolding read_content
 content_refuses bytes_kind n w b e (short_content short) = rw (lt-ltb (length b) n short) refl
 content_refuses text_kind n w b e (short_content short) = rw (lt-ltb (length b) n short) refl
 content_refuses text_kind n w b e (bad_content text after parts len no_text) =
@@ -82,9 +82,9 @@ content_chunk : (kind : StringKind) (n : ℕ) (w : IntegerWidth) (first : ℕ) (
 content_chunk kind n w first b rest e h (short_content short) = cut_chunk (inr (n, w, (h.0, h.1, h.2, rw h.3 short)))
 content_chunk text_kind n w first b rest e h (bad_content text after parts len no_text) = bad_text (n, w, (h.0, h.1, h.2, (text, after, h.3 ∙ parts, len, no_text)))
 
-behind_chunk : (kind : StringKind) (first : ℕ) (b rest : List ℕ) (i : Info) (e : Error) → IsBytes b → first ≢ break_byte → first / 32 ≡ major_of kind → info_at (first % 32) b ≡ Ok (i, rest) → chunk_of kind i rest ≡ Err e → ChunkRefusal kind (first ∷ b) e
+behind_chunk : (kind : StringKind) (first : ℕ) (b rest : List ℕ) (i : Info) (e : Error) → IsBytes b → first ≢ break_byte → first / 32 ≡ major_of kind → read_info (first % 32) b ≡ Ok (i, rest) → chunk_of kind i rest ≡ Err e → ChunkRefusal kind (first ∷ b) e
 behind_chunk kind first b rest (info.Number n w) e fits no_break major read h =
-    elim (bind_err (content_at kind n w rest) (λ c. Ok (Some c.0, c.1)) e h) [
+    elim (bind_err (read_content kind n w rest) (λ c. Ok (Some c.0, c.1)) e h) [
       | inl refused ↦
           let whole : 32 * major_of kind + first % 32 ≡ first = rw (← major) (omega arith) in
           let begins = head_then (major_of kind) (first % 32) n w b rest (info_takes (first % 32) b rest (info.Number n w) fits read) in
@@ -96,36 +96,36 @@ behind_chunk kind first b rest info.Indefinite e fits no_break major read h =
     let is : refusal.Head ≡ e = cc in
     subst (λ (d : Error). ChunkRefusal kind (first ∷ b) d) is (bad_chunk (no_chunk no_break (λ h. omega (arith, h.1, t.0))))
 
-pub chunk_refused : (kind : StringKind) (b : List ℕ) (e : Error) → IsBytes b → chunk_at kind b ≡ Err e → ChunkRefusal kind b e
-unfolding chunk_at
+pub chunk_refused : (kind : StringKind) (b : List ℕ) (e : Error) → IsBytes b → read_chunk kind b ≡ Err e → ChunkRefusal kind b e
+unfolding read_chunk
 chunk_refused kind [] e fits h = let is : refusal.CutShort ≡ e = cc in subst (λ (d : Error). ChunkRefusal kind [] d) is (cut_chunk tt)
 chunk_refused kind (first ∷ b) e fits h =
     elim (chunk_ways kind first b) [
       | inl way ↦ absurd (let wrong = sym way.1 ∙ h in cc)
       | inr ways ↦ elim ways [
-        | inl way ↦ elim (bind_err (info_at (first % 32) b) (λ i. chunk_of kind i.0 i.1) e (sym way.2 ∙ h)) [
+        | inl way ↦ elim (bind_err (read_info (first % 32) b) (λ i. chunk_of kind i.0 i.1) e (sym way.2 ∙ h)) [
           | inl refused ↦ info_chunk kind first b e way.0 way.1 (info_refused (first % 32) b e (omega arith) refused)
           | inr i ↦ behind_chunk kind first b i.0.1 i.0.0 e (IsBytes-rest first b fits) way.0 way.1 i.1 i.2
         ]
         | inr way ↦
-            let is : refusal.Head ≡ e = err_is (chunk_at kind (first ∷ b)) refusal.Head e way.2 h in
+            let is : refusal.Head ≡ e = err_is (read_chunk kind (first ∷ b)) refusal.Head e way.2 h in
             subst (λ (d : Error). ChunkRefusal kind (first ∷ b) d) is (bad_chunk (no_chunk way.0 (λ h. way.1 h.0)))
       ]
     ]
 
-content_refuses_chunk : (kind : StringKind) (n : ℕ) (w : IntegerWidth) (b rest : List ℕ) (e : Error) → HeadThen (major_of kind) n w b (λ r. r ≡ rest) → ContentRefusal kind n rest e → chunk_at kind b ≡ Err e
+content_refuses_chunk : (kind : StringKind) (n : ℕ) (w : IntegerWidth) (b rest : List ℕ) (e : Error) → HeadThen (major_of kind) n w b (λ r. r ≡ rest) → ContentRefusal kind n rest e → read_chunk kind b ≡ Err e
 content_refuses_chunk kind n w b rest e h refused =
     let o = opened (major_of kind) n w b rest h in
     let bits = o.bits_are in
     elim (chunk_ways kind o.first o.tail) [
       | inl way ↦ absurd (let wrong : 255 % 32 < 28 = rw way.0 at bits in omega arith)
       | inr ways ↦ elim ways [
-        | inl way ↦ ap (chunk_at kind) o.parts ∙ way.2 ∙ rw (o.info_is, content_refuses kind n w rest e refused) refl
+        | inl way ↦ ap (read_chunk kind) o.parts ∙ way.2 ∙ rw (o.info_is, content_refuses kind n w rest e refused) refl
         | inr way ↦ absurd (way.1 o.major_is)
       ]
     ]
 
-info_refuses_chunk : (kind : StringKind) (first : ℕ) (b : List ℕ) (e : Error) → first ≢ break_byte → first / 32 ≡ major_of kind → InfoRefusal (first % 32) b e → chunk_at kind (first ∷ b) ≡ Err e
+info_refuses_chunk : (kind : StringKind) (first : ℕ) (b : List ℕ) (e : Error) → first ≢ break_byte → first / 32 ≡ major_of kind → InfoRefusal (first % 32) b e → read_chunk kind (first ∷ b) ≡ Err e
 info_refuses_chunk kind first b e no_break major refused =
     elim (chunk_ways kind first b) [
       | inl way ↦ absurd (no_break way.0)
@@ -141,7 +141,7 @@ cut_no_break first b (cut_head k small is short) same = omega arith
 cut_info_of : (first : ℕ) (b : List ℕ) → CutHead (first ∷ b) → InfoRefusal (first % 32) b refusal.CutShort
 cut_info_of first b (cut_head k small is short) = cut_info k small is short
 
-no_chunk_refuses : (kind : StringKind) (b : List ℕ) → NoChunk kind b → chunk_at kind b ≡ Err refusal.Head
+no_chunk_refuses : (kind : StringKind) (b : List ℕ) → NoChunk kind b → read_chunk kind b ≡ Err refusal.Head
 no_chunk_refuses kind b (no_chunk {first = first} {rest = rest} no_break other) =
     elim (chunk_ways kind first rest) [
       | inl way ↦ absurd (no_break way.0)
@@ -157,8 +157,8 @@ no_chunk_refuses kind b (no_chunk {first = first} {rest = rest} no_break other) 
       ]
     ]
 
-pub chunk_refuses : (kind : StringKind) (b : List ℕ) (e : Error) → ChunkRefusal kind b e → chunk_at kind b ≡ Err e
-unfolding chunk_at
+pub chunk_refuses : (kind : StringKind) (b : List ℕ) (e : Error) → ChunkRefusal kind b e → read_chunk kind b ≡ Err e
+unfolding read_chunk
 chunk_refuses kind [] e (cut_chunk h) = refl
 chunk_refuses kind (first ∷ b) e (cut_chunk (inl h)) = info_refuses_chunk kind first b refusal.CutShort (cut_no_break first b h.1) h.0 (cut_info_of first b h.1)
 chunk_refuses kind (first ∷ b) e (cut_chunk (inr h)) = content_refuses_chunk kind h.0 h.1 (first ∷ b) h.2.1 refusal.CutShort (h.2.0, h.2.1, h.2.2, refl) (short_content h.2.3)
@@ -181,10 +181,10 @@ stop_empty : (kind : StringKind) (b : List ℕ) (e : Error) → length b ≤ 0 �
 stop_empty kind [] e bound is = subst (λ (d : Error). ChunksStop kind [] d) is (stop_here kind [] refusal.CutShort (cut_chunk tt))
 stop_empty kind (first ∷ b) e bound is = absurd (omega arith)
 
-stop_later : (n : ℕ) (kind : StringKind) (b rest : List ℕ) (o : Option Chunk) (e : Error) → IsBytes b → chunk_at kind b ≡ Ok (o, rest) → more_chunks (chunks_at n kind) o rest ≡ Err e → (IsBytes rest → length rest < length b → chunks_at n kind rest ≡ Err e → ChunksStop kind rest e) → ChunksStop kind b e
+stop_later : (n : ℕ) (kind : StringKind) (b rest : List ℕ) (o : Option Chunk) (e : Error) → IsBytes b → read_chunk kind b ≡ Ok (o, rest) → more_chunks (read_chunks n kind) o rest ≡ Err e → (IsBytes rest → length rest < length b → read_chunks n kind rest ≡ Err e → ChunksStop kind rest e) → ChunksStop kind b e
 stop_later n kind b rest None e fits read h later = absurd cc
 stop_later n kind b rest (Some c) e fits read h later =
-    elim (bind_err (chunks_at n kind rest) (λ cs. Ok (c ∷ cs.0, cs.1)) e h) [
+    elim (bind_err (read_chunks n kind rest) (λ cs. Ok (c ∷ cs.0, cs.1)) e h) [
       | inl more ↦
           let t = chunk_takes kind b rest c fits read in
           let parts = chunk_parts kind b c (λ r. r ≡ rest) t.0 in
@@ -199,22 +199,22 @@ stop_later n kind b rest (Some c) e fits read h later =
       | inr made ↦ absurd cc
     ]
 
-pub chunks_stop : (n : ℕ) (kind : StringKind) (b : List ℕ) (e : Error) → IsBytes b → length b ≤ n → chunks_at n kind b ≡ Err e → ChunksStop kind b e
-unfolding chunks_at
+pub chunks_stop : (n : ℕ) (kind : StringKind) (b : List ℕ) (e : Error) → IsBytes b → length b ≤ n → read_chunks n kind b ≡ Err e → ChunksStop kind b e
+unfolding read_chunks
 chunks_stop zero kind b e fits bound h = stop_empty kind b e bound cc
 chunks_stop (suc n) kind b e fits bound h =
-    elim (bind_err (chunk_at kind b) (λ c. more_chunks (chunks_at n kind) c.0 c.1) e h) [
+    elim (bind_err (read_chunk kind b) (λ c. more_chunks (read_chunks n kind) c.0 c.1) e h) [
       | inl refused ↦ stop_here kind b e (chunk_refused kind b e fits refused)
       | inr c ↦ stop_later n kind b c.0.1 c.0.0 e fits c.1 c.2 (λ left_fits less more. chunks_stop n kind c.0.1 e left_fits (omega arith) more)
     ]
 
-pub empty_refused : (kind : StringKind) (b : List ℕ) (e : Error) → length b ≤ 0 → chunk_at kind b ≡ Err e → refusal.CutShort ≡ e
-unfolding chunk_at
+pub empty_refused : (kind : StringKind) (b : List ℕ) (e : Error) → length b ≤ 0 → read_chunk kind b ≡ Err e → refusal.CutShort ≡ e
+unfolding read_chunk
 empty_refused kind [] e bound h = cc
 empty_refused kind (first ∷ b) e bound h = absurd (omega arith)
 
-pub chunks_refuse : (n : ℕ) (kind : StringKind) (cs : List Chunk) (b rest : List ℕ) (e : Error) → SpellsChunks kind b cs rest → length b ≤ n → ChunkRefusal kind rest e → chunks_at n kind b ≡ Err e
-unfolding chunks_at
+pub chunks_refuse : (n : ℕ) (kind : StringKind) (cs : List Chunk) (b rest : List ℕ) (e : Error) → SpellsChunks kind b cs rest → length b ≤ n → ChunkRefusal kind rest e → read_chunks n kind b ≡ Err e
+unfolding read_chunks
 chunks_refuse zero kind [] b rest e spelled bound refused = ap Err (empty_refused kind b e bound (rw spelled (chunk_refuses kind rest e refused)))
 chunks_refuse (suc n) kind [] b rest e spelled bound refused = rw (spelled, chunk_refuses kind rest e refused) refl
 chunks_refuse zero kind (c ∷ cs) b rest e spelled bound refused =

@@ -8,7 +8,7 @@ use Rattle.cbor_diag.specs.WellFormed.{deepest}
 use Rattle.cbor_diag.specs.Bytes.{any, Spells}
 use Rattle.cbor_diag.specs.Refused.{Cut}
 use Rattle.cbor_diag.specs.Answer.{Outcome, spelled, cut, fault, IsOutcome, OneOutcome}
-use Rattle.cbor_diag.specs.Reading.{Read, item_at}
+use Rattle.cbor_diag.specs.Reading.{Read, read_item}
 use Rattle.cbor_diag.proofs.Heads.{IsBytes, ok_is}
 use Rattle.cbor_diag.proofs.HeadRefusals.{err_is}
 use Rattle.cbor_diag.proofs.Found.{item_takes, spelled_level, item_again}
@@ -24,8 +24,8 @@ read_of b (spelled i n) = Ok (i, drop n b)
 read_of b cut = Err refusal.CutShort
 read_of b (fault e) = Err e
 
-pub outcome_reads : (level left : ℕ) (b : List ℕ) (o : Outcome) → level + left ≡ 129 → IsOutcome level b o → item_at left b ≡ read_of b o
-outcome_reads level left b (spelled i n) levels h = ap (item_at left) (sym (take-append-drop n b)) ∙ item_again level left (take n b) i (drop n b) levels h.1
+pub outcome_reads : (level left : ℕ) (b : List ℕ) (o : Outcome) → level + left ≡ 129 → IsOutcome level b o → read_item left b ≡ read_of b o
+outcome_reads level left b (spelled i n) levels h = ap (read_item left) (sym (take-append-drop n b)) ∙ item_again level left (take n b) i (drop n b) levels h.1
 outcome_reads level left b cut levels h = cut_again level left b levels h
 outcome_reads level left b (fault e) levels h = fault_refuses level left b e levels h
 
@@ -33,7 +33,7 @@ refusal_outcome : {level : ℕ} {b : List ℕ} {e : Error} → Refusal level b e
 refusal_outcome (is_cut c) = (cut, c)
 refusal_outcome {e = e} (is_fault f) = (fault e, f)
 
-read_outcome : (level left : ℕ) (b : List ℕ) → level + left ≡ 129 → IsBytes b → (read : Read Item) → item_at left b ≡ read → (o : Outcome) × IsOutcome level b o
+read_outcome : (level left : ℕ) (b : List ℕ) → level + left ≡ 129 → IsBytes b → (read : Read Item) → read_item left b ≡ read → (o : Outcome) × IsOutcome level b o
 read_outcome level left b levels fits (Ok x) h =
     let t = item_takes level left b x.0 x.1 levels fits h in
     let front : take (length t.front) b ≡ t.front = ap (take (length t.front)) t.parts ∙ take_at t.front x.1 (length t.front) refl in
@@ -60,7 +60,7 @@ same_outcome level b (fault d) (fault e) h k same = ap fault (err_is (read_of b 
 
 pub one_outcome : (level left : ℕ) (b : List ℕ) → level + left ≡ 129 → IsBytes b → OneOutcome level b
 one_outcome level left b levels fits =
-    let found = read_outcome level left b levels fits (item_at left b) refl in
+    let found = read_outcome level left b levels fits (read_item left b) refl in
     record {
       outcome = found.0;
       holds = found.1;
@@ -69,10 +69,10 @@ one_outcome level left b levels fits =
 
 -- ---- a part of an item's bytes is cut
 
-front_outcome : (level left : ℕ) (x y : List ℕ) (i : Item) → level + left ≡ 129 → item_at left (x ++ y) ≡ Ok (i, []) → (y ≡ [] → ⊥) → (o : Outcome) → IsOutcome level x o → Cut level x
+front_outcome : (level left : ℕ) (x y : List ℕ) (i : Item) → level + left ≡ 129 → read_item left (x ++ y) ≡ Ok (i, []) → (y ≡ [] → ⊥) → (o : Outcome) → IsOutcome level x o → Cut level x
 front_outcome level left x y i levels whole more (spelled j n) h =
     let regrouped : x ++ y ≡ take n x ++ (drop n x ++ y) = ap (λ (b : List ℕ). b ++ y) (sym (take-append-drop n x)) ∙ append_assoc (take n x) (drop n x) y in
-    let is = ok_is (i, []) (j, drop n x ++ y) (sym whole ∙ ap (item_at left) regrouped ∙ item_again level left (take n x) j (drop n x ++ y) levels h.1) in
+    let is = ok_is (i, []) (j, drop n x ++ y) (sym whole ∙ ap (read_item left) regrouped ∙ item_again level left (take n x) j (drop n x ++ y) levels h.1) in
     let none : [] ≡ drop n x ++ y = ap (λ (p : Item × List ℕ). p.1) is in
     absurd (more (nil_from_length y (omega (arith, length-append (drop n x) y, ap length none))))
 front_outcome level left x y i levels whole more cut h = h
@@ -86,5 +86,5 @@ front_cut level x y i fits s more =
     let le : level ≤ deepest = spelled_level level (x ++ y) i s in
     let at = left_at level (omega arith) in
     let one = one_outcome level at.0 x at.1 fits in
-    let whole : item_at at.0 (x ++ y) ≡ Ok (i, []) = ap (item_at at.0) (sym (append-nil (x ++ y))) ∙ item_again level at.0 (x ++ y) i [] at.1 s in
+    let whole : read_item at.0 (x ++ y) ≡ Ok (i, []) = ap (read_item at.0) (sym (append-nil (x ++ y))) ∙ item_again level at.0 (x ++ y) i [] at.1 s in
     front_outcome level at.0 x y i at.1 whole more one.outcome one.holds

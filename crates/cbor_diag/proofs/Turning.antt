@@ -8,8 +8,8 @@ use Rattle.cbor_diag.specs.declared.parse.binary.head.ItemHead.{ItemHead}
 use Rattle.cbor_diag.specs.declared.parse.binary.head.ItemHead.TheVariants as item_head
 use Rattle.cbor_diag.specs.Item.{Item}
 use Rattle.cbor_diag.specs.Answer.{MayWantMemory}
-use Rattle.cbor_diag.specs.Reading.{Fails, HoldsContent, head_at}
-use Rattle.cbor_diag.specs.Counting.{Counted, later, go_on, ◌>>-◌, Stops, Frame, put, end_at, closed, parts_at, opened, atom_at, part_at, wanted_at, counted_item, closing, pushed, depth_of, resume, deliver, IsStack}
+use Rattle.cbor_diag.specs.Reading.{Fails, HoldsContent, read_head}
+use Rattle.cbor_diag.specs.Counting.{Counted, later, go_on, ◌>>-◌, Stops, Frame, put, after_end, closed, read_parts, opened, read_atom, read_part, read_item_head, counted_item, closing, pushed, depth_of, resume, deliver, IsStack}
 use Rattle.cbor_diag.proofs.Heads.{IsBytes}
 use Rattle.cbor_diag.proofs.Outcomes.{memory_opens}
 use Rattle.cbor_diag.proofs.Counting.{later_later, later_none, parts_end, parts_more, closing_later, closing_append, deliver_later, deliver_err, deliver_grows, resume_counts}
@@ -22,11 +22,11 @@ closes_in : (left : ℕ) (outer : List Frame) (top : Option Frame) (i : Item) (a
 unfolding closing
 closes_in left outer None i after bottom = ap (λ fs. closing (left - 1) (fs ++ []) (1, Ok (i, after))) bottom
 closes_in left outer (Some g) i after bottom =
-    let next : Counted Item = parts_at (counted_item (left - 1 - length outer)) (put g i) after in
+    let next : Counted Item = read_parts (counted_item (left - 1 - length outer)) (put g i) after in
     closing_append (left - 1) outer g (1, Ok (i, after)) ∙ closing_later (left - 1) outer 1 next
     ∙ ap (later 1) (ap (closing (left - 1) outer) (sym (later_none next)))
 
-pub closes : (left : ℕ) (outer inner : List Frame) (top under : Option Frame) (b after : List ℕ) (i : Item) → Some after ≡ option_and_then (λ f. end_at f b) top → option_and_then closed top ≡ Some i → outer ≡ inner ++ option_to_list under → IsStack inner under
+pub closes : (left : ℕ) (outer inner : List Frame) (top under : Option Frame) (b after : List ℕ) (i : Item) → Some after ≡ option_and_then (λ f. after_end f b) top → option_and_then closed top ≡ Some i → outer ≡ inner ++ option_to_list under → IsStack inner under
     → resume left outer top b ≡ later 1 (deliver left inner under (0, Ok (i, after)))
 closes left outer inner None under b after i ends is parts bottom = absurd cc
 closes left outer inner (Some f) under b after i ends is parts bottom =
@@ -40,15 +40,15 @@ turn_wants left t outer top b = omega (arith, resume_counts left outer top b)
 
 -- ---- a head that is wanted
 
-pub wants : (left : ℕ) (outer : List Frame) (top : Option Frame) (b : List ℕ) → None ≡ option_and_then (λ f. end_at f b) top → resume left outer top b ≡ deliver left outer top (counted_item (left - depth_of outer top) b)
+pub wants : (left : ℕ) (outer : List Frame) (top : Option Frame) (b : List ℕ) → None ≡ option_and_then (λ f. after_end f b) top → resume left outer top b ≡ deliver left outer top (counted_item (left - depth_of outer top) b)
 wants left outer None b none = let e : left ≡ left - 0 = omega arith in ap (λ n. counted_item n b) e
 wants left outer (Some f) b none =
     let e : left - 1 - length outer ≡ left - suc (length outer) = omega arith in
     let read : List ℕ → Counted Item = counted_item (left - 1 - length outer) in
     ap (closing (left - 1) outer) (parts_more read (item_shortens (left - 1 - length outer)) f b (sym none)
-    ∙ ap (λ n. counted_item n b >>- λ i. parts_at read (put f i.0) i.1) e)
+    ∙ ap (λ n. counted_item n b >>- λ i. read_parts read (put f i.0) i.1) e)
 
-too_deep : (e : Error) (b : List ℕ) → Fails e (wanted_at 0 b) → Stops e 1 (counted_item 0 b)
+too_deep : (e : Error) (b : List ℕ) → Fails e (read_item_head 0 b) → Stops e 1 (counted_item 0 b)
 unfolding counted_item
 too_deep refusal.Memory b h = omega arith
 too_deep refusal.CutShort [] h = refl
@@ -56,16 +56,16 @@ too_deep e [] h = absurd cc
 too_deep refusal.TooDeep (first ∷ b) h = refl
 too_deep e (first ∷ b) h = absurd cc
 
-head_stops : (e : Error) (left : ℕ) (b : List ℕ) → Fails e (wanted_at left b) → Stops e 1 (counted_item left b)
+head_stops : (e : Error) (left : ℕ) (b : List ℕ) → Fails e (read_item_head left b) → Stops e 1 (counted_item left b)
 unfolding counted_item
 head_stops e zero b h = too_deep e b h
-head_stops e (suc left) b h = stops_go e 1 (head_at b) (λ x. part_at (counted_item left) (opened x.0) x.0 x.1) h
+head_stops e (suc left) b h = stops_go e 1 (read_head b) (λ x. read_part (counted_item left) (opened x.0) x.0 x.1) h
 
 -- a part that is read, with the turns before it
 pub later_deliver : (left : ℕ) (outer : List Frame) (top : Option Frame) (t : ℕ) (c : Counted Item) → later t (deliver left outer top (later 1 c)) ≡ deliver left outer top (later (t + 1) c)
 later_deliver left outer top t c = sym (deliver_later left outer top t (later 1 c)) ∙ ap (deliver left outer top) (later_later t 1 c)
 
-pub wanted_stops : (e : Error) (left t : ℕ) (outer : List Frame) (top : Option Frame) (b : List ℕ) → None ≡ option_and_then (λ f. end_at f b) top → Fails e (wanted_at (left - depth_of outer top) b) → Stops e (t + 1) (later t (resume left outer top b))
+pub wanted_stops : (e : Error) (left t : ℕ) (outer : List Frame) (top : Option Frame) (b : List ℕ) → None ≡ option_and_then (λ f. after_end f b) top → Fails e (read_item_head (left - depth_of outer top) b) → Stops e (t + 1) (later t (resume left outer top b))
 wanted_stops e left t outer top b none h =
     let head = head_stops e (left - depth_of outer top) b h in
     let read : Counted Item = counted_item (left - depth_of outer top) b in
@@ -74,13 +74,13 @@ wanted_stops e left t outer top b none h =
     rw (wants left outer top b none) (stops_later e t 1 (deliver left outer top (counted_item (left - depth_of outer top) b)) all)
 
 -- the head was there, and so was a level for it
-pub head_opens : (left : ℕ) (b : List ℕ) (h : ItemHead) (rest : List ℕ) → wanted_at left b ≡ Ok (h, rest) → (l : ℕ) × (left ≡ suc l) × (head_at b ≡ Ok (h, rest)) × (counted_item left b ≡ later 1 (part_at (counted_item l) (opened h) h rest))
+pub head_opens : (left : ℕ) (b : List ℕ) (h : ItemHead) (rest : List ℕ) → read_item_head left b ≡ Ok (h, rest) → (l : ℕ) × (left ≡ suc l) × (read_head b ≡ Ok (h, rest)) × (counted_item left b ≡ later 1 (read_part (counted_item l) (opened h) h rest))
 unfolding counted_item
 head_opens zero [] h rest e = absurd cc
 head_opens zero (first ∷ b) h rest e = absurd cc
-head_opens (suc left) b h rest e = (left, refl, e, ap (λ r. go_on 1 r (λ x. part_at (counted_item left) (opened x.0) x.0 x.1)) e)
+head_opens (suc left) b h rest e = (left, refl, e, ap (λ r. go_on 1 r (λ x. read_part (counted_item left) (opened x.0) x.0 x.1)) e)
 
-pub wanted_opens : (left : ℕ) (b : List ℕ) (h : ItemHead) (rest : List ℕ) → IsBytes b → wanted_at left b ≡ Ok (h, rest) → HoldsContent h → MayWantMemory b
+pub wanted_opens : (left : ℕ) (b : List ℕ) (h : ItemHead) (rest : List ℕ) → IsBytes b → read_item_head left b ≡ Ok (h, rest) → HoldsContent h → MayWantMemory b
 wanted_opens left b h rest fits e holds = memory_opens b rest h fits (head_opens left b h rest e).2 holds
 
 pub opened_holds : (h : ItemHead) (f : Frame) → opened h ≡ Some f → HoldsContent h
@@ -105,49 +105,49 @@ pub pushed_depth : (outer : List Frame) (top : Option Frame) → IsStack outer t
 pushed_depth outer None bottom = ap length bottom
 pushed_depth outer (Some f) bottom = omega (arith, length-append outer (f ∷ []))
 
-deliver_opened : (left l : ℕ) (outer : List Frame) (top : Option Frame) (g : Frame) (rest : List ℕ) → IsStack outer top → left - depth_of outer top ≡ suc l → deliver left outer top (parts_at (counted_item l) g rest) ≡ resume left (pushed outer top) (Some g) rest
+deliver_opened : (left l : ℕ) (outer : List Frame) (top : Option Frame) (g : Frame) (rest : List ℕ) → IsStack outer top → left - depth_of outer top ≡ suc l → deliver left outer top (read_parts (counted_item l) g rest) ≡ resume left (pushed outer top) (Some g) rest
 unfolding closing
 deliver_opened left l outer None g rest bottom levels =
     let e : l ≡ left - 1 - 0 = omega arith in
-    ap (λ n. parts_at (counted_item n) g rest) e ∙ ap (λ fs. closing (left - 1) fs (parts_at (counted_item (left - 1 - length fs)) g rest)) (sym bottom)
+    ap (λ n. read_parts (counted_item n) g rest) e ∙ ap (λ fs. closing (left - 1) fs (read_parts (counted_item (left - 1 - length fs)) g rest)) (sym bottom)
 deliver_opened left l outer (Some f) g rest bottom levels =
     let e : l ≡ left - 1 - length (outer ++ f ∷ []) = omega (arith, length-append outer (f ∷ [])) in
-    ap (λ n. closing (left - 1) outer (parts_at (counted_item n) g rest >>- λ i. parts_at (counted_item (left - 1 - length outer)) (put f i.0) i.1)) e
-    ∙ sym (closing_append (left - 1) outer f (parts_at (counted_item (left - 1 - length (outer ++ f ∷ []))) g rest))
+    ap (λ n. closing (left - 1) outer (read_parts (counted_item n) g rest >>- λ i. read_parts (counted_item (left - 1 - length outer)) (put f i.0) i.1)) e
+    ∙ sym (closing_append (left - 1) outer f (read_parts (counted_item (left - 1 - length (outer ++ f ∷ []))) g rest))
 
-pub opens : (left t : ℕ) (outer : List Frame) (top : Option Frame) (b : List ℕ) (h : ItemHead) (g : Frame) (rest : List ℕ) → IsStack outer top → None ≡ option_and_then (λ f. end_at f b) top → wanted_at (left - depth_of outer top) b ≡ Ok (h, rest) → opened h ≡ Some g
+pub opens : (left t : ℕ) (outer : List Frame) (top : Option Frame) (b : List ℕ) (h : ItemHead) (g : Frame) (rest : List ℕ) → IsStack outer top → None ≡ option_and_then (λ f. after_end f b) top → read_item_head (left - depth_of outer top) b ≡ Ok (h, rest) → opened h ≡ Some g
     → later t (resume left outer top b) ≡ later (t + 1) (resume left (pushed outer top) (Some g) rest)
 opens left t outer top b h g rest bottom none e is =
     let o = head_opens (left - depth_of outer top) b h rest e in
-    let read : counted_item (left - depth_of outer top) b ≡ later 1 (parts_at (counted_item o.0) g rest) = o.3 ∙ ap (λ x. later 1 (part_at (counted_item o.0) x h rest)) is in
+    let read : counted_item (left - depth_of outer top) b ≡ later 1 (read_parts (counted_item o.0) g rest) = o.3 ∙ ap (λ x. later 1 (read_part (counted_item o.0) x h rest)) is in
     ap (later t) (wants left outer top b none ∙ ap (deliver left outer top) read ∙ deliver_later left outer top 1 _)
     ∙ later_later t 1 _ ∙ ap (later (t + 1)) (deliver_opened left o.0 outer top g rest bottom o.1)
 
 -- ---- an item without parts
 
-read_atom : (left t : ℕ) (outer : List Frame) (top : Option Frame) (b : List ℕ) (h : ItemHead) (rest : List ℕ) → None ≡ option_and_then (λ f. end_at f b) top → wanted_at (left - depth_of outer top) b ≡ Ok (h, rest) → opened h ≡ None
-    → later t (resume left outer top b) ≡ deliver left outer top (later (t + 1) (atom_at h rest))
-read_atom left t outer top b h rest none e is =
+atom_read : (left t : ℕ) (outer : List Frame) (top : Option Frame) (b : List ℕ) (h : ItemHead) (rest : List ℕ) → None ≡ option_and_then (λ f. after_end f b) top → read_item_head (left - depth_of outer top) b ≡ Ok (h, rest) → opened h ≡ None
+    → later t (resume left outer top b) ≡ deliver left outer top (later (t + 1) (read_atom h rest))
+atom_read left t outer top b h rest none e is =
     let o = head_opens (left - depth_of outer top) b h rest e in
-    let read : counted_item (left - depth_of outer top) b ≡ later 1 (atom_at h rest) = o.3 ∙ ap (λ x. later 1 (part_at (counted_item o.0) x h rest)) is in
-    ap (later t) (wants left outer top b none ∙ ap (deliver left outer top) read) ∙ later_deliver left outer top t (atom_at h rest)
+    let read : counted_item (left - depth_of outer top) b ≡ later 1 (read_atom h rest) = o.3 ∙ ap (λ x. later 1 (read_part (counted_item o.0) x h rest)) is in
+    ap (later t) (wants left outer top b none ∙ ap (deliver left outer top) read) ∙ later_deliver left outer top t (read_atom h rest)
 
-pub atom_stops : (error : Error) (left t n : ℕ) (outer : List Frame) (top : Option Frame) (b : List ℕ) (h : ItemHead) (rest : List ℕ) → None ≡ option_and_then (λ f. end_at f b) top → wanted_at (left - depth_of outer top) b ≡ Ok (h, rest) → opened h ≡ None
-    → Stops error n (later (t + 1) (atom_at h rest)) → Stops error n (later t (resume left outer top b))
+pub atom_stops : (error : Error) (left t n : ℕ) (outer : List Frame) (top : Option Frame) (b : List ℕ) (h : ItemHead) (rest : List ℕ) → None ≡ option_and_then (λ f. after_end f b) top → read_item_head (left - depth_of outer top) b ≡ Ok (h, rest) → opened h ≡ None
+    → Stops error n (later (t + 1) (read_atom h rest)) → Stops error n (later t (resume left outer top b))
 atom_stops error left t n outer top b h rest none e is stops =
-    let read : Counted Item = later (t + 1) (atom_at h rest) in
+    let read : Counted Item = later (t + 1) (read_atom h rest) in
     let err = λ (d : Error). deliver_err left outer top n d in
     let all = stops_with error n read (deliver left outer top) err (deliver_grows left outer top) stops in
-    subst (Stops error n) (sym (read_atom left t outer top b h rest none e is)) all
+    subst (Stops error n) (sym (atom_read left t outer top b h rest none e is)) all
 
-pub atom_whole : (left t n : ℕ) (outer : List Frame) (top : Option Frame) (b : List ℕ) (h : ItemHead) (rest : List ℕ) (i : Item) (after : List ℕ) → None ≡ option_and_then (λ f. end_at f b) top → wanted_at (left - depth_of outer top) b ≡ Ok (h, rest) → opened h ≡ None
-    → later (t + 1) (atom_at h rest) ≡ (n, Ok (i, after)) → later t (resume left outer top b) ≡ later n (deliver left outer top (0, Ok (i, after)))
+pub atom_whole : (left t n : ℕ) (outer : List Frame) (top : Option Frame) (b : List ℕ) (h : ItemHead) (rest : List ℕ) (i : Item) (after : List ℕ) → None ≡ option_and_then (λ f. after_end f b) top → read_item_head (left - depth_of outer top) b ≡ Ok (h, rest) → opened h ≡ None
+    → later (t + 1) (read_atom h rest) ≡ (n, Ok (i, after)) → later t (resume left outer top b) ≡ later n (deliver left outer top (0, Ok (i, after)))
 atom_whole left t n outer top b h rest i after none e is whole =
     let m : n ≡ n + 0 = omega arith in
-    read_atom left t outer top b h rest none e is ∙ ap (deliver left outer top) (whole ∙ ap (λ k. (k, Ok (i, after))) m) ∙ deliver_later left outer top n (0, Ok (i, after))
+    atom_read left t outer top b h rest none e is ∙ ap (deliver left outer top) (whole ∙ ap (λ k. (k, Ok (i, after))) m) ∙ deliver_later left outer top n (0, Ok (i, after))
 
 -- a level is left for what was opened
-pub opened_level : (left : ℕ) (outer inner : List Frame) (top under : Option Frame) (b : List ℕ) (h : ItemHead) (g : Frame) (rest : List ℕ) → IsStack outer top → wanted_at (left - depth_of outer top) b ≡ Ok (h, rest) → inner ≡ pushed outer top → under ≡ Some g → depth_of inner under ≤ left
+pub opened_level : (left : ℕ) (outer inner : List Frame) (top under : Option Frame) (b : List ℕ) (h : ItemHead) (g : Frame) (rest : List ℕ) → IsStack outer top → read_item_head (left - depth_of outer top) b ≡ Ok (h, rest) → inner ≡ pushed outer top → under ≡ Some g → depth_of inner under ≤ left
 opened_level left outer inner top under b h g rest bottom e parts is =
     let o = head_opens (left - depth_of outer top) b h rest e in
     let d = pushed_depth outer top bottom in

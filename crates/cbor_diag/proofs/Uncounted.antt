@@ -7,8 +7,8 @@ use Rattle.cbor_diag.specs.declared.parse.binary.head.ItemHead.TheVariants as it
 use Rattle.cbor_diag.specs.Item as spec
 use Rattle.cbor_diag.specs.Item.{Chunk, Item, byte_chunks, text_chunks, atom, array, tagged, Items, no_items, item, Pairs, no_pairs, pair}
 use Rattle.cbor_diag.specs.Bytes.{StringKind, bytes_kind, text_kind}
-use Rattle.cbor_diag.specs.Reading.{Read, ◌>>=◌, head_at, chunk_at, more_chunks, chunks_at, break_at, items_at, pairs_at, open_items_at, open_pairs_at, body_at, item_at}
-use Rattle.cbor_diag.specs.Counting.{Counted, go_on, ◌>>-◌, counted_more, counted_chunks, joined, joined_pairs, Wanted, so_many, to_break, Frame, items_in, pairs_in, value_of, tag_of, tagged_with, goes_on, opened, part_at, counted_item}
+use Rattle.cbor_diag.specs.Reading.{Read, ◌>>=◌, read_head, read_chunk, more_chunks, read_chunks, after_break, read_items, read_pairs, read_open_items, read_open_pairs, read_body, read_item}
+use Rattle.cbor_diag.specs.Counting.{Counted, go_on, ◌>>-◌, counted_more, counted_chunks, joined, joined_pairs, Wanted, so_many, to_break, Frame, items_in, pairs_in, value_of, tag_of, tagged_with, goes_on, opened, read_part, counted_item}
 use Rattle.cbor_diag.proofs.Shorter.{item_shorter}
 use Rattle.cbor_diag.proofs.Refusals.{item_nothing}
 use Rattle.cbor_diag.proofs.Counting.{Shortens}
@@ -30,14 +30,14 @@ first_then c r f g same h =
 
 -- ---- chunks
 
-more_first : (n : ℕ) (kind : StringKind) (o : Option Chunk) (b : List ℕ) → (counted_chunks n kind b).1 ≡ chunks_at n kind b → (counted_more (counted_chunks n kind) o b).1 ≡ more_chunks (chunks_at n kind) o b
+more_first : (n : ℕ) (kind : StringKind) (o : Option Chunk) (b : List ℕ) → (counted_chunks n kind b).1 ≡ read_chunks n kind b → (counted_more (counted_chunks n kind) o b).1 ≡ more_chunks (read_chunks n kind) o b
 more_first n kind None b same = refl
-more_first n kind (Some c) b same = first_then (counted_chunks n kind b) (chunks_at n kind b) _ _ same (λ cs e. refl)
+more_first n kind (Some c) b same = first_then (counted_chunks n kind b) (read_chunks n kind b) _ _ same (λ cs e. refl)
 
-pub chunks_first : (n : ℕ) (kind : StringKind) (b : List ℕ) → (counted_chunks n kind b).1 ≡ chunks_at n kind b
-unfolding counted_chunks chunks_at
+pub chunks_first : (n : ℕ) (kind : StringKind) (b : List ℕ) → (counted_chunks n kind b).1 ≡ read_chunks n kind b
+unfolding counted_chunks read_chunks
 chunks_first zero kind b = refl
-chunks_first (suc n) kind b = first_then (1, chunk_at kind b) (chunk_at kind b) _ _ refl (λ c e. more_first n kind c.0 c.1 (chunks_first n kind c.1))
+chunks_first (suc n) kind b = first_then (1, read_chunk kind b) (read_chunk kind b) _ _ refl (λ c e. more_first n kind c.0 c.1 (chunks_first n kind c.1))
 
 -- ---- the parts of a container
 
@@ -102,44 +102,44 @@ break_cases None = inr refl
 
 module _ (read : List ℕ → Counted Item) (r : List ℕ → Read Item) (same : (b : List ℕ) → (read b).1 ≡ r b) (short : (b : List ℕ) (x : Item × List ℕ) → r b ≡ Ok x → length x.1 < length b) (empty : r [] ≡ Err refusal.CutShort) where
   abbrev plain_pairs : ℕ → Pairs → Wanted → List ℕ → Read Item
-  plain_pairs m ps (so_many k w) b = a_map ps (Some w) (pairs_at r k b)
-  plain_pairs m ps to_break b = a_map ps None (open_pairs_at r m b)
+  plain_pairs m ps (so_many k w) b = a_map ps (Some w) (read_pairs r k b)
+  plain_pairs m ps to_break b = a_map ps None (read_open_pairs r m b)
 
   -- what an open container becomes
   abbrev pub plain : ℕ → Frame → List ℕ → Read Item
-  plain m (items_in is (so_many k w)) b = an_array is (Some w) (items_at r k b)
-  plain m (items_in is to_break) b = an_array is None (open_items_at r m b)
+  plain m (items_in is (so_many k w)) b = an_array is (Some w) (read_items r k b)
+  plain m (items_in is to_break) b = an_array is None (read_open_items r m b)
   plain m (pairs_in ps wanted) b = plain_pairs m ps wanted b
   plain m (value_of ps k wanted) b = r b >>= λ v. plain_pairs m (joined_pairs ps (pair k v.0 no_pairs)) wanted v.1
   plain m (tag_of t w) b = r b >>= λ i. Ok (tagged t w i.0, i.1)
   plain m (tagged_with t w i) b = Ok (tagged t w i, b)
 
   pub parts_first : (n m : ℕ) (f : Frame) (b : List ℕ) → length b < n → length b ≤ m → (goes_on n read f b).1 ≡ plain m f b
-  unfolding goes_on items_at pairs_at open_items_at open_pairs_at
+  unfolding goes_on read_items read_pairs read_open_items read_open_pairs
   parts_first zero m f b lt le = absurd (omega arith)
   parts_first (suc n) m (items_in is (so_many zero w)) b lt le = array_end is (Some w) b
   parts_first (suc n) m (items_in is (so_many (suc k) w)) b lt le =
       first_then (read b) (r b) _ _ (same b) (λ x e. let s = short b x e in parts_first n m (items_in (joined is (item x.0 no_items)) (so_many k w)) x.1 (omega arith) (omega arith))
-      ∙ more_items is (Some w) (r b) (items_at r k)
+      ∙ more_items is (Some w) (r b) (read_items r k)
   parts_first (suc n) zero (items_in is to_break) [] lt le = ap (λ q. q) (first_then (read []) (r []) _ (λ x. Err refusal.CutShort) (same []) (λ x e. let e' : Err refusal.CutShort ≡ Ok x = sym empty ∙ e in cc) ∙ ap (λ q. q >>= λ x. Err refusal.CutShort) empty)
   parts_first (suc n) zero (items_in is to_break) (y ∷ b) lt le = absurd (omega arith)
   parts_first (suc n) (suc m) (items_in is to_break) b lt le =
-      elim (break_cases (break_at b)) [
+      elim (break_cases (after_break b)) [
         | inl stops ↦ rw stops.1 (array_end is None stops.0)
         | inr none ↦ rw none (first_then (read b) (r b) _ _ (same b) (λ x e. let s = short b x e in parts_first n m (items_in (joined is (item x.0 no_items)) to_break) x.1 (omega arith) (omega arith))
-            ∙ more_items is None (r b) (open_items_at r m))
+            ∙ more_items is None (r b) (read_open_items r m))
       ]
   parts_first (suc n) m (pairs_in ps (so_many zero w)) b lt le = map_end ps (Some w) b
   parts_first (suc n) m (pairs_in ps (so_many (suc k) w)) b lt le =
       first_then (read b) (r b) _ _ (same b) (λ x e. let s = short b x e in parts_first n m (value_of ps x.0 (so_many k w)) x.1 (omega arith) (omega arith))
-      ∙ more_pairs ps (Some w) (r b) r (pairs_at r k)
+      ∙ more_pairs ps (Some w) (r b) r (read_pairs r k)
   parts_first (suc n) zero (pairs_in ps to_break) [] lt le = first_then (read []) (r []) _ (λ x. Err refusal.CutShort) (same []) (λ x e. let e' : Err refusal.CutShort ≡ Ok x = sym empty ∙ e in cc) ∙ ap (λ q. q >>= λ x. Err refusal.CutShort) empty
   parts_first (suc n) zero (pairs_in ps to_break) (y ∷ b) lt le = absurd (omega arith)
   parts_first (suc n) (suc m) (pairs_in ps to_break) b lt le =
-      elim (break_cases (break_at b)) [
+      elim (break_cases (after_break b)) [
         | inl stops ↦ rw stops.1 (map_end ps None stops.0)
         | inr none ↦ rw none (first_then (read b) (r b) _ _ (same b) (λ x e. let s = short b x e in parts_first n m (value_of ps x.0 to_break) x.1 (omega arith) (omega arith))
-            ∙ more_pairs ps None (r b) r (open_pairs_at r m))
+            ∙ more_pairs ps None (r b) r (read_open_pairs r m))
       ]
   parts_first (suc n) m (value_of ps k wanted) b lt le =
       first_then (read b) (r b) _ _ (same b) (λ x e. let s = short b x e in parts_first n m (pairs_in (joined_pairs ps (pair k x.0 no_pairs)) wanted) x.1 (omega arith) (omega arith))
@@ -147,7 +147,7 @@ module _ (read : List ℕ → Counted Item) (r : List ℕ → Read Item) (same :
       first_then (read b) (r b) _ _ (same b) (λ x e. let s = short b x e in parts_first n m (tagged_with t w x.0) x.1 (omega arith) (omega arith))
   parts_first (suc n) m (tagged_with t w i) b lt le = refl
 
-  body_first : (h : ItemHead) (b : List ℕ) → (part_at read (opened h) h b).1 ≡ body_at r h b
+  body_first : (h : ItemHead) (b : List ℕ) → (read_part read (opened h) h b).1 ≡ read_body r h b
   body_first (item_head.Integer n w) b = refl
   body_first (item_head.Negative n w) b = refl
   body_first (item_head.Bytes n w) b = refl
@@ -157,17 +157,17 @@ module _ (read : List ℕ → Counted Item) (r : List ℕ → Read Item) (same :
   body_first (item_head.Tag n w) b = parts_first (suc (length b)) (length b) (tag_of n w) b (omega arith) (omega arith)
   body_first (item_head.Float bits w) b = refl
   body_first (item_head.Simple n) b = refl
-  body_first item_head.OpenBytes b = first_then (counted_chunks (length b) bytes_kind b) (chunks_at (length b) bytes_kind b) _ _ (chunks_first (length b) bytes_kind b) (λ cs e. refl)
-  body_first item_head.OpenText b = first_then (counted_chunks (length b) text_kind b) (chunks_at (length b) text_kind b) _ _ (chunks_first (length b) text_kind b) (λ cs e. refl)
+  body_first item_head.OpenBytes b = first_then (counted_chunks (length b) bytes_kind b) (read_chunks (length b) bytes_kind b) _ _ (chunks_first (length b) bytes_kind b) (λ cs e. refl)
+  body_first item_head.OpenText b = first_then (counted_chunks (length b) text_kind b) (read_chunks (length b) text_kind b) _ _ (chunks_first (length b) text_kind b) (λ cs e. refl)
   body_first item_head.OpenArray b = parts_first (suc (length b)) (length b) (items_in no_items to_break) b (omega arith) (omega arith)
   body_first item_head.OpenMap b = parts_first (suc (length b)) (length b) (pairs_in no_pairs to_break) b (omega arith) (omega arith)
   body_first item_head.Break b = refl
 
-pub item_first : (left : ℕ) (b : List ℕ) → (counted_item left b).1 ≡ item_at left b
-unfolding counted_item item_at
+pub item_first : (left : ℕ) (b : List ℕ) → (counted_item left b).1 ≡ read_item left b
+unfolding counted_item read_item
 item_first zero b = refl
 item_first (suc left) b =
-    first_then (1, head_at b) (head_at b) _ _ refl (λ h e. body_first (counted_item left) (item_at left) (λ c. item_first left c) (λ c x is. item_shorter left c x.0 x.1 is) (item_nothing left) h.0 h.1)
+    first_then (1, read_head b) (read_head b) _ _ refl (λ h e. body_first (counted_item left) (read_item left) (λ c. item_first left c) (λ c x is. item_shorter left c x.0 x.1 is) (item_nothing left) h.0 h.1)
 
 pub item_shortens : (left : ℕ) → Shortens (counted_item left)
 item_shortens left b x e = item_shorter left b x.0 x.1 (sym (item_first left b) ∙ e)

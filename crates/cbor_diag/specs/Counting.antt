@@ -11,7 +11,7 @@ use Rattle.cbor_diag.specs.Item as spec
 use Rattle.cbor_diag.specs.Item.{Chunk, integer, negative, byte_string, text_string, byte_chunks, text_chunks, float}
 use Rattle.cbor_diag.specs.Item.{simple, Item, atom, array, tagged, Items, no_items, item, Pairs, no_pairs, pair}
 use Rattle.cbor_diag.specs.Bytes.{StringKind, bytes_kind, text_kind}
-use Rattle.cbor_diag.specs.Reading.{Read, ◌>>=◌, head_at, content_at, chunk_at, break_at, too_deep_at}
+use Rattle.cbor_diag.specs.Reading.{Read, ◌>>=◌, read_head, read_content, read_chunk, after_break, no_level_left}
 
 -- how many turns were taken, and what was read
 abbrev pub Counted : Type 0 → Type 0
@@ -47,10 +47,10 @@ abbrev pub counted_more : (List ℕ → Counted (List Chunk)) → Option Chunk �
 counted_more read None b = (0, Ok ([], b))
 counted_more read (Some c) b = read b >>- λ cs. (0, Ok (c ∷ cs.0, cs.1))
 
--- the chunks up to the break, bounded as `chunks_at` is
+-- the chunks up to the break, bounded as `read_chunks` is
 unfoldable pub counted_chunks : ℕ → StringKind → List ℕ → Counted (List Chunk)
 counted_chunks zero kind b = (1, Err refusal.CutShort)
-counted_chunks (suc n) kind b = (1, chunk_at kind b) >>- λ c. counted_more (counted_chunks n kind) c.0 c.1
+counted_chunks (suc n) kind b = (1, read_chunk kind b) >>- λ c. counted_more (counted_chunks n kind) c.0 c.1
 
 -- ---- open containers
 
@@ -97,14 +97,14 @@ put (tagged_with t w j) i = tagged_with t w i
 abbrev pub wanted_end : Wanted → List ℕ → Option (List ℕ)
 wanted_end (so_many zero w) b = Some b
 wanted_end (so_many (suc n) w) b = None
-wanted_end to_break b = break_at b
+wanted_end to_break b = after_break b
 
-abbrev pub end_at : Frame → List ℕ → Option (List ℕ)
-end_at (items_in is wanted) b = wanted_end wanted b
-end_at (pairs_in ps wanted) b = wanted_end wanted b
-end_at (value_of ps k wanted) b = None
-end_at (tag_of t w) b = None
-end_at (tagged_with t w i) b = Some b
+abbrev pub after_end : Frame → List ℕ → Option (List ℕ)
+after_end (items_in is wanted) b = wanted_end wanted b
+after_end (pairs_in ps wanted) b = wanted_end wanted b
+after_end (value_of ps k wanted) b = None
+after_end (tag_of t w) b = None
+after_end (tagged_with t w i) b = Some b
 
 -- the item that the container is where it ends
 abbrev pub closed : Frame → Option Item
@@ -122,11 +122,11 @@ close_or _ _ more = more
 -- The first number bounds how many are looked for.
 unfoldable pub goes_on : ℕ → (List ℕ → Counted Item) → Frame → List ℕ → Counted Item
 goes_on zero read f b = (1, Err refusal.CutShort)
-goes_on (suc n) read f b = close_or (closed f) (end_at f b) (read b >>- λ i. goes_on n read (put f i.0) i.1)
+goes_on (suc n) read f b = close_or (closed f) (after_end f b) (read b >>- λ i. goes_on n read (put f i.0) i.1)
 
 -- no input has more parts than it has bytes
-abbrev pub parts_at : (List ℕ → Counted Item) → Frame → List ℕ → Counted Item
-parts_at read f b = goes_on (suc (length b)) read f b
+abbrev pub read_parts : (List ℕ → Counted Item) → Frame → List ℕ → Counted Item
+read_parts read f b = goes_on (suc (length b)) read f b
 
 -- ---- items
 
@@ -140,37 +140,37 @@ opened item_head.OpenMap = Some (pairs_in no_pairs to_break)
 opened _ = None
 
 -- an item that holds no item, behind its head
-abbrev pub atom_at : ItemHead → List ℕ → Counted Item
-atom_at (item_head.Integer n w) b = (0, Ok (atom (integer n w), b))
-atom_at (item_head.Negative n w) b = (0, Ok (atom (negative n w), b))
-atom_at (item_head.Bytes n w) b = (0, content_at bytes_kind n w b >>= λ c. Ok (atom (byte_string c.0), c.1))
-atom_at (item_head.Text n w) b = (0, content_at text_kind n w b >>= λ c. Ok (atom (text_string c.0), c.1))
-atom_at (item_head.Float bits w) b = (0, Ok (atom (float bits w), b))
-atom_at (item_head.Simple n) b = (0, Ok (atom (simple n), b))
-atom_at item_head.OpenBytes b = counted_chunks (length b) bytes_kind b >>- λ cs. (0, Ok (atom (byte_chunks cs.0), cs.1))
-atom_at item_head.OpenText b = counted_chunks (length b) text_kind b >>- λ cs. (0, Ok (atom (text_chunks cs.0), cs.1))
-atom_at _ b = (0, Err refusal.Head)
+abbrev pub read_atom : ItemHead → List ℕ → Counted Item
+read_atom (item_head.Integer n w) b = (0, Ok (atom (integer n w), b))
+read_atom (item_head.Negative n w) b = (0, Ok (atom (negative n w), b))
+read_atom (item_head.Bytes n w) b = (0, read_content bytes_kind n w b >>= λ c. Ok (atom (byte_string c.0), c.1))
+read_atom (item_head.Text n w) b = (0, read_content text_kind n w b >>= λ c. Ok (atom (text_string c.0), c.1))
+read_atom (item_head.Float bits w) b = (0, Ok (atom (float bits w), b))
+read_atom (item_head.Simple n) b = (0, Ok (atom (simple n), b))
+read_atom item_head.OpenBytes b = counted_chunks (length b) bytes_kind b >>- λ cs. (0, Ok (atom (byte_chunks cs.0), cs.1))
+read_atom item_head.OpenText b = counted_chunks (length b) text_kind b >>- λ cs. (0, Ok (atom (text_chunks cs.0), cs.1))
+read_atom _ b = (0, Err refusal.Head)
 
-abbrev pub part_at : (List ℕ → Counted Item) → Option Frame → ItemHead → List ℕ → Counted Item
-part_at read (Some f) h b = parts_at read f b
-part_at read None h b = atom_at h b
+abbrev pub read_part : (List ℕ → Counted Item) → Option Frame → ItemHead → List ℕ → Counted Item
+read_part read (Some f) h b = read_parts read f b
+read_part read None h b = read_atom h b
 
 -- the head of an item, with so many levels left for it
-abbrev pub wanted_at : ℕ → List ℕ → Read ItemHead
-wanted_at zero [] = Err refusal.CutShort
-wanted_at zero (first ∷ b) = Err refusal.TooDeep
-wanted_at (suc left) b = head_at b
+abbrev pub read_item_head : ℕ → List ℕ → Read ItemHead
+read_item_head zero [] = Err refusal.CutShort
+read_item_head zero (first ∷ b) = Err refusal.TooDeep
+read_item_head (suc left) b = read_head b
 
 -- an item, with so many levels left for it and the items in it
 unfoldable pub counted_item : ℕ → List ℕ → Counted Item
-counted_item zero b = (1, too_deep_at b)
-counted_item (suc left) b = (1, head_at b) >>- λ h. part_at (counted_item left) (opened h.0) h.0 h.1
+counted_item zero b = (1, no_level_left b)
+counted_item (suc left) b = (1, read_head b) >>- λ h. read_part (counted_item left) (opened h.0) h.0 h.1
 
 -- The containers that are open, the outermost first, given what the item in the innermost is; the levels are
 -- those that are left for the parts of the outermost.
 unfoldable pub closing : ℕ → List Frame → Counted Item → Counted Item
 closing left [] c = c
-closing left (f ∷ fs) c = closing (left - 1) fs c >>- λ i. parts_at (counted_item left) (put f i.0) i.1
+closing left (f ∷ fs) c = closing (left - 1) fs c >>- λ i. read_parts (counted_item left) (put f i.0) i.1
 
 -- ---- a stack of open containers
 
@@ -192,10 +192,10 @@ IsStack outer (Some f) = Unit {0}
 -- those that are left for the outermost item
 abbrev pub resume : ℕ → List Frame → Option Frame → List ℕ → Counted Item
 resume left outer None b = counted_item left b
-resume left outer (Some f) b = closing (left - 1) outer (parts_at (counted_item (left - 1 - length outer)) f b)
+resume left outer (Some f) b = closing (left - 1) outer (read_parts (counted_item (left - 1 - length outer)) f b)
 
 -- the same, where the next part of the innermost, or the outermost item, is this
 abbrev pub deliver : ℕ → List Frame → Option Frame → Counted Item → Counted Item
 deliver left outer None c = c
 deliver left outer (Some f) c =
-    closing (left - 1) outer (c >>- λ i. parts_at (counted_item (left - 1 - length outer)) (put f i.0) i.1)
+    closing (left - 1) outer (c >>- λ i. read_parts (counted_item (left - 1 - length outer)) (put f i.0) i.1)

@@ -21,7 +21,7 @@ use Rattle.cbor_diag.specs.Comments.{tag_comment, bytes_comment, text_comment, e
 use Rattle.cbor_diag.specs.Embedded.{sequence_at}
 use Rattle.cbor_diag.specs.Notes.{one, value_note}
 use Rattle.cbor_diag.specs.Pieces.{pieces_of, byte_pieces, text_pieces}
-use Rattle.cbor_diag.specs.Reading.{Read, item_at}
+use Rattle.cbor_diag.specs.Reading.{Read, read_item}
 use Rattle.cbor_diag.specs.Refusals.{text_of}
 
 -- the digits of a head: its first byte, and behind a blank the bytes that follow it, if any do
@@ -186,7 +186,7 @@ whole_note dump (Ok (i, rest)) = failed_note (codes "failed to parse encoded cbo
 whole_note dump (Err e) = failed_note (codes "failed to parse encoded cbor data item") e
 
 abbrev pub encoded_item_note : ℕ → (Item → List DumpLine) → Option (List ℕ) → List (List ℕ)
-encoded_item_note left dump (Some bytes) = whole_note dump (item_at left bytes)
+encoded_item_note left dump (Some bytes) = whole_note dump (read_item left bytes)
 encoded_item_note left dump None = one (codes "invalid type for encoded cbor data item")
 
 -- tag 63: each item of a sequence, and what follows that is none (RFC 8742)
@@ -201,7 +201,7 @@ rest_note rest (Ok x) = []
 rest_note rest (Err e) = failed_note (codes "failed to parse remaining encoded cbor sequence") e
 
 abbrev pub sequence_notes : ℕ → (Item → List DumpLine) → Items × List ℕ → List (List (List ℕ))
-sequence_notes left dump s = items_notes dump s.0 ++ rest_note s.1 (item_at left s.1) ∷ []
+sequence_notes left dump s = items_notes dump s.0 ++ rest_note s.1 (read_item left s.1) ∷ []
 
 abbrev pub encoded_sequence_notes : ℕ → (Item → List DumpLine) → Option (List ℕ) → List (List (List ℕ))
 encoded_sequence_notes left dump (Some bytes) = sequence_notes left dump (sequence_at left bytes)

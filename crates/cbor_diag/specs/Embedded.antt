@@ -7,7 +7,7 @@ use Rattle.cbor_diag.specs.WellFormed.{deepest}
 use Rattle.cbor_diag.specs.Bytes.{any, Spells, SpellsItems}
 use Rattle.cbor_diag.specs.Refused.{Cut, Fault}
 use Rattle.cbor_diag.specs.Item.{Item, Items, no_items, item}
-use Rattle.cbor_diag.specs.Reading.{Read, item_at}
+use Rattle.cbor_diag.specs.Reading.{Read, read_item}
 
 -- the item that was read, where no bytes are left
 abbrev pub if_whole : Read Item → Option Item
@@ -16,7 +16,7 @@ if_whole _ = None
 
 -- the item that the bytes are, where so many levels are left for it
 abbrev pub embedded_at : ℕ → List ℕ → Option Item
-embedded_at left b = if_whole (item_at left b)
+embedded_at left b = if_whole (read_item left b)
 
 -- The item that the bytes spell at this level, if there is one: `embedded level b` is `Some e` exactly
 -- where `Spells any level b e`, as `Embeds` below says.
@@ -39,7 +39,7 @@ sequence_of read zero b = (no_items, b)
 sequence_of read (suc n) b = and_then (sequence_of read n) b (read b)
 
 abbrev pub sequence_at : ℕ → List ℕ → Items × List ℕ
-sequence_at left b = sequence_of (item_at left) (length b) b
+sequence_at left b = sequence_of (read_item left) (length b) b
 
 -- The longest list of items whose spellings at this level, joined, are a front of the bytes, and the rest:
 -- the items are spelled one after the other and then the rest follows, which begins with no item, as
@@ -62,10 +62,10 @@ EmbedsExactly = (level : ℕ) (b : List ℕ) → 1 ≤ level → level ≤ deepe
 -- What reading bytes that are not one item answers at this level, by the grammar of bytes alone: that they are
 -- cut, which fault they have, or the item that some first bytes are and the bytes that remain.
 pub record Rejects (level : ℕ) (b : List ℕ) : Type 0 where
-  pub cut : Cut level b → item_at (deepest + 1 - level) b ≡ Err CutShort
-  pub fault : (e : Error) → Fault level b e → item_at (deepest + 1 - level) b ≡ Err e
+  pub cut : Cut level b → read_item (deepest + 1 - level) b ≡ Err CutShort
+  pub fault : (e : Error) → Fault level b e → read_item (deepest + 1 - level) b ≡ Err e
   pub front : (n : ℕ) (i : Item) → n ≤ length b → Spells any level (take n b) i
-      → item_at (deepest + 1 - level) b ≡ Ok (i, drop n b)
+      → read_item (deepest + 1 - level) b ≡ Ok (i, drop n b)
 
 -- It answers so of all bytes, read from any level up to 129.
 abbrev pub RejectsExactly : Type 0

@@ -37,8 +37,8 @@ or_refused (Some x) = Ok x
 -- Blanks and words
 
 -- the text behind the longest blank at its front
-abbrev pub blank_at : List ℕ → List ℕ
-blank_at text = after_blank true text
+abbrev pub skip_blank : List ℕ → List ℕ
+skip_blank text = after_blank true text
 
 -- the text behind this byte, where the text begins with it
 abbrev pub after_byte : ℕ → List ℕ → Option (List ℕ)
@@ -57,8 +57,8 @@ numeral radix [] = None
 numeral radix (d ∷ ds) = if list_all (λ c. nat_lt (digit_value c) radix) (d ∷ ds) then Some (digits_value radix (d ∷ ds)) else None
 
 -- the longest number at the front
-abbrev pub number_at : List ℕ → Read (ℕ × Option ℕ)
-number_at text = or_refused (number_of text) >>= λ x. Ok ((x.0, x.1), x.2)
+abbrev pub read_number : List ℕ → Read (ℕ × Option ℕ)
+read_number text = or_refused (number_of text) >>= λ x. Ok ((x.0, x.1), x.2)
 
 -- one more than the greatest number of this width
 abbrev pub past_width : IntegerWidth → ℕ
@@ -69,35 +69,35 @@ past_width ThirtyTwo = 2 ^ 32
 past_width _ = 2 ^ 64
 
 -- a number and its width, where it fits it
-abbrev pub sized : ℕ → Option ℕ → Result (ℕ × IntegerWidth) Error
-sized n None = if nat_lt n (2 ^ 64) then Ok (n, number_width n None) else Err refusal.Notation
-sized n (Some indicator) = if nat_lt n (past_width (width_of indicator)) then Ok (n, width_of indicator) else Err refusal.PastWidth
+abbrev pub with_width : ℕ → Option ℕ → Result (ℕ × IntegerWidth) Error
+with_width n None = if nat_lt n (2 ^ 64) then Ok (n, number_width n None) else Err refusal.Notation
+with_width n (Some indicator) = if nat_lt n (past_width (width_of indicator)) then Ok (n, width_of indicator) else Err refusal.PastWidth
 
 -- the number that is encoded for a negative one
-abbrev pub below_zero : ℕ → Option ℕ → Result (ℕ × IntegerWidth) Error
-below_zero zero indicator = Err refusal.Notation
-below_zero (suc n) indicator = sized n indicator
+abbrev pub negative_number : ℕ → Option ℕ → Result (ℕ × IntegerWidth) Error
+negative_number zero indicator = Err refusal.Notation
+negative_number (suc n) indicator = with_width n indicator
 
-abbrev pub sized_at : List ℕ → Read (ℕ × IntegerWidth)
-sized_at text = number_at text >>= λ x. sized x.0.0 x.0.1 >>= λ n. Ok (n, x.1)
+abbrev pub read_unsigned_number : List ℕ → Read (ℕ × IntegerWidth)
+read_unsigned_number text = read_number text >>= λ x. with_width x.0.0 x.0.1 >>= λ n. Ok (n, x.1)
 
-abbrev pub below_zero_at : List ℕ → Read (ℕ × IntegerWidth)
-below_zero_at text = number_at text >>= λ x. below_zero x.0.0 x.0.1 >>= λ n. Ok (n, x.1)
+abbrev pub read_negative_number : List ℕ → Read (ℕ × IntegerWidth)
+read_negative_number text = read_number text >>= λ x. negative_number x.0.0 x.0.1 >>= λ n. Ok (n, x.1)
 
-abbrev pub negative_at : List ℕ → Read Item
-negative_at text = below_zero_at text >>= λ n. Ok (atom (negative n.0.0 n.0.1), n.1)
+abbrev pub read_negative : List ℕ → Read Item
+read_negative text = read_negative_number text >>= λ n. Ok (atom (negative n.0.0 n.0.1), n.1)
 
 -- a tag's item behind its parenthesis
-abbrev pub tagged_at : (List ℕ → Read Item) → ℕ → IntegerWidth → List ℕ → Read Item
-tagged_at read n w text = read text >>= λ i. or_refused (after_byte 41 i.1) >>= λ rest. Ok (tagged n w i.0, rest)
+abbrev pub read_tagged : (List ℕ → Read Item) → ℕ → IntegerWidth → List ℕ → Read Item
+read_tagged read n w text = read text >>= λ i. or_refused (after_byte 41 i.1) >>= λ rest. Ok (tagged n w i.0, rest)
 
 -- an integer, or a tag where a parenthesis follows
 abbrev pub integer_or_tag : (List ℕ → Read Item) → ℕ → IntegerWidth → List ℕ → Option (List ℕ) → Read Item
 integer_or_tag read n w text None = Ok (atom (integer n w), text)
-integer_or_tag read n w text (Some inner) = tagged_at read n w inner
+integer_or_tag read n w text (Some inner) = read_tagged read n w inner
 
-abbrev pub integer_at : (List ℕ → Read Item) → List ℕ → Read Item
-integer_at read text = sized_at text >>= λ n. integer_or_tag read n.0.0 n.0.1 n.1 (after_byte 40 n.1)
+abbrev pub read_integer : (List ℕ → Read Item) → List ℕ → Read Item
+read_integer read text = read_unsigned_number text >>= λ n. integer_or_tag read n.0.0 n.0.1 n.1 (after_byte 40 n.1)
 
 -- Lists
 
@@ -106,9 +106,9 @@ abbrev pub after_space : ℕ → List ℕ → Option (List ℕ)
 after_space close text = option_and_then (λ spaces. if nat_lt 0 spaces then after_byte close (drop spaces text) else None) (position (λ b. not (is_whitespace b)) text)
 
 -- the text behind what closes a list, where that stands here: the byte, or a last comma, whitespace and it
-abbrev pub end_at : ℕ → List ℕ → Option (List ℕ)
-end_at close [] = None
-end_at close (b ∷ text) = if b == 44 then after_space close text else after_byte close (b ∷ text)
+abbrev pub after_end : ℕ → List ℕ → Option (List ℕ)
+after_end close [] = None
+after_end close (b ∷ text) = if b == 44 then after_space close text else after_byte close (b ∷ text)
 
 -- the members behind a comma, or none where the list is closed
 abbrev pub more_members : {X : Type 0} → (List ℕ → Read (List X)) → List ℕ → Option (List ℕ) → Read (List X)
@@ -119,33 +119,33 @@ more_members read text None = or_refused (after_byte 44 text) >>= read
 -- text has more than it has bytes.
 unfoldable pub members_from : {X : Type 0} → (List ℕ → Read X) → ℕ → ℕ → List ℕ → Read (List X)
 members_from read close zero text = Err refusal.Notation
-members_from read close (suc n) text = read text >>= λ x. more_members (members_from read close n) x.1 (end_at close x.1) >>= λ xs. Ok (x.0 ∷ xs.0, xs.1)
+members_from read close (suc n) text = read text >>= λ x. more_members (members_from read close n) x.1 (after_end close x.1) >>= λ xs. Ok (x.0 ∷ xs.0, xs.1)
 
 abbrev pub members_or_end : {X : Type 0} → (List ℕ → Read X) → ℕ → List ℕ → Option (List ℕ) → Read (List X)
 members_or_end read close text (Some rest) = Ok ([], rest)
 members_or_end read close text None = members_from read close (suc (length text)) text
 
 -- the members of a list behind its opening, up to what closes it
-unfoldable pub members_at : {X : Type 0} → (List ℕ → Read X) → ℕ → List ℕ → Read (List X)
-members_at read close text = let first = blank_at text in members_or_end read close first (end_at close first)
+unfoldable pub read_members : {X : Type 0} → (List ℕ → Read X) → ℕ → List ℕ → Read (List X)
+read_members read close text = let first = skip_blank text in members_or_end read close first (after_end close first)
 
 -- a key, `:` and its value
-abbrev pub pair_at : (List ℕ → Read Item) → List ℕ → Read (Item × Item)
-pair_at read text = read text >>= λ k. or_refused (after_byte 58 k.1) >>= λ rest. read rest >>= λ v. Ok ((k.0, v.0), v.1)
+abbrev pub read_pair : (List ℕ → Read Item) → List ℕ → Read (Item × Item)
+read_pair read text = read text >>= λ k. or_refused (after_byte 58 k.1) >>= λ rest. read rest >>= λ v. Ok ((k.0, v.0), v.1)
 
 -- whether a list is of indefinite length, which a `_` says, and the text behind that
 abbrev pub length_of : List ℕ → Option (List ℕ) → Option IntegerWidth × List ℕ
 length_of text None = (Some Unknown, text)
 length_of text (Some rest) = (None, rest)
 
-abbrev pub length_at : List ℕ → Option IntegerWidth × List ℕ
-length_at text = length_of text (after_byte 95 text)
+abbrev pub read_length : List ℕ → Option IntegerWidth × List ℕ
+read_length text = length_of text (after_byte 95 text)
 
-abbrev pub array_at : (List ℕ → Read Item) → List ℕ → Read Item
-array_at read text = let opened = length_at text in members_at read 93 opened.1 >>= λ is. Ok (array (items_of is.0) opened.0, is.1)
+abbrev pub read_array : (List ℕ → Read Item) → List ℕ → Read Item
+read_array read text = let opened = read_length text in read_members read 93 opened.1 >>= λ is. Ok (array (items_of is.0) opened.0, is.1)
 
-abbrev pub map_at : (List ℕ → Read Item) → List ℕ → Read Item
-map_at read text = let opened = length_at text in members_at (pair_at read) 125 opened.1 >>= λ ps. Ok (spec.map (pairs_of ps.0) opened.0, ps.1)
+abbrev pub read_map : (List ℕ → Read Item) → List ℕ → Read Item
+read_map read text = let opened = read_length text in read_members (read_pair read) 125 opened.1 >>= λ ps. Ok (spec.map (pairs_of ps.0) opened.0, ps.1)
 
 -- Strings
 
@@ -208,8 +208,8 @@ abbrev pub base16_of : List ℕ → Option (List ℕ)
 base16_of digits = base16_bytes (decode_of digits)
 
 -- what the digits behind an opened quote are the encoding of
-abbrev pub decoded_at : Bool → (List ℕ → Option (List ℕ)) → List ℕ → Read (List ℕ)
-decoded_at comments decode text = or_refused (digits_of comments text) >>= λ x. or_refused (decode x.0) >>= λ bytes. Ok (bytes, x.1)
+abbrev pub read_decoded : Bool → (List ℕ → Option (List ℕ)) → List ℕ → Read (List ℕ)
+read_decoded comments decode text = or_refused (digits_of comments text) >>= λ x. or_refused (decode x.0) >>= λ bytes. Ok (bytes, x.1)
 
 -- one notation of two that begin with the same letter, by the word that follows
 abbrev pub either_word : {X : Type 0} → Option (List ℕ) → (List ℕ → Result X Error) → Option (List ℕ) → (List ℕ → Result X Error) → Result X Error
@@ -219,14 +219,14 @@ either_word None first None second = Err refusal.Notation
 
 -- `h'..'` or `h32'..'`, and `b32'..'` or `b64'..'`, behind the letter
 abbrev pub h_notation : List ℕ → Read (List ℕ)
-h_notation text = either_word (after_word (codes "'") text) (decoded_at true base16_of) (after_word (codes "32'") text) (decoded_at true base32hex_of)
+h_notation text = either_word (after_word (codes "'") text) (read_decoded true base16_of) (after_word (codes "32'") text) (read_decoded true base32hex_of)
 
 abbrev pub b_notation : List ℕ → Read (List ℕ)
-b_notation text = either_word (after_word (codes "32'") text) (decoded_at true base32_of) (after_word (codes "64'") text) (decoded_at false base64_of)
+b_notation text = either_word (after_word (codes "32'") text) (read_decoded true base32_of) (after_word (codes "64'") text) (read_decoded false base64_of)
 
 -- items behind the first `<` of `<<`, and their encodings
-abbrev pub embedded_at : (List ℕ → Read Item) → List ℕ → Read (List ℕ)
-embedded_at read text = or_refused (after_byte 60 text) >>= λ first. members_at read 62 first >>= λ is. or_refused (after_byte 62 is.1) >>= λ rest. Ok (encoded_items (items_of is.0), rest)
+abbrev pub read_embedded : (List ℕ → Read Item) → List ℕ → Read (List ℕ)
+read_embedded read text = or_refused (after_byte 60 text) >>= λ first. read_members read 62 first >>= λ is. or_refused (after_byte 62 is.1) >>= λ rest. Ok (encoded_items (items_of is.0), rest)
 
 -- what begins with this byte
 unfoldable pub start_of : ℕ → Start
@@ -264,22 +264,22 @@ begins_piece texts _ = false
 abbrev pub piece_of : (List ℕ → Read Item) → Start → List ℕ → Read (List ℕ)
 piece_of read start.Quote text = or_refused (unquoted 34 false text)
 piece_of read start.Apostrophe text = or_refused (unquoted 39 false text)
-piece_of read start.Angle text = embedded_at read text
+piece_of read start.Angle text = read_embedded read text
 piece_of read start.LetterB text = b_notation text
 piece_of read start.LetterH text = h_notation text
 piece_of read _ text = Err refusal.Notation
 
-unfoldable pub piece_at : (List ℕ → Read Item) → List ℕ → Read (List ℕ)
-piece_at read [] = Err refusal.Notation
-piece_at read (b ∷ text) = piece_of read (start_of b) text
+unfoldable pub read_piece : (List ℕ → Read Item) → List ℕ → Read (List ℕ)
+read_piece read [] = Err refusal.Notation
+read_piece read (b ∷ text) = piece_of read (start_of b) text
 
 -- The pieces from here on, with blanks between them, and the text behind the blank after them. The number
 -- bounds them as in `members_from`.
-unfoldable pub pieces_at : (List ℕ → Read Item) → Bool → ℕ → List ℕ → Read (List ℕ)
-pieces_at read texts zero text = Err refusal.Notation
-pieces_at read texts (suc n) text =
+unfoldable pub read_pieces : (List ℕ → Read Item) → Bool → ℕ → List ℕ → Read (List ℕ)
+read_pieces read texts zero text = Err refusal.Notation
+read_pieces read texts (suc n) text =
     elim (begins_piece texts (first_start text)) [
-      | true ↦ (piece_at read text >>= λ x. pieces_at read texts n (blank_at x.1) >>= λ xs. Ok (x.0 ++ xs.0, xs.1))
+      | true ↦ (read_piece read text >>= λ x. read_pieces read texts n (skip_blank x.1) >>= λ xs. Ok (x.0 ++ xs.0, xs.1))
       | false ↦ Ok ([], text)
     ]
 
@@ -300,38 +300,38 @@ checked text_kind content = if is_utf8 content then Ok (record { bytes = content
 
 abbrev pub string_of : (List ℕ → Read Item) → StringKind → List ℕ → Bool → Read Chunk
 string_of read kind text false = Err refusal.Notation
-string_of read kind text true = pieces_at read (may_have_texts kind) (suc (length text)) text >>= λ x. checked kind x.0 >>= λ c. Ok (c, x.1)
+string_of read kind text true = read_pieces read (may_have_texts kind) (suc (length text)) text >>= λ x. checked kind x.0 >>= λ c. Ok (c, x.1)
 
 -- a string of definite length
-unfoldable pub string_at : (List ℕ → Read Item) → StringKind → List ℕ → Read Chunk
-string_at read kind text = string_of read kind text (begins_string kind (first_start text))
+unfoldable pub read_string : (List ℕ → Read Item) → StringKind → List ℕ → Read Chunk
+read_string read kind text = string_of read kind text (begins_string kind (first_start text))
 
 -- a chunk of an indefinite string, with the blanks round it
-abbrev pub chunk_at : (List ℕ → Read Item) → StringKind → List ℕ → Read Chunk
-chunk_at read kind text = string_at read kind (blank_at text)
+abbrev pub read_chunk : (List ℕ → Read Item) → StringKind → List ℕ → Read Chunk
+read_chunk read kind text = read_string read kind (skip_blank text)
 
-abbrev pub byte_chunks_at : (List ℕ → Read Item) → List ℕ → Read Item
-byte_chunks_at read text = members_at (chunk_at read bytes_kind) 41 text >>= λ cs. Ok (atom (byte_chunks cs.0), cs.1)
+abbrev pub read_byte_chunks : (List ℕ → Read Item) → List ℕ → Read Item
+read_byte_chunks read text = read_members (read_chunk read bytes_kind) 41 text >>= λ cs. Ok (atom (byte_chunks cs.0), cs.1)
 
-abbrev pub text_chunks_at : (List ℕ → Read Item) → List ℕ → Read Item
-text_chunks_at read text = members_at (chunk_at read text_kind) 41 text >>= λ cs. Ok (atom (text_chunks cs.0), cs.1)
+abbrev pub read_text_chunks : (List ℕ → Read Item) → List ℕ → Read Item
+read_text_chunks read text = read_members (read_chunk read text_kind) 41 text >>= λ cs. Ok (atom (text_chunks cs.0), cs.1)
 
 -- the kind of an indefinite string, by the first byte of its first chunk
 abbrev pub chunks_of : (List ℕ → Read Item) → List ℕ → Start → Read Item
-chunks_of read text start.Quote = text_chunks_at read text
-chunks_of read text _ = byte_chunks_at read text
+chunks_of read text start.Quote = read_text_chunks read text
+chunks_of read text _ = read_byte_chunks read text
 
 -- an indefinite string behind its parenthesis
-abbrev pub chunks_at : (List ℕ → Read Item) → List ℕ → Read Item
-chunks_at read text = or_refused (after_byte 95 text) >>= λ opened. let first = blank_at opened in chunks_of read first (first_start first)
+abbrev pub read_chunks : (List ℕ → Read Item) → List ℕ → Read Item
+read_chunks read text = or_refused (after_byte 95 text) >>= λ opened. let first = skip_blank opened in chunks_of read first (first_start first)
 
 -- an indefinite byte string of no chunks, or a byte string
 abbrev pub byte_string_of : (List ℕ → Read Item) → List ℕ → Option (List ℕ) → Read Item
 byte_string_of read text (Some rest) = Ok (atom (byte_chunks []), rest)
-byte_string_of read text None = string_at read bytes_kind text >>= λ c. Ok (atom (byte_string c.0), c.1)
+byte_string_of read text None = read_string read bytes_kind text >>= λ c. Ok (atom (byte_string c.0), c.1)
 
-abbrev pub byte_string_at : (List ℕ → Read Item) → List ℕ → Read Item
-byte_string_at read text = byte_string_of read text (after_word (codes "''_") text)
+abbrev pub read_byte_string : (List ℕ → Read Item) → List ℕ → Read Item
+read_byte_string read text = byte_string_of read text (after_word (codes "''_") text)
 
 -- a string of this kind and content, and what stands behind it
 abbrev pub one_string : StringKind → List ℕ → List ℕ → Read Item
@@ -346,10 +346,10 @@ ends_string (b ∷ text) = (b == 44) || (b == 58) || (b == 93) || (b == 125)
 -- an indefinite text string of no chunks, or a text string
 abbrev pub text_string_of : (List ℕ → Read Item) → List ℕ → Option (List ℕ) → Read Item
 text_string_of read text (Some rest) = Ok (atom (text_chunks []), rest)
-text_string_of read text None = string_at read text_kind text >>= λ c. Ok (atom (text_string c.0), c.1)
+text_string_of read text None = read_string read text_kind text >>= λ c. Ok (atom (text_string c.0), c.1)
 
-abbrev pub text_string_at : (List ℕ → Read Item) → List ℕ → Read Item
-text_string_at read text = text_string_of read text (after_word (codes "\"\"_") text)
+abbrev pub read_text_string : (List ℕ → Read Item) → List ℕ → Read Item
+read_text_string read text = text_string_of read text (after_word (codes "\"\"_") text)
 
 -- Simple values and floats
 
@@ -357,8 +357,8 @@ text_string_at read text = text_string_of read text (after_word (codes "\"\"_") 
 abbrev pub simple_value : ℕ → List ℕ → Result ℕ Error
 simple_value n digits = if list_all (λ c. nat_lt (digit_value c) 10) digits && nat_lt n 256 then Ok n else Err refusal.Notation
 
-abbrev pub simple_at : List ℕ → Read Item
-simple_at text = number_at text >>= λ x. simple_value x.0.0 (take (length text - length x.1) text) >>= λ n. or_refused (after_byte 41 x.1) >>= λ rest. Ok (atom (simple n), rest)
+abbrev pub read_simple : List ℕ → Read Item
+read_simple text = read_number text >>= λ x. simple_value x.0.0 (take (length text - length x.1) text) >>= λ n. or_refused (after_byte 41 x.1) >>= λ rest. Ok (atom (simple n), rest)
 
 -- the width of a float of so many hex digits
 abbrev pub float_of : ℕ → Option FloatWidth
@@ -369,8 +369,8 @@ float_of count =
     else None
 
 -- a float's hex digits, up to an apostrophe
-abbrev pub float_at : List ℕ → Read Item
-float_at text =
+abbrev pub read_float : List ℕ → Read Item
+read_float text =
     or_refused (position (λ b. b == 39) text) >>= λ count. or_refused (float_of count) >>= λ w. or_refused (numeral 16 (take count text)) >>= λ bits. Ok (atom (float bits w), drop (count + 1) text)
 
 -- what stands behind a word, read so, where the text begins with it; and else the other
@@ -378,43 +378,43 @@ abbrev pub or_else : Option (List ℕ) → (List ℕ → Read Item) → Read Ite
 or_else None read other = other
 or_else (Some rest) read other = read rest
 
-abbrev pub named_at : ℕ → List ℕ → Read Item
-named_at n text = Ok (atom (simple n), text)
+abbrev pub named : ℕ → List ℕ → Read Item
+named n text = Ok (atom (simple n), text)
 
 -- a simple value or a float
-abbrev pub word_at : List ℕ → Read Item
-word_at text =
-    or_else (after_word (codes "false") text) (named_at 20)
-    (or_else (after_word (codes "true") text) (named_at 21)
-    (or_else (after_word (codes "null") text) (named_at 22)
-    (or_else (after_word (codes "undefined") text) (named_at 23)
-    (or_else (after_word (codes "simple(") text) simple_at
-    (or_else (after_word (codes "float'") text) float_at (Err refusal.Notation))))))
+abbrev pub read_word : List ℕ → Read Item
+read_word text =
+    or_else (after_word (codes "false") text) (named 20)
+    (or_else (after_word (codes "true") text) (named 21)
+    (or_else (after_word (codes "null") text) (named 22)
+    (or_else (after_word (codes "undefined") text) (named 23)
+    (or_else (after_word (codes "simple(") text) read_simple
+    (or_else (after_word (codes "float'") text) read_float (Err refusal.Notation))))))
 
 -- Items
 
 -- an item's core, by what it begins with: the text, and what stands behind its first byte
 abbrev pub core_of : (List ℕ → Read Item) → Start → List ℕ → List ℕ → Read Item
-core_of read start.Digit text rest = integer_at read text
-core_of read start.Minus text rest = negative_at rest
-core_of read start.Bracket text rest = array_at read rest
-core_of read start.Brace text rest = map_at read rest
-core_of read start.Parenthesis text rest = chunks_at read rest
-core_of read start.Apostrophe text rest = byte_string_at read text
-core_of read start.Angle text rest = byte_string_at read text
-core_of read start.LetterB text rest = byte_string_at read text
-core_of read start.LetterH text rest = byte_string_at read text
-core_of read start.Quote text rest = text_string_at read text
-core_of read start.Other text rest = word_at text
+core_of read start.Digit text rest = read_integer read text
+core_of read start.Minus text rest = read_negative rest
+core_of read start.Bracket text rest = read_array read rest
+core_of read start.Brace text rest = read_map read rest
+core_of read start.Parenthesis text rest = read_chunks read rest
+core_of read start.Apostrophe text rest = read_byte_string read text
+core_of read start.Angle text rest = read_byte_string read text
+core_of read start.LetterB text rest = read_byte_string read text
+core_of read start.LetterH text rest = read_byte_string read text
+core_of read start.Quote text rest = read_text_string read text
+core_of read start.Other text rest = read_word text
 
-unfoldable pub core_at : (List ℕ → Read Item) → List ℕ → Read Item
-core_at read [] = Err refusal.Notation
-core_at read (b ∷ rest) = core_of read (start_of b) (b ∷ rest) rest
+unfoldable pub read_core : (List ℕ → Read Item) → List ℕ → Read Item
+read_core read [] = Err refusal.Notation
+read_core read (b ∷ rest) = core_of read (start_of b) (b ∷ rest) rest
 
 -- an item with the blanks round it, with so many levels left for it and the items in it
-unfoldable pub item_at : ℕ → List ℕ → Read Item
-item_at zero text = Err refusal.TooDeep
-item_at (suc left) text = core_at (item_at left) (blank_at text) >>= λ i. Ok (i.0, blank_at i.1)
+unfoldable pub read_item : ℕ → List ℕ → Read Item
+read_item zero text = Err refusal.TooDeep
+read_item (suc left) text = read_core (read_item left) (skip_blank text) >>= λ i. Ok (i.0, skip_blank i.1)
 
 -- the item that a text is, all of it
 abbrev pub whole : Item → List ℕ → Result Item Error
@@ -422,4 +422,4 @@ whole i [] = Ok i
 whole i (b ∷ rest) = Err refusal.Notation
 
 abbrev pub notation_of : ℕ → List ℕ → Result Item Error
-notation_of limit text = item_at limit text >>= λ i. whole i.0 i.1
+notation_of limit text = read_item limit text >>= λ i. whole i.0 i.1

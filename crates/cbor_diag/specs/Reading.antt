@@ -39,23 +39,23 @@ abbrev pub Gives : {X Y : Type 0} → (X → Y) → Result X Error → Result Y 
 Gives view (Ok x) read = read ≡ Ok (view x)
 Gives view (Err e) read = Fails e read
 
-abbrev pub number_at : Width → List ℕ → Read ℕ
-number_at w b =
+abbrev pub read_number : Width → List ℕ → Read ℕ
+read_number w b =
     if nat_lt (length b) (byte_len w) then Err refusal.CutShort
     else Ok (from_be_bytes w (take (byte_len w) b), drop (byte_len w) b)
 
 -- the number behind info 24 to 27
-unfoldable pub wide_at : Width → IntegerWidth → List ℕ → Read Info
-wide_at w width b = number_at w b >>= λ n. Ok (info.Number n.0 width, n.1)
+unfoldable pub read_wide : Width → IntegerWidth → List ℕ → Read Info
+read_wide w width b = read_number w b >>= λ n. Ok (info.Number n.0 width, n.1)
 
 -- what five bits of info say, with the bytes that they ask for
-unfoldable pub info_at : ℕ → List ℕ → Read Info
-info_at bits b =
+unfoldable pub read_info : ℕ → List ℕ → Read Info
+read_info bits b =
     if nat_lt bits 24 then Ok (info.Number bits Zero, b)
-    else if bits == 24 then wide_at w8 Eight b
-    else if bits == 25 then wide_at w16 Sixteen b
-    else if bits == 26 then wide_at w32 ThirtyTwo b
-    else if bits == 27 then wide_at w64 SixtyFour b
+    else if bits == 24 then read_wide w8 Eight b
+    else if bits == 25 then read_wide w16 Sixteen b
+    else if bits == 26 then read_wide w32 ThirtyTwo b
+    else if bits == 27 then read_wide w64 SixtyFour b
     else if bits == 31 then Ok (info.Indefinite, b)
     else Err refusal.Head
 
@@ -95,18 +95,18 @@ abbrev pub head_of : ℕ → Info → Result ItemHead Error
 head_of major (info.Number n w) = Ok (numbered major n w)
 head_of major info.Indefinite = unnumbered major
 
-unfoldable pub head_at : List ℕ → Read ItemHead
-head_at [] = Err refusal.CutShort
-head_at (first ∷ b) = info_at (first % 32) b >>= λ i. head_of (first / 32) i.0 >>= λ h. Ok (h, i.1)
+unfoldable pub read_head : List ℕ → Read ItemHead
+read_head [] = Err refusal.CutShort
+read_head (first ∷ b) = read_info (first % 32) b >>= λ i. head_of (first / 32) i.0 >>= λ h. Ok (h, i.1)
 
 -- so many bytes
 abbrev pub split_at : ℕ → List ℕ → Read (List ℕ)
 split_at n b = if nat_lt (length b) n then Err refusal.CutShort else Ok (take n b, drop n b)
 
 -- a string of that length and its content
-unfoldable pub content_at : StringKind → ℕ → IntegerWidth → List ℕ → Read Chunk
-content_at bytes_kind n w b = split_at n b >>= λ s. Ok (record { bytes = s.0; width = w }, s.1)
-content_at text_kind n w b = split_at n b >>= λ s.
+unfoldable pub read_content : StringKind → ℕ → IntegerWidth → List ℕ → Read Chunk
+read_content bytes_kind n w b = split_at n b >>= λ s. Ok (record { bytes = s.0; width = w }, s.1)
+read_content text_kind n w b = split_at n b >>= λ s.
     if is_utf8 s.0 then Ok (record { bytes = s.0; width = w }, s.1) else Err refusal.Utf8
 
 -- the length in a chunk's head
@@ -115,24 +115,24 @@ length_of (info.Number n w) b = Ok (Some (n, w), b)
 length_of info.Indefinite b = Err refusal.Head
 
 -- the length in the head of the next chunk of an indefinite string of that major type, or none at its break
-unfoldable pub chunk_length_at : ℕ → List ℕ → Read (Option (ℕ × IntegerWidth))
-chunk_length_at major [] = Err refusal.CutShort
-chunk_length_at major (first ∷ b) =
+unfoldable pub read_chunk_length : ℕ → List ℕ → Read (Option (ℕ × IntegerWidth))
+read_chunk_length major [] = Err refusal.CutShort
+read_chunk_length major (first ∷ b) =
     if first == break_byte then Ok (None, b)
-    else if first / 32 == major then (info_at (first % 32) b >>= λ i. length_of i.0 i.1)
+    else if first / 32 == major then (read_info (first % 32) b >>= λ i. length_of i.0 i.1)
     else Err refusal.Head
 
 -- a chunk behind its info
 abbrev pub chunk_of : StringKind → Info → List ℕ → Read (Option Chunk)
-chunk_of kind (info.Number n w) b = content_at kind n w b >>= λ c. Ok (Some c.0, c.1)
+chunk_of kind (info.Number n w) b = read_content kind n w b >>= λ c. Ok (Some c.0, c.1)
 chunk_of kind info.Indefinite b = Err refusal.Head
 
 -- the next chunk of an indefinite string, or none at its break
-unfoldable pub chunk_at : StringKind → List ℕ → Read (Option Chunk)
-chunk_at kind [] = Err refusal.CutShort
-chunk_at kind (first ∷ b) =
+unfoldable pub read_chunk : StringKind → List ℕ → Read (Option Chunk)
+read_chunk kind [] = Err refusal.CutShort
+read_chunk kind (first ∷ b) =
     if first == break_byte then Ok (None, b)
-    else if first / 32 == major_of kind then (info_at (first % 32) b >>= λ i. chunk_of kind i.0 i.1)
+    else if first / 32 == major_of kind then (read_info (first % 32) b >>= λ i. chunk_of kind i.0 i.1)
     else Err refusal.Head
 
 abbrev pub more_chunks : (List ℕ → Read (List Chunk)) → Option Chunk → List ℕ → Read (List Chunk)
@@ -141,59 +141,59 @@ more_chunks read (Some c) b = read b >>= λ cs. Ok (c ∷ cs.0, cs.1)
 
 -- The chunks up to the break. The first number bounds how many are looked for; no input has more than
 -- it has bytes.
-unfoldable pub chunks_at : ℕ → StringKind → List ℕ → Read (List Chunk)
-chunks_at zero kind b = Err refusal.CutShort
-chunks_at (suc n) kind b = chunk_at kind b >>= λ c. more_chunks (chunks_at n kind) c.0 c.1
+unfoldable pub read_chunks : ℕ → StringKind → List ℕ → Read (List Chunk)
+read_chunks zero kind b = Err refusal.CutShort
+read_chunks (suc n) kind b = read_chunk kind b >>= λ c. more_chunks (read_chunks n kind) c.0 c.1
 
 -- so many items, each read by `read`
-unfoldable pub items_at : (List ℕ → Read Item) → ℕ → List ℕ → Read Items
-items_at read zero b = Ok (no_items, b)
-items_at read (suc n) b = read b >>= λ i. items_at read n i.1 >>= λ is. Ok (item i.0 is.0, is.1)
+unfoldable pub read_items : (List ℕ → Read Item) → ℕ → List ℕ → Read Items
+read_items read zero b = Ok (no_items, b)
+read_items read (suc n) b = read b >>= λ i. read_items read n i.1 >>= λ is. Ok (item i.0 is.0, is.1)
 
 -- a key and its value
-abbrev pub pair_at : (List ℕ → Read Item) → List ℕ → Read (Item × Item)
-pair_at read b = read b >>= λ k. read k.1 >>= λ v. Ok ((k.0, v.0), v.1)
+abbrev pub read_pair : (List ℕ → Read Item) → List ℕ → Read (Item × Item)
+read_pair read b = read b >>= λ k. read k.1 >>= λ v. Ok ((k.0, v.0), v.1)
 
-unfoldable pub pairs_at : (List ℕ → Read Item) → ℕ → List ℕ → Read Pairs
-pairs_at read zero b = Ok (no_pairs, b)
-pairs_at read (suc n) b = pair_at read b >>= λ p. pairs_at read n p.1 >>= λ ps. Ok (pair p.0.0 p.0.1 ps.0, ps.1)
+unfoldable pub read_pairs : (List ℕ → Read Item) → ℕ → List ℕ → Read Pairs
+read_pairs read zero b = Ok (no_pairs, b)
+read_pairs read (suc n) b = read_pair read b >>= λ p. read_pairs read n p.1 >>= λ ps. Ok (pair p.0.0 p.0.1 ps.0, ps.1)
 
 -- whether a break stands here, and where it does the bytes after it
-abbrev pub break_at : List ℕ → Option (List ℕ)
-break_at [] = None
-break_at (first ∷ b) = if first == break_byte then Some b else None
+abbrev pub after_break : List ℕ → Option (List ℕ)
+after_break [] = None
+after_break (first ∷ b) = if first == break_byte then Some b else None
 
 abbrev pub unless_break : {X : Type 0} → Option (List ℕ) → X → Read X → Read X
 unless_break None none read = read
 unless_break (Some b) none read = Ok (none, b)
 
--- the items up to the break, bounded as `chunks_at` is
-unfoldable pub open_items_at : (List ℕ → Read Item) → ℕ → List ℕ → Read Items
-open_items_at read zero b = Err refusal.CutShort
-open_items_at read (suc n) b = unless_break (break_at b) no_items
-    (read b >>= λ i. open_items_at read n i.1 >>= λ is. Ok (item i.0 is.0, is.1))
+-- the items up to the break, bounded as `read_chunks` is
+unfoldable pub read_open_items : (List ℕ → Read Item) → ℕ → List ℕ → Read Items
+read_open_items read zero b = Err refusal.CutShort
+read_open_items read (suc n) b = unless_break (after_break b) no_items
+    (read b >>= λ i. read_open_items read n i.1 >>= λ is. Ok (item i.0 is.0, is.1))
 
-unfoldable pub open_pairs_at : (List ℕ → Read Item) → ℕ → List ℕ → Read Pairs
-open_pairs_at read zero b = Err refusal.CutShort
-open_pairs_at read (suc n) b = unless_break (break_at b) no_pairs
-    (pair_at read b >>= λ p. open_pairs_at read n p.1 >>= λ ps. Ok (pair p.0.0 p.0.1 ps.0, ps.1))
+unfoldable pub read_open_pairs : (List ℕ → Read Item) → ℕ → List ℕ → Read Pairs
+read_open_pairs read zero b = Err refusal.CutShort
+read_open_pairs read (suc n) b = unless_break (after_break b) no_pairs
+    (read_pair read b >>= λ p. read_open_pairs read n p.1 >>= λ ps. Ok (pair p.0.0 p.0.1 ps.0, ps.1))
 
 -- an item behind its head, the items in it read by `read`
-abbrev pub body_at : (List ℕ → Read Item) → ItemHead → List ℕ → Read Item
-body_at read (item_head.Integer n w) b = Ok (atom (integer n w), b)
-body_at read (item_head.Negative n w) b = Ok (atom (negative n w), b)
-body_at read (item_head.Bytes n w) b = content_at bytes_kind n w b >>= λ c. Ok (atom (byte_string c.0), c.1)
-body_at read (item_head.Text n w) b = content_at text_kind n w b >>= λ c. Ok (atom (text_string c.0), c.1)
-body_at read (item_head.Array n w) b = items_at read n b >>= λ is. Ok (array is.0 (Some w), is.1)
-body_at read (item_head.Map n w) b = pairs_at read n b >>= λ ps. Ok (spec.map ps.0 (Some w), ps.1)
-body_at read (item_head.Tag n w) b = read b >>= λ i. Ok (tagged n w i.0, i.1)
-body_at read (item_head.Float bits w) b = Ok (atom (float bits w), b)
-body_at read (item_head.Simple n) b = Ok (atom (simple n), b)
-body_at read item_head.OpenBytes b = chunks_at (length b) bytes_kind b >>= λ cs. Ok (atom (byte_chunks cs.0), cs.1)
-body_at read item_head.OpenText b = chunks_at (length b) text_kind b >>= λ cs. Ok (atom (text_chunks cs.0), cs.1)
-body_at read item_head.OpenArray b = open_items_at read (length b) b >>= λ is. Ok (array is.0 None, is.1)
-body_at read item_head.OpenMap b = open_pairs_at read (length b) b >>= λ ps. Ok (spec.map ps.0 None, ps.1)
-body_at read item_head.Break b = Err refusal.Head
+abbrev pub read_body : (List ℕ → Read Item) → ItemHead → List ℕ → Read Item
+read_body read (item_head.Integer n w) b = Ok (atom (integer n w), b)
+read_body read (item_head.Negative n w) b = Ok (atom (negative n w), b)
+read_body read (item_head.Bytes n w) b = read_content bytes_kind n w b >>= λ c. Ok (atom (byte_string c.0), c.1)
+read_body read (item_head.Text n w) b = read_content text_kind n w b >>= λ c. Ok (atom (text_string c.0), c.1)
+read_body read (item_head.Array n w) b = read_items read n b >>= λ is. Ok (array is.0 (Some w), is.1)
+read_body read (item_head.Map n w) b = read_pairs read n b >>= λ ps. Ok (spec.map ps.0 (Some w), ps.1)
+read_body read (item_head.Tag n w) b = read b >>= λ i. Ok (tagged n w i.0, i.1)
+read_body read (item_head.Float bits w) b = Ok (atom (float bits w), b)
+read_body read (item_head.Simple n) b = Ok (atom (simple n), b)
+read_body read item_head.OpenBytes b = read_chunks (length b) bytes_kind b >>= λ cs. Ok (atom (byte_chunks cs.0), cs.1)
+read_body read item_head.OpenText b = read_chunks (length b) text_kind b >>= λ cs. Ok (atom (text_chunks cs.0), cs.1)
+read_body read item_head.OpenArray b = read_open_items read (length b) b >>= λ is. Ok (array is.0 None, is.1)
+read_body read item_head.OpenMap b = read_open_pairs read (length b) b >>= λ ps. Ok (spec.map ps.0 None, ps.1)
+read_body read item_head.Break b = Err refusal.Head
 
 -- what needs memory: a string, a container or a tag
 abbrev pub HoldsContent : ItemHead → Type 0
@@ -205,11 +205,11 @@ HoldsContent item_head.Break = ⊥
 HoldsContent _ = Unit {0}
 
 -- no more levels are left, and an item is wanted
-abbrev pub too_deep_at : List ℕ → Read Item
-too_deep_at [] = Err refusal.CutShort
-too_deep_at (first ∷ b) = Err refusal.TooDeep
+abbrev pub no_level_left : List ℕ → Read Item
+no_level_left [] = Err refusal.CutShort
+no_level_left (first ∷ b) = Err refusal.TooDeep
 
 -- an item, with so many levels left for it and the items in it
-unfoldable pub item_at : ℕ → List ℕ → Read Item
-item_at zero b = too_deep_at b
-item_at (suc left) b = head_at b >>= λ h. body_at (item_at left) h.0 h.1
+unfoldable pub read_item : ℕ → List ℕ → Read Item
+read_item zero b = no_level_left b
+read_item (suc left) b = read_head b >>= λ h. read_body (read_item left) h.0 h.1

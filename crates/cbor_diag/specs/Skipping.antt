@@ -20,8 +20,8 @@ use Rattle.cbor_diag.specs.declared.parse.binary.skip.to_come.ToCome.TheVariants
 use Rattle.cbor_diag.specs.Item as spec
 use Rattle.cbor_diag.specs.WellFormed.{deepest}
 use Rattle.cbor_diag.specs.Bytes.{StringKind, bytes_kind, text_kind}
-use Rattle.cbor_diag.specs.Reading.{Read, ◌>>=◌, content_at, chunks_at, items_at, pairs_at, break_at, open_items_at}
-use Rattle.cbor_diag.specs.Reading.{open_pairs_at, body_at, item_at}
+use Rattle.cbor_diag.specs.Reading.{Read, ◌>>=◌, read_content, read_chunks, read_items, read_pairs, after_break, read_open_items}
+use Rattle.cbor_diag.specs.Reading.{read_open_pairs, read_body, read_item}
 
 -- ---- skipping
 
@@ -39,17 +39,17 @@ abbrev pub here : List ℕ → Skip
 here b = Ok b
 
 abbrev pub skip_content : StringKind → ℕ → IntegerWidth → List ℕ → Skip
-skip_content kind n w b = rest_of (content_at kind n w b)
+skip_content kind n w b = rest_of (read_content kind n w b)
 
 abbrev pub skip_chunks : StringKind → List ℕ → Skip
-skip_chunks kind b = rest_of (chunks_at (length b) kind b)
+skip_chunks kind b = rest_of (read_chunks (length b) kind b)
 
 -- an item with so many levels left for it, and the same behind its head
 abbrev pub skip_item : ℕ → List ℕ → Skip
-skip_item left b = rest_of (item_at left b)
+skip_item left b = rest_of (read_item left b)
 
 abbrev pub skip_body : ℕ → ItemHead → List ℕ → Skip
-skip_body left h b = rest_of (body_at (item_at left) h b)
+skip_body left h b = rest_of (read_body (read_item left) h b)
 
 -- ---- steps of the code
 
@@ -97,7 +97,7 @@ one_less ToBreak = ToBreak
 abbrev pub count_end : Count → List ℕ → Option (List ℕ)
 count_end (Definite zero) b = Some b
 count_end (Definite (suc n)) b = None
-count_end ToBreak b = break_at b
+count_end ToBreak b = after_break b
 
 abbrev pub end_of : ToCome → List ℕ → Option (List ℕ)
 end_of (Items c) b = count_end c b
@@ -120,12 +120,12 @@ opened _ = None
 
 -- the parts, with so many levels left for each
 abbrev pub skip_items : ℕ → Count → List ℕ → Skip
-skip_items left (Definite n) b = rest_of (items_at (item_at left) n b)
-skip_items left ToBreak b = rest_of (open_items_at (item_at left) (length b) b)
+skip_items left (Definite n) b = rest_of (read_items (read_item left) n b)
+skip_items left ToBreak b = rest_of (read_open_items (read_item left) (length b) b)
 
 abbrev pub skip_pairs : ℕ → Count → List ℕ → Skip
-skip_pairs left (Definite n) b = rest_of (pairs_at (item_at left) n b)
-skip_pairs left ToBreak b = rest_of (open_pairs_at (item_at left) (length b) b)
+skip_pairs left (Definite n) b = rest_of (read_pairs (read_item left) n b)
+skip_pairs left ToBreak b = rest_of (read_open_pairs (read_item left) (length b) b)
 
 abbrev pub skip_parts : ℕ → ToCome → List ℕ → Skip
 skip_parts left (Items c) b = skip_items left c b

@@ -8,7 +8,7 @@ use Rattle.cbor_diag.specs.declared.error.Error.TheVariants as refusal
 use Rattle.cbor_diag.specs.Item.{Item}
 use Rattle.cbor_diag.specs.Facts.{IsItem}
 use Rattle.cbor_diag.specs.Refused.{nothing}
-use Rattle.cbor_diag.specs.Reading.{Read, item_at}
+use Rattle.cbor_diag.specs.Reading.{Read, read_item}
 use Rattle.cbor_diag.proofs.Found.{item_again}
 use Rattle.cbor_diag.proofs.CutShort.{cut_again, fault_no_cut}
 use Rattle.cbor_diag.proofs.Faults.{fault_refuses}
@@ -20,10 +20,10 @@ use Rattle.cbor_view.specs.Sequence.{ItemsThen, IsOutputOfFirst, IsOutputOfAll, 
 
 -- reading refuses the bytes so
 abbrev IsRefused : List ℕ → Error → Type 0
-IsRefused b e = item_at 128 b ≡ Err e
+IsRefused b e = read_item 128 b ≡ Err e
 
-item_read : (b front after : List ℕ) (i : Item) → b ≡ front ++ after → IsItem front i → item_at 128 b ≡ Ok (i, after)
-item_read b front after i parts is = ap (item_at 128) parts ∙ item_again 1 128 front i after refl is
+item_read : (b front after : List ℕ) (i : Item) → b ≡ front ++ after → IsItem front i → read_item 128 b ≡ Ok (i, after)
+item_read b front after i parts is = ap (read_item 128) parts ∙ item_again 1 128 front i after refl is
 
 end_refused : IsRefused [] refusal.CutShort
 end_refused = cut_again 1 128 [] refl (nothing (omega arith))
@@ -32,14 +32,14 @@ rest_refused : (rest : List ℕ) (e : Error) → EndsTheItems rest e → IsRefus
 rest_refused rest e (inl h) = cut_again 1 128 rest refl h.2 ∙ ap Err (sym h.0)
 rest_refused rest e (inr fault) = fault_refuses 1 128 rest e refl fault
 
-no_both : (b after : List ℕ) (i : Item) (e : Error) → item_at 128 b ≡ Ok (i, after) → IsRefused b e → ⊥
+no_both : (b after : List ℕ) (i : Item) (e : Error) → read_item 128 b ≡ Ok (i, after) → IsRefused b e → ⊥
 no_both b after i e found none = let never : ◌≡◌ {A = Read Item} (Ok (i, after)) (Err e) = sym found ∙ none in cc never
 
 one_error : (b : List ℕ) (e d : Error) → IsRefused b e → IsRefused b d → e ≡ d
 one_error b e d none also = let same : ◌≡◌ {A = Read Item} (Err e) (Err d) = sym none ∙ also in cc same
 
-one_front : (b after behind : List ℕ) (i j : Item) → item_at 128 b ≡ Ok (i, after) → item_at 128 b ≡ Ok (j, behind)
-    → (i ≡ j) × (after ≡ behind)
+one_front : (b after behind : List ℕ) (i j : Item) → read_item 128 b ≡ Ok (i, after)
+    → read_item 128 b ≡ Ok (j, behind) → (i ≡ j) × (after ≡ behind)
 one_front b after behind i j found also =
     let same : ◌≡◌ {A = Read Item} (Ok (i, after)) (Ok (j, behind)) = sym found ∙ also in
     let pair : ◌≡◌ {A = Item × List ℕ} (i, after) (j, behind) = cc same in
@@ -53,7 +53,7 @@ continues : (b : List ℕ) (is js : List Item) (rest end : List ℕ) (e : Error)
     → (ks : List Item) × (js ≡ is ++ ks) × ItemsThen rest ks end
 continues b [] js rest end e first all none = (js, refl, subst (λ (x : List ℕ). ItemsThen x js end) first all)
 continues b (i ∷ is) [] rest end e first all none =
-    absurd (no_both b first.1 i e (item_read b first.0 first.1 i first.2 first.3) (ap (item_at 128) all ∙ none))
+    absurd (no_both b first.1 i e (item_read b first.0 first.1 i first.2 first.3) (ap (read_item 128) all ∙ none))
 continues b (i ∷ is) (j ∷ js) rest end e first all none =
     let one = one_front b first.1 all.1 i j (item_read b first.0 first.1 i first.2 first.3)
         (item_read b all.0 all.1 j all.2 all.3) in
@@ -101,7 +101,7 @@ before to input a b e d first all =
     let ends = rest_refused first.0 e first.2 in
     let none = rest_refused all.0 d all.2 in
     let one = whole_output to input a b first.0 all.0 d first.1 all.1 none e ends in
-    (one.0, one_error first.0 e d ends (ap (item_at 128) one.1 ∙ none))
+    (one.0, one_error first.0 e d ends (ap (read_item 128) one.1 ∙ none))
 
 not_ended : (e : Error) → EndsTheItems [] e → ⊥
 not_ended e (inl h) = h.1 refl

@@ -7,7 +7,7 @@ use Rattle.cbor_diag.specs.Item.{Chunk, Atom, integer, negative, byte_string, te
 use Rattle.cbor_diag.specs.Bytes.{StringKind, bytes_kind, text_kind}
 use Rattle.cbor_diag.specs.Reading.{Read}
 use Rattle.cbor_diag.specs.Notation.{IsBlank, Opens, StringOf, ChunksOf, AtomCore, Core, Reads}
-use Rattle.cbor_diag.specs.NotationReading.{blank_at, byte_string_of, byte_string_at, text_string_of, text_string_at, chunks_at, start_of, core_at, core_of, item_at, notation_of}
+use Rattle.cbor_diag.specs.NotationReading.{skip_blank, byte_string_of, read_byte_string, text_string_of, read_text_string, read_chunks, start_of, read_core, core_of, read_item, notation_of}
 use Rattle.cbor_diag.proofs.notation.Ends.{Begins, begins_append, begins_more, core_starts, digits, Follows, follows_passed, follows_blank, Starts, starts_passed}
 use Rattle.cbor_diag.proofs.notation.Lists.{ReadsAgain, blanked_parts, blanked_stripped}
 use Rattle.cbor_diag.proofs.notation.Strings.{string_begins, string_starts_core, string_again, string_no_word}
@@ -49,53 +49,53 @@ core_begins Reads text (tagged t w i) h =
 
 -- this item, and a text with a blank before the rest
 abbrev Answers : Read Item → Item → List ℕ → Type 0
-Answers r i rest = (left : List ℕ) × (r ≡ Ok (i, left)) × (blank_at left ≡ rest)
+Answers r i rest = (left : List ℕ) × (r ≡ Ok (i, left)) × (skip_blank left ≡ rest)
 
 module _ (Reads : List ℕ → Item → Type 0) (read : List ℕ → Read Item) (it : ReadsAgain Reads read) where
-  bytes_core : (text : List ℕ) → Begins (codes "'<bh") text → core_at read text ≡ byte_string_at read text
-  unfolding core_at start_of
+  bytes_core : (text : List ℕ) → Begins (codes "'<bh") text → read_core read text ≡ read_byte_string read text
+  unfolding read_core start_of
   bytes_core [] begins = absurd begins
   bytes_core (b ∷ text) begins =
-      at_one_of (λ c. core_of read (start_of c) (b ∷ text) text ≡ byte_string_at read (b ∷ text)) (codes "'<bh") b (refl, (refl, (refl, (refl, tt)))) begins
+      at_one_of (λ c. core_of read (start_of c) (b ∷ text) text ≡ read_byte_string read (b ∷ text)) (codes "'<bh") b (refl, (refl, (refl, (refl, tt)))) begins
 
-  text_core : (text : List ℕ) → Begins (codes "\"") text → core_at read text ≡ text_string_at read text
-  unfolding core_at start_of
+  text_core : (text : List ℕ) → Begins (codes "\"") text → read_core read text ≡ read_text_string read text
+  unfolding read_core start_of
   text_core [] begins = absurd begins
   text_core (b ∷ text) begins =
-      at_one_of (λ c. core_of read (start_of c) (b ∷ text) text ≡ text_string_at read (b ∷ text)) (codes "\"") b (refl, tt) begins
+      at_one_of (λ c. core_of read (start_of c) (b ∷ text) text ≡ read_text_string read (b ∷ text)) (codes "\"") b (refl, tt) begins
 
-  chunks_core : (text : List ℕ) → core_at read (40 ∷ text) ≡ chunks_at read text
-  unfolding core_at start_of
+  chunks_core : (text : List ℕ) → read_core read (40 ∷ text) ≡ read_chunks read text
+  unfolding read_core start_of
   chunks_core text = refl
 
-  no_byte_chunks : (rest : List ℕ) → core_at read (codes "''_" ++ rest) ≡ Ok (atom (byte_chunks []), rest)
-  unfolding core_at start_of
+  no_byte_chunks : (rest : List ℕ) → read_core read (codes "''_" ++ rest) ≡ Ok (atom (byte_chunks []), rest)
+  unfolding read_core start_of
   no_byte_chunks rest = refl
 
-  no_text_chunks : (rest : List ℕ) → core_at read (codes "\"\"_" ++ rest) ≡ Ok (atom (text_chunks []), rest)
-  unfolding core_at start_of
+  no_text_chunks : (rest : List ℕ) → read_core read (codes "\"\"_" ++ rest) ≡ Ok (atom (text_chunks []), rest)
+  unfolding read_core start_of
   no_text_chunks rest = refl
 
-  byte_string_again : (text after rest : List ℕ) (c : Chunk) → StringOf bytes_kind Reads text c → IsBlank after → Follows rest → core_at read (text ++ (after ++ rest)) ≡ Ok (atom (byte_string c), rest)
+  byte_string_again : (text after rest : List ℕ) (c : Chunk) → StringOf bytes_kind Reads text c → IsBlank after → Follows rest → read_core read (text ++ (after ++ rest)) ≡ Ok (atom (byte_string c), rest)
   byte_string_again text after rest c is is_blank follows =
       let tail : List ℕ = text ++ (after ++ rest) in
       bytes_core tail (begins_append (codes "'<bh") text (after ++ rest) (string_begins Reads bytes_kind text c is))
       ∙ (ap (byte_string_of read tail) (string_no_word Reads bytes_kind text after rest c is is_blank follows)
       ∙ rw (string_again Reads read it bytes_kind text after rest c is is_blank follows) refl)
 
-  text_string_again : (text after rest : List ℕ) (c : Chunk) → StringOf text_kind Reads text c → IsBlank after → Follows rest → core_at read (text ++ (after ++ rest)) ≡ Ok (atom (text_string c), rest)
+  text_string_again : (text after rest : List ℕ) (c : Chunk) → StringOf text_kind Reads text c → IsBlank after → Follows rest → read_core read (text ++ (after ++ rest)) ≡ Ok (atom (text_string c), rest)
   text_string_again text after rest c is is_blank follows =
       let tail : List ℕ = text ++ (after ++ rest) in
       text_core tail (begins_append (codes "\"") text (after ++ rest) (string_begins Reads text_kind text c is))
       ∙ (ap (text_string_of read tail) (string_no_word Reads text_kind text after rest c is is_blank follows)
       ∙ rw (string_again Reads read it text_kind text after rest c is is_blank follows) refl)
 
-  chunked_again : (kind : StringKind) (text rest : List ℕ) (cs : List Chunk) → ChunksOf kind Reads text cs → HasKind kind cs → core_at read (text ++ rest) ≡ Ok (atom (chunks_atom kind cs), rest)
+  chunked_again : (kind : StringKind) (text rest : List ℕ) (cs : List Chunk) → ChunksOf kind Reads text cs → HasKind kind cs → read_core read (text ++ rest) ≡ Ok (atom (chunks_atom kind cs), rest)
   chunked_again kind text rest cs is some =
       let c = chunks_again Reads read it kind cs text rest is some in
-      ap (core_at read) c.1 ∙ (chunks_core (95 ∷ c.0) ∙ c.2)
+      ap (read_core read) c.1 ∙ (chunks_core (95 ∷ c.0) ∙ c.2)
 
-  atom_again : (text after rest : List ℕ) (a : Atom) → AtomCore Reads text a → IsBlank after → Follows rest → Answers (core_at read (text ++ (after ++ rest))) (atom a) rest
+  atom_again : (text after rest : List ℕ) (a : Atom) → AtomCore Reads text a → IsBlank after → Follows rest → Answers (read_core read (text ++ (after ++ rest))) (atom a) rest
   atom_again text after rest (integer n w) is is_blank follows = (after ++ rest, integer_again read text (after ++ rest) n w is (follows_blank after rest is_blank follows), follows_passed after rest is_blank follows)
   atom_again text after rest (negative n w) is is_blank follows = (after ++ rest, negative_again read text (after ++ rest) n w is (follows_blank after rest is_blank follows), follows_passed after rest is_blank follows)
   atom_again text after rest (byte_string c) is is_blank follows = (rest, byte_string_again text after rest c is is_blank follows, follows_passed [] rest nothing follows)
@@ -109,44 +109,44 @@ module _ (Reads : List ℕ → Item → Type 0) (read : List ℕ → Read Item) 
   atom_again text after rest (float bits w) is is_blank follows = (after ++ rest, float_again read text (after ++ rest) bits w is, follows_passed after rest is_blank follows)
   atom_again text after rest (simple n) is is_blank follows = (after ++ rest, simple_again read text (after ++ rest) n is, follows_passed after rest is_blank follows)
 
-  core_again : (text after rest : List ℕ) (i : Item) → Core Reads text i → IsBlank after → Follows rest → Answers (core_at read (text ++ (after ++ rest))) i rest
+  core_again : (text after rest : List ℕ) (i : Item) → Core Reads text i → IsBlank after → Follows rest → Answers (read_core read (text ++ (after ++ rest))) i rest
   core_again text after rest (atom a) is is_blank follows = atom_again text after rest a is is_blank follows
   core_again text after rest (array is w) h is_blank follows = (after ++ rest, array_again Reads read it is w h.0 text (after ++ rest) h.1 h.2, follows_passed after rest is_blank follows)
   core_again text after rest (spec.map ps w) h is_blank follows = (after ++ rest, map_again Reads read it ps w h.0 text (after ++ rest) h.1 h.2, follows_passed after rest is_blank follows)
   core_again text after rest (tagged t w i) h is_blank follows =
-      (after ++ rest, ap (λ (x : List ℕ). core_at read (x ++ (after ++ rest))) h.2 ∙ tag_again read Reads h.0 h.1 (after ++ rest) t w i it h.3 h.4, follows_passed after rest is_blank follows)
+      (after ++ rest, ap (λ (x : List ℕ). read_core read (x ++ (after ++ rest))) h.2 ∙ tag_again read Reads h.0 h.1 (after ++ rest) t w i it h.3 h.4, follows_passed after rest is_blank follows)
 
 -- ---- an item is read again
 
-again_step : (left : ℕ) → ReadsAgain (Reads left) (item_at left) → (text rest : List ℕ) (i : Item) → Reads (suc left) text i → Follows rest → item_at (suc left) (text ++ rest) ≡ Ok (i, rest)
-unfolding Reads item_at
+again_step : (left : ℕ) → ReadsAgain (Reads left) (read_item left) → (text rest : List ℕ) (i : Item) → Reads (suc left) text i → Follows rest → read_item (suc left) (text ++ rest) ≡ Ok (i, rest)
+unfolding Reads read_item
 again_step left it text rest i is follows =
     let starts = begins_append core_starts is.1 (is.2 ++ rest) (core_begins (Reads left) is.1 i is.5) in
-    let passed : blank_at (text ++ rest) ≡ is.1 ++ (is.2 ++ rest) = ap blank_at (blanked_parts text is.0 is.1 is.2 rest is.3) ∙ starts_passed is.0 (is.1 ++ (is.2 ++ rest)) is.4 starts in
-    let a = core_again (Reads left) (item_at left) it is.1 is.2 rest i is.5 is.6 follows in
+    let passed : skip_blank (text ++ rest) ≡ is.1 ++ (is.2 ++ rest) = ap skip_blank (blanked_parts text is.0 is.1 is.2 rest is.3) ∙ starts_passed is.0 (is.1 ++ (is.2 ++ rest)) is.4 starts in
+    let a = core_again (Reads left) (read_item left) it is.1 is.2 rest i is.5 is.6 follows in
     rw (passed, a.1, a.2) refl
 
-nothing_reads : ReadsAgain (Reads zero) (item_at zero)
+nothing_reads : ReadsAgain (Reads zero) (read_item zero)
 unfolding Reads
 nothing_reads = record { again = λ text rest i is follows. absurd is; stripped = λ text i is. absurd is }
 
-reads_step : (left : ℕ) → ReadsAgain (Reads left) (item_at left) → ReadsAgain (Reads (suc left)) (item_at (suc left))
+reads_step : (left : ℕ) → ReadsAgain (Reads left) (read_item left) → ReadsAgain (Reads (suc left)) (read_item (suc left))
 unfolding Reads
 reads_step left it = record {
   again = λ text rest i is follows. again_step left it text rest i is follows;
   stripped = λ text i is. blanked_stripped (Core (Reads left)) (core_begins (Reads left)) text i is;
 }
 
-pub reads_again : (left : ℕ) → ReadsAgain (Reads left) (item_at left)
+pub reads_again : (left : ℕ) → ReadsAgain (Reads left) (read_item left)
 reads_again zero = nothing_reads
 reads_again (suc left) = reads_step left (reads_again left)
 
-pub item_again : (left : ℕ) (text rest : List ℕ) (i : Item) → Reads left text i → Follows rest → item_at left (text ++ rest) ≡ Ok (i, rest)
+pub item_again : (left : ℕ) (text rest : List ℕ) (i : Item) → Reads left text i → Follows rest → read_item left (text ++ rest) ≡ Ok (i, rest)
 item_again left text rest i is follows = let it = reads_again left in it.again text rest i is follows
 
 -- a text that is an item is read whole
-pub item_whole : (limit : ℕ) (text : List ℕ) (i : Item) → Reads limit text i → item_at limit text ≡ Ok (i, [])
-item_whole limit text i is = ap (item_at limit) (sym (append-nil text)) ∙ item_again limit text [] i is tt
+pub item_whole : (limit : ℕ) (text : List ℕ) (i : Item) → Reads limit text i → read_item limit text ≡ Ok (i, [])
+item_whole limit text i is = ap (read_item limit) (sym (append-nil text)) ∙ item_again limit text [] i is tt
 
 -- and answered
 pub notation_again : (limit : ℕ) (text : List ℕ) (i : Item) → Reads limit text i → notation_of limit text ≡ Ok i

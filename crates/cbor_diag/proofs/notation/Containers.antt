@@ -7,7 +7,7 @@ use Rattle.cbor_diag.specs.Item.{Item, array, Items, Pairs, no_pairs, pair}
 use Rattle.cbor_diag.specs.View.{pairs_of}
 use Rattle.cbor_diag.specs.Reading.{Read}
 use Rattle.cbor_diag.specs.Notation.{Members, Listed, list_of, pairs_list, PairOf, Opens}
-use Rattle.cbor_diag.specs.NotationReading.{after_byte, members_at, pair_at, length_of, array_at, map_at, start_of, core_at}
+use Rattle.cbor_diag.specs.NotationReading.{after_byte, read_members, read_pair, length_of, read_array, read_map, start_of, read_core}
 use Rattle.cbor_diag.proofs.notation.Ends.{Ends, begins_append, begins_ends, blank_ends, ends_after_byte, core_starts}
 use Rattle.cbor_diag.proofs.notation.Lists.{ReadsAgain, Stripped, IsClose, follows_further, listed_again}
 use Rattle.cbor_diag.proofs.notation.Pieces.{items_again}
@@ -38,7 +38,7 @@ module _ {X : Type 0} (Member : List ℕ → X → Type 0) (read : List ℕ → 
 
   -- the members behind a bracket, or behind it and `_`
   pub opened_again : (xs : List X) (w : Option IntegerWidth) (bracket : ℕ) (opening text rest : List ℕ) → Opens (bracket ∷ []) w opening → Listed Member opening (close ∷ []) text xs
-      → (behind inner : List ℕ) × (text ++ rest ≡ bracket ∷ behind) × (length_of behind (after_byte 95 behind) ≡ (w, inner)) × (members_at read close inner ≡ Ok (xs, rest))
+      → (behind inner : List ℕ) × (text ++ rest ≡ bracket ∷ behind) × (length_of behind (after_byte 95 behind) ≡ (w, inner)) × (read_members read close inner ≡ Ok (xs, rest))
   opened_again xs (Some w) bracket opening text rest opens listed =
       let l = listed_again Member read it close [] closes xs opening text rest listed in
       let none = no_mark xs listed.0 rest listed.2 in
@@ -53,7 +53,7 @@ module _ (Reads : List ℕ → Item → Type 0) (read : List ℕ → Read Item) 
   pair_whole : (text rest : List ℕ) (p : Item × Item) (is : PairOf Reads text p) → text ++ rest ≡ is.0 ++ (58 ∷ (is.1 ++ rest))
   pair_whole text rest p is = ap (λ (t : List ℕ). t ++ rest) is.2 ∙ append_assoc is.0 (58 ∷ is.1) rest
 
-  pair_again : (text rest : List ℕ) (p : Item × Item) → PairOf Reads text p → Ends (codes ",:]})>") rest → pair_at read (text ++ rest) ≡ Ok (p, rest)
+  pair_again : (text rest : List ℕ) (p : Item × Item) → PairOf Reads text p → Ends (codes ",:]})>") rest → read_pair read (text ++ rest) ≡ Ok (p, rest)
   pair_again text rest p is follows =
       rw (pair_whole text rest p is, it.again is.0 (58 ∷ (is.1 ++ rest)) p.0 is.3 refl, it.again is.1 rest p.1 is.4 follows) refl
 
@@ -69,25 +69,25 @@ module _ (Reads : List ℕ → Item → Type 0) (read : List ℕ → Read Item) 
         is = (s.behind, is.1, refl, s.is, is.4);
       }
 
-  pair_reads : ReadsAgain (PairOf Reads) (pair_at read)
+  pair_reads : ReadsAgain (PairOf Reads) (read_pair read)
   pair_reads = record { again = λ text rest p is follows. pair_again text rest p is follows; stripped = λ text p is. pair_stripped text p is }
 
-  array_core : (text : List ℕ) → core_at read (91 ∷ text) ≡ array_at read text
-  unfolding core_at start_of
+  array_core : (text : List ℕ) → read_core read (91 ∷ text) ≡ read_array read text
+  unfolding read_core start_of
   array_core text = refl
 
-  map_core : (text : List ℕ) → core_at read (123 ∷ text) ≡ map_at read text
-  unfolding core_at start_of
+  map_core : (text : List ℕ) → read_core read (123 ∷ text) ≡ read_map read text
+  unfolding read_core start_of
   map_core text = refl
 
   pub array_again : (is : Items) (w : Option IntegerWidth) (opening text rest : List ℕ) → Opens (codes "[") w opening → Listed Reads opening (codes "]") text (list_of is)
-      → core_at read (text ++ rest) ≡ Ok (array is w, rest)
+      → read_core read (text ++ rest) ≡ Ok (array is w, rest)
   array_again is w opening text rest opens listed =
       let l = opened_again Reads read it 93 refl (list_of is) w 91 opening text rest opens listed in
-      ap (core_at read) l.2 ∙ (array_core l.0 ∙ rw (l.3, l.4, items_again is) refl)
+      ap (read_core read) l.2 ∙ (array_core l.0 ∙ rw (l.3, l.4, items_again is) refl)
 
   pub map_again : (ps : Pairs) (w : Option IntegerWidth) (opening text rest : List ℕ) → Opens (codes "{") w opening → Listed (PairOf Reads) opening (codes "}") text (pairs_list ps)
-      → core_at read (text ++ rest) ≡ Ok (spec.map ps w, rest)
+      → read_core read (text ++ rest) ≡ Ok (spec.map ps w, rest)
   map_again ps w opening text rest opens listed =
-      let l = opened_again (PairOf Reads) (pair_at read) pair_reads 125 refl (pairs_list ps) w 123 opening text rest opens listed in
-      ap (core_at read) l.2 ∙ (map_core l.0 ∙ rw (l.3, l.4, pairs_again ps) refl)
+      let l = opened_again (PairOf Reads) (read_pair read) pair_reads 125 refl (pairs_list ps) w 123 opening text rest opens listed in
+      ap (read_core read) l.2 ∙ (map_core l.0 ∙ rw (l.3, l.4, pairs_again ps) refl)

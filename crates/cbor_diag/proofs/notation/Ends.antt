@@ -7,7 +7,7 @@ use Rattle.cbor_notes.specs.Token.{nothing, whitespace, comment, is_whitespace}
 use Rattle.cbor_notes.proofs.tokens.Blanks.{at_whitespace, blank_left, after_blank-append, after_blank-ends, EndsBlank}
 use Rattle.cbor_notes.proofs.tokens.Numbers.{EndsNumber}
 use Rattle.cbor_diag.specs.Notation.{IsBlank}
-use Rattle.cbor_diag.specs.NotationReading.{after_byte, blank_at}
+use Rattle.cbor_diag.specs.NotationReading.{after_byte, skip_blank}
 
 -- ---- one of some bytes
 
@@ -67,7 +67,7 @@ ends_blank bytes (b ∷ text) all is =
     (parts.0, eqb-false b 47 parts.1)
 
 -- a blank is passed up to one of them
-pub blank_passed : (bytes blank text : List ℕ) → list_all no_blank bytes ≡ true → IsBlank blank → Ends bytes text → blank_at (blank ++ text) ≡ text
+pub blank_passed : (bytes blank text : List ℕ) → list_all no_blank bytes ≡ true → IsBlank blank → Ends bytes text → skip_blank (blank ++ text) ≡ text
 blank_passed bytes blank text all is ends = after_blank-append is text ∙ after_blank-ends true text (ends_blank bytes text all ends)
 
 -- ---- what stands behind an item, and behind its core
@@ -97,7 +97,7 @@ pub follows_blank : (after rest : List ℕ) → IsBlank after → Follows rest �
 follows_blank after rest is follows = blank_ends item_ends core_ends after rest refl refl is follows
 
 -- a blank behind a core is passed
-pub follows_passed : (after rest : List ℕ) → IsBlank after → Follows rest → blank_at (after ++ rest) ≡ rest
+pub follows_passed : (after rest : List ℕ) → IsBlank after → Follows rest → skip_blank (after ++ rest) ≡ rest
 follows_passed after rest is follows = blank_passed item_ends after rest refl is follows
 
 -- no number goes on behind its end
@@ -126,11 +126,11 @@ abbrev pub Starts : List ℕ → Type 0
 Starts text = Begins core_starts text
 
 -- no blank is before a core, and none is passed
-pub starts_passed : (blank text : List ℕ) → IsBlank blank → Starts text → blank_at (blank ++ text) ≡ text
+pub starts_passed : (blank text : List ℕ) → IsBlank blank → Starts text → skip_blank (blank ++ text) ≡ text
 starts_passed blank text is starts = blank_passed core_starts blank text refl is (begins_ends core_starts text starts)
 
 -- passing a blank twice
-pub passed_twice : (text : List ℕ) → blank_at (blank_at text) ≡ blank_at text
+pub passed_twice : (text : List ℕ) → skip_blank (skip_blank text) ≡ skip_blank text
 passed_twice text =
     let left = blank_left true text in
-    sym (ap blank_at left.1 ∙ after_blank-append left.2 (blank_at text))
+    sym (ap skip_blank left.1 ∙ after_blank-append left.2 (skip_blank text))

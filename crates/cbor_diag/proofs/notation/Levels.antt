@@ -9,7 +9,7 @@ use Rattle.cbor_diag.specs.declared.parse.notation.start.Start.TheVariants as st
 use Rattle.cbor_diag.specs.Item.{Item}
 use Rattle.cbor_diag.specs.Bytes.{StringKind, bytes_kind, text_kind}
 use Rattle.cbor_diag.specs.Reading.{Read, ◌>>=◌}
-use Rattle.cbor_diag.specs.NotationReading.{or_refused, after_byte, after_word, sized_at, integer_or_tag, integer_at, end_at, more_members, members_from, members_or_end, members_at, pair_at, length_at, array_at, map_at, embedded_at, piece_of, piece_at, start_of, first_start, begins_piece, pieces_at, blank_at, begins_string, may_have_texts, string_of, string_at, chunk_at, chunks_of, chunks_at, byte_string_of, byte_string_at, text_string_of, text_string_at, core_of, core_at, item_at}
+use Rattle.cbor_diag.specs.NotationReading.{or_refused, after_byte, after_word, read_unsigned_number, integer_or_tag, read_integer, after_end, more_members, members_from, members_or_end, read_members, read_pair, read_length, read_array, read_map, read_embedded, piece_of, read_piece, start_of, first_start, begins_piece, read_pieces, skip_blank, begins_string, may_have_texts, string_of, read_string, read_chunk, chunks_of, read_chunks, byte_string_of, read_byte_string, text_string_of, read_text_string, core_of, read_core, read_item}
 use Rattle.cbor_diag.proofs.notation.Pieces.{pieces_go, pieces_stop}
 
 -- the first is TooDeep, or both are one answer
@@ -48,101 +48,101 @@ module _ {X : Type 0} (few many : List ℕ → Read X) (grows : (text : List ℕ
   members_from_grow close zero text = inr refl
   members_from_grow close (suc n) text =
       grows_then (few text) (many text) _ _ (grows text) (λ x.
-      grows_made (more_members (members_from few close n) x.1 (end_at close x.1)) (more_members (members_from many close n) x.1 (end_at close x.1)) _
-      (more_members_grow n close x.1 (end_at close x.1) (members_from_grow close n)))
+      grows_made (more_members (members_from few close n) x.1 (after_end close x.1)) (more_members (members_from many close n) x.1 (after_end close x.1)) _
+      (more_members_grow n close x.1 (after_end close x.1) (members_from_grow close n)))
 
   members_or_end_grow : (close : ℕ) (text : List ℕ) (end : Option (List ℕ)) → Grows (members_or_end few close text end) (members_or_end many close text end)
   members_or_end_grow close text (Some rest) = inr refl
   members_or_end_grow close text None = members_from_grow close (suc (length text)) text
 
-  members_grow : (close : ℕ) (text : List ℕ) → Grows (members_at few close text) (members_at many close text)
-  unfolding members_at
-  members_grow close text = members_or_end_grow close (blank_at text) (end_at close (blank_at text))
+  members_grow : (close : ℕ) (text : List ℕ) → Grows (read_members few close text) (read_members many close text)
+  unfolding read_members
+  members_grow close text = members_or_end_grow close (skip_blank text) (after_end close (skip_blank text))
 
 -- ---- items
 
-no_pieces : (read : List ℕ → Read Item) (texts : Bool) (text : List ℕ) → pieces_at read texts zero text ≡ Err refusal.Notation
-unfolding pieces_at
+no_pieces : (read : List ℕ → Read Item) (texts : Bool) (text : List ℕ) → read_pieces read texts zero text ≡ Err refusal.Notation
+unfolding read_pieces
 no_pieces read texts text = refl
 
 module _ (few many : List ℕ → Read Item) (grows : (text : List ℕ) → Grows (few text) (many text)) where
-  pair_grows : (text : List ℕ) → Grows (pair_at few text) (pair_at many text)
+  pair_grows : (text : List ℕ) → Grows (read_pair few text) (read_pair many text)
   pair_grows text =
       grows_then (few text) (many text) _ _ (grows text) (λ k.
       grows_on (or_refused (after_byte 58 k.1)) _ _ (λ rest. grows_made (few rest) (many rest) _ (grows rest)))
 
-  array_grows : (text : List ℕ) → Grows (array_at few text) (array_at many text)
-  array_grows text = let rest = (length_at text).1 in grows_made (members_at few 93 rest) (members_at many 93 rest) _ (members_grow few many grows 93 rest)
+  array_grows : (text : List ℕ) → Grows (read_array few text) (read_array many text)
+  array_grows text = let rest = (read_length text).1 in grows_made (read_members few 93 rest) (read_members many 93 rest) _ (members_grow few many grows 93 rest)
 
-  map_grows : (text : List ℕ) → Grows (map_at few text) (map_at many text)
-  map_grows text = let rest = (length_at text).1 in grows_made (members_at (pair_at few) 125 rest) (members_at (pair_at many) 125 rest) _ (members_grow (pair_at few) (pair_at many) pair_grows 125 rest)
+  map_grows : (text : List ℕ) → Grows (read_map few text) (read_map many text)
+  map_grows text = let rest = (read_length text).1 in grows_made (read_members (read_pair few) 125 rest) (read_members (read_pair many) 125 rest) _ (members_grow (read_pair few) (read_pair many) pair_grows 125 rest)
 
-  embedded_grows : (text : List ℕ) → Grows (embedded_at few text) (embedded_at many text)
+  embedded_grows : (text : List ℕ) → Grows (read_embedded few text) (read_embedded many text)
   embedded_grows text =
-      grows_on (or_refused (after_byte 60 text)) _ _ (λ first. grows_made (members_at few 62 first) (members_at many 62 first) _ (members_grow few many grows 62 first))
+      grows_on (or_refused (after_byte 60 text)) _ _ (λ first. grows_made (read_members few 62 first) (read_members many 62 first) _ (members_grow few many grows 62 first))
 
   piece_of_grows : (s : Start) (text : List ℕ) → Grows (piece_of few s text) (piece_of many s text)
   piece_of_grows start.Angle text = embedded_grows text
   piece_of_grows _ text = inr refl
 
-  piece_grows : (text : List ℕ) → Grows (piece_at few text) (piece_at many text)
-  unfolding piece_at
+  piece_grows : (text : List ℕ) → Grows (read_piece few text) (read_piece many text)
+  unfolding read_piece
   piece_grows [] = inr refl
   piece_grows (b ∷ text) = piece_of_grows (start_of b) text
 
-  pieces_grow : (texts : Bool) (n : ℕ) (text : List ℕ) → Grows (pieces_at few texts n text) (pieces_at many texts n text)
+  pieces_grow : (texts : Bool) (n : ℕ) (text : List ℕ) → Grows (read_pieces few texts n text) (read_pieces many texts n text)
   pieces_grow texts zero text = inr (no_pieces few texts text ∙ sym (no_pieces many texts text))
   pieces_grow texts (suc n) text =
       elim (cases_Bool (begins_piece texts (first_start text))) [
         | inl e ↦
             rw (pieces_go few texts n text e, pieces_go many texts n text e)
-            (grows_then (piece_at few text) (piece_at many text) _ _ (piece_grows text) (λ x.
-            grows_made (pieces_at few texts n (blank_at x.1)) (pieces_at many texts n (blank_at x.1)) _ (pieces_grow texts n (blank_at x.1))))
+            (grows_then (read_piece few text) (read_piece many text) _ _ (piece_grows text) (λ x.
+            grows_made (read_pieces few texts n (skip_blank x.1)) (read_pieces many texts n (skip_blank x.1)) _ (pieces_grow texts n (skip_blank x.1))))
         | inr e ↦ inr (pieces_stop few texts n text e ∙ sym (pieces_stop many texts n text e))
       ]
 
   string_of_grows : (kind : StringKind) (text : List ℕ) (begins : Bool) → Grows (string_of few kind text begins) (string_of many kind text begins)
   string_of_grows kind text false = inr refl
   string_of_grows kind text true =
-      grows_made (pieces_at few (may_have_texts kind) (suc (length text)) text) (pieces_at many (may_have_texts kind) (suc (length text)) text) _ (pieces_grow (may_have_texts kind) (suc (length text)) text)
+      grows_made (read_pieces few (may_have_texts kind) (suc (length text)) text) (read_pieces many (may_have_texts kind) (suc (length text)) text) _ (pieces_grow (may_have_texts kind) (suc (length text)) text)
 
-  string_grows : (kind : StringKind) (text : List ℕ) → Grows (string_at few kind text) (string_at many kind text)
-  unfolding string_at
+  string_grows : (kind : StringKind) (text : List ℕ) → Grows (read_string few kind text) (read_string many kind text)
+  unfolding read_string
   string_grows kind text = string_of_grows kind text (begins_string kind (first_start text))
 
-  chunk_grows : (kind : StringKind) (text : List ℕ) → Grows (chunk_at few kind text) (chunk_at many kind text)
-  chunk_grows kind text = string_grows kind (blank_at text)
+  chunk_grows : (kind : StringKind) (text : List ℕ) → Grows (read_chunk few kind text) (read_chunk many kind text)
+  chunk_grows kind text = string_grows kind (skip_blank text)
 
   chunks_of_grow : (text : List ℕ) (s : Start) → Grows (chunks_of few text s) (chunks_of many text s)
   chunks_of_grow text start.Quote =
-      grows_made (members_at (chunk_at few text_kind) 41 text) (members_at (chunk_at many text_kind) 41 text) _ (members_grow (chunk_at few text_kind) (chunk_at many text_kind) (chunk_grows text_kind) 41 text)
+      grows_made (read_members (read_chunk few text_kind) 41 text) (read_members (read_chunk many text_kind) 41 text) _ (members_grow (read_chunk few text_kind) (read_chunk many text_kind) (chunk_grows text_kind) 41 text)
   chunks_of_grow text _ =
-      grows_made (members_at (chunk_at few bytes_kind) 41 text) (members_at (chunk_at many bytes_kind) 41 text) _ (members_grow (chunk_at few bytes_kind) (chunk_at many bytes_kind) (chunk_grows bytes_kind) 41 text)
+      grows_made (read_members (read_chunk few bytes_kind) 41 text) (read_members (read_chunk many bytes_kind) 41 text) _ (members_grow (read_chunk few bytes_kind) (read_chunk many bytes_kind) (chunk_grows bytes_kind) 41 text)
 
-  chunks_grow : (text : List ℕ) → Grows (chunks_at few text) (chunks_at many text)
-  chunks_grow text = grows_on (or_refused (after_byte 95 text)) _ _ (λ opened. chunks_of_grow (blank_at opened) (first_start (blank_at opened)))
+  chunks_grow : (text : List ℕ) → Grows (read_chunks few text) (read_chunks many text)
+  chunks_grow text = grows_on (or_refused (after_byte 95 text)) _ _ (λ opened. chunks_of_grow (skip_blank opened) (first_start (skip_blank opened)))
 
   byte_string_of_grows : (text : List ℕ) (empty : Option (List ℕ)) → Grows (byte_string_of few text empty) (byte_string_of many text empty)
   byte_string_of_grows text (Some rest) = inr refl
-  byte_string_of_grows text None = grows_made (string_at few bytes_kind text) (string_at many bytes_kind text) _ (string_grows bytes_kind text)
+  byte_string_of_grows text None = grows_made (read_string few bytes_kind text) (read_string many bytes_kind text) _ (string_grows bytes_kind text)
 
   text_string_of_grows : (text : List ℕ) (empty : Option (List ℕ)) → Grows (text_string_of few text empty) (text_string_of many text empty)
   text_string_of_grows text (Some rest) = inr refl
-  text_string_of_grows text None = grows_made (string_at few text_kind text) (string_at many text_kind text) _ (string_grows text_kind text)
+  text_string_of_grows text None = grows_made (read_string few text_kind text) (read_string many text_kind text) _ (string_grows text_kind text)
 
-  bytes_grow : (text : List ℕ) → Grows (byte_string_at few text) (byte_string_at many text)
+  bytes_grow : (text : List ℕ) → Grows (read_byte_string few text) (read_byte_string many text)
   bytes_grow text = byte_string_of_grows text (after_word (codes "''_") text)
 
-  text_grows : (text : List ℕ) → Grows (text_string_at few text) (text_string_at many text)
+  text_grows : (text : List ℕ) → Grows (read_text_string few text) (read_text_string many text)
   text_grows text = text_string_of_grows text (after_word (codes "\"\"_") text)
 
   integer_or_tag_grows : (n : ℕ) (w : IntegerWidth) (text : List ℕ) (inner : Option (List ℕ)) → Grows (integer_or_tag few n w text inner) (integer_or_tag many n w text inner)
   integer_or_tag_grows n w text None = inr refl
   integer_or_tag_grows n w text (Some inner) = grows_made (few inner) (many inner) _ (grows inner)
 
-  integer_grows : (text : List ℕ) → Grows (integer_at few text) (integer_at many text)
+  integer_grows : (text : List ℕ) → Grows (read_integer few text) (read_integer many text)
   integer_grows text =
-      grows_on (sized_at text) _ _ (λ n. integer_or_tag_grows n.0.0 n.0.1 n.1 (after_byte 40 n.1))
+      grows_on (read_unsigned_number text) _ _ (λ n. integer_or_tag_grows n.0.0 n.0.1 n.1 (after_byte 40 n.1))
 
   core_of_grows : (s : Start) (text rest : List ℕ) → Grows (core_of few s text rest) (core_of many s text rest)
   core_of_grows start.Digit text rest = integer_grows text
@@ -157,23 +157,23 @@ module _ (few many : List ℕ → Read Item) (grows : (text : List ℕ) → Grow
   core_of_grows start.Quote text rest = text_grows text
   core_of_grows start.Other text rest = inr refl
 
-  core_grows : (text : List ℕ) → Grows (core_at few text) (core_at many text)
-  unfolding core_at
+  core_grows : (text : List ℕ) → Grows (read_core few text) (read_core many text)
+  unfolding read_core
   core_grows [] = inr refl
   core_grows (b ∷ rest) = core_of_grows (start_of b) (b ∷ rest) rest
 
 -- ---- levels
 
 -- one level more
-pub item_grows : (left : ℕ) (text : List ℕ) → Grows (item_at left text) (item_at (suc left) text)
-unfolding item_at
+pub item_grows : (left : ℕ) (text : List ℕ) → Grows (read_item left text) (read_item (suc left) text)
+unfolding read_item
 item_grows zero text = inl refl
 item_grows (suc left) text =
-    grows_made (core_at (item_at left) (blank_at text)) (core_at (item_at (suc left)) (blank_at text)) _ (core_grows (item_at left) (item_at (suc left)) (item_grows left) (blank_at text))
+    grows_made (read_core (read_item left) (skip_blank text)) (read_core (read_item (suc left)) (skip_blank text)) _ (core_grows (read_item left) (read_item (suc left)) (item_grows left) (skip_blank text))
 
 -- and any number of levels more
-pub levels_grow : (left more : ℕ) (text : List ℕ) → Grows (item_at left text) (item_at (more + left) text)
-levels_grow left zero text = inr (ap (λ (n : ℕ). item_at n text) (omega arith))
+pub levels_grow : (left more : ℕ) (text : List ℕ) → Grows (read_item left text) (read_item (more + left) text)
+levels_grow left zero text = inr (ap (λ (n : ℕ). read_item n text) (omega arith))
 levels_grow left (suc more) text =
-    grows_more (item_at left text) (item_at (more + left) text) (item_at (suc more + left) text) (levels_grow left more text)
-    (subst (λ (n : ℕ). Grows (item_at (more + left) text) (item_at n text)) (omega arith) (item_grows (more + left) text))
+    grows_more (read_item left text) (read_item (more + left) text) (read_item (suc more + left) text) (levels_grow left more text)
+    (subst (λ (n : ℕ). Grows (read_item (more + left) text) (read_item n text)) (omega arith) (item_grows (more + left) text))

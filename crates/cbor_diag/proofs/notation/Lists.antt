@@ -7,7 +7,7 @@ use Rattle.std.proofs.lemmas.List.{append_assoc, length-append, drop_at}
 use Rattle.cbor_notes.specs.Token.{Blank, nothing, whitespace, comment, is_whitespace}
 use Rattle.cbor_diag.specs.Notation.{IsBlank, Blanked, Closes, Further, Members, Listed}
 use Rattle.cbor_diag.specs.Reading.{Read}
-use Rattle.cbor_diag.specs.NotationReading.{after_byte, after_space, end_at, blank_at, members_from, members_or_end, members_at}
+use Rattle.cbor_diag.specs.NotationReading.{after_byte, after_space, after_end, skip_blank, members_from, members_or_end, read_members}
 use Rattle.cbor_diag.proofs.notation.Ends.{is_one_of, holds_of, begins_append, ends_after_byte, blank_passed, item_ends, Follows, core_starts, Starts, starts_passed, passed_twice}
 
 -- a text behind a blank, which begins as cores do and is the same member
@@ -82,20 +82,20 @@ no_comma close closes = not-true (close == 44) (holds_of (λ c. not (c == 44)) l
 no_white : (close : ℕ) → IsClose close → is_whitespace close ≡ false
 no_white close closes = not-true (is_whitespace close) (holds_of (λ c. not (is_whitespace c)) list_closes close refl closes)
 
-pub end_closed : (close : ℕ) (more text rest : List ℕ) → IsClose close → Closes (close ∷ more) text → end_at close (text ++ rest) ≡ Some (more ++ rest)
+pub end_closed : (close : ℕ) (more text rest : List ℕ) → IsClose close → Closes (close ∷ more) text → after_end close (text ++ rest) ≡ Some (more ++ rest)
 end_closed close more text rest closes (inl is) = rw (is, no_comma close closes, eq-eqb close close refl) refl
 end_closed close more text rest closes (inr last) =
     let space = last.0 in
     let white : Blank false space = last.2.1 in
     let some : nat_lt 0 (length space) ≡ true = lt-ltb 0 (length space) last.2.0 in
     let text_is : text ++ rest ≡ 44 ∷ (space ++ close ∷ (more ++ rest)) = ap (λ (t : List ℕ). t ++ rest) last.1 ∙ ap (λ (t : List ℕ). 44 ∷ t) (append_assoc space (close ∷ more) rest) in
-    ap (end_at close) text_is ∙ (after_space_at close space close (more ++ rest) white (no_white close closes) ∙ rw (some, eq-eqb close close refl) refl)
+    ap (after_end close) text_is ∙ (after_space_at close space close (more ++ rest) white (no_white close closes) ∙ rw (some, eq-eqb close close refl) refl)
 
 -- no list is closed where a core begins
 no_start : (close : ℕ) → IsClose close → list_all (λ b. not (b == close)) core_starts ≡ true
 no_start close closes = holds_of (λ c. list_all (λ b. not (b == c)) core_starts) list_closes close refl closes
 
-pub starts_no_end : (close : ℕ) (text : List ℕ) → IsClose close → Starts text → end_at close text ≡ None
+pub starts_no_end : (close : ℕ) (text : List ℕ) → IsClose close → Starts text → after_end close text ≡ None
 starts_no_end close [] closes starts = absurd starts
 starts_no_end close (b ∷ text) closes starts =
     rw (not-true (b == 44) (holds_of (λ c. not (c == 44)) core_starts b refl starts)) (ends_after_byte close core_starts (b ∷ text) (no_start close closes) starts)
@@ -144,15 +144,15 @@ module _ {X : Type 0} (Member : List ℕ → X → Type 0) (read : List ℕ → 
       let text_is : further ++ rest ≡ 44 ∷ tail = ap (λ (t : List ℕ). t ++ rest) then.2 ∙ ap (λ (t : List ℕ). 44 ∷ t) (append_assoc then.0 then.1 rest) in
       let s = it.stripped then.0 y then.3 in
       let tail_is : tail ≡ s.blank ++ (s.behind ++ (then.1 ++ rest)) = ap (λ (t : List ℕ). t ++ (then.1 ++ rest)) s.parts ∙ append_assoc s.blank s.behind (then.1 ++ rest) in
-      let open_still : end_at close (44 ∷ tail) ≡ None = ap (after_space close) tail_is ∙ blank_no_end close s.blank (s.behind ++ (then.1 ++ rest)) closes s.is_blank (begins_append core_starts s.behind (then.1 ++ rest) s.starts) in
+      let open_still : after_end close (44 ∷ tail) ≡ None = ap (after_space close) tail_is ∙ blank_no_end close s.blank (s.behind ++ (then.1 ++ rest)) closes s.is_blank (begins_append core_starts s.behind (then.1 ++ rest) s.starts) in
       let others = members_from_again n ys y then.0 then.1 rest (omega arith) then.3 then.4 in
       rw (text_is, it.again first (44 ∷ tail) x is refl, open_still, others) refl
 
-  pub members_again : (xs : List X) (text rest : List ℕ) → Members Member (close ∷ more) text xs → members_at read close (text ++ rest) ≡ Ok (xs, more ++ rest)
-  unfolding members_at
+  pub members_again : (xs : List X) (text rest : List ℕ) → Members Member (close ∷ more) text xs → read_members read close (text ++ rest) ≡ Ok (xs, more ++ rest)
+  unfolding read_members
   members_again [] text rest is =
       let end : List ℕ = is.1 in
-      let passed : blank_at (text ++ rest) ≡ end ++ rest = ap blank_at (ap (λ (t : List ℕ). t ++ rest) is.2 ∙ append_assoc is.0 end rest) ∙ blank_passed item_ends is.0 (end ++ rest) refl is.3 (follows_further [] end rest is.4) in
+      let passed : skip_blank (text ++ rest) ≡ end ++ rest = ap skip_blank (ap (λ (t : List ℕ). t ++ rest) is.2 ∙ append_assoc is.0 end rest) ∙ blank_passed item_ends is.0 (end ++ rest) refl is.3 (follows_further [] end rest is.4) in
       rw (passed, end_closed close more end rest closes is.4) refl
   members_again (x ∷ xs) text rest is =
       let s = it.stripped is.0 x is.3 in
@@ -160,15 +160,15 @@ module _ {X : Type 0} (Member : List ℕ → X → Type 0) (read : List ℕ → 
       let text_is : text ++ rest ≡ s.blank ++ tail =
       ap (λ (t : List ℕ). t ++ rest) is.2 ∙ (append_assoc is.0 is.1 rest ∙ (ap (λ (t : List ℕ). t ++ (is.1 ++ rest)) s.parts ∙ append_assoc s.blank s.behind (is.1 ++ rest))) in
       let starts : Starts tail = begins_append core_starts s.behind (is.1 ++ rest) s.starts in
-      let passed : blank_at (text ++ rest) ≡ tail = ap blank_at text_is ∙ starts_passed s.blank tail s.is_blank starts in
+      let passed : skip_blank (text ++ rest) ≡ tail = ap skip_blank text_is ∙ starts_passed s.blank tail s.is_blank starts in
       let few : length xs < suc (length tail) = omega (arith, length-append s.behind (is.1 ++ rest), length-append is.1 rest, further_length Member (close ∷ more) is.1 xs is.4) in
       rw (passed, starts_no_end close tail closes starts) (members_from_again (suc (length tail)) xs x s.behind is.1 rest few s.is is.4)
 
   -- the members behind an opening
-  pub listed_again : (xs : List X) (opening text rest : List ℕ) (is : Listed Member opening (close ∷ more) text xs) → (text ++ rest ≡ opening ++ (is.0 ++ rest)) × (members_at read close (is.0 ++ rest) ≡ Ok (xs, more ++ rest))
+  pub listed_again : (xs : List X) (opening text rest : List ℕ) (is : Listed Member opening (close ∷ more) text xs) → (text ++ rest ≡ opening ++ (is.0 ++ rest)) × (read_members read close (is.0 ++ rest) ≡ Ok (xs, more ++ rest))
   listed_again xs opening text rest is = (ap (λ (t : List ℕ). t ++ rest) is.1 ∙ append_assoc opening is.0 rest, members_again xs is.0 rest is.2)
 
 -- a blank before the members may be passed first
-pub members_at_blank : {X : Type 0} (read : List ℕ → Read X) (close : ℕ) (text : List ℕ) → members_at read close (blank_at text) ≡ members_at read close text
-unfolding members_at
-members_at_blank read close text = ap (λ (first : List ℕ). members_or_end read close first (end_at close first)) (passed_twice text)
+pub members_at_blank : {X : Type 0} (read : List ℕ → Read X) (close : ℕ) (text : List ℕ) → read_members read close (skip_blank text) ≡ read_members read close text
+unfolding read_members
+members_at_blank read close text = ap (λ (first : List ℕ). members_or_end read close first (after_end close first)) (passed_twice text)

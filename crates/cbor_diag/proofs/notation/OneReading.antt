@@ -6,14 +6,14 @@ use Rattle.cbor_diag.specs.declared.error.Error.TheVariants as refusal
 use Rattle.cbor_diag.specs.Item.{Item}
 use Rattle.cbor_diag.specs.Reading.{Read}
 use Rattle.cbor_diag.specs.Notation.{Reads}
-use Rattle.cbor_diag.specs.NotationReading.{item_at, notation_of}
+use Rattle.cbor_diag.specs.NotationReading.{read_item, notation_of}
 use Rattle.cbor_diag.proofs.notation.Again.{item_whole}
 use Rattle.cbor_diag.proofs.notation.Levels.{Grows, levels_grow}
 
-pub levels_more : (left limit : ℕ) (text : List ℕ) → left ≤ limit → Grows (item_at left text) (item_at limit text)
-levels_more left limit text le = subst (λ (n : ℕ). Grows (item_at left text) (item_at n text)) (omega arith) (levels_grow left (limit - left) text)
+pub levels_more : (left limit : ℕ) (text : List ℕ) → left ≤ limit → Grows (read_item left text) (read_item limit text)
+levels_more left limit text le = subst (λ (n : ℕ). Grows (read_item left text) (read_item n text)) (omega arith) (levels_grow left (limit - left) text)
 
-same_item : (few many : ℕ) (text : List ℕ) (i j : Item) → Reads few text i → Reads many text j → Grows (item_at few text) (item_at many text) → i ≡ j
+same_item : (few many : ℕ) (text : List ℕ) (i j : Item) → Reads few text i → Reads many text j → Grows (read_item few text) (read_item many text) → i ≡ j
 same_item few many text i j is is_too (inl e) = let never : ◌≡◌ {A = Read Item} (Ok (i, [])) (Err refusal.TooDeep) = sym (item_whole few text i is) ∙ e in cc never
 same_item few many text i j is is_too (inr e) =
     let both : ◌≡◌ {A = Read Item} (Ok (i, [])) (Ok (j, [])) = sym (item_whole few text i is) ∙ (e ∙ item_whole many text j is_too) in
@@ -36,13 +36,13 @@ read_or_too_deep limit other text i is =
       | inr le ↦ below (levels_more limit other text le)
     ]
   where
-    found : item_at limit text ≡ Ok (i, []) → (notation_of limit text ≡ Err refusal.TooDeep) ⊎ (notation_of limit text ≡ Ok i)
+    found : read_item limit text ≡ Ok (i, []) → (notation_of limit text ≡ Err refusal.TooDeep) ⊎ (notation_of limit text ≡ Ok i)
     found read = inr (rw read refl)
 
-    above : Grows (item_at other text) (item_at limit text) → (notation_of limit text ≡ Err refusal.TooDeep) ⊎ (notation_of limit text ≡ Ok i)
+    above : Grows (read_item other text) (read_item limit text) → (notation_of limit text ≡ Err refusal.TooDeep) ⊎ (notation_of limit text ≡ Ok i)
     above (inl e) = let never : ◌≡◌ {A = Read Item} (Ok (i, [])) (Err refusal.TooDeep) = sym (item_whole other text i is) ∙ e in absurd (cc never)
     above (inr e) = found (sym e ∙ item_whole other text i is)
 
-    below : Grows (item_at limit text) (item_at other text) → (notation_of limit text ≡ Err refusal.TooDeep) ⊎ (notation_of limit text ≡ Ok i)
+    below : Grows (read_item limit text) (read_item other text) → (notation_of limit text ≡ Err refusal.TooDeep) ⊎ (notation_of limit text ≡ Ok i)
     below (inl e) = inl (rw e refl)
     below (inr e) = found (e ∙ item_whole other text i is)

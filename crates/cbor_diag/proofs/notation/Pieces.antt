@@ -12,7 +12,7 @@ use Rattle.cbor_diag.specs.Bytes.{StringKind, bytes_kind, text_kind}
 use Rattle.cbor_diag.specs.Written.{encoded_items}
 use Rattle.cbor_diag.specs.Reading.{Read, ◌>>=◌}
 use Rattle.cbor_diag.specs.Notation.{IsBlank, QuotedBy, DigitsIn, Notation, in_base16, in_base32, in_base32hex, in_base64, as_text, as_items, PieceOf, Joined, one, more, list_of, Listed}
-use Rattle.cbor_diag.specs.NotationReading.{or_refused, blank_at, start_of, first_start, begins_piece, piece_at, pieces_at, decoded_at, base16_bytes, base16_of, base32_of, base32hex_of, base64_of, may_have_texts}
+use Rattle.cbor_diag.specs.NotationReading.{or_refused, skip_blank, start_of, first_start, begins_piece, read_piece, read_pieces, read_decoded, base16_bytes, base16_of, base32_of, base32hex_of, base64_of, may_have_texts}
 use Rattle.cbor_diag.proofs.notation.Ends.{holds_of, Begins, begins_append, begins_more, item_ends, core_starts, notation_starts, Follows, follows_passed, Starts, starts_passed}
 use Rattle.cbor_diag.proofs.notation.Lists.{ReadsAgain, listed_again}
 use Rattle.cbor_diag.proofs.notation.Decoded.{base32_again, base32hex_again, url_safe_again, standard_again}
@@ -38,7 +38,7 @@ quotation_mark = omega arith
 
 -- digits behind an opened quote
 decoded_again : (comments : Bool) (decode : List ℕ → Option (List ℕ)) (content digits bytes rest : List ℕ) → DigitsBetween comments content digits → decode digits ≡ Some bytes
-    → decoded_at comments decode (content ++ 39 ∷ rest) ≡ Ok (bytes, rest)
+    → read_decoded comments decode (content ++ 39 ∷ rest) ≡ Ok (bytes, rest)
 decoded_again comments decode content digits bytes rest between is = rw (digits_of-DigitsBetween comments content digits rest between, is) refl
 
 digits_parts : (comments : Bool) (prefix text digits rest : List ℕ) → (is : DigitsIn comments prefix text digits) → text ++ rest ≡ prefix ++ (is.0 ++ 39 ∷ rest)
@@ -46,54 +46,54 @@ digits_parts comments prefix text digits rest is =
     ap (λ (t : List ℕ). t ++ rest) is.1 ∙ (append_assoc prefix (is.0 ++ codes "'") rest ∙ ap (λ (t : List ℕ). prefix ++ t) (append_assoc is.0 (codes "'") rest))
 
 module _ (Reads : List ℕ → Item → Type 0) (read : List ℕ → Read Item) (it : ReadsAgain Reads read) where
-  h_again : (content digits bytes rest : List ℕ) → DigitsBetween true content digits → base16_of digits ≡ Some bytes → piece_at read (codes "h'" ++ (content ++ 39 ∷ rest)) ≡ Ok (bytes, rest)
-  unfolding piece_at start_of
+  h_again : (content digits bytes rest : List ℕ) → DigitsBetween true content digits → base16_of digits ≡ Some bytes → read_piece read (codes "h'" ++ (content ++ 39 ∷ rest)) ≡ Ok (bytes, rest)
+  unfolding read_piece start_of
   h_again content digits bytes rest between is = decoded_again true base16_of content digits bytes rest between is
 
-  h32_again : (content digits bytes rest : List ℕ) → DigitsBetween true content digits → base32hex_of digits ≡ Some bytes → piece_at read (codes "h32'" ++ (content ++ 39 ∷ rest)) ≡ Ok (bytes, rest)
-  unfolding piece_at start_of
+  h32_again : (content digits bytes rest : List ℕ) → DigitsBetween true content digits → base32hex_of digits ≡ Some bytes → read_piece read (codes "h32'" ++ (content ++ 39 ∷ rest)) ≡ Ok (bytes, rest)
+  unfolding read_piece start_of
   h32_again content digits bytes rest between is = decoded_again true base32hex_of content digits bytes rest between is
 
-  b32_again : (content digits bytes rest : List ℕ) → DigitsBetween true content digits → base32_of digits ≡ Some bytes → piece_at read (codes "b32'" ++ (content ++ 39 ∷ rest)) ≡ Ok (bytes, rest)
-  unfolding piece_at start_of
+  b32_again : (content digits bytes rest : List ℕ) → DigitsBetween true content digits → base32_of digits ≡ Some bytes → read_piece read (codes "b32'" ++ (content ++ 39 ∷ rest)) ≡ Ok (bytes, rest)
+  unfolding read_piece start_of
   b32_again content digits bytes rest between is = decoded_again true base32_of content digits bytes rest between is
 
-  b64_again : (content digits bytes rest : List ℕ) → DigitsBetween false content digits → base64_of digits ≡ Some bytes → piece_at read (codes "b64'" ++ (content ++ 39 ∷ rest)) ≡ Ok (bytes, rest)
-  unfolding piece_at start_of
+  b64_again : (content digits bytes rest : List ℕ) → DigitsBetween false content digits → base64_of digits ≡ Some bytes → read_piece read (codes "b64'" ++ (content ++ 39 ∷ rest)) ≡ Ok (bytes, rest)
+  unfolding read_piece start_of
   b64_again content digits bytes rest between is = decoded_again false base64_of content digits bytes rest between is
 
-  apostrophes_again : (content rest : List ℕ) → piece_at read (39 ∷ (in_quotes 39 content ++ 39 ∷ rest)) ≡ Ok (content, rest)
-  unfolding piece_at start_of
+  apostrophes_again : (content rest : List ℕ) → read_piece read (39 ∷ (in_quotes 39 content ++ 39 ∷ rest)) ≡ Ok (content, rest)
+  unfolding read_piece start_of
   apostrophes_again content rest = quoted_again 39 content rest apostrophe
 
-  quotes_again : (content rest : List ℕ) → piece_at read (34 ∷ (in_quotes 34 content ++ 34 ∷ rest)) ≡ Ok (content, rest)
-  unfolding piece_at start_of
+  quotes_again : (content rest : List ℕ) → read_piece read (34 ∷ (in_quotes 34 content ++ 34 ∷ rest)) ≡ Ok (content, rest)
+  unfolding read_piece start_of
   quotes_again content rest = quoted_again 34 content rest quotation_mark
 
-  embedded_again : (is : Items) (text rest : List ℕ) → Listed Reads (codes "<<") (codes ">>") text (list_of is) → piece_at read (text ++ rest) ≡ Ok (encoded_items is, rest)
-  unfolding piece_at start_of
+  embedded_again : (is : Items) (text rest : List ℕ) → Listed Reads (codes "<<") (codes ">>") text (list_of is) → read_piece read (text ++ rest) ≡ Ok (encoded_items is, rest)
+  unfolding read_piece start_of
   embedded_again is text rest listed =
       let l = listed_again Reads read it 62 (codes ">") refl (list_of is) (codes "<<") text rest listed in
-      ap (piece_at read) l.0 ∙ rw (l.1, items_again is) refl
+      ap (read_piece read) l.0 ∙ rw (l.1, items_again is) refl
 
-  notation_again : (text bytes rest : List ℕ) → Notation Reads text bytes → piece_at read (text ++ rest) ≡ Ok (bytes, rest)
+  notation_again : (text bytes rest : List ℕ) → Notation Reads text bytes → read_piece read (text ++ rest) ≡ Ok (bytes, rest)
   notation_again text bytes rest (in_base16 digits is decodes) =
-      ap (piece_at read) (digits_parts true (codes "h'") text digits rest is) ∙ h_again is.0 digits bytes rest is.2 (ap base16_bytes decodes)
+      ap (read_piece read) (digits_parts true (codes "h'") text digits rest is) ∙ h_again is.0 digits bytes rest is.2 (ap base16_bytes decodes)
   notation_again text bytes rest (in_base32 digits is all encodes) =
-      ap (piece_at read) (digits_parts true (codes "b32'") text digits rest is) ∙ b32_again is.0 digits bytes rest is.2 (ap base32_of encodes ∙ base32_again bytes all)
+      ap (read_piece read) (digits_parts true (codes "b32'") text digits rest is) ∙ b32_again is.0 digits bytes rest is.2 (ap base32_of encodes ∙ base32_again bytes all)
   notation_again text bytes rest (in_base32hex digits is all encodes) =
-      ap (piece_at read) (digits_parts true (codes "h32'") text digits rest is) ∙ h32_again is.0 digits bytes rest is.2 (ap base32hex_of encodes ∙ base32hex_again bytes all)
+      ap (read_piece read) (digits_parts true (codes "h32'") text digits rest is) ∙ h32_again is.0 digits bytes rest is.2 (ap base32hex_of encodes ∙ base32hex_again bytes all)
   notation_again text bytes rest (in_base64 digits is all (inl encodes)) =
-      ap (piece_at read) (digits_parts false (codes "b64'") text digits rest is) ∙ b64_again is.0 digits bytes rest is.2 (ap base64_of encodes ∙ url_safe_again bytes all)
+      ap (read_piece read) (digits_parts false (codes "b64'") text digits rest is) ∙ b64_again is.0 digits bytes rest is.2 (ap base64_of encodes ∙ url_safe_again bytes all)
   notation_again text bytes rest (in_base64 digits is all (inr encodes)) =
-      ap (piece_at read) (digits_parts false (codes "b64'") text digits rest is) ∙ b64_again is.0 digits bytes rest is.2 (ap base64_of encodes ∙ standard_again bytes all)
-  notation_again text bytes rest (as_text is) = ap (piece_at read) (quoted_parts 39 text bytes rest is) ∙ apostrophes_again bytes rest
+      ap (read_piece read) (digits_parts false (codes "b64'") text digits rest is) ∙ b64_again is.0 digits bytes rest is.2 (ap base64_of encodes ∙ standard_again bytes all)
+  notation_again text bytes rest (as_text is) = ap (read_piece read) (quoted_parts 39 text bytes rest is) ∙ apostrophes_again bytes rest
   notation_again text bytes rest (as_items is listed encodes) = embedded_again is text rest listed ∙ ap (λ (b : List ℕ). Ok (b, rest)) (sym encodes)
 
-  pub piece_again : (kind : StringKind) (text bytes rest : List ℕ) → PieceOf kind Reads text bytes → piece_at read (text ++ rest) ≡ Ok (bytes, rest)
+  pub piece_again : (kind : StringKind) (text bytes rest : List ℕ) → PieceOf kind Reads text bytes → read_piece read (text ++ rest) ≡ Ok (bytes, rest)
   piece_again bytes_kind text bytes rest is = notation_again text bytes rest is
   piece_again text_kind text bytes rest (inr is) = notation_again text bytes rest is
-  piece_again text_kind text bytes rest (inl is) = ap (piece_at read) (quoted_parts 34 text bytes rest is) ∙ quotes_again bytes rest
+  piece_again text_kind text bytes rest (inl is) = ap (read_piece read) (quoted_parts 34 text bytes rest is) ∙ quotes_again bytes rest
 
 -- ---- several pieces
 
@@ -143,17 +143,17 @@ ends_there true (b ∷ text) follows = not-true (begins_piece true (start_of b))
 ends_there false (b ∷ text) follows = not-true (begins_piece false (start_of b)) (holds_of (λ c. not (begins_piece false (start_of c))) item_ends b refl follows)
 
 pub pieces_go : (read : List ℕ → Read Item) (texts : Bool) (n : ℕ) (text : List ℕ) → begins_piece texts (first_start text) ≡ true
-    → pieces_at read texts (suc n) text ≡ (piece_at read text >>= λ x. pieces_at read texts n (blank_at x.1) >>= λ xs. Ok (x.0 ++ xs.0, xs.1))
-unfolding pieces_at
-pieces_go read texts n text e = rw (e, pieces_at) refl
+    → read_pieces read texts (suc n) text ≡ (read_piece read text >>= λ x. read_pieces read texts n (skip_blank x.1) >>= λ xs. Ok (x.0 ++ xs.0, xs.1))
+unfolding read_pieces
+pieces_go read texts n text e = rw (e, read_pieces) refl
 
-pub pieces_stop : (read : List ℕ → Read Item) (texts : Bool) (n : ℕ) (text : List ℕ) → begins_piece texts (first_start text) ≡ false → pieces_at read texts (suc n) text ≡ Ok ([], text)
-unfolding pieces_at
-pieces_stop read texts n text e = rw (e, pieces_at) refl
+pub pieces_stop : (read : List ℕ → Read Item) (texts : Bool) (n : ℕ) (text : List ℕ) → begins_piece texts (first_start text) ≡ false → read_pieces read texts (suc n) text ≡ Ok ([], text)
+unfolding read_pieces
+pieces_stop read texts n text e = rw (e, read_pieces) refl
 
 module _ (Reads : List ℕ → Item → Type 0) (read : List ℕ → Read Item) (it : ReadsAgain Reads read) where
   pub joined_again : (kind : StringKind) (n : ℕ) (text bytes after rest : List ℕ) → length text < n → IsBlank after → Follows rest → Joined (PieceOf kind Reads) text bytes
-      → pieces_at read (may_have_texts kind) n (text ++ (after ++ rest)) ≡ Ok (bytes, rest)
+      → read_pieces read (may_have_texts kind) n (text ++ (after ++ rest)) ≡ Ok (bytes, rest)
   joined_again kind zero text bytes after rest lt is_blank follows is = absurd (omega arith)
   joined_again kind (suc zero) text bytes after rest lt is_blank follows is = absurd (omega (arith, begins_length (piece_starts kind) text (joined_begins Reads kind text bytes is)))
   joined_again kind (suc (suc n)) text bytes after rest lt is_blank follows (one is) =

@@ -11,7 +11,7 @@ use Rattle.hex.proofs.HexLemmas.{decode_of-ok}
 use Rattle.cbor_notes.specs.Token.{is_digit}
 use Rattle.cbor_notes.proofs.tokens.TextPlaces.{from_byte}
 use Rattle.cbor_diag.specs.Reading.{◌>>=◌}
-use Rattle.cbor_diag.specs.NotationReading.{or_refused, base16_bytes, base16_of, decoded_at}
+use Rattle.cbor_diag.specs.NotationReading.{or_refused, base16_bytes, base16_of, read_decoded}
 use Rattle.cbor_diag.proofs.NotationTokens.{digits_found}
 use Rattle.cbor_diag.proofs.ReadTokens.{between}
 
@@ -31,7 +31,7 @@ decodes bytes (Ok other) is = cc is
 decodes bytes (Err e) is = cc is
 
 -- what decodes before a quote are the digits up to it
-pub plain_digits : (text bytes : List ℕ) (end : ℕ) → end < length text → get_or text end 0 ≡ 39 → base16_of (take end text) ≡ Some bytes → decoded_at true base16_of text ≡ Ok (bytes, take (length text - (end + 1)) (drop (end + 1) text))
+pub plain_digits : (text bytes : List ℕ) (end : ℕ) → end < length text → get_or text end 0 ≡ 39 → base16_of (take end text) ≡ Some bytes → read_decoded true base16_of text ≡ Ok (bytes, take (length text - (end + 1)) (drop (end + 1) text))
 plain_digits text bytes end within quote is =
     let ds = take end text in
     let rest = drop (end + 1) text in

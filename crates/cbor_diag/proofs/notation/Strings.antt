@@ -10,7 +10,7 @@ use Rattle.cbor_diag.specs.Item.{Chunk, Item}
 use Rattle.cbor_diag.specs.Bytes.{StringKind, bytes_kind, text_kind, IsContent}
 use Rattle.cbor_diag.specs.Reading.{Read}
 use Rattle.cbor_diag.specs.Notation.{IsBlank, QuotedBy, Notation, in_base16, in_base32, in_base32hex, in_base64, as_text, as_items, PieceOf, Joined, one, more, StringOf}
-use Rattle.cbor_diag.specs.NotationReading.{after_word, start_of, first_start, begins_string, checked, string_at}
+use Rattle.cbor_diag.specs.NotationReading.{after_word, start_of, first_start, begins_string, checked, read_string}
 use Rattle.cbor_diag.proofs.Utf8.{utf8_passes}
 use Rattle.cbor_diag.proofs.notation.Ends.{holds_of, Begins, Ends, begins_append, begins_more, begins_ends, ends_more, blank_ends, core_ends, core_starts, notation_starts, Follows, follows_blank, Starts}
 use Rattle.cbor_diag.proofs.notation.Lists.{ReadsAgain}
@@ -40,8 +40,8 @@ checked_again bytes_kind c unknown is = ap (λ (w : IntegerWidth). Ok (record { 
 checked_again text_kind c unknown is = rw (utf8_passes c.bytes is) (ap (λ (w : IntegerWidth). Ok (record { bytes = c.bytes; width = w })) (sym unknown))
 
 pub string_again : (Reads : List ℕ → Item → Type 0) (read : List ℕ → Read Item) (it : ReadsAgain Reads read) (kind : StringKind) (text after rest : List ℕ) (c : Chunk)
-    → StringOf kind Reads text c → IsBlank after → Follows rest → string_at read kind (text ++ (after ++ rest)) ≡ Ok (c, rest)
-unfolding string_at
+    → StringOf kind Reads text c → IsBlank after → Follows rest → read_string read kind (text ++ (after ++ rest)) ≡ Ok (c, rest)
+unfolding read_string
 string_again Reads read it kind text after rest c is is_blank follows =
     let whole : List ℕ = text ++ (after ++ rest) in
     let begins = begins_append (string_starts kind) text (after ++ rest) (string_begins Reads kind text c is) in

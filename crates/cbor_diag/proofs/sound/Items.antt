@@ -11,7 +11,7 @@ use Rattle.cbor_diag.specs.View.{items_of, pairs_of}
 use Rattle.cbor_diag.specs.Bytes.{StringKind, bytes_kind, text_kind}
 use Rattle.cbor_diag.specs.Reading.{Read, ◌>>=◌}
 use Rattle.cbor_diag.specs.Notation.{IsBlank, Blanked, Closes, Members, pairs_list, PairOf, StringOf, Core, Reads}
-use Rattle.cbor_diag.specs.NotationReading.{or_refused, blank_at, after_byte, after_word, members_at, pair_at, length_of, array_at, map_at, first_start, start_of, chunk_at, byte_chunks_at, text_chunks_at, chunks_of, chunks_at, byte_string_of, text_string_of, core_of, core_at, item_at, whole, notation_of, integer_at, negative_at, word_at, string_at}
+use Rattle.cbor_diag.specs.NotationReading.{or_refused, skip_blank, after_byte, after_word, read_members, read_pair, length_of, read_array, read_map, first_start, start_of, read_chunk, read_byte_chunks, read_text_chunks, chunks_of, read_chunks, byte_string_of, text_string_of, core_of, read_core, read_item, whole, notation_of, read_integer, read_negative, read_word, read_string}
 use Rattle.cbor_diag.specs.NotationRefused.{is_opening, IsAnswered}
 use Rattle.cbor_diag.proofs.sound.Steps.{Sound, moved, moved_in, weaker, weaker_here, sound_then, sound_map, sound_option, after_byte_is, after_word_is}
 use Rattle.cbor_diag.proofs.sound.Lists.{members_sound}
@@ -64,19 +64,19 @@ trailed Is front h = (front, [], sym (append-nil front), h, nothing)
 module _ (left : ℕ) (R : List ℕ → Item → Type 0) (read : List ℕ → Read Item) (sound : (text : List ℕ) → Sound left R text (read text)) (blank_more : (before text : List ℕ) (i : Item) → IsBlank before → R text i → R (before ++ text) i) where
   -- ---- arrays and maps
 
-  array_made : (levels : ℕ) (text : List ℕ) (o : Option (List ℕ)) → after_byte 95 text ≡ o → (let opened = length_of text o in Sound left (λ g i. Core R (91 ∷ g) i) text (members_at read 93 opened.1 >>= λ is. Ok (array (items_of is.0) opened.0, is.1)))
+  array_made : (levels : ℕ) (text : List ℕ) (o : Option (List ℕ)) → after_byte 95 text ≡ o → (let opened = length_of text o in Sound left (λ g i. Core R (91 ∷ g) i) text (read_members read 93 opened.1 >>= λ is. Ok (array (items_of is.0) opened.0, is.1)))
   array_made levels text None e =
-      sound_map left (Members R (93 ∷ [])) (λ g i. Core R (91 ∷ g) i) text (members_at read 93 text) (λ is. array (items_of is) (Some Unknown)) (members_sound left R 93 read sound blank_more text)
+      sound_map left (Members R (93 ∷ [])) (λ g i. Core R (91 ∷ g) i) text (read_members read 93 text) (λ is. array (items_of is) (Some Unknown)) (members_sound left R 93 read sound blank_more text)
       (λ g is h. (91 ∷ [], (refl, refl), (g, refl, rw (list_of-items_of is) h)))
   array_made levels text (Some rest) e =
-      moved left (λ g i. Core R (91 ∷ g) i) text (95 ∷ []) rest (members_at read 93 rest >>= λ is. Ok (array (items_of is.0) None, is.1)) (after_byte_is 95 text rest e)
-      (sound_map left (Members R (93 ∷ [])) (λ g i. Core R (91 ∷ 95 ∷ g) i) rest (members_at read 93 rest) (λ is. array (items_of is) None) (members_sound left R 93 read sound blank_more rest)
+      moved left (λ g i. Core R (91 ∷ g) i) text (95 ∷ []) rest (read_members read 93 rest >>= λ is. Ok (array (items_of is.0) None, is.1)) (after_byte_is 95 text rest e)
+      (sound_map left (Members R (93 ∷ [])) (λ g i. Core R (91 ∷ 95 ∷ g) i) rest (read_members read 93 rest) (λ is. array (items_of is) None) (members_sound left R 93 read sound blank_more rest)
       (λ g is h. (91 ∷ 95 ∷ [], refl, (g, refl, rw (list_of-items_of is) h))))
 
-  array_sound : (text : List ℕ) → Sound left (λ g i. Core R (91 ∷ g) i) text (array_at read text)
+  array_sound : (text : List ℕ) → Sound left (λ g i. Core R (91 ∷ g) i) text (read_array read text)
   array_sound text = array_made left text (after_byte 95 text) refl
 
-  pair_sound : (text : List ℕ) → Sound left (PairOf R) text (pair_at read text)
+  pair_sound : (text : List ℕ) → Sound left (PairOf R) text (read_pair read text)
   pair_sound text =
       sound_then left R (PairOf R) text (read text) (λ k. or_refused (after_byte 58 k.1) >>= λ rest. read rest >>= λ v. Ok ((k.0, v.0), v.1)) (sound text)
       (λ k front rest at key.
@@ -88,16 +88,16 @@ module _ (left : ℕ) (R : List ℕ → Item → Type 0) (read : List ℕ → Re
   pair_blank : (before text : List ℕ) (p : Item × Item) → IsBlank before → PairOf R text p → PairOf R (before ++ text) p
   pair_blank before text p is h = (before ++ h.0, h.1, ap (λ (z : List ℕ). before ++ z) h.2 ∙ sym (append_assoc before h.0 (58 ∷ h.1)), blank_more before h.0 p.0 is h.3, h.4)
 
-  map_made : (text : List ℕ) (o : Option (List ℕ)) → after_byte 95 text ≡ o → (let opened = length_of text o in Sound left (λ g i. Core R (123 ∷ g) i) text (members_at (pair_at read) 125 opened.1 >>= λ ps. Ok (spec.map (pairs_of ps.0) opened.0, ps.1)))
+  map_made : (text : List ℕ) (o : Option (List ℕ)) → after_byte 95 text ≡ o → (let opened = length_of text o in Sound left (λ g i. Core R (123 ∷ g) i) text (read_members (read_pair read) 125 opened.1 >>= λ ps. Ok (spec.map (pairs_of ps.0) opened.0, ps.1)))
   map_made text None e =
-      sound_map left (Members (PairOf R) (125 ∷ [])) (λ g i. Core R (123 ∷ g) i) text (members_at (pair_at read) 125 text) (λ ps. spec.map (pairs_of ps) (Some Unknown)) (members_sound left (PairOf R) 125 (pair_at read) pair_sound pair_blank text)
+      sound_map left (Members (PairOf R) (125 ∷ [])) (λ g i. Core R (123 ∷ g) i) text (read_members (read_pair read) 125 text) (λ ps. spec.map (pairs_of ps) (Some Unknown)) (members_sound left (PairOf R) 125 (read_pair read) pair_sound pair_blank text)
       (λ g ps h. (123 ∷ [], (refl, refl), (g, refl, rw (pairs_list-pairs_of ps) h)))
   map_made text (Some rest) e =
-      moved left (λ g i. Core R (123 ∷ g) i) text (95 ∷ []) rest (members_at (pair_at read) 125 rest >>= λ ps. Ok (spec.map (pairs_of ps.0) None, ps.1)) (after_byte_is 95 text rest e)
-      (sound_map left (Members (PairOf R) (125 ∷ [])) (λ g i. Core R (123 ∷ 95 ∷ g) i) rest (members_at (pair_at read) 125 rest) (λ ps. spec.map (pairs_of ps) None) (members_sound left (PairOf R) 125 (pair_at read) pair_sound pair_blank rest)
+      moved left (λ g i. Core R (123 ∷ g) i) text (95 ∷ []) rest (read_members (read_pair read) 125 rest >>= λ ps. Ok (spec.map (pairs_of ps.0) None, ps.1)) (after_byte_is 95 text rest e)
+      (sound_map left (Members (PairOf R) (125 ∷ [])) (λ g i. Core R (123 ∷ 95 ∷ g) i) rest (read_members (read_pair read) 125 rest) (λ ps. spec.map (pairs_of ps) None) (members_sound left (PairOf R) 125 (read_pair read) pair_sound pair_blank rest)
       (λ g ps h. (123 ∷ 95 ∷ [], refl, (g, refl, rw (pairs_list-pairs_of ps) h))))
 
-  map_sound : (text : List ℕ) → Sound left (λ g i. Core R (123 ∷ g) i) text (map_at read text)
+  map_sound : (text : List ℕ) → Sound left (λ g i. Core R (123 ∷ g) i) text (read_map read text)
   map_sound text = map_made text (after_byte 95 text) refl
 
   -- ---- indefinite strings
@@ -108,18 +108,18 @@ module _ (left : ℕ) (R : List ℕ → Item → Type 0) (read : List ℕ → Re
   chunk_blank : (kind : StringKind) (before text : List ℕ) (c : Chunk) → IsBlank before → Chunks kind text c → Chunks kind (before ++ text) c
   chunk_blank kind before text c is h = blanked_more (λ core. StringOf kind R core c) before text is h
 
-  chunks_found : (kind : StringKind) (text : List ℕ) → Sound (suc left) (Members (Chunks kind) (41 ∷ [])) text (members_at (chunk_at read kind) 41 text)
-  chunks_found kind text = members_sound (suc left) (Chunks kind) 41 (chunk_at read kind) (chunk_sound left R read sound blank_more kind) (chunk_blank kind) text
+  chunks_found : (kind : StringKind) (text : List ℕ) → Sound (suc left) (Members (Chunks kind) (41 ∷ [])) text (read_members (read_chunk read kind) 41 text)
+  chunks_found kind text = members_sound (suc left) (Chunks kind) 41 (read_chunk read kind) (chunk_sound left R read sound blank_more kind) (chunk_blank kind) text
 
-  byte_chunks_sound : (blank first : List ℕ) → IsBlank blank → Sound (suc left) (λ g i. Core R (40 ∷ 95 ∷ (blank ++ g)) i) first (byte_chunks_at read first)
+  byte_chunks_sound : (blank first : List ℕ) → IsBlank blank → Sound (suc left) (λ g i. Core R (40 ∷ 95 ∷ (blank ++ g)) i) first (read_byte_chunks read first)
   byte_chunks_sound blank first is =
-      sound_map (suc left) (Members (Chunks bytes_kind) (41 ∷ [])) (λ g i. Core R (40 ∷ 95 ∷ (blank ++ g)) i) first (members_at (chunk_at read bytes_kind) 41 first) (λ cs. atom (byte_chunks cs)) (chunks_found bytes_kind first)
+      sound_map (suc left) (Members (Chunks bytes_kind) (41 ∷ [])) (λ g i. Core R (40 ∷ 95 ∷ (blank ++ g)) i) first (read_members (read_chunk read bytes_kind) 41 first) (λ cs. atom (byte_chunks cs)) (chunks_found bytes_kind first)
       (λ g cs h. inr (blank ++ g, refl, members_blank (Chunks bytes_kind) (41 ∷ []) blank g cs (chunk_blank bytes_kind) is h))
 
-  text_chunks_sound : (blank first z : List ℕ) → IsBlank blank → first ≡ 34 ∷ z → Sound (suc left) (λ g i. Core R (40 ∷ 95 ∷ (blank ++ g)) i) first (text_chunks_at read first)
+  text_chunks_sound : (blank first z : List ℕ) → IsBlank blank → first ≡ 34 ∷ z → Sound (suc left) (λ g i. Core R (40 ∷ 95 ∷ (blank ++ g)) i) first (read_text_chunks read first)
   text_chunks_sound blank first z is quote =
-      sound_map (suc left) (λ g cs. (0 < length cs) × Members (Chunks text_kind) (41 ∷ []) g cs) (λ g i. Core R (40 ∷ 95 ∷ (blank ++ g)) i) first (members_at (chunk_at read text_kind) 41 first) (λ cs. atom (text_chunks cs))
-      (weaker_here (suc left) (Members (Chunks text_kind) (41 ∷ [])) (λ g cs. (0 < length cs) × Members (Chunks text_kind) (41 ∷ []) g cs) first (members_at (chunk_at read text_kind) 41 first)
+      sound_map (suc left) (λ g cs. (0 < length cs) × Members (Chunks text_kind) (41 ∷ []) g cs) (λ g i. Core R (40 ∷ 95 ∷ (blank ++ g)) i) first (read_members (read_chunk read text_kind) 41 first) (λ cs. atom (text_chunks cs))
+      (weaker_here (suc left) (Members (Chunks text_kind) (41 ∷ [])) (λ g cs. (0 < length cs) × Members (Chunks text_kind) (41 ∷ []) g cs) first (read_members (read_chunk read text_kind) 41 first)
       (λ g rest cs at h. (quote_member (Chunks text_kind) g rest z cs h (sym at ∙ quote), h)) (chunks_found text_kind first))
       (λ g cs h. inr (h.0, (blank ++ g, refl, members_blank (Chunks text_kind) (41 ∷ []) blank g cs (chunk_blank text_kind) is h.1)))
 
@@ -140,11 +140,11 @@ module _ (left : ℕ) (R : List ℕ → Item → Type 0) (read : List ℕ → Re
   chunks_by blank first is start.Brace e = byte_chunks_sound blank first is
   chunks_by blank first is start.Other e = byte_chunks_sound blank first is
 
-  chunks_sound : (text : List ℕ) → Sound (suc left) (λ g i. Core R (40 ∷ g) i) text (chunks_at read text)
+  chunks_sound : (text : List ℕ) → Sound (suc left) (λ g i. Core R (40 ∷ g) i) text (read_chunks read text)
   chunks_sound text =
-      sound_option (suc left) (λ g i. Core R (40 ∷ g) i) text (after_byte 95 text) (λ opened. chunks_of read (blank_at opened) (first_start (blank_at opened)))
+      sound_option (suc left) (λ g i. Core R (40 ∷ g) i) text (after_byte 95 text) (λ opened. chunks_of read (skip_blank opened) (first_start (skip_blank opened)))
       (λ opened e.
-      let first = blank_at opened in
+      let first = skip_blank opened in
       let blank = blank_left true opened in
       moved (suc left) (λ g i. Core R (40 ∷ g) i) text (95 ∷ []) opened (chunks_of read first (first_start first)) (after_byte_is 95 text opened e)
       (moved (suc left) (λ g i. Core R (40 ∷ 95 ∷ g) i) opened blank.0 first (chunks_of read first (first_start first)) blank.1
@@ -158,12 +158,12 @@ module _ (left : ℕ) (R : List ℕ → Item → Type 0) (read : List ℕ → Re
   bytes_by : (text : List ℕ) (o : Option (List ℕ)) → after_word (codes "''_") text ≡ o → Sound (suc left) CoreThen text (byte_string_of read text o)
   bytes_by text (Some rest) e = (codes "''_", after_word_is (codes "''_") text rest e, (codes "''_", [], refl, inl (refl, refl), nothing))
   bytes_by text None e =
-      sound_map (suc left) (λ g c. Trailed (λ core. StringOf bytes_kind R core c) g) CoreThen text (string_at read bytes_kind text) (λ c. atom (byte_string c)) (string_sound left R read sound blank_more bytes_kind text) (λ g c h. h)
+      sound_map (suc left) (λ g c. Trailed (λ core. StringOf bytes_kind R core c) g) CoreThen text (read_string read bytes_kind text) (λ c. atom (byte_string c)) (string_sound left R read sound blank_more bytes_kind text) (λ g c h. h)
 
   texts_by : (text : List ℕ) (o : Option (List ℕ)) → after_word (codes "\"\"_") text ≡ o → Sound (suc left) CoreThen text (text_string_of read text o)
   texts_by text (Some rest) e = (codes "\"\"_", after_word_is (codes "\"\"_") text rest e, (codes "\"\"_", [], refl, inl (refl, refl), nothing))
   texts_by text None e =
-      sound_map (suc left) (λ g c. Trailed (λ core. StringOf text_kind R core c) g) CoreThen text (string_at read text_kind text) (λ c. atom (text_string c)) (string_sound left R read sound blank_more text_kind text) (λ g c h. h)
+      sound_map (suc left) (λ g c. Trailed (λ core. StringOf text_kind R core c) g) CoreThen text (read_string read text_kind text) (λ c. atom (text_string c)) (string_sound left R read sound blank_more text_kind text) (λ g c h. h)
 
   -- ---- cores
 
@@ -186,15 +186,15 @@ module _ (left : ℕ) (R : List ℕ → Item → Type 0) (read : List ℕ → Re
   core_by b text start.Angle is = bytes_by (b ∷ text) (after_word (codes "''_") (b ∷ text)) refl
   core_by b text start.LetterB is = bytes_by (b ∷ text) (after_word (codes "''_") (b ∷ text)) refl
   core_by b text start.LetterH is = bytes_by (b ∷ text) (after_word (codes "''_") (b ∷ text)) refl
-  core_by b text start.Parenthesis is = behind b 40 text (chunks_at read text) is (chunks_sound text)
-  core_by b text start.Minus is = behind b 45 text (negative_at text) is (negative_sound left R read sound text)
-  core_by b text start.Digit is = alone (b ∷ text) (integer_at read (b ∷ text)) (integer_sound left R read sound (b ∷ text))
-  core_by b text start.Bracket is = within b 91 text (array_at read text) is refl (array_sound text)
-  core_by b text start.Brace is = within b 123 text (map_at read text) is refl (map_sound text)
-  core_by b text start.Other is = alone (b ∷ text) (word_at (b ∷ text)) (word_sound left R read sound (b ∷ text))
+  core_by b text start.Parenthesis is = behind b 40 text (read_chunks read text) is (chunks_sound text)
+  core_by b text start.Minus is = behind b 45 text (read_negative text) is (negative_sound left R read sound text)
+  core_by b text start.Digit is = alone (b ∷ text) (read_integer read (b ∷ text)) (integer_sound left R read sound (b ∷ text))
+  core_by b text start.Bracket is = within b 91 text (read_array read text) is refl (array_sound text)
+  core_by b text start.Brace is = within b 123 text (read_map read text) is refl (map_sound text)
+  core_by b text start.Other is = alone (b ∷ text) (read_word (b ∷ text)) (word_sound left R read sound (b ∷ text))
 
-  pub core_sound : (text : List ℕ) → Sound (suc left) CoreThen text (core_at read text)
-  unfolding core_at
+  pub core_sound : (text : List ℕ) → Sound (suc left) CoreThen text (read_core read text)
+  unfolding read_core
   core_sound [] = tt
   core_sound (b ∷ text) = core_by b text (start_of b) (start_is b)
 
@@ -206,15 +206,15 @@ reads_blank zero before text i is h = absurd h
 reads_blank (suc left) before text i is h = blanked_more (λ core. Core (Reads left) core i) before text is h
 
 -- what a text is read as with so many levels left
-pub item_sound : (left : ℕ) (text : List ℕ) → Sound left (Reads left) text (item_at left text)
-unfolding item_at Reads
+pub item_sound : (left : ℕ) (text : List ℕ) → Sound left (Reads left) text (read_item left text)
+unfolding read_item Reads
 item_sound zero text = omega arith
 item_sound (suc left) text =
     let blank = blank_left true text in
     let Then : List ℕ → Item → Type 0 = λ front i. Trailed (λ core. Core (Reads left) core i) front in
-    moved (suc left) (λ g i. Blanked (λ core. Core (Reads left) core i) g) text blank.0 (blank_at text) (core_at (item_at left) (blank_at text) >>= λ i. Ok (i.0, blank_at i.1)) blank.1
-    (sound_then (suc left) Then (λ g i. Blanked (λ core. Core (Reads left) core i) (blank.0 ++ g)) (blank_at text) (core_at (item_at left) (blank_at text)) (λ i. Ok (i.0, blank_at i.1))
-    (core_sound left (Reads left) (item_at left) (item_sound left) (reads_blank left) (blank_at text))
+    moved (suc left) (λ g i. Blanked (λ core. Core (Reads left) core i) g) text blank.0 (skip_blank text) (read_core (read_item left) (skip_blank text) >>= λ i. Ok (i.0, skip_blank i.1)) blank.1
+    (sound_then (suc left) Then (λ g i. Blanked (λ core. Core (Reads left) core i) (blank.0 ++ g)) (skip_blank text) (read_core (read_item left) (skip_blank text)) (λ i. Ok (i.0, skip_blank i.1))
+    (core_sound left (Reads left) (read_item left) (item_sound left) (reads_blank left) (skip_blank text))
     (λ i front rest at core.
     let last = blank_left true rest in
     (last.0, last.1, (blank.0, core.0, core.1 ++ last.0, ap (λ (z : List ℕ). blank.0 ++ z) (ap (λ (z : List ℕ). z ++ last.0) core.2 ∙ append_assoc core.0 core.1 last.0), blank.2, core.3, Blank-append core.4 last.2))))
@@ -226,4 +226,4 @@ answered limit text (Err e) s = s
 
 -- what reading a whole text answers holds of it
 pub notation_sound : (limit : ℕ) (text : List ℕ) → IsAnswered limit text (notation_of limit text)
-notation_sound limit text = answered limit text (item_at limit text) (item_sound limit text)
+notation_sound limit text = answered limit text (read_item limit text) (item_sound limit text)

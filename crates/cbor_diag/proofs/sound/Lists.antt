@@ -7,7 +7,7 @@ use Rattle.cbor_notes.specs.Token.{Blank, nothing, whitespace, is_whitespace}
 use Rattle.cbor_notes.proofs.tokens.Blanks.{blank_left}
 use Rattle.cbor_diag.specs.Reading.{Read, ◌>>=◌}
 use Rattle.cbor_diag.specs.Notation.{IsBlank, IsSpace, Closes, Further, Members}
-use Rattle.cbor_diag.specs.NotationReading.{blank_at, after_byte, after_space, end_at, more_members, members_from, members_or_end, members_at}
+use Rattle.cbor_diag.specs.NotationReading.{skip_blank, after_byte, after_space, after_end, more_members, members_from, members_or_end, read_members}
 use Rattle.std.proofs.lemmas.Bool.{cases_eq, eq-eqb, ne_eqb}
 use Rattle.cbor_diag.proofs.sound.Steps.{none_some, a_test, Sound, moved, weaker, sound_then, sound_map, sound_option, after_byte_is}
 
@@ -43,7 +43,7 @@ after_space_is close text rest e =
       | inr none ↦ absurd (none_some rest (rw none at e))
     ]
 
-pub end_is : (close : ℕ) (text rest : List ℕ) → end_at close text ≡ Some rest → (end : List ℕ) × (text ≡ end ++ rest) × Closes (close ∷ []) end
+pub end_is : (close : ℕ) (text rest : List ℕ) → after_end close text ≡ Some rest → (end : List ℕ) × (text ≡ end ++ rest) × Closes (close ∷ []) end
 end_is close [] rest e = absurd (none_some rest e)
 end_is close (b ∷ text) rest e =
     elim (cases_eq b 44) [
@@ -71,7 +71,7 @@ blank_first Member close blank rest [] is more h = absurd h
 blank_first Member close blank rest (x ∷ xs) is more h = (blank ++ h.0, h.1, ap (λ (z : List ℕ). blank ++ z) h.2 ∙ sym (append_assoc blank h.0 h.1), more blank h.0 x is h.3, h.4)
 
 module _ {X : Type 0} (levels : ℕ) (Member : List ℕ → X → Type 0) (close : ℕ) (read : List ℕ → Read X) (sound : (text : List ℕ) → Sound levels Member text (read text)) where
-  more_sound : (n : ℕ) → ((text : List ℕ) → Sound levels (FromFirst Member (close ∷ [])) text (members_from read close n text)) → (text : List ℕ) (end : Option (List ℕ)) → end_at close text ≡ end
+  more_sound : (n : ℕ) → ((text : List ℕ) → Sound levels (FromFirst Member (close ∷ [])) text (members_from read close n text)) → (text : List ℕ) (end : Option (List ℕ)) → after_end close text ≡ end
       → Sound levels (Further Member (close ∷ [])) text (more_members (members_from read close n) text end)
   more_sound n later text (Some rest) is = let e = end_is close text rest is in (e.0, e.1, e.2)
   more_sound n later text None is =
@@ -84,21 +84,21 @@ module _ {X : Type 0} (levels : ℕ) (Member : List ℕ → X → Type 0) (close
   unfolding members_from
   from_first zero text = tt
   from_first (suc n) text =
-      sound_then levels Member (FromFirst Member (close ∷ [])) text (read text) (λ x. more_members (members_from read close n) x.1 (end_at close x.1) >>= λ xs. Ok (x.0 ∷ xs.0, xs.1)) (sound text)
+      sound_then levels Member (FromFirst Member (close ∷ [])) text (read text) (λ x. more_members (members_from read close n) x.1 (after_end close x.1) >>= λ xs. Ok (x.0 ∷ xs.0, xs.1)) (sound text)
       (λ x front rest is member.
-      sound_map levels (Further Member (close ∷ [])) (λ g xs. FromFirst Member (close ∷ []) (front ++ g) xs) rest (more_members (members_from read close n) rest (end_at close rest)) (λ xs. x ∷ xs)
-      (more_sound n (from_first n) rest (end_at close rest) refl)
+      sound_map levels (Further Member (close ∷ [])) (λ g xs. FromFirst Member (close ∷ []) (front ++ g) xs) rest (more_members (members_from read close n) rest (after_end close rest)) (λ xs. x ∷ xs)
+      (more_sound n (from_first n) rest (after_end close rest) refl)
       (λ g xs further. (front, g, refl, member, further)))
 
-  or_end : ((before text : List ℕ) (x : X) → IsBlank before → Member text x → Member (before ++ text) x) → (blank : List ℕ) → IsBlank blank → (text : List ℕ) (end : Option (List ℕ)) → end_at close text ≡ end → Sound levels (λ g xs. Members Member (close ∷ []) (blank ++ g) xs) text (members_or_end read close text end)
+  or_end : ((before text : List ℕ) (x : X) → IsBlank before → Member text x → Member (before ++ text) x) → (blank : List ℕ) → IsBlank blank → (text : List ℕ) (end : Option (List ℕ)) → after_end close text ≡ end → Sound levels (λ g xs. Members Member (close ∷ []) (blank ++ g) xs) text (members_or_end read close text end)
   or_end more blank is text (Some rest) at = let e = end_is close text rest at in (e.0, e.1, (blank, e.0, refl, is, e.2))
   or_end more blank is text None at =
       weaker levels (FromFirst Member (close ∷ [])) (λ g xs. Members Member (close ∷ []) (blank ++ g) xs) text (members_from read close (suc (length text)) text)
       (λ g xs h. blank_first Member (close ∷ []) blank g xs is more h) (from_first (suc (length text)) text)
 
-  pub members_sound : ((before text : List ℕ) (x : X) → IsBlank before → Member text x → Member (before ++ text) x) → (text : List ℕ) → Sound levels (Members Member (close ∷ [])) text (members_at read close text)
-  unfolding members_at
+  pub members_sound : ((before text : List ℕ) (x : X) → IsBlank before → Member text x → Member (before ++ text) x) → (text : List ℕ) → Sound levels (Members Member (close ∷ [])) text (read_members read close text)
+  unfolding read_members
   members_sound more text =
       let b = blank_left true text in
-      moved levels (Members Member (close ∷ [])) text b.0 (blank_at text) (members_at read close text) b.1
-      (or_end more b.0 b.2 (blank_at text) (end_at close (blank_at text)) refl)
+      moved levels (Members Member (close ∷ [])) text b.0 (skip_blank text) (read_members read close text) b.1
+      (or_end more b.0 b.2 (skip_blank text) (after_end close (skip_blank text)) refl)

@@ -19,7 +19,7 @@ use Rattle.cbor_diag.specs.Bytes.{StringKind, bytes_kind, text_kind}
 use Rattle.cbor_diag.specs.Reading.{Read, ◌>>=◌}
 use Rattle.cbor_diag.specs.Written.{encoded_items}
 use Rattle.cbor_diag.specs.Notation.{IsBlank, Blanked, Members, QuotedBy, Notation, as_text, as_items, PieceOf, Joined, one, more, StringOf}
-use Rattle.cbor_diag.specs.NotationReading.{or_refused, blank_at, after_byte, members_at, h_notation, b_notation, embedded_at, start_of, first_start, begins_piece, piece_of, piece_at, pieces_at, begins_string, may_have_texts, checked, string_of, string_at, chunk_at}
+use Rattle.cbor_diag.specs.NotationReading.{or_refused, skip_blank, after_byte, read_members, h_notation, b_notation, read_embedded, start_of, first_start, begins_piece, piece_of, read_piece, read_pieces, begins_string, may_have_texts, checked, string_of, read_string, read_chunk}
 use Rattle.cbor_diag.specs.NotationRefused.{MayRefuse, HoldsByte}
 use Rattle.cbor_diag.proofs.sound.Steps.{a_test, Sound, moved, moved_in, weaker, sound_then, sound_map, sound_check, sound_option, sound_refused, after_byte_is}
 use Rattle.cbor_diag.proofs.sound.Lists.{members_sound}
@@ -88,12 +88,12 @@ Trailed Is front = (core blank : List ℕ) × (front ≡ core ++ blank) × Is co
 
 module _ (left : ℕ) (R : List ℕ → Item → Type 0) (read : List ℕ → Read Item) (sound : (text : List ℕ) → Sound left R text (read text)) (blank_more : (before text : List ℕ) (i : Item) → IsBlank before → R text i → R (before ++ text) i) where
   -- behind the first `<`
-  embedded_sound : (text : List ℕ) → Sound left (λ g bytes. Notation R (60 ∷ g) bytes) text (embedded_at read text)
+  embedded_sound : (text : List ℕ) → Sound left (λ g bytes. Notation R (60 ∷ g) bytes) text (read_embedded read text)
   embedded_sound text =
-      sound_option left (λ g bytes. Notation R (60 ∷ g) bytes) text (after_byte 60 text) (λ first. members_at read 62 first >>= λ is. or_refused (after_byte 62 is.1) >>= λ rest. Ok (encoded_items (items_of is.0), rest))
+      sound_option left (λ g bytes. Notation R (60 ∷ g) bytes) text (after_byte 60 text) (λ first. read_members read 62 first >>= λ is. or_refused (after_byte 62 is.1) >>= λ rest. Ok (encoded_items (items_of is.0), rest))
       (λ first opened.
-      moved left (λ g bytes. Notation R (60 ∷ g) bytes) text (60 ∷ []) first (members_at read 62 first >>= λ is. or_refused (after_byte 62 is.1) >>= λ rest. Ok (encoded_items (items_of is.0), rest)) (after_byte_is 60 text first opened)
-      (sound_then left (Members R (62 ∷ [])) (λ g bytes. Notation R (60 ∷ 60 ∷ g) bytes) first (members_at read 62 first) (λ is. or_refused (after_byte 62 is.1) >>= λ rest. Ok (encoded_items (items_of is.0), rest)) (members_sound left R 62 read sound blank_more first)
+      moved left (λ g bytes. Notation R (60 ∷ g) bytes) text (60 ∷ []) first (read_members read 62 first >>= λ is. or_refused (after_byte 62 is.1) >>= λ rest. Ok (encoded_items (items_of is.0), rest)) (after_byte_is 60 text first opened)
+      (sound_then left (Members R (62 ∷ [])) (λ g bytes. Notation R (60 ∷ 60 ∷ g) bytes) first (read_members read 62 first) (λ is. or_refused (after_byte 62 is.1) >>= λ rest. Ok (encoded_items (items_of is.0), rest)) (members_sound left R 62 read sound blank_more first)
       (λ is front rest at members.
       sound_option left (λ g bytes. Notation R (60 ∷ 60 ∷ (front ++ g)) bytes) rest (after_byte 62 rest) (λ last. Ok (encoded_items (items_of is), last))
       (λ last closed.
@@ -123,8 +123,8 @@ module _ (left : ℕ) (R : List ℕ → Item → Type 0) (read : List ℕ → Re
       let q = in_quotes-unquoted 39 text x e in
       (b ∷ (in_quotes 39 x.0 ++ 39 ∷ []), ap (λ (z : List ℕ). b ∷ z) (q ∙ sym (append_assoc (in_quotes 39 x.0) (39 ∷ []) x.1)), ((in_kind kind (b ∷ (in_quotes 39 x.0 ++ 39 ∷ [])) x.0 (as_text (ap (λ (z : ℕ). z ∷ (in_quotes 39 x.0 ++ 39 ∷ [])) is)), in_quotes 39 x.0 ++ 39 ∷ [], refl))))
   piece_sound kind b text start.Angle is begins =
-      moved_in left (PieceFrom kind b) (b ∷ text) [] b text (embedded_at read text) refl (rw is refl)
-      (weaker left (λ g bytes. Notation R (60 ∷ g) bytes) (λ g bytes. PieceFrom kind b (b ∷ g) bytes) text (embedded_at read text)
+      moved_in left (PieceFrom kind b) (b ∷ text) [] b text (read_embedded read text) refl (rw is refl)
+      (weaker left (λ g bytes. Notation R (60 ∷ g) bytes) (λ g bytes. PieceFrom kind b (b ∷ g) bytes) text (read_embedded read text)
       (λ g bytes h. (in_kind kind (b ∷ g) bytes (subst (λ (z : ℕ). Notation R (z ∷ g) bytes) (sym is) h), g, refl)) (embedded_sound text))
   piece_sound kind b text start.LetterB is begins =
       moved (suc left) (PieceFrom kind b) (b ∷ text) (b ∷ []) text (b_notation text) refl
@@ -167,32 +167,32 @@ module _ (left : ℕ) (R : List ℕ → Item → Type 0) (read : List ℕ → Re
 
   -- the pieces from here on, by whether one begins here
   abbrev by_test : StringKind → ℕ → ℕ → List ℕ → Bool → Read (List ℕ)
-  by_test kind n b text true = piece_of read (start_of b) text >>= λ x. pieces_at read (may_have_texts kind) n (blank_at x.1) >>= λ xs. Ok (x.0 ++ xs.0, xs.1)
+  by_test kind n b text true = piece_of read (start_of b) text >>= λ x. read_pieces read (may_have_texts kind) n (skip_blank x.1) >>= λ xs. Ok (x.0 ++ xs.0, xs.1)
   by_test kind n b text false = Ok ([], b ∷ text)
 
-  pieces_by_test : (kind : StringKind) (n b : ℕ) (text : List ℕ) (t : Bool) → begins_piece (may_have_texts kind) (start_of b) ≡ t → pieces_at read (may_have_texts kind) (suc n) (b ∷ text) ≡ by_test kind n b text t
-  unfolding pieces_at piece_at
-  pieces_by_test kind n b text true is = rw (is, pieces_at) refl
-  pieces_by_test kind n b text false is = rw (is, pieces_at) refl
+  pieces_by_test : (kind : StringKind) (n b : ℕ) (text : List ℕ) (t : Bool) → begins_piece (may_have_texts kind) (start_of b) ≡ t → read_pieces read (may_have_texts kind) (suc n) (b ∷ text) ≡ by_test kind n b text t
+  unfolding read_pieces read_piece
+  pieces_by_test kind n b text true is = rw (is, read_pieces) refl
+  pieces_by_test kind n b text false is = rw (is, read_pieces) refl
 
-  some_pieces : (kind : StringKind) (n b : ℕ) (text : List ℕ) → ((rest : List ℕ) → Sound (suc left) (Pieces kind) rest (pieces_at read (may_have_texts kind) n rest)) → begins_piece (may_have_texts kind) (start_of b) ≡ true
-      → Sound (suc left) (SomePieces kind b) (b ∷ text) (pieces_at read (may_have_texts kind) (suc n) (b ∷ text))
+  some_pieces : (kind : StringKind) (n b : ℕ) (text : List ℕ) → ((rest : List ℕ) → Sound (suc left) (Pieces kind) rest (read_pieces read (may_have_texts kind) n rest)) → begins_piece (may_have_texts kind) (start_of b) ≡ true
+      → Sound (suc left) (SomePieces kind b) (b ∷ text) (read_pieces read (may_have_texts kind) (suc n) (b ∷ text))
   some_pieces kind n b text later begins =
       subst (Sound (suc left) (SomePieces kind b) (b ∷ text)) (sym (pieces_by_test kind n b text true begins))
-      (sound_then (suc left) (PieceFrom kind b) (SomePieces kind b) (b ∷ text) (piece_of read (start_of b) text) (λ x. pieces_at read (may_have_texts kind) n (blank_at x.1) >>= λ xs. Ok (x.0 ++ xs.0, xs.1)) (piece_sound kind b text (start_of b) (start_is b) begins)
+      (sound_then (suc left) (PieceFrom kind b) (SomePieces kind b) (b ∷ text) (piece_of read (start_of b) text) (λ x. read_pieces read (may_have_texts kind) n (skip_blank x.1) >>= λ xs. Ok (x.0 ++ xs.0, xs.1)) (piece_sound kind b text (start_of b) (start_is b) begins)
       (λ bytes piece rest at p.
       let blank = blank_left true rest in
-      moved (suc left) (λ g content. SomePieces kind b (piece ++ g) content) rest blank.0 (blank_at rest) (pieces_at read (may_have_texts kind) n (blank_at rest) >>= λ xs. Ok (bytes ++ xs.0, xs.1)) blank.1
-      (sound_map (suc left) (Pieces kind) (λ g content. SomePieces kind b (piece ++ (blank.0 ++ g)) content) (blank_at rest) (pieces_at read (may_have_texts kind) n (blank_at rest)) (λ xs. bytes ++ xs) (later (blank_at rest))
+      moved (suc left) (λ g content. SomePieces kind b (piece ++ g) content) rest blank.0 (skip_blank rest) (read_pieces read (may_have_texts kind) n (skip_blank rest) >>= λ xs. Ok (bytes ++ xs.0, xs.1)) blank.1
+      (sound_map (suc left) (Pieces kind) (λ g content. SomePieces kind b (piece ++ (blank.0 ++ g)) content) (skip_blank rest) (read_pieces read (may_have_texts kind) n (skip_blank rest)) (λ xs. bytes ++ xs) (later (skip_blank rest))
       (λ g content h. joined_pieces kind b piece blank.0 bytes g content p blank.2 h))))
 
-  pieces_sound : (kind : StringKind) (n : ℕ) (text : List ℕ) → Sound (suc left) (Pieces kind) text (pieces_at read (may_have_texts kind) n text)
-  unfolding pieces_at
+  pieces_sound : (kind : StringKind) (n : ℕ) (text : List ℕ) → Sound (suc left) (Pieces kind) text (read_pieces read (may_have_texts kind) n text)
+  unfolding read_pieces
   pieces_sound kind zero text = tt
   pieces_sound kind (suc n) [] = ([], refl, inl (refl, refl))
   pieces_sound kind (suc n) (b ∷ text) =
       elim (a_test (begins_piece (may_have_texts kind) (start_of b))) [
-        | inl begins ↦ weaker (suc left) (SomePieces kind b) (Pieces kind) (b ∷ text) (pieces_at read (may_have_texts kind) (suc n) (b ∷ text)) (λ front content h. inr (b, h)) (some_pieces kind n b text (pieces_sound kind n) begins)
+        | inl begins ↦ weaker (suc left) (SomePieces kind b) (Pieces kind) (b ∷ text) (read_pieces read (may_have_texts kind) (suc n) (b ∷ text)) (λ front content h. inr (b, h)) (some_pieces kind n b text (pieces_sound kind n) begins)
         | inr other ↦
             subst (Sound (suc left) (Pieces kind) (b ∷ text)) (sym (pieces_by_test kind n b text false other)) ([], refl, inl (refl, refl))
       ]
@@ -268,13 +268,13 @@ module _ (left : ℕ) (R : List ℕ → Item → Type 0) (read : List ℕ → Re
   of_test bytes_kind [] true is = absurd cc
   of_test text_kind [] true is = absurd cc
   of_test kind (b ∷ text) true is =
-      sound_check (suc left) (SomePieces kind b) (λ g c. Trailed (λ core. StringOf kind R core c) g) (b ∷ text) (pieces_at read (may_have_texts kind) (suc (length (b ∷ text))) (b ∷ text)) (checked kind)
+      sound_check (suc left) (SomePieces kind b) (λ g c. Trailed (λ core. StringOf kind R core c) g) (b ∷ text) (read_pieces read (may_have_texts kind) (suc (length (b ∷ text))) (b ∷ text)) (checked kind)
       (some_pieces kind (length (b ∷ text)) b text (pieces_sound kind (length (b ∷ text))) (string_begins kind b is))
       (λ front content c pieces ok. checked_ok kind b front content c is pieces ok)
       (λ front rest content e at pieces odd. checked_odd kind b text content e is odd)
 
-  pub string_sound : (kind : StringKind) (text : List ℕ) → Sound (suc left) (λ g c. Trailed (λ core. StringOf kind R core c) g) text (string_at read kind text)
-  unfolding string_at
+  pub string_sound : (kind : StringKind) (text : List ℕ) → Sound (suc left) (λ g c. Trailed (λ core. StringOf kind R core c) g) text (read_string read kind text)
+  unfolding read_string
   string_sound kind text = of_test kind text (begins_string kind (first_start text)) refl
 
   -- ---- chunks
@@ -282,12 +282,12 @@ module _ (left : ℕ) (R : List ℕ → Item → Type 0) (read : List ℕ → Re
   trailed_blanked : (blank g : List ℕ) (Is : List ℕ → Type 0) → IsBlank blank → Trailed Is g → Blanked Is (blank ++ g)
   trailed_blanked blank g Is is t = (blank, t.0, t.1, ap (λ (z : List ℕ). blank ++ z) t.2, is, t.3, t.4)
 
-  pub chunk_sound : (kind : StringKind) (text : List ℕ) → Sound (suc left) (λ g c. Blanked (λ core. StringOf kind R core c) g) text (chunk_at read kind text)
+  pub chunk_sound : (kind : StringKind) (text : List ℕ) → Sound (suc left) (λ g c. Blanked (λ core. StringOf kind R core c) g) text (read_chunk read kind text)
   chunk_sound kind text =
       let blank = blank_left true text in
-      moved (suc left) (λ g c. Blanked (λ core. StringOf kind R core c) g) text blank.0 (blank_at text) (string_at read kind (blank_at text)) blank.1
-      (weaker (suc left) (λ g c. Trailed (λ core. StringOf kind R core c) g) (λ g c. Blanked (λ core. StringOf kind R core c) (blank.0 ++ g)) (blank_at text) (string_at read kind (blank_at text))
-      (λ g c t. trailed_blanked blank.0 g (λ core. StringOf kind R core c) blank.2 t) (string_sound kind (blank_at text)))
+      moved (suc left) (λ g c. Blanked (λ core. StringOf kind R core c) g) text blank.0 (skip_blank text) (read_string read kind (skip_blank text)) blank.1
+      (weaker (suc left) (λ g c. Trailed (λ core. StringOf kind R core c) g) (λ g c. Blanked (λ core. StringOf kind R core c) (blank.0 ++ g)) (skip_blank text) (read_string read kind (skip_blank text))
+      (λ g c t. trailed_blanked blank.0 g (λ core. StringOf kind R core c) blank.2 t) (string_sound kind (skip_blank text)))
 
 -- a blank before what may stand behind blanks
 pub blanked_more : (Is : List ℕ → Type 0) (before text : List ℕ) → IsBlank before → Blanked Is text → Blanked Is (before ++ text)

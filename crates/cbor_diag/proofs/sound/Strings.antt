@@ -11,7 +11,7 @@ use Rattle.cbor_diag.specs.Item.{Item}
 use Rattle.cbor_diag.specs.View.{items_of}
 use Rattle.cbor_diag.specs.Reading.{Read, ◌>>=◌}
 use Rattle.cbor_diag.specs.Notation.{Closes, Further, Members, list_of, DigitsIn, Notation, in_base16, in_base32, in_base32hex, in_base64}
-use Rattle.cbor_diag.specs.NotationReading.{or_refused, after_word, if_encoded, from_fives, from_sixes, six_bits, value_in, unpadded, base32_of, base32hex_of, either, base64_of, base16_bytes, base16_of, decoded_at, either_word, h_notation, b_notation}
+use Rattle.cbor_diag.specs.NotationReading.{or_refused, after_word, if_encoded, from_fives, from_sixes, six_bits, value_in, unpadded, base32_of, base32hex_of, either, base64_of, base16_bytes, base16_of, read_decoded, either_word, h_notation, b_notation}
 use Rattle.cbor_diag.proofs.sound.Steps.{none_some, Sound, moved, sound_option, after_word_is}
 use Rattle.cbor_diag.proofs.sound.Digits.{fives_are_bytes, sixes_are_bytes, encoded_so}
 
@@ -80,7 +80,7 @@ module _ (R : List ℕ → Item → Type 0) where
 
   -- behind the opened quote of a notation
   decoded_sound : (levels : ℕ) (comments : Bool) (decode : List ℕ → Option (List ℕ)) (word : List ℕ) → ((text digits bytes : List ℕ) → DigitsIn comments word text digits → decode digits ≡ Some bytes → Notation R text bytes)
-      → (text : List ℕ) → Sound levels (λ g bytes. Notation R (word ++ g) bytes) text (decoded_at comments decode text)
+      → (text : List ℕ) → Sound levels (λ g bytes. Notation R (word ++ g) bytes) text (read_decoded comments decode text)
   decoded_sound levels comments decode word makes text =
       sound_option levels (λ g bytes. Notation R (word ++ g) bytes) text (digits_of comments text) (λ x. or_refused (decode x.0) >>= λ bytes. Ok (bytes, x.1))
       (λ x read.
@@ -97,12 +97,12 @@ module _ (R : List ℕ → Item → Type 0) where
 
   pub h_sound : (levels : ℕ) (text : List ℕ) → Sound levels (λ g bytes. Notation R (104 ∷ g) bytes) text (h_notation text)
   h_sound levels text =
-      either_sound levels (λ g bytes. Notation R (104 ∷ g) bytes) text (codes "'") (codes "32'") (decoded_at true base16_of) (decoded_at true base32hex_of)
+      either_sound levels (λ g bytes. Notation R (104 ∷ g) bytes) text (codes "'") (codes "32'") (read_decoded true base16_of) (read_decoded true base32hex_of)
       (decoded_sound levels true base16_of (codes "h'") from_base16) (decoded_sound levels true base32hex_of (codes "h32'") from_base32hex)
       (after_word (codes "'") text) (after_word (codes "32'") text) refl refl
 
   pub b_sound : (levels : ℕ) (text : List ℕ) → Sound levels (λ g bytes. Notation R (98 ∷ g) bytes) text (b_notation text)
   b_sound levels text =
-      either_sound levels (λ g bytes. Notation R (98 ∷ g) bytes) text (codes "32'") (codes "64'") (decoded_at true base32_of) (decoded_at false base64_of)
+      either_sound levels (λ g bytes. Notation R (98 ∷ g) bytes) text (codes "32'") (codes "64'") (read_decoded true base32_of) (read_decoded false base64_of)
       (decoded_sound levels true base32_of (codes "b32'") from_base32) (decoded_sound levels false base64_of (codes "b64'") from_base64)
       (after_word (codes "32'") text) (after_word (codes "64'") text) refl refl

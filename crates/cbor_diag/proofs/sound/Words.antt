@@ -22,7 +22,7 @@ use Rattle.cbor_diag.specs.Item.{Item, atom, negative, float, simple, tagged}
 use Rattle.cbor_diag.specs.Head.{FitsWidth}
 use Rattle.cbor_diag.specs.Reading.{Read, ◌>>=◌}
 use Rattle.cbor_diag.specs.Notation.{width_of, number_width, HasWidth, NumberOf, NegativeOf, FloatDigits, Core}
-use Rattle.cbor_diag.specs.NotationReading.{or_refused, after_byte, after_word, numeral, number_at, past_width, sized, below_zero, negative_at, tagged_at, integer_or_tag, integer_at, simple_value, simple_at, float_of, float_at, or_else, named_at, word_at}
+use Rattle.cbor_diag.specs.NotationReading.{or_refused, after_byte, after_word, numeral, read_number, past_width, with_width, negative_number, read_negative, read_tagged, integer_or_tag, read_integer, simple_value, read_simple, float_of, read_float, or_else, named, read_word}
 use Rattle.cbor_diag.specs.NotationRefused.{MayRefuse, HoldsByte}
 use Rattle.cbor_diag.proofs.sound.Steps.{none_some, a_test, Sound, moved, moved_in, sound_then, sound_option, after_byte_is, after_word_is}
 
@@ -51,7 +51,7 @@ fits_open n h =
       | inr other ↦ rw other h
     ]
 
-sized_is : (n : ℕ) (indicator : Option ℕ) → SizedSo n indicator (sized n indicator)
+sized_is : (n : ℕ) (indicator : Option ℕ) → SizedSo n indicator (with_width n indicator)
 sized_is n None =
     elim (a_test (nat_lt n (2 ^ 64))) [
       | inl this ↦ rw this (refl, (refl, fits_open n (ltb-true n (2 ^ 64) this)))
@@ -95,7 +95,7 @@ module _ {A B : Type 0} (levels : ℕ) (Is : List ℕ → B → Type 0) (text : 
       let number = IsNumber-number_of text x e in
       size_step number.0 x.2 x.0 x.1 number.1 number.2 (size x.0 x.1 x.2) refl
 
-  pub sound_number : Sound levels Is text (number_at text >>= λ x. size x.0.0 x.0.1 x.1 >>= λ a. f a x.1)
+  pub sound_number : Sound levels Is text (read_number text >>= λ x. size x.0.0 x.0.1 x.1 >>= λ a. f a x.1)
   sound_number = number_step (number_of text) refl
 
 -- a number that is tested before it is used
@@ -116,10 +116,10 @@ module _ {A B : Type 0} (size : ℕ → Option ℕ → Result A Error) (f : A �
 
 -- ---- integers and tags
 
-sized_ok : (n : ℕ) (indicator : Option ℕ) (x : ℕ × IntegerWidth) → sized n indicator ≡ Ok x → (x.0 ≡ n) × HasWidth n indicator x.1
+sized_ok : (n : ℕ) (indicator : Option ℕ) (x : ℕ × IntegerWidth) → with_width n indicator ≡ Ok x → (x.0 ≡ n) × HasWidth n indicator x.1
 sized_ok n indicator x e = subst (SizedSo n indicator) e (sized_is n indicator)
 
-sized_odd : (n : ℕ) (indicator : Option ℕ) (d : Error) → sized n indicator ≡ Err d → OddNumber indicator d
+sized_odd : (n : ℕ) (indicator : Option ℕ) (d : Error) → with_width n indicator ≡ Err d → OddNumber indicator d
 sized_odd n indicator d e = subst (SizedSo n indicator) e (sized_is n indicator)
 
 number_here : (front : List ℕ) (n : ℕ) (indicator : Option ℕ) (x : ℕ × IntegerWidth) → IsNumber front n indicator → (x.0 ≡ n) × HasWidth n indicator x.1 → NumberOf front x.0 x.1
@@ -129,38 +129,38 @@ module _ (left : ℕ) (R : List ℕ → Item → Type 0) (read : List ℕ → Re
   or_tag : (front rest : List ℕ) (n : ℕ) (w : IntegerWidth) → NumberOf front n w → (o : Option (List ℕ)) → after_byte 40 rest ≡ o → Sound (suc left) (λ g i. Core R (front ++ g) i) rest (integer_or_tag read n w rest o)
   or_tag front rest n w number None e = ([], refl, subst (λ (z : List ℕ). NumberOf z n w) (sym (append-nil front)) number)
   or_tag front rest n w number (Some inner) e =
-      moved_in left (λ g i. Core R (front ++ g) i) rest [] 40 inner (tagged_at read n w inner) (after_byte_is 40 rest inner e) refl
+      moved_in left (λ g i. Core R (front ++ g) i) rest [] 40 inner (read_tagged read n w inner) (after_byte_is 40 rest inner e) refl
       (sound_then left R (λ g i. Core R (front ++ 40 ∷ g) i) inner (read inner) (λ i. or_refused (after_byte 41 i.1) >>= λ after. Ok (tagged n w i.0, after)) (sound inner)
       (λ i within after is reads.
       sound_option left (λ g j. Core R (front ++ 40 ∷ (within ++ g)) j) after (after_byte 41 after) (λ last. Ok (tagged n w i, last))
       (λ last closed. (41 ∷ [], after_byte_is 41 after last closed, (front, within, refl, number, reads)))))
 
-  pub integer_sound : (text : List ℕ) → Sound (suc left) (Core R) text (integer_at read text)
+  pub integer_sound : (text : List ℕ) → Sound (suc left) (Core R) text (read_integer read text)
   integer_sound text =
-      subst (Sound (suc left) (Core R) text) (sym (number_tested sized (λ x rest. integer_or_tag read x.0 x.1 rest (after_byte 40 rest)) (number_of text)))
-      (sound_number (suc left) (Core R) text (λ n indicator rest. sized n indicator) (λ x rest. integer_or_tag read x.0 x.1 rest (after_byte 40 rest))
+      subst (Sound (suc left) (Core R) text) (sym (number_tested with_width (λ x rest. integer_or_tag read x.0 x.1 rest (after_byte 40 rest)) (number_of text)))
+      (sound_number (suc left) (Core R) text (λ n indicator rest. with_width n indicator) (λ x rest. integer_or_tag read x.0 x.1 rest (after_byte 40 rest))
       (λ front rest n indicator is number e odd. sized_odd n indicator e odd)
       (λ front rest n indicator is number x ok. or_tag front rest x.0 x.1 (number_here front n indicator x number (sized_ok n indicator x ok)) (after_byte 40 rest) refl))
 
   -- ---- negative integers
 
-  below_ok : (front : List ℕ) (n : ℕ) (indicator : Option ℕ) (x : ℕ × IntegerWidth) → IsNumber front n indicator → below_zero n indicator ≡ Ok x → NegativeOf (45 ∷ front) x.0 x.1
+  below_ok : (front : List ℕ) (n : ℕ) (indicator : Option ℕ) (x : ℕ × IntegerWidth) → IsNumber front n indicator → negative_number n indicator ≡ Ok x → NegativeOf (45 ∷ front) x.0 x.1
   below_ok front zero indicator x number e = absurd cc
   below_ok front (suc n) indicator x number e =
       let ok = sized_ok n indicator x e in
       let more : suc n ≡ x.0 + 1 = omega (arith, ok.0) in
       (front, indicator, refl, subst (λ (m : ℕ). IsNumber front m indicator) more number, rw ok.0 ok.1)
 
-  below_odd : (n : ℕ) (indicator : Option ℕ) (d : Error) → below_zero n indicator ≡ Err d → OddNumber indicator d
+  below_odd : (n : ℕ) (indicator : Option ℕ) (d : Error) → negative_number n indicator ≡ Err d → OddNumber indicator d
   below_odd zero indicator d e = let same : refusal.Notation ≡ d = cc in inl (sym same)
   below_odd (suc n) indicator d e = sized_odd n indicator d e
 
   -- behind the minus
-  pub negative_sound : (text : List ℕ) → Sound (suc left) (λ g i. Core R (45 ∷ g) i) text (negative_at text)
+  pub negative_sound : (text : List ℕ) → Sound (suc left) (λ g i. Core R (45 ∷ g) i) text (read_negative text)
   negative_sound text =
       let made : ℕ × IntegerWidth → List ℕ → Read Item = λ x rest. Ok (atom (negative x.0 x.1), rest) in
-      subst (Sound (suc left) (λ g i. Core R (45 ∷ g) i) text) (sym (number_tested below_zero made (number_of text)))
-      (sound_number (suc left) (λ g i. Core R (45 ∷ g) i) text (λ n indicator rest. below_zero n indicator) (λ x rest. Ok (atom (negative x.0 x.1), rest))
+      subst (Sound (suc left) (λ g i. Core R (45 ∷ g) i) text) (sym (number_tested negative_number made (number_of text)))
+      (sound_number (suc left) (λ g i. Core R (45 ∷ g) i) text (λ n indicator rest. negative_number n indicator) (λ x rest. Ok (atom (negative x.0 x.1), rest))
       (λ front rest n indicator is number e odd. below_odd n indicator e odd)
       (λ front rest n indicator is number x ok. ([], refl, subst (λ (z : List ℕ). NegativeOf (45 ∷ z) x.0 x.1) (sym (append-nil front)) (below_ok front n indicator x number ok))))
 
@@ -195,7 +195,7 @@ module _ (left : ℕ) (R : List ℕ → Item → Type 0) (read : List ℕ → Re
       rw n (ap (take (length front)) is ∙ take-append_seam front rest)
 
   -- behind `simple(`
-  pub simple_sound : (text : List ℕ) → Sound (suc left) (λ g i. Core R (codes "simple(" ++ g) i) text (simple_at text)
+  pub simple_sound : (text : List ℕ) → Sound (suc left) (λ g i. Core R (codes "simple(" ++ g) i) text (read_simple text)
   simple_sound text =
       sound_number (suc left) (λ g i. Core R (codes "simple(" ++ g) i) text (λ n indicator rest. simple_value n (take (length text - length rest) text)) (λ n rest. or_refused (after_byte 41 rest) >>= λ last. Ok (atom (simple n), last))
       (λ front rest n indicator is number e odd. let same = front_of text front rest is in simple_odd front n indicator e (rw same at odd))
@@ -256,7 +256,7 @@ module _ (left : ℕ) (R : List ℕ → Item → Type 0) (read : List ℕ → Re
       ]
 
   -- behind `float'`
-  pub float_sound : (text : List ℕ) → Sound (suc left) (λ g i. Core R (codes "float'" ++ g) i) text (float_at text)
+  pub float_sound : (text : List ℕ) → Sound (suc left) (λ g i. Core R (codes "float'" ++ g) i) text (read_float text)
   float_sound text =
       sound_option (suc left) (λ g i. Core R (codes "float'" ++ g) i) text (position (λ b. b == 39) text) (λ count. or_refused (float_of count) >>= λ w. or_refused (numeral 16 (take count text)) >>= λ bits. Ok (atom (float bits w), drop (count + 1) text))
       (λ count at.
@@ -276,17 +276,17 @@ module _ (left : ℕ) (R : List ℕ → Item → Type 0) (read : List ℕ → Re
   or_word Is text word f other h k None e = k
   or_word Is text word f other h k (Some rest) e = moved (suc left) Is text word rest (f rest) (after_word_is word text rest e) (h rest)
 
-  named_sound : (n : ℕ) (word rest : List ℕ) → Core R (word ++ []) (atom (simple n)) → Sound (suc left) (λ g i. Core R (word ++ g) i) rest (named_at n rest)
+  named_sound : (n : ℕ) (word rest : List ℕ) → Core R (word ++ []) (atom (simple n)) → Sound (suc left) (λ g i. Core R (word ++ g) i) rest (named n rest)
   named_sound n word rest is = ([], refl, is)
 
-  pub word_sound : (text : List ℕ) → Sound (suc left) (Core R) text (word_at text)
+  pub word_sound : (text : List ℕ) → Sound (suc left) (Core R) text (read_word text)
   word_sound text =
-      or_word (Core R) text (codes "false") (named_at 20) _ (λ rest. named_sound 20 (codes "false") rest (inl (inl (refl, refl))))
-      (or_word (Core R) text (codes "true") (named_at 21) _ (λ rest. named_sound 21 (codes "true") rest (inl (inr (inl (refl, refl)))))
-      (or_word (Core R) text (codes "null") (named_at 22) _ (λ rest. named_sound 22 (codes "null") rest (inl (inr (inr (inl (refl, refl))))))
-      (or_word (Core R) text (codes "undefined") (named_at 23) _ (λ rest. named_sound 23 (codes "undefined") rest (inl (inr (inr (inr (refl, refl))))))
-      (or_word (Core R) text (codes "simple(") simple_at _ simple_sound
-      (or_word (Core R) text (codes "float'") float_at (Err refusal.Notation) float_sound tt (after_word (codes "float'") text) refl)
+      or_word (Core R) text (codes "false") (named 20) _ (λ rest. named_sound 20 (codes "false") rest (inl (inl (refl, refl))))
+      (or_word (Core R) text (codes "true") (named 21) _ (λ rest. named_sound 21 (codes "true") rest (inl (inr (inl (refl, refl)))))
+      (or_word (Core R) text (codes "null") (named 22) _ (λ rest. named_sound 22 (codes "null") rest (inl (inr (inr (inl (refl, refl))))))
+      (or_word (Core R) text (codes "undefined") (named 23) _ (λ rest. named_sound 23 (codes "undefined") rest (inl (inr (inr (inr (refl, refl))))))
+      (or_word (Core R) text (codes "simple(") read_simple _ simple_sound
+      (or_word (Core R) text (codes "float'") read_float (Err refusal.Notation) float_sound tt (after_word (codes "float'") text) refl)
       (after_word (codes "simple(") text) refl)
       (after_word (codes "undefined") text) refl)
       (after_word (codes "null") text) refl)

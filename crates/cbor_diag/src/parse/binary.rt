@@ -1,11 +1,12 @@
-//! Reads an item from bytes (RFC 7049 section 2), by a loop over turns and a stack of the containers that
-//! are open.
+//! Reads an item from bytes (RFC 7049 section 2), by a loop over turns and a stack of the
+//! containers that are open.
 //!
-//! Each private function takes the bytes that are left and gives a value with the bytes after it, or
-//! the first refusal from the left, `CutShort` where the bytes end. What a head claims is never
-//! believed: memory is taken for the bytes and members that are there, and for a few members at once.
+//! Each private function takes the bytes that are left and gives a value with the bytes after it,
+//! or the first refusal from the left, `CutShort` where the bytes end. What a head claims is never
+//! believed: memory is taken for the bytes and members that are there, and for a few members at
+//! once.
+mod frame;
 mod head;
-mod open;
 mod skip;
 mod stack;
 mod strings;
@@ -13,28 +14,28 @@ mod strings;
 ghost use Rattle.std.specs.Prelude.{◌≡◌, ◌≢◌, ℕ, ◌+◌, ◌-◌, ◌*◌, ◌^◌, ◌<◌, ◌≤◌, List, ◌++◌, length, take, ◌↔◌, IfOk, IfErr, IfSome, OnOk, option_map};
 ghost use Rattle.cbor_diag.specs.Item.{Item};
 ghost use Rattle.cbor_diag.specs.View.{view};
-ghost use Rattle.cbor_diag.specs.WellFormed.{deepest};
+ghost use Rattle.cbor_diag.specs.WellFormed.{deepest, levels_left};
 ghost use Rattle.cbor_diag.specs.Written.{encoded};
 ghost use Rattle.cbor_diag.specs.Answer.{Outcome, spelled, HasOutcome, HasAnswer, Gave, GaveItem, GaveRefusal, RefusedSo, MayWantMemory, HasTurns, size};
 ghost use Rattle.cbor_diag.specs.Turns.{item_turns, cut_spent, fault_spent};
 ghost use Rattle.cbor_diag.specs.Facts.{IsItem, IsStrictItem, BeginsWithItem, IsCut, HasFault, IsNoItem, BeginsSo, BeginsInOneWay, IsWellFormed};
-ghost use Rattle.cbor_diag.specs.Reading.{Gives, HoldsContent, too_deep_at};
-ghost use Rattle.cbor_diag.specs.Counting.{Runs, Stops, IsStack, later, wanted_at, atom_at, counted_item};
+ghost use Rattle.cbor_diag.specs.Reading.{Gives, HoldsContent, no_level_left};
+ghost use Rattle.cbor_diag.specs.Counting.{Runs, Stops, IsStack, later, read_item_head, read_atom, counted_item};
 ghost use Rattle.cbor_diag.specs.Stack.{outer_of, top_of, depth, resumed, resumed_with};
 
 use crate::error::{Error, Result};
 use crate::parse::turns::Turns;
 use crate::syntax::{DEEPEST, DataItem, Simple};
-use head::{ItemHead, head_at};
-use open::Open;
+use frame::Frame;
+use head::{ItemHead, read_head};
 pub use skip::{Extent, extent};
 use stack::Stack;
 use std::alloc::Global;
-use strings::{byte_chunks_at, bytes_at, text_at, text_chunks_at};
+use strings::{read_byte_chunks, read_byte_string, read_text_chunks, read_text_string};
 
 /// Why no item can stand below the deepest level: there are bytes for one, or there are none.
 fn no_level_left(bytes: &[u8]) -> Error
-    ensures gives { too_deep_at bytes.now ≡ Err result }
+    ensures gives { no_level_left bytes.now ≡ Err result }
     ensures memory { result ≢ Error.Memory }
 {
     if bytes.is_empty() {
@@ -45,28 +46,30 @@ fn no_level_left(bytes: &[u8]) -> Error
 }
 
 /// The head of an item that stands at `level`, from 1 to 129. At level 129 no item can stand.
-fn wanted_head_at(bytes: &[u8], level: usize) -> Result<(ItemHead, &[u8])>
+fn read_item_head(bytes: &[u8], level: usize) -> Result<(ItemHead, &[u8])>
     requires { level ≤ deepest + 1 }
-    ensures gives { Gives (λ x. (x.0, x.1.now)) result (wanted_at (deepest + 1 - level) bytes.now) }
+    ensures gives { Gives (λ x. (x.0, x.1.now)) result
+        (read_item_head (levels_left level) bytes.now) }
     ensures shorter { IfOk result (λ x. length x.1.now < length bytes.now) }
     ensures memory { result ≢ Err Error.Memory }
 {
     if level > usize::from(DEEPEST) {
         return Err(no_level_left(bytes));
     }
-    head_at(bytes)
+    read_head(bytes)
 }
 
-/// The item without parts behind its head. A break is none, and ends nothing where a head is wanted; the
-/// heads of containers are none either, but `Open::new` takes them before.
-fn atom_at<'a>(
+/// The item without parts behind its head. A break is none, and ends nothing where a head is
+/// wanted; the heads of containers are none either, but `Frame::new` takes them before.
+fn read_atom<'a>(
     alloc: Global,
     head: ItemHead,
     bytes: &'a [u8],
     turns: &mut Turns,
 ) -> Result<(DataItem, &'a [u8])>
     requires { turns.old + 2 * length bytes.now < 2 ^ 126 }
-    ensures gives { Runs (λ x. (view x.0, x.1.now)) turns.old turns.new result (atom_at head bytes.now) }
+    ensures gives { Runs (λ x. (view x.0, x.1.now)) turns.old turns.new result
+        (read_atom head bytes.now) }
     ensures falls { IfOk result (λ x.
         turns.new + 2 * length x.1.now ≤ turns.old + 2 * length bytes.now) }
     ensures few { turns.new ≤ turns.old + 2 * length bytes.now + 1 }
@@ -79,19 +82,19 @@ fn atom_at<'a>(
         ItemHead::Float(bits, bitwidth) => Ok((DataItem::Float { bits, bitwidth }, bytes)),
         ItemHead::Simple(value) => Ok((DataItem::Simple(Simple(value)), bytes)),
         ItemHead::Bytes(count, bitwidth) => {
-            let (string, rest) = bytes_at(alloc, count, bitwidth, bytes)?;
+            let (string, rest) = read_byte_string(alloc, count, bitwidth, bytes)?;
             Ok((DataItem::ByteString(string), rest))
         }
         ItemHead::Text(count, bitwidth) => {
-            let (string, rest) = text_at(alloc, count, bitwidth, bytes)?;
+            let (string, rest) = read_text_string(alloc, count, bitwidth, bytes)?;
             Ok((DataItem::TextString(string), rest))
         }
         ItemHead::OpenBytes => {
-            let (chunks, rest) = byte_chunks_at(alloc, bytes, turns)?;
+            let (chunks, rest) = read_byte_chunks(alloc, bytes, turns)?;
             Ok((DataItem::IndefiniteByteString(chunks), rest))
         }
         ItemHead::OpenText => {
-            let (chunks, rest) = text_chunks_at(alloc, bytes, turns)?;
+            let (chunks, rest) = read_text_chunks(alloc, bytes, turns)?;
             Ok((DataItem::IndefiniteTextString(chunks), rest))
         }
         ItemHead::Array(..)
@@ -103,12 +106,11 @@ fn atom_at<'a>(
     }
 }
 
-/// One turn: closes the innermost container where it ends, or else reads the head that stands next, with
-/// the content of a string. Gives the item that is whole with it, if one is, and the bytes that are left;
-/// the outermost item stands at `level`. Each turn takes bytes or closes what an earlier one opened, so they
-/// are at most two for each byte.
+/// One turn: closes the innermost container where it ends, or else reads the head that stands next,
+/// with the content of a string. Gives the item that is whole with it, if one is, and the bytes
+/// that are left; the outermost item stands at `level`. Each turn takes bytes or closes what an
+/// earlier one opened, so they are at most two for each byte.
 fn turn<'a>(
-    alloc: Global,
     stack: &mut Stack,
     bytes: &'a [u8],
     level: u8,
@@ -116,11 +118,12 @@ fn turn<'a>(
 ) -> Result<(Option<DataItem>, &'a [u8])>
     requires level { level + depth stack.old ≤ deepest + 1 }
     requires bottom { IsStack (outer_of stack.old) (top_of stack.old) }
-    requires room { turns.old + 2 * length bytes.now < 2 ^ 126 }
-    ensures gives { IfOk result (λ x. later turns.old (resumed (deepest + 1 - level) stack.old bytes.now)
-        ≡ later turns.new (resumed_with (deepest + 1 - level) stack.new (option_map view x.0) x.1.now)) }
+    requires bounded { turns.old + 2 * length bytes.now < 2 ^ 126 }
+    ensures gives { IfOk result (λ x.
+        later turns.old (resumed (levels_left level) stack.old bytes.now) ≡ later turns.new
+        (resumed_with (levels_left level) stack.new (option_map view x.0) x.1.now)) }
     ensures stops { IfErr result (λ e. Stops e turns.new
-        (later turns.old (resumed (deepest + 1 - level) stack.old bytes.now))) }
+        (later turns.old (resumed (levels_left level) stack.old bytes.now))) }
     ensures level { IfOk result (λ x. level + depth stack.new ≤ deepest + 1) }
     ensures bottom { IfOk result (λ x. IsStack (outer_of stack.new) (top_of stack.new)) }
     ensures falls { IfOk result (λ x. turns.new + 2 * length x.1.now + depth stack.new
@@ -128,37 +131,38 @@ fn turn<'a>(
     ensures few { turns.new ≤ turns.old + 2 * length bytes.now + 1 }
     ensures rises { turns.old < turns.new }
     ensures memory { result ≡ Err Error.Memory → depth stack.old ≡ 0 → MayWantMemory bytes.now }
-    ensures opens { IfOk result (λ x. 0 < depth stack.new → depth stack.old ≡ 0 → MayWantMemory bytes.now) }
+    ensures opens { IfOk result
+        (λ x. 0 < depth stack.new → depth stack.old ≡ 0 → MayWantMemory bytes.now) }
     ensures held { IfOk result (λ x. x.0 ≡ None → 0 < depth stack.new) }
 {
     turns.rise();
-    if let Some(rest) = stack.end_at(bytes) {
-        return Ok((Some(stack.close(alloc)?), rest));
+    if let Some(rest) = stack.after_end(bytes) {
+        return Ok((Some(stack.close()?), rest));
     }
-    let (head, rest) = wanted_head_at(bytes, usize::from(level) + stack.depth())?;
-    match Open::new(alloc, head, rest.len())? {
+    let (head, rest) = read_item_head(bytes, usize::from(level) + stack.depth())?;
+    match Frame::new(stack.alloc(), head, rest.len())? {
         Some(container) => {
             stack.open(container)?;
             Ok((None, rest))
         }
         None => {
-            let (item, rest) = atom_at(alloc, head, rest, turns)?;
+            let (item, rest) = read_atom(stack.alloc(), head, rest, turns)?;
             Ok((Some(item), rest))
         }
     }
 }
 
 /// The item at the front, which stands at `level`, from 1 to 129.
-fn item_at<'a>(
+fn read_item<'a>(
     alloc: Global,
     bytes: &'a [u8],
     level: u8,
     turns: &mut Turns,
 ) -> Result<(DataItem, &'a [u8])>
     requires level { level ≤ deepest + 1 }
-    requires room { turns.old + 2 * length bytes.now < 2 ^ 126 }
+    requires bounded { turns.old + 2 * length bytes.now < 2 ^ 126 }
     ensures gives { Runs (λ x. (view x.0, x.1.now)) turns.old turns.new result
-        (counted_item (deepest + 1 - level) bytes.now) }
+        (counted_item (levels_left level) bytes.now) }
     ensures few { turns.new ≤ turns.old + 2 * length bytes.now + 1 }
     ensures rises { turns.old < turns.new }
     ensures memory { result ≡ Err Error.Memory → MayWantMemory bytes.now }
@@ -166,7 +170,7 @@ fn item_at<'a>(
     let mut stack = Stack::new(alloc);
     let mut rest = bytes;
     'turns: loop {
-        let (whole, after) = turn(alloc, &mut stack, rest, level, turns)?;
+        let (whole, after) = turn(&mut stack, rest, level, turns)?;
         rest = after;
         if let Some(item) = whole {
             if let Some(outermost) = stack.put(item)? {
@@ -176,9 +180,9 @@ fn item_at<'a>(
     }
 }
 
-/// What stands at the front of the bytes, read from `level`: an item and how many bytes it takes, or
-/// `None` where the bytes end before the item does.
-fn counted_front_at(
+/// What stands at the front of the bytes, read from `level`: an item and how many bytes it takes,
+/// or `None` where the bytes end before the item does.
+fn read_counted_front(
     alloc: Global,
     bytes: &[u8],
     level: u8,
@@ -186,15 +190,15 @@ fn counted_front_at(
 ) -> Result<Option<(DataItem, usize)>>
     requires from { 1 ≤ level }
     requires to { level ≤ deepest + 1 }
-    requires room { turns.old ≤ 2 ^ 64 }
+    requires bounded { turns.old ≤ 2 ^ 64 }
     ensures outcome { HasOutcome level bytes.now result }
     ensures counted { HasTurns level bytes.now turns.old turns.new result }
-    ensures within { turns.new ≤ turns.old + (counted_item (deepest + 1 - level) bytes.now).0 }
+    ensures within { turns.new ≤ turns.old + (counted_item (levels_left level) bytes.now).0 }
     ensures few { turns.new ≤ turns.old + 2 * length bytes.now + 1 }
     ensures rises { turns.old < turns.new }
     ensures memory { result ≡ Err Error.Memory → MayWantMemory bytes.now }
 {
-    match item_at(alloc, bytes, level, turns) {
+    match read_item(alloc, bytes, level, turns) {
         Ok((item, rest)) => Ok(Some((item, bytes.len() - rest.len()))),
         Err(error) => match error {
             Error::CutShort => Ok(None),
@@ -204,23 +208,27 @@ fn counted_front_at(
 }
 
 /// The same, with turns that nobody asks for.
-pub(crate) fn front_at(alloc: Global, bytes: &[u8], level: u8) -> Result<Option<(DataItem, usize)>>
+pub(crate) fn read_front(
+    alloc: Global,
+    bytes: &[u8],
+    level: u8,
+) -> Result<Option<(DataItem, usize)>>
     requires from { 1 ≤ level }
     requires to { level ≤ deepest + 1 }
     ensures outcome { HasOutcome level bytes.now result }
     ensures memory { result ≡ Err Error.Memory → MayWantMemory bytes.now }
 {
-    counted_front_at(alloc, bytes, level, &mut Turns::new())
+    read_counted_front(alloc, bytes, level, &mut Turns::new())
 }
 
 /// The one item that the bytes are, all of them, read from `level`.
-pub(crate) fn whole_at(alloc: Global, bytes: &[u8], level: u8) -> Result<DataItem>
+pub(crate) fn read_whole(alloc: Global, bytes: &[u8], level: u8) -> Result<DataItem>
     requires from { 1 ≤ level }
     requires to { level ≤ deepest + 1 }
     ensures answer { HasAnswer level bytes.now result }
     ensures memory { result ≡ Err Error.Memory → MayWantMemory bytes.now }
 {
-    match front_at(alloc, bytes, level)? {
+    match read_front(alloc, bytes, level)? {
         None => Err(Error::CutShort),
         Some((_, used)) if used < bytes.len() => Err(Error::Remaining),
         Some((item, _)) => Ok(item),
@@ -230,9 +238,9 @@ pub(crate) fn whole_at(alloc: Global, bytes: &[u8], level: u8) -> Result<DataIte
 /// Reads one item from all of the bytes (RFC 7049 section 2), keeping how it was encoded.
 ///
 /// Refuses with `CutShort` where the bytes end before the item does, `Remaining` where bytes follow
-/// it, and the first fault from the left otherwise: `Head`, `Utf8` or `TooDeep`. A claimed length takes
-/// no memory, and a claimed count room for a few members at most, where as many bytes follow; an input that
-/// is empty, or whose first byte has major type 0, 1 or 7, takes none at all.
+/// it, and the first fault from the left otherwise: `Head`, `Utf8` or `TooDeep`. A claimed length
+/// takes no memory, and a claimed count room for a few members at most, where as many bytes follow;
+/// an input that is empty, or whose first byte has major type 0, 1 or 7, takes none at all.
 pub fn parse_bytes(alloc: Global, bytes: &[u8]) -> Result<DataItem>
     // The item that the bytes are, exactly where they are one.
     ensures ok { IfOk result (λ i. IsItem bytes.now (view i)) }
@@ -252,7 +260,7 @@ pub fn parse_bytes(alloc: Global, bytes: &[u8]) -> Result<DataItem>
     ensures items_bounded { IfOk result (λ i. size (view i) ≤ length bytes.now) }
     ensures fronts_cut { OnOk result ((n : ℕ) → n < length bytes.now → IsCut (take n bytes.now)) }
 {
-    whole_at(alloc, bytes, 1)
+    read_whole(alloc, bytes, 1)
 }
 
 /// Reads one item from the front of the bytes, and says how many of them it takes; more may follow.
@@ -285,12 +293,12 @@ pub fn parse_bytes_partial(alloc: Global, bytes: &[u8]) -> Result<Option<(DataIt
     parse_bytes_counted(alloc, bytes, &mut Turns::new())
 }
 
-/// Reads as `parse_bytes_partial` does, with the same answers, and adds its turns to those that were
-/// counted before, which may be up to 2^64.
+/// Reads as `parse_bytes_partial` does, with the same answers, and adds its turns to those that
+/// were counted before, which may be up to 2^64.
 ///
-/// A turn reads a head, with the content of a string, reads a chunk or a break, or closes a container that
-/// is full; the one that meets the end of the bytes or a fault counts, too. So work is bounded by the length
-/// of the input, whatever it claims.
+/// A turn reads a head, with the content of a string, reads a chunk or a break, or closes a
+/// container that is full; the one that meets the end of the bytes or a fault counts, too. So work
+/// is bounded by the length of the input, whatever it claims.
 pub fn parse_bytes_counted(
     alloc: Global,
     bytes: &[u8],
@@ -339,5 +347,5 @@ pub fn parse_bytes_counted(
     ensures within_fault { (e : Error) → (f : HasFault bytes.now e) →
         turns.new ≤ turns.old + (fault_spent f + 1) }
 {
-    counted_front_at(alloc, bytes, 1, turns)
+    read_counted_front(alloc, bytes, 1, turns)
 }

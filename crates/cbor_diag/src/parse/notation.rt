@@ -1,11 +1,13 @@
-//! Reads an item from diagnostic notation (RFC 7049 section 6), by recursion over the levels of nesting.
+//! Reads an item from diagnostic notation (RFC 7049 section 6), by recursion over the levels of
+//! nesting.
 //!
-//! Each private function takes the text that is left, as bytes of UTF-8, and gives a value with the text
-//! after it, or the first refusal from the left. What stands next is told by its first byte, but for `''_`
-//! and `""_`, and for a list's last comma, behind which whitespace and the close are looked for. The text is
-//! read once, and a string's first piece once more where the short way of `strings` doesn't serve. What
-//! stands between `core_at` and the list that keeps its item is inlined, and a map's loop reads key and value
-//! itself, so that an item isn't handed from one to the other.
+//! Each private function takes the text that is left, as bytes of UTF-8, and gives a value with the
+//! text after it, or the first refusal from the left. What stands next is told by its first byte,
+//! but for `''_` and `""_`, and for a list's last comma, behind which whitespace and the close are
+//! looked for. The text is read once, and a string's first piece once more where the short way of
+//! `strings` doesn't serve. What stands between `read_core` and the list that keeps its item is
+//! inlined, and a map's loop reads key and value itself, so that an item isn't handed from one to
+//! the other.
 mod content;
 mod number;
 mod scan;
@@ -15,103 +17,96 @@ mod word;
 
 ghost use Rattle.std.specs.Prelude.{◌≡◌, ◌-◌, ◌≤◌, ℕ, length, map, IfOk};
 ghost use Rattle.cbor_diag.specs.Answer.{GaveItem, RefusedSo};
-ghost use Rattle.cbor_diag.specs.Head.{FitsWidth};
 ghost use Rattle.cbor_diag.specs.View.{view, items_view, pairs_view};
-ghost use Rattle.cbor_diag.specs.WellFormed.{deepest, WellFormed, WellFormedItems, WellFormedPairs};
+ghost use Rattle.cbor_diag.specs.WellFormed.{deepest, levels_left, WellFormed, WellFormedItems, WellFormedPairs};
 ghost use Rattle.cbor_diag.specs.Facts.{IsWellFormed};
 ghost use Rattle.cbor_diag.specs.Item.{Item};
 ghost use Rattle.cbor_diag.specs.Notation.{IsNotation, ReadsUnder};
 ghost use Rattle.cbor_diag.specs.NotationRefused.{IsNoNotation, GaveOrTooDeep};
 ghost use Rattle.cbor_diag.specs.Reading.{Gives};
-ghost use Rattle.cbor_diag.specs.NotationReading.{after_byte, core_at, integer_or_tag, item_at, members_at, notation_of, pair_at};
+ghost use Rattle.cbor_diag.specs.NotationReading.{read_core, read_integer, read_item, read_members, notation_of, read_pair};
 
 use crate::error::{Error, Result};
-use crate::syntax::{DEEPEST, DataItem, IntegerWidth, Tag};
-use number::{below_zero_at, sized_at};
-use scan::{after_blank, after_byte, end_at, expect_byte, length_at};
+use crate::syntax::{DEEPEST, DataItem, Tag};
+use number::{read_negative_number, read_unsigned_number};
+use scan::{after_blank, after_byte, after_end, expect_byte, read_length};
 use start::Start;
 use std::alloc::Global;
-use strings::{byte_item_at, chunks_at, text_item_at};
-use word::word_at;
+use strings::{read_byte_item, read_chunks, read_text_item};
+use word::read_word;
 
-/// The item at the front, which stands at `level`, from 1 to 129, with the blanks round it. At level 129
-/// no item can stand.
+/// The item at the front, which stands at `level`, from 1 to 129, with the blanks round it. At
+/// level 129 no item can stand.
 #[cycle(diag)]
 #[inline(always)]
-fn item_at(alloc: Global, text: &[u8], level: u8) -> Result<(DataItem, &[u8])>
+fn read_item(alloc: Global, text: &[u8], level: u8) -> Result<(DataItem, &[u8])>
     requires { level ≤ 129 }
-    ensures gives { Gives (λ x. (view x.0, x.1.now)) result (item_at (129 - level) text.now) }
+    ensures gives { Gives (λ x. (view x.0, x.1.now)) result
+        (read_item (levels_left level) text.now) }
     ensures well { IfOk result (λ x. WellFormed level (view x.0)) }
     ensures shorter { IfOk result (λ x. length x.1.now ≤ length text.now) }
 {
     if level > DEEPEST {
         return Err(Error::TooDeep);
     }
-    let (item, rest) = core_at(alloc, after_blank(text), level + 1)?;
+    let (item, rest) = read_core(alloc, after_blank(text), level + 1)?;
     Ok((item, after_blank(rest)))
 }
 
-/// The item at the front, without the blanks round it; the items in it stand at `inner`, from 2 to 129.
+/// The item at the front, without the blanks round it; the items in it stand at `inner`, from 2 to
+/// 129.
 #[cycle(diag)]
 #[inline(never)]
-fn core_at(alloc: Global, text: &[u8], inner: u8) -> Result<(DataItem, &[u8])>
+fn read_core(alloc: Global, text: &[u8], inner: u8) -> Result<(DataItem, &[u8])>
     requires low { 1 ≤ inner }
     requires high { inner ≤ 129 }
-    ensures gives { Gives (λ x. (view x.0, x.1.now)) result (core_at (item_at (129 - inner)) text.now) }
+    ensures gives { Gives (λ x. (view x.0, x.1.now)) result
+        (read_core (read_item (levels_left inner)) text.now) }
     ensures well { IfOk result (λ x. WellFormed (inner - 1) (view x.0)) }
     ensures shorter { IfOk result (λ x. length x.1.now ≤ length text.now) }
 {
     let (start, rest) = Start::split(text);
     match start {
-        Start::Digit => {
-            let ((number, bitwidth), rest) = sized_at(text)?;
-            integer_or_tag(alloc, number, bitwidth, rest, inner)
-        }
+        Start::Digit => integer_or_tag(alloc, text, inner),
         Start::Minus => {
-            let ((value, bitwidth), rest) = below_zero_at(rest)?;
+            let ((value, bitwidth), rest) = read_negative_number(rest)?;
             Ok((DataItem::Negative { value, bitwidth }, rest))
         }
         Start::Bracket => {
-            let (bitwidth, rest) = length_at(rest);
-            let (content, rest) = items_at(alloc, b']', rest, inner)?;
+            let (bitwidth, rest) = read_length(rest);
+            let (content, rest) = read_items(alloc, b']', rest, inner)?;
             Ok((DataItem::Array { content, bitwidth }, rest))
         }
         Start::Brace => {
-            let (bitwidth, rest) = length_at(rest);
-            let (content, rest) = pairs_at(alloc, rest, inner)?;
+            let (bitwidth, rest) = read_length(rest);
+            let (content, rest) = read_pairs(alloc, rest, inner)?;
             Ok((DataItem::Map { content, bitwidth }, rest))
         }
-        Start::Parenthesis => chunks_at(alloc, rest, inner),
+        Start::Parenthesis => read_chunks(alloc, rest, inner),
         Start::Apostrophe | Start::Angle | Start::LetterB | Start::LetterH => {
-            byte_item_at(alloc, text, inner)
+            read_byte_item(alloc, text, inner)
         }
-        Start::Quote => text_item_at(alloc, text, inner),
-        Start::Other => word_at(text),
+        Start::Quote => read_text_item(alloc, text, inner),
+        Start::Other => read_word(text),
     }
 }
 
-/// An integer, or a tag where a parenthesis follows its number.
+/// An integer, or a tag if a parenthesis follows its number.
 #[cycle(diag)]
-fn integer_or_tag(
-    alloc: Global,
-    number: u64,
-    bitwidth: IntegerWidth,
-    text: &[u8],
-    inner: u8,
-) -> Result<(DataItem, &[u8])>
+fn integer_or_tag(alloc: Global, text: &[u8], inner: u8) -> Result<(DataItem, &[u8])>
     requires low { 1 ≤ inner }
     requires high { inner ≤ 129 }
-    requires fits { FitsWidth bitwidth number }
     ensures gives { Gives (λ x. (view x.0, x.1.now)) result
-        (integer_or_tag (item_at (129 - inner)) number bitwidth text.now (after_byte 40 text.now)) }
+        (read_integer (read_item (levels_left inner)) text.now) }
     ensures well { IfOk result (λ x. WellFormed (inner - 1) (view x.0)) }
     ensures shorter { IfOk result (λ x. length x.1.now ≤ length text.now) }
 {
-    let Some(rest) = after_byte(text, b'(') else {
+    let ((number, bitwidth), after) = read_unsigned_number(text)?;
+    let Some(rest) = after_byte(after, b'(') else {
         let value = number;
-        return Ok((DataItem::Integer { value, bitwidth }, text));
+        return Ok((DataItem::Integer { value, bitwidth }, after));
     };
-    let (value, rest) = item_at(alloc, rest, inner)?;
+    let (value, rest) = read_item(alloc, rest, inner)?;
     let rest = expect_byte(rest, b')')?;
     let (tag, value) = (Tag(number), Box::new(alloc, value)?);
     Ok((
@@ -124,25 +119,25 @@ fn integer_or_tag(
     ))
 }
 
-/// The items of a list behind its opening, up to its close. Room is made for two at first, since many lists
-/// are no longer.
+/// The items of a list behind its opening, up to its close. Room is made for two at first, since
+/// many lists are no longer.
 #[cycle(diag)]
-fn items_at(alloc: Global, close: u8, text: &[u8], level: u8) -> Result<(Vec<DataItem>, &[u8])>
+fn read_items(alloc: Global, close: u8, text: &[u8], level: u8) -> Result<(Vec<DataItem>, &[u8])>
     requires { level ≤ 129 }
     ensures gives { Gives (λ x. (map view x.0.items, x.1.now)) result
-        (members_at (item_at (129 - level)) close text.now) }
+        (read_members (read_item (levels_left level)) close text.now) }
     ensures well { IfOk result (λ x. WellFormedItems level (items_view x.0.items)) }
     ensures shorter { IfOk result (λ x. length x.1.now ≤ length text.now) }
 {
     let mut rest = after_blank(text);
-    if let Some(after) = end_at(rest, close) {
+    if let Some(after) = after_end(rest, close) {
         return Ok((Vec::new(alloc), after));
     }
     let mut items = Vec::with_capacity(alloc, 2)?;
     'items: loop {
-        let (item, after) = item_at(alloc, rest, level)?;
+        let (item, after) = read_item(alloc, rest, level)?;
         items.push(item)?;
-        if let Some(end) = end_at(after, close) {
+        if let Some(end) = after_end(after, close) {
             return Ok((items, end));
         }
         rest = expect_byte(after, b',')?;
@@ -151,24 +146,24 @@ fn items_at(alloc: Global, close: u8, text: &[u8], level: u8) -> Result<(Vec<Dat
 
 /// The pairs of a map behind its opening, up to its close. Room is made for one at first.
 #[cycle(diag)]
-fn pairs_at(alloc: Global, text: &[u8], level: u8) -> Result<(Vec<(DataItem, DataItem)>, &[u8])>
+fn read_pairs(alloc: Global, text: &[u8], level: u8) -> Result<(Vec<(DataItem, DataItem)>, &[u8])>
     requires { level ≤ 129 }
     ensures gives { Gives (λ x. (map (λ p. (view p.0, view p.1)) x.0.items, x.1.now)) result
-        (members_at (pair_at (item_at (129 - level))) 125 text.now) }
+        (read_members (read_pair (read_item (levels_left level))) 125 text.now) }
     ensures well { IfOk result (λ x. WellFormedPairs level (pairs_view x.0.items)) }
     ensures shorter { IfOk result (λ x. length x.1.now ≤ length text.now) }
 {
     let mut rest = after_blank(text);
-    if let Some(after) = end_at(rest, b'}') {
+    if let Some(after) = after_end(rest, b'}') {
         return Ok((Vec::new(alloc), after));
     }
     let mut pairs = Vec::with_capacity(alloc, 1)?;
     'pairs: loop {
-        let (key, behind) = item_at(alloc, rest, level)?;
+        let (key, behind) = read_item(alloc, rest, level)?;
         let next = expect_byte(behind, b':')?;
-        let (value, after) = item_at(alloc, next, level)?;
+        let (value, after) = read_item(alloc, next, level)?;
         pairs.push((key, value))?;
-        if let Some(end) = end_at(after, b'}') {
+        if let Some(end) = after_end(after, b'}') {
             return Ok((pairs, end));
         }
         rest = expect_byte(after, b',')?;
@@ -180,21 +175,21 @@ fn whole_text(alloc: Global, text: &str) -> Result<DataItem>
     ensures gives { Gives view result (notation_of deepest text.now) }
     ensures well_formed { IfOk result (λ i. IsWellFormed (view i)) }
 {
-    let (item, rest) = item_at(alloc, text.as_bytes(), 1)?;
+    let (item, rest) = read_item(alloc, text.as_bytes(), 1)?;
     if !rest.is_empty() {
         return Err(Error::Notation);
     }
     Ok(item)
 }
 
-/// Reads one item from diagnostic notation (RFC 7049 section 6; docs/NOTATION.md has the rules), all of
-/// the text.
+/// Reads one item from diagnostic notation (RFC 7049 section 6; docs/NOTATION.md has the rules),
+/// all of the text.
 ///
-/// Refuses with `TooDeep` where the text is an item but for its levels, of which there may be 128, and
-/// with `Notation` where it is none. Of a text that is no item however many levels there may be, the
-/// refusal may also be `TooDeep`, where 128 of `[`, `{`, `(` and `<` stand in it; `PastWidth`, where a
-/// number does not fit the width that its indicator states; and `Utf8`, where a text string is not UTF-8.
-/// `Memory` where a growth was refused.
+/// Refuses with `TooDeep` where the text is an item but for its levels, of which there may be 128,
+/// and with `Notation` where it is none. Of a text that is no item however many levels there may
+/// be, the refusal may also be `TooDeep`, where 128 of `[`, `{`, `(` and `<` stand in it;
+/// `PastWidth`, where a number does not fit the width that its indicator states; and `Utf8`, where
+/// a text string is not UTF-8. `Memory` where a growth was refused.
 pub fn parse_diag(alloc: Global, text: &str) -> Result<DataItem>
     // The item that the text is, exactly where it is one with no item below level 128.
     ensures ok { IfOk result (λ i. IsNotation text.now (view i)) }

@@ -45,7 +45,7 @@ fn text_chunks_fit(chunks: &[TextString]) -> bool
 /// Whether an item that stands at this level is well formed; what stands past the deepest level is
 /// not looked at.
 #[cycle(well_formed)]
-fn well_formed_at(item: &DataItem, level: u8) -> bool
+fn well_formed_at_level(item: &DataItem, level: u8) -> bool
     ensures { IsTrue result ↔ WellFormed level (view item.now) }
 {
     if level > DEEPEST {
@@ -69,7 +69,7 @@ fn well_formed_at(item: &DataItem, level: u8) -> bool
             tag,
             bitwidth,
             value,
-        } => bitwidth.fits(tag.0) && well_formed_at(value, level + 1),
+        } => bitwidth.fits(tag.0) && well_formed_at_level(value, level + 1),
         DataItem::Float { bits, bitwidth } => bitwidth.fits(*bits),
         DataItem::Simple(simple) => {
             // Reading the number tells the proof that it is below 256.
@@ -85,7 +85,7 @@ fn items_well_formed(items: &Vec<DataItem>, level: u8) -> bool
     ensures { IsTrue result ↔ WellFormedItems level (items_view items.now.items) }
 {
     'items: for item in items {
-        if !well_formed_at(item, level) {
+        if !well_formed_at_level(item, level) {
             return false;
         }
     }
@@ -98,7 +98,7 @@ fn pairs_well_formed(pairs: &Vec<(DataItem, DataItem)>, level: u8) -> bool
     ensures { IsTrue result ↔ WellFormedPairs level (pairs_view pairs.now.items) }
 {
     'pairs: for (key, value) in pairs {
-        if !(well_formed_at(key, level) && well_formed_at(value, level)) {
+        if !(well_formed_at_level(key, level) && well_formed_at_level(value, level)) {
             return false;
         }
     }
@@ -114,6 +114,6 @@ impl DataItem {
     pub fn is_well_formed(&self) -> bool
         ensures { IsTrue result ↔ IsWellFormed (view self.now) }
     {
-        well_formed_at(self, 1)
+        well_formed_at_level(self, 1)
     }
 }

@@ -7,7 +7,7 @@ ghost use Rattle.cbor_diag.specs.View.{view, items_view, pairs_view};
 ghost use Rattle.cbor_diag.specs.WellFormed.{WellFormed, WellFormedItems, WellFormedPairs};
 ghost use Rattle.cbor_diag.specs.Dump as spec;
 ghost use Rattle.cbor_diag.specs.Embedded.{sequence_at};
-ghost use Rattle.cbor_diag.specs.Reading.{item_at};
+ghost use Rattle.cbor_diag.specs.Reading.{read_item};
 ghost use Rattle.cbor_diag.specs.Parts.{Takes, taken};
 ghost use Rattle.cbor_diag.specs.Sinks.{held, room, step};
 
@@ -22,7 +22,7 @@ use super::place::Place;
 use super::sink::Sink;
 use super::writer::Writer;
 use crate::error::Error;
-use crate::parse::{front_at, whole_at};
+use crate::parse::{read_front, read_whole};
 use crate::syntax::{DataItem, Tag};
 use std::alloc::{AllocError, Global};
 
@@ -304,10 +304,10 @@ fn encoded_item(
     requires from { 1 ≤ level }
     requires to { level ≤ 129 }
     ensures step { OnOk result (held sink.new ≡ taken step (held sink.old) (spec.note_lines depth
-        (spec.whole_note (spec.lines_at (129 - level) spec.top 0) (item_at (129 - level) bytes.now)))) }
+        (spec.whole_note (spec.lines_at (129 - level) spec.top 0) (read_item (129 - level) bytes.now)))) }
     ensures room { OnOk result (room sink.new ≡ room sink.old) }
 {
-    match whole_at(alloc, bytes, level) {
+    match read_whole(alloc, bytes, level) {
         Ok(item) => embedded_dump(sink, alloc, depth, level, item),
         Err(error) => match error {
             Error::Memory => Err(AllocError),
@@ -336,7 +336,7 @@ fn encoded_sequence(
 {
     let mut rest = bytes;
     'items: while !rest.is_empty() {
-        match front_at(alloc, rest, level) {
+        match read_front(alloc, rest, level) {
             Ok(Some((item, used))) => {
                 embedded_dump(sink, alloc, depth, level, item)?;
                 let (_, after) = rest.split_at(used);

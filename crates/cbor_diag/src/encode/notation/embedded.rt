@@ -6,7 +6,7 @@ ghost use Rattle.cbor_diag.specs.WellFormed.{WellFormed, WellFormedItems};
 ghost use Rattle.cbor_diag.specs.Embedded.{embedded_at, sequence_at};
 
 use crate::error::Error;
-use crate::parse::{front_at, whole_at};
+use crate::parse::{read_front, read_whole};
 use crate::syntax::DataItem;
 use std::alloc::{AllocError, Global};
 
@@ -21,7 +21,7 @@ pub(crate) fn embedded(
     ensures item { IfOk result (λ o. option_map view o ≡ embedded_at (129 - level) bytes.now) }
     ensures well_formed { IfOk result (λ o. IfSome o (λ i. WellFormed level (view i))) }
 {
-    match whole_at(alloc, bytes, level) {
+    match read_whole(alloc, bytes, level) {
         Ok(item) => Ok(Some(item)),
         Err(error) => match error {
             Error::Memory => Err(AllocError),
@@ -45,7 +45,7 @@ pub(crate) fn sequence(
     let mut items = Vec::new(alloc);
     let mut rest = bytes;
     'items: loop {
-        match front_at(alloc, rest, level) {
+        match read_front(alloc, rest, level) {
             Ok(Some((item, used))) => {
                 items.push(item)?;
                 let (_, after) = rest.split_at(used);

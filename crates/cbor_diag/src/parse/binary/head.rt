@@ -1,10 +1,11 @@
 //! Heads (RFC 7049 section 2): the first byte of an item, and the number that goes with it.
 ghost use Rattle.std.specs.Prelude.{◌≡◌, ◌≢◌, ◌<◌, ◌≤◌, length, IfOk};
 ghost use Rattle.std.specs.Int.{w8, w16, w32, w64};
-ghost use Rattle.cbor_diag.specs.Head.{FitsStated};
-ghost use Rattle.cbor_diag.specs.Reading.{Gives, FitsInfo, number_at, info_at, numbered, unnumbered, simple_or_float, head_of, head_at};
+ghost use Rattle.cbor_diag.specs.Head.{FitsStated, major_number};
+ghost use Rattle.cbor_diag.specs.Reading.{Gives, FitsInfo, read_number, read_info, numbered, unnumbered, simple_or_float, head_of, read_head};
 
 use crate::error::{Error, Result};
+use crate::syntax::major::Major;
 use crate::syntax::{FloatWidth, IntegerWidth};
 
 /// What the five bits of info in a head's first byte say.
@@ -39,8 +40,8 @@ pub(super) enum ItemHead {
     Break,
 }
 
-fn u8_at(bytes: &[u8]) -> Result<(u8, &[u8])>
-    ensures gives { Gives (λ x. (x.0, x.1.now)) result (number_at w8 bytes.now) }
+fn read_u8(bytes: &[u8]) -> Result<(u8, &[u8])>
+    ensures gives { Gives (λ x. (x.0, x.1.now)) result (read_number w8 bytes.now) }
     ensures memory { result ≢ Err Error.Memory }
 {
     match bytes {
@@ -49,8 +50,8 @@ fn u8_at(bytes: &[u8]) -> Result<(u8, &[u8])>
     }
 }
 
-fn u16_at(bytes: &[u8]) -> Result<(u16, &[u8])>
-    ensures gives { Gives (λ x. (x.0, x.1.now)) result (number_at w16 bytes.now) }
+fn read_u16(bytes: &[u8]) -> Result<(u16, &[u8])>
+    ensures gives { Gives (λ x. (x.0, x.1.now)) result (read_number w16 bytes.now) }
     ensures memory { result ≢ Err Error.Memory }
 {
     if bytes.len() < 2 {
@@ -60,8 +61,8 @@ fn u16_at(bytes: &[u8]) -> Result<(u16, &[u8])>
     Ok((u16::from_be_bytes([front[0], front[1]]), rest))
 }
 
-fn u32_at(bytes: &[u8]) -> Result<(u32, &[u8])>
-    ensures gives { Gives (λ x. (x.0, x.1.now)) result (number_at w32 bytes.now) }
+fn read_u32(bytes: &[u8]) -> Result<(u32, &[u8])>
+    ensures gives { Gives (λ x. (x.0, x.1.now)) result (read_number w32 bytes.now) }
     ensures memory { result ≢ Err Error.Memory }
 {
     if bytes.len() < 4 {
@@ -72,8 +73,8 @@ fn u32_at(bytes: &[u8]) -> Result<(u32, &[u8])>
     Ok((number, rest))
 }
 
-fn u64_at(bytes: &[u8]) -> Result<(u64, &[u8])>
-    ensures gives { Gives (λ x. (x.0, x.1.now)) result (number_at w64 bytes.now) }
+fn read_u64(bytes: &[u8]) -> Result<(u64, &[u8])>
+    ensures gives { Gives (λ x. (x.0, x.1.now)) result (read_number w64 bytes.now) }
     ensures memory { result ≢ Err Error.Memory }
 {
     if bytes.len() < 8 {
@@ -87,10 +88,10 @@ fn u64_at(bytes: &[u8]) -> Result<(u64, &[u8])>
 }
 
 /// What the info `bits` of a head says, with the bytes that it asks for; `bits` is below 32.
-#[tactic(auto, unfolding(crate::specs::Reading::info_at, crate::specs::Reading::wide_at))]
-pub(super) fn info_at(bits: u8, bytes: &[u8]) -> Result<(Info, &[u8])>
+#[tactic(auto, unfolding(crate::specs::Reading::read_info, crate::specs::Reading::read_wide))]
+pub(super) fn read_info(bits: u8, bytes: &[u8]) -> Result<(Info, &[u8])>
     requires { bits < 32 }
-    ensures gives { Gives (λ x. (x.0, x.1.now)) result (info_at bits bytes.now) }
+    ensures gives { Gives (λ x. (x.0, x.1.now)) result (read_info bits bytes.now) }
     ensures fits { IfOk result (λ x. FitsInfo x.0) }
     ensures memory { result ≢ Err Error.Memory }
     ensures shorter { IfOk result (λ x. length x.1.now ≤ length bytes.now) }
@@ -98,22 +99,22 @@ pub(super) fn info_at(bits: u8, bytes: &[u8]) -> Result<(Info, &[u8])>
     match bits {
         0..=23 => Ok((Info::Number(u64::from(bits), IntegerWidth::Zero), bytes)),
         24 => {
-            let (number, rest) = u8_at(bytes)?;
+            let (number, rest) = read_u8(bytes)?;
             Ok((Info::Number(u64::from(number), IntegerWidth::Eight), rest))
         }
         25 => {
-            let (number, rest) = u16_at(bytes)?;
+            let (number, rest) = read_u16(bytes)?;
             Ok((Info::Number(u64::from(number), IntegerWidth::Sixteen), rest))
         }
         26 => {
-            let (number, rest) = u32_at(bytes)?;
+            let (number, rest) = read_u32(bytes)?;
             Ok((
                 Info::Number(u64::from(number), IntegerWidth::ThirtyTwo),
                 rest,
             ))
         }
         27 => {
-            let (number, rest) = u64_at(bytes)?;
+            let (number, rest) = read_u64(bytes)?;
             Ok((Info::Number(number, IntegerWidth::SixtyFour), rest))
         }
         28..=30 => Err(Error::Head),
@@ -125,25 +126,23 @@ pub(super) fn info_at(bits: u8, bytes: &[u8]) -> Result<(Info, &[u8])>
 impl ItemHead {
     /// What a head of that major type with that number opens.
     #[tactic(auto, unfolding(crate::specs::Reading::numbered))]
-    fn numbered(major: u8, number: u64, width: IntegerWidth) -> ItemHead
-        requires major { major < 8 }
-        requires fits { FitsStated width number }
-        ensures { result ≡ numbered major number width }
+    fn numbered(major: Major, number: u64, width: IntegerWidth) -> ItemHead
+        requires { FitsStated width number }
+        ensures { result ≡ numbered (major_number major) number width }
     {
         match major {
-            0 => ItemHead::Integer(number, width),
-            1 => ItemHead::Negative(number, width),
-            2 => ItemHead::Bytes(number, width),
-            3 => ItemHead::Text(number, width),
-            4 => ItemHead::Array(number, width),
-            5 => ItemHead::Map(number, width),
-            6 => ItemHead::Tag(number, width),
-            7 => ItemHead::simple_or_float(number, width),
-            _ => unreachable!(),
+            Major::Unsigned => ItemHead::Integer(number, width),
+            Major::Negative => ItemHead::Negative(number, width),
+            Major::Bytes => ItemHead::Bytes(number, width),
+            Major::Text => ItemHead::Text(number, width),
+            Major::Array => ItemHead::Array(number, width),
+            Major::Map => ItemHead::Map(number, width),
+            Major::Tag => ItemHead::Tag(number, width),
+            Major::Special => ItemHead::simple_or_float(number, width),
         }
     }
 
-    /// In major type 7 a number of up to 8 bits is a simple value, and a wider one the bits of a float.
+    /// In major type 7 a number of up to 8 bits is a simple value; a wider one is a float.
     fn simple_or_float(number: u64, width: IntegerWidth) -> ItemHead
         requires { FitsStated width number }
         ensures { result ≡ simple_or_float number width }
@@ -160,27 +159,24 @@ impl ItemHead {
 
     /// What a head of that major type without a number opens.
     #[tactic(auto, unfolding(crate::specs::Reading::unnumbered))]
-    fn unnumbered(major: u8) -> Result<ItemHead>
-        requires { major < 8 }
-        ensures gives { result ≡ unnumbered major }
+    fn unnumbered(major: Major) -> Result<ItemHead>
+        ensures gives { result ≡ unnumbered (major_number major) }
         ensures memory { result ≢ Err Error.Memory }
     {
         match major {
-            0 | 1 | 6 => Err(Error::Head),
-            2 => Ok(ItemHead::OpenBytes),
-            3 => Ok(ItemHead::OpenText),
-            4 => Ok(ItemHead::OpenArray),
-            5 => Ok(ItemHead::OpenMap),
-            7 => Ok(ItemHead::Break),
-            _ => unreachable!(),
+            Major::Unsigned | Major::Negative | Major::Tag => Err(Error::Head),
+            Major::Bytes => Ok(ItemHead::OpenBytes),
+            Major::Text => Ok(ItemHead::OpenText),
+            Major::Array => Ok(ItemHead::OpenArray),
+            Major::Map => Ok(ItemHead::OpenMap),
+            Major::Special => Ok(ItemHead::Break),
         }
     }
 
     /// What a head of that major type and info opens.
-    pub(super) fn new(major: u8, info: Info) -> Result<ItemHead>
-        requires major { major < 8 }
-        requires fits { FitsInfo info }
-        ensures gives { result ≡ head_of major info }
+    pub(super) fn new(major: Major, info: Info) -> Result<ItemHead>
+        requires { FitsInfo info }
+        ensures gives { result ≡ head_of (major_number major) info }
         ensures memory { result ≢ Err Error.Memory }
     {
         match info {
@@ -191,17 +187,17 @@ impl ItemHead {
 }
 
 /// The head at the front.
-#[tactic(auto, unfolding(crate::specs::Reading::head_at))]
-pub(super) fn head_at(bytes: &[u8]) -> Result<(ItemHead, &[u8])>
-    ensures gives { Gives (λ x. (x.0, x.1.now)) result (head_at bytes.now) }
+#[tactic(auto, unfolding(crate::specs::Reading::read_head))]
+pub(super) fn read_head(bytes: &[u8]) -> Result<(ItemHead, &[u8])>
+    ensures gives { Gives (λ x. (x.0, x.1.now)) result (read_head bytes.now) }
     ensures shorter { IfOk result (λ x. length x.1.now < length bytes.now) }
     ensures memory { result ≢ Err Error.Memory }
 {
     match bytes {
         [] => Err(Error::CutShort),
         [first, rest @ ..] => {
-            let (info, rest) = info_at(*first % 32, rest)?;
-            Ok((ItemHead::new(*first / 32, info)?, rest))
+            let (info, rest) = read_info(*first % 32, rest)?;
+            Ok((ItemHead::new(Major::of(*first), info)?, rest))
         }
     }
 }

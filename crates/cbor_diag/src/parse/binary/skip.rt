@@ -1,7 +1,8 @@
-//! How some bytes begin, told without an item: a loop over heads and a stack of the containers that are
-//! open. Of each container it keeps how many parts are still to come, and strings are skipped.
+//! How some bytes begin, told without an item: a loop over heads and a stack of the containers that
+//! are open. Of each container it keeps how many parts are still to come, and strings are skipped.
 //!
-//! Each private function takes the bytes that are left and gives those after what it skips, or why it stops.
+//! Each private function takes the bytes that are left and gives those after what it skips, or why
+//! it stops.
 mod answer;
 mod outer;
 mod to_come;
@@ -12,13 +13,15 @@ ghost use Rattle.cbor_diag.specs.declared.syntax.IntegerWidth.{IntegerWidth};
 ghost use Rattle.cbor_diag.specs.Item.{Item};
 ghost use Rattle.cbor_diag.specs.WellFormed.{deepest};
 ghost use Rattle.cbor_diag.specs.Bytes.{IsContent, major_of};
+ghost use Rattle.cbor_diag.specs.Head.{major_number};
 ghost use Rattle.cbor_diag.specs.Facts.{BeginsWithItem, IsCut, HasFault};
 ghost use Rattle.cbor_diag.specs.Extent.{IfItem, IfFault, FaultEnds, IsExtent};
 ghost use Rattle.cbor_diag.specs.Skipping.{here, Goes, StopsSo, stop_of, kind_of, skip_content, skip_chunks, after_chunk, skip_item, skip_body, opened, begun};
 
-use super::head::{Info, ItemHead, head_at, info_at};
+use super::head::{Info, ItemHead, read_head, read_info};
 use crate::error::Error;
 use crate::syntax::DEEPEST;
+use crate::syntax::major::Major;
 pub use answer::Extent;
 use outer::Outer;
 use to_come::{Count, ToCome};
@@ -56,12 +59,12 @@ enum Kind {
 
 impl Kind {
     /// The major type of its strings.
-    fn major(self) -> u8
-        ensures { result ≡ major_of (kind_of self) }
+    fn major(self) -> Major
+        ensures { major_number result ≡ major_of (kind_of self) }
     {
         match self {
-            Kind::Bytes => 2,
-            Kind::Text => 3,
+            Kind::Bytes => Major::Bytes,
+            Kind::Text => Major::Text,
         }
     }
 
@@ -107,7 +110,7 @@ fn after_content(kind: Kind, count: u64, bytes: &[u8]) -> Result<&[u8], Stop>
 }
 
 /// The next chunk of an indefinite string, or its break, and the bytes after it.
-fn chunk_at(kind: Kind, bytes: &[u8]) -> Result<(Chunk, &[u8]), Stop>
+fn read_chunk(kind: Kind, bytes: &[u8]) -> Result<(Chunk, &[u8]), Stop>
     ensures goes { IfOk result (λ x.
         Goes (skip_chunks (kind_of kind)) (after_chunk (kind_of kind) x.0) bytes.now x.1.now) }
     ensures stops { IfErr result (λ stop. StopsSo (skip_chunks (kind_of kind)) bytes.now stop) }
@@ -119,10 +122,10 @@ fn chunk_at(kind: Kind, bytes: &[u8]) -> Result<(Chunk, &[u8]), Stop>
         [first, rest @ ..] => {
             let after = rest.len();
             let error = Error::Head;
-            if *first / 32 != kind.major() {
+            if *first / 32 != kind.major().number() {
                 return Err(Stop::Fault { error, after });
             }
-            match info_at(*first % 32, rest) {
+            match read_info(*first % 32, rest) {
                 Ok((Info::Number(count, _), rest)) => {
                     let rest = after_content(kind, count, rest)?;
                     Ok((Chunk::Content, rest))
@@ -142,7 +145,7 @@ fn after_chunks(kind: Kind, bytes: &[u8]) -> Result<&[u8], Stop>
 {
     let mut rest = bytes;
     'chunks: loop {
-        let (chunk, after) = chunk_at(kind, rest)?;
+        let (chunk, after) = read_chunk(kind, rest)?;
         match chunk {
             Chunk::Break => return Ok(after),
             Chunk::Content => rest = after,
@@ -150,8 +153,9 @@ fn after_chunks(kind: Kind, bytes: &[u8]) -> Result<&[u8], Stop>
     }
 }
 
-/// The head of an item, with so many levels left for it, and the bytes after it. No item begins with a break.
-fn wanted_head_at(bytes: &[u8], levels: usize) -> Result<(ItemHead, &[u8]), Stop>
+/// The head of an item, with so many levels left for it, and the bytes after it. No item begins
+/// with a break.
+fn read_item_head(bytes: &[u8], levels: usize) -> Result<(ItemHead, &[u8]), Stop>
     ensures goes { IfOk result (λ x.
         Goes (skip_item levels) (skip_body (levels - 1) x.0) bytes.now x.1.now) }
     ensures stops { IfErr result (λ stop. StopsSo (skip_item levels) bytes.now stop) }
@@ -167,7 +171,7 @@ fn wanted_head_at(bytes: &[u8], levels: usize) -> Result<(ItemHead, &[u8]), Stop
         let error = Error::TooDeep;
         return Err(Stop::Fault { error, after });
     }
-    match head_at(bytes) {
+    match read_head(bytes) {
         Ok((head, rest)) => match head {
             ItemHead::Break => {
                 let error = Error::Head;
@@ -183,8 +187,10 @@ fn wanted_head_at(bytes: &[u8], levels: usize) -> Result<(ItemHead, &[u8]), Stop
 fn after_atom(head: ItemHead, bytes: &[u8]) -> Result<&[u8], Stop>
     requires parts { opened head ≡ None }
     requires no_break { head ≢ ItemHead.Break }
-    ensures goes { (left : ℕ) → IfOk result (λ rest. Goes (skip_body left head) here bytes.now rest.now) }
-    ensures stops { (left : ℕ) → IfErr result (λ stop. StopsSo (skip_body left head) bytes.now stop) }
+    ensures goes { (left : ℕ) → IfOk result
+        (λ rest. Goes (skip_body left head) here bytes.now rest.now) }
+    ensures stops { (left : ℕ) → IfErr result
+        (λ stop. StopsSo (skip_body left head) bytes.now stop) }
     ensures shorter { IfOk result (λ rest. length rest.now ≤ length bytes.now) }
 {
     match head {
@@ -196,15 +202,16 @@ fn after_atom(head: ItemHead, bytes: &[u8]) -> Result<&[u8], Stop>
     }
 }
 
-/// What an item has still to come, with so many levels left for it, and the bytes of that: where its head
-/// opens a container, all of that; else nothing.
-fn part_at(bytes: &[u8], levels: usize) -> Result<(Option<ToCome>, &[u8]), Stop>
-    ensures goes { IfOk result (λ x. Goes (skip_item levels) (begun (levels - 1) x.0) bytes.now x.1.now) }
+/// What an item has still to come, with so many levels left for it, and the bytes of that: where
+/// its head opens a container, all of that; else nothing.
+fn read_part(bytes: &[u8], levels: usize) -> Result<(Option<ToCome>, &[u8]), Stop>
+    ensures goes { IfOk result
+        (λ x. Goes (skip_item levels) (begun (levels - 1) x.0) bytes.now x.1.now) }
     ensures stops { IfErr result (λ stop. StopsSo (skip_item levels) bytes.now stop) }
     ensures shorter { IfOk result (λ x. length x.1.now < length bytes.now) }
     ensures level { IfOk result (λ x. 0 < levels) }
 {
-    let (head, rest) = wanted_head_at(bytes, levels)?;
+    let (head, rest) = read_item_head(bytes, levels)?;
     if let Some(parts) = ToCome::new(head) {
         return Ok((Some(parts), rest));
     }
@@ -222,14 +229,14 @@ fn after_item(bytes: &[u8]) -> Result<&[u8], Stop>
     let mut top = ToCome::Items(Count::Definite(1));
     let mut rest = bytes;
     'turns: loop {
-        if let Some(after) = top.end_at(rest) {
+        if let Some(after) = top.after_end(rest) {
             rest = after;
             let Some(open) = outer.pop() else {
                 return Ok(rest);
             };
             top = open;
         } else {
-            let (parts, after) = part_at(rest, usize::from(DEEPEST) - outer.len())?;
+            let (parts, after) = read_part(rest, usize::from(DEEPEST) - outer.len())?;
             rest = after;
             top = top.after_part();
             if let Some(parts) = parts {
@@ -254,10 +261,11 @@ fn begins(bytes: &[u8]) -> Extent
     }
 }
 
-/// Tells how the bytes begin, by the rules of `parse_bytes_partial`, and takes no memory: with an item of so
-/// many bytes; cut, where they end before the item does and before any error; or with the first error from
-/// the left, which the first `end` bytes show and fewer do not. Of `Head` and `TooDeep` the last of these is
-/// the byte at fault; of `Utf8` they end with the text that is not UTF-8.
+/// Tells how the bytes begin, by the rules of `parse_bytes_partial`, and takes no memory: with an
+/// item of so many bytes; cut, where they end before the item does and before any error; or with
+/// the first error from the left, which the first `end` bytes show and fewer do not. Of `Head` and
+/// `TooDeep` the last of these is the byte at fault; of `Utf8` they end with the text that is not
+/// UTF-8.
 pub fn extent(bytes: &[u8]) -> Extent
     // An item of so many bytes, exactly where they spell one.
     ensures item { IfItem result (λ n. (i : Item) × BeginsWithItem bytes.now i n) }
@@ -274,7 +282,8 @@ pub fn extent(bytes: &[u8]) -> Extent
 
     // The first `end` bytes have the fault, and fewer are cut.
     ensures shown { IfFault result (λ error end. FaultEnds bytes.now error end) }
-    ensures fronts_cut { IfFault result (λ error end. (n : ℕ) → n < end → IsCut (take n bytes.now)) }
+    ensures fronts_cut { IfFault result
+        (λ error end. (n : ℕ) → n < end → IsCut (take n bytes.now)) }
 
     // Bytes that come later change no item, and no fault nor where it ends.
     ensures item_stays { IfItem result (λ n.

@@ -2,12 +2,14 @@
 ghost use Rattle.std.specs.Prelude.{◌+◌, ◌*◌, ◌^◌, ◌<◌, ◌≤◌, length, IfOk, map, option_map};
 ghost use Rattle.cbor_diag.specs.View.{byte_chunk, text_chunk};
 ghost use Rattle.cbor_diag.specs.Bytes.{bytes_kind, text_kind};
-ghost use Rattle.cbor_diag.specs.Reading.{Gives, split_at, content_at, chunk_length_at, chunk_at};
+ghost use Rattle.cbor_diag.specs.Head.{major_number};
+ghost use Rattle.cbor_diag.specs.Reading.{Gives, split_at, read_content, read_chunk_length, read_chunk};
 ghost use Rattle.cbor_diag.specs.Counting.{Runs, counted_chunks};
 
-use super::head::{Info, info_at};
+use super::head::{Info, read_info};
 use crate::error::{Error, Result};
 use crate::parse::turns::Turns;
+use crate::syntax::major::Major;
 use crate::syntax::{ByteString, IntegerWidth, TextString};
 use std::alloc::Global;
 
@@ -23,15 +25,15 @@ fn split_at(bytes: &[u8], count: u64) -> Result<(&[u8], &[u8])>
 }
 
 /// A byte string behind its head.
-#[tactic(auto, unfolding(crate::specs::Reading::content_at))]
-pub(super) fn bytes_at(
+#[tactic(auto, unfolding(crate::specs::Reading::read_content))]
+pub(super) fn read_byte_string(
     alloc: Global,
     count: u64,
     bitwidth: IntegerWidth,
     bytes: &[u8],
 ) -> Result<(ByteString, &[u8])>
     ensures gives { Gives (λ x. (byte_chunk x.0, x.1.now)) result
-        (content_at bytes_kind count bitwidth bytes.now) }
+        (read_content bytes_kind count bitwidth bytes.now) }
     ensures shorter { IfOk result (λ x. length x.1.now ≤ length bytes.now) }
 {
     let (content, rest) = split_at(bytes, count)?;
@@ -40,15 +42,15 @@ pub(super) fn bytes_at(
 }
 
 /// A text string behind its head.
-#[tactic(auto, unfolding(crate::specs::Reading::content_at), using(crate::proofs::Utf8::utf8_fails, crate::proofs::Utf8::utf8_passes))]
-pub(super) fn text_at(
+#[tactic(auto, unfolding(crate::specs::Reading::read_content), using(crate::proofs::Utf8::utf8_fails, crate::proofs::Utf8::utf8_passes))]
+pub(super) fn read_text_string(
     alloc: Global,
     count: u64,
     bitwidth: IntegerWidth,
     bytes: &[u8],
 ) -> Result<(TextString, &[u8])>
     ensures gives { Gives (λ x. (text_chunk x.0, x.1.now)) result
-        (content_at text_kind count bitwidth bytes.now) }
+        (read_content text_kind count bitwidth bytes.now) }
     ensures shorter { IfOk result (λ x. length x.1.now ≤ length bytes.now) }
 {
     let (content, rest) = split_at(bytes, count)?;
@@ -59,21 +61,22 @@ pub(super) fn text_at(
     Ok((TextString { content, bitwidth }, rest))
 }
 
-/// The length in the head of the next chunk of an indefinite string of that major type, or `None` at
-/// its break. The first byte decides whether a chunk can stand here, before more of its head is read.
-#[tactic(auto, unfolding(crate::specs::Reading::chunk_length_at))]
-fn chunk_length_at(major: u8, bytes: &[u8]) -> Result<(Option<(u64, IntegerWidth)>, &[u8])>
-    ensures gives { Gives (λ x. (x.0, x.1.now)) result (chunk_length_at major bytes.now) }
+/// The length of the next chunk of an indefinite string of that major type, or `None` at its break.
+/// The first byte decides whether a chunk begins here, before more of its head is read.
+#[tactic(auto, unfolding(crate::specs::Reading::read_chunk_length))]
+fn read_chunk_length(major: Major, bytes: &[u8]) -> Result<(Option<(u64, IntegerWidth)>, &[u8])>
+    ensures gives { Gives (λ x. (x.0, x.1.now)) result
+        (read_chunk_length (major_number major) bytes.now) }
     ensures shorter { IfOk result (λ x. length x.1.now < length bytes.now) }
 {
     match bytes {
         [] => Err(Error::CutShort),
         [0xff, rest @ ..] => Ok((None, rest)),
         [first, rest @ ..] => {
-            if *first / 32 != major {
+            if *first / 32 != major.number() {
                 return Err(Error::Head);
             }
-            match info_at(*first % 32, rest)? {
+            match read_info(*first % 32, rest)? {
                 (Info::Number(length, bitwidth), rest) => Ok((Some((length, bitwidth)), rest)),
                 (Info::Indefinite, _) => Err(Error::Head),
             }
@@ -82,37 +85,38 @@ fn chunk_length_at(major: u8, bytes: &[u8]) -> Result<(Option<(u64, IntegerWidth
 }
 
 /// The next chunk of an indefinite byte string, or `None` at its break.
-#[tactic(auto, unfolding(crate::specs::Reading::chunk_length_at, crate::specs::Reading::chunk_at))]
-fn byte_chunk_at(alloc: Global, bytes: &[u8]) -> Result<(Option<ByteString>, &[u8])>
+#[tactic(auto, unfolding(crate::specs::Reading::read_chunk_length, crate::specs::Reading::read_chunk))]
+fn read_byte_chunk(alloc: Global, bytes: &[u8]) -> Result<(Option<ByteString>, &[u8])>
     ensures gives { Gives (λ x. (option_map byte_chunk x.0, x.1.now)) result
-        (chunk_at bytes_kind bytes.now) }
+        (read_chunk bytes_kind bytes.now) }
     ensures shorter { IfOk result (λ x. length x.1.now < length bytes.now) }
 {
-    let (length, rest) = chunk_length_at(2, bytes)?;
+    let (length, rest) = read_chunk_length(Major::Bytes, bytes)?;
     let Some((length, bitwidth)) = length else {
         return Ok((None, rest));
     };
-    let (chunk, rest) = bytes_at(alloc, length, bitwidth, rest)?;
+    let (chunk, rest) = read_byte_string(alloc, length, bitwidth, rest)?;
     Ok((Some(chunk), rest))
 }
 
 /// The next chunk of an indefinite text string, or `None` at its break.
-#[tactic(auto, unfolding(crate::specs::Reading::chunk_length_at, crate::specs::Reading::chunk_at))]
-fn text_chunk_at(alloc: Global, bytes: &[u8]) -> Result<(Option<TextString>, &[u8])>
+#[tactic(auto, unfolding(crate::specs::Reading::read_chunk_length, crate::specs::Reading::read_chunk))]
+fn read_text_chunk(alloc: Global, bytes: &[u8]) -> Result<(Option<TextString>, &[u8])>
     ensures gives { Gives (λ x. (option_map text_chunk x.0, x.1.now)) result
-        (chunk_at text_kind bytes.now) }
+        (read_chunk text_kind bytes.now) }
     ensures shorter { IfOk result (λ x. length x.1.now < length bytes.now) }
 {
-    let (length, rest) = chunk_length_at(3, bytes)?;
+    let (length, rest) = read_chunk_length(Major::Text, bytes)?;
     let Some((length, bitwidth)) = length else {
         return Ok((None, rest));
     };
-    let (chunk, rest) = text_at(alloc, length, bitwidth, rest)?;
+    let (chunk, rest) = read_text_string(alloc, length, bitwidth, rest)?;
     Ok((Some(chunk), rest))
 }
 
-/// The chunks of an indefinite byte string up to its break, with a turn for each of them and for the break.
-pub(super) fn byte_chunks_at<'a>(
+/// The chunks of an indefinite byte string up to its break, with a turn for each of them and for
+/// the break.
+pub(super) fn read_byte_chunks<'a>(
     alloc: Global,
     bytes: &'a [u8],
     turns: &mut Turns,
@@ -129,7 +133,7 @@ pub(super) fn byte_chunks_at<'a>(
     let mut rest = bytes;
     'chunks: loop {
         turns.rise();
-        let (chunk, after) = byte_chunk_at(alloc, rest)?;
+        let (chunk, after) = read_byte_chunk(alloc, rest)?;
         let Some(chunk) = chunk else {
             return Ok((chunks, after));
         };
@@ -138,8 +142,9 @@ pub(super) fn byte_chunks_at<'a>(
     }
 }
 
-/// The chunks of an indefinite text string up to its break, with a turn for each of them and for the break.
-pub(super) fn text_chunks_at<'a>(
+/// The chunks of an indefinite text string up to its break, with a turn for each of them and for
+/// the break.
+pub(super) fn read_text_chunks<'a>(
     alloc: Global,
     bytes: &'a [u8],
     turns: &mut Turns,
@@ -156,7 +161,7 @@ pub(super) fn text_chunks_at<'a>(
     let mut rest = bytes;
     'chunks: loop {
         turns.rise();
-        let (chunk, after) = text_chunk_at(alloc, rest)?;
+        let (chunk, after) = read_text_chunk(alloc, rest)?;
         let Some(chunk) = chunk else {
             return Ok((chunks, after));
         };

@@ -2,7 +2,7 @@
 ghost use Rattle.std.specs.Prelude.{◌≡◌, ◌⊎◌, ◌<◌, length, true, false, option_map, IfOk, IfErr, IfSome, Some, None, Err};
 ghost use Rattle.cbor_diag.specs.Reading.{Gives};
 ghost use Rattle.cbor_notes.specs.TokenReading.{unquoted, digits_of};
-ghost use Rattle.cbor_diag.specs.NotationReading.{or_refused, base16_of, base32_of, base32hex_of, base64_of, decoded_at, h_notation, b_notation};
+ghost use Rattle.cbor_diag.specs.NotationReading.{or_refused, base16_of, base32_of, base32hex_of, base64_of, read_decoded, h_notation, b_notation};
 
 use super::scan::{after_byte, after_word};
 use crate::error::{Error, Result};
@@ -11,9 +11,10 @@ use memchr::memchr;
 use std::alloc::Global;
 
 /// The content up to the closing quote, without its escapes.
-pub(super) fn quoted_at(alloc: Global, text: &[u8], quote: u8) -> Result<(Vec<u8>, &[u8])>
+pub(super) fn read_quoted(alloc: Global, text: &[u8], quote: u8) -> Result<(Vec<u8>, &[u8])>
     requires { (quote ≡ 34) ⊎ (quote ≡ 39) }
-    ensures gives { Gives (λ x. (x.0.items, x.1.now)) result (or_refused (unquoted quote false text.now)) }
+    ensures gives { Gives (λ x. (x.0.items, x.1.now)) result
+        (or_refused (unquoted quote false text.now)) }
     ensures shorter { IfOk result (λ x. length x.1.now < length text.now) }
 {
     match cbor_notes::quoted_at(alloc, text, 0, quote)? {
@@ -22,9 +23,9 @@ pub(super) fn quoted_at(alloc: Global, text: &[u8], quote: u8) -> Result<(Vec<u8
     }
 }
 
-/// The content of a text without escapes behind its opening quote, and the text behind its closing one.
-/// `None` where a backslash stands before that, or there is none.
-pub(super) fn plain_at(text: &[u8]) -> Option<(&[u8], &[u8])>
+/// The content of a text without escapes behind its opening quote, and the text behind its closing
+/// one. `None` where a backslash stands before that, or there is none.
+pub(super) fn read_plain(text: &[u8]) -> Option<(&[u8], &[u8])>
     ensures gives { IfSome result (λ x. unquoted 34 false text.now ≡ Some (x.0.now, x.1.now)) }
     ensures shorter { IfSome result (λ x. length x.1.now < length text.now) }
 {
@@ -35,8 +36,9 @@ pub(super) fn plain_at(text: &[u8]) -> Option<(&[u8], &[u8])>
 }
 
 /// The digits up to the closing apostrophe, without the blanks between them.
-fn digits_at(alloc: Global, text: &[u8], comments: bool) -> Result<(Vec<u8>, &[u8])>
-    ensures gives { Gives (λ x. (x.0.items, x.1.now)) result (or_refused (digits_of comments text.now)) }
+fn read_digits(alloc: Global, text: &[u8], comments: bool) -> Result<(Vec<u8>, &[u8])>
+    ensures gives { Gives (λ x. (x.0.items, x.1.now)) result
+        (or_refused (digits_of comments text.now)) }
     ensures shorter { IfOk result (λ x. length x.1.now < length text.now) }
 {
     match cbor_notes::digits_at(alloc, text, 0, comments)? {
@@ -45,8 +47,8 @@ fn digits_at(alloc: Global, text: &[u8], comments: bool) -> Result<(Vec<u8>, &[u
     }
 }
 
-/// The bytes of hex digits, two for each, of either case, or `None` where they aren't such digits. The only
-/// refusal is want of memory.
+/// The bytes of hex digits, two for each, of either case, or `None` where they aren't such digits.
+/// The only refusal is want of memory.
 pub(super) fn base16(alloc: Global, digits: &[u8]) -> Result<Option<Vec<u8>>>
     ensures gives { IfOk result (λ bytes. option_map (λ x. x.items) bytes ≡ base16_of digits.now) }
     ensures refused { IfErr result (λ e. e ≡ Error.Memory) }
@@ -58,10 +60,11 @@ pub(super) fn base16(alloc: Global, digits: &[u8]) -> Result<Option<Vec<u8>>>
     }
 }
 
-/// The bytes of hex digits up to the closing apostrophe. Digits with no blanks between them, as they mostly
-/// are, are decoded where they stand; others are gathered first.
-fn base16_at(alloc: Global, text: &[u8]) -> Result<(Vec<u8>, &[u8])>
-    ensures gives { Gives (λ x. (x.0.items, x.1.now)) result (decoded_at true base16_of text.now) }
+/// The bytes of hex digits up to the closing apostrophe. Digits with no blanks between them, as
+/// they mostly are, are decoded where they stand; others are gathered first.
+fn read_base16(alloc: Global, text: &[u8]) -> Result<(Vec<u8>, &[u8])>
+    ensures gives { Gives (λ x. (x.0.items, x.1.now)) result
+        (read_decoded true base16_of text.now) }
     ensures shorter { IfOk result (λ x. length x.1.now < length text.now) }
 {
     if let Some(end) = memchr(b'\'', text) {
@@ -70,7 +73,7 @@ fn base16_at(alloc: Global, text: &[u8]) -> Result<(Vec<u8>, &[u8])>
             return Ok((bytes, &text[end + 1..]));
         }
     }
-    let (digits, rest) = digits_at(alloc, text, true)?;
+    let (digits, rest) = read_digits(alloc, text, true)?;
     match base16(alloc, &digits)? {
         Some(bytes) => Ok((bytes, rest)),
         None => Err(Error::Notation),
@@ -97,8 +100,8 @@ fn base32hex(alloc: Global, digits: &[u8]) -> Result<Vec<u8>>
     }
 }
 
-/// The bytes that base 64 digits encode, in the alphabet for URLs without padding or in the standard one
-/// with it.
+/// The bytes that base 64 digits encode, in the alphabet for URLs without padding or in the
+/// standard one with it.
 fn base64(alloc: Global, digits: &[u8]) -> Result<Vec<u8>>
     ensures { Gives (λ x. x.items) result (or_refused (base64_of digits.now)) }
 {
@@ -114,26 +117,26 @@ pub(super) fn h_notation(alloc: Global, text: &[u8]) -> Result<(Vec<u8>, &[u8])>
     ensures shorter { IfOk result (λ x. length x.1.now < length text.now) }
 {
     if let Some(quoted) = after_word(text, b"'") {
-        base16_at(alloc, quoted)
+        read_base16(alloc, quoted)
     } else if let Some(quoted) = after_word(text, b"32'") {
-        let (digits, rest) = digits_at(alloc, quoted, true)?;
+        let (digits, rest) = read_digits(alloc, quoted, true)?;
         Ok((base32hex(alloc, &digits)?, rest))
     } else {
         Err(Error::Notation)
     }
 }
 
-/// The bytes of `b32'..'` or `b64'..'` behind the `b`. In base 64 a `/` is a digit, so no comment stands
-/// there.
+/// The bytes of `b32'..'` or `b64'..'` behind the `b`. In base 64 a `/` is a digit, so no comment
+/// stands there.
 pub(super) fn b_notation(alloc: Global, text: &[u8]) -> Result<(Vec<u8>, &[u8])>
     ensures gives { Gives (λ x. (x.0.items, x.1.now)) result (b_notation text.now) }
     ensures shorter { IfOk result (λ x. length x.1.now < length text.now) }
 {
     if let Some(quoted) = after_word(text, b"32'") {
-        let (digits, rest) = digits_at(alloc, quoted, true)?;
+        let (digits, rest) = read_digits(alloc, quoted, true)?;
         Ok((base32(alloc, &digits)?, rest))
     } else if let Some(quoted) = after_word(text, b"64'") {
-        let (digits, rest) = digits_at(alloc, quoted, false)?;
+        let (digits, rest) = read_digits(alloc, quoted, false)?;
         Ok((base64(alloc, &digits)?, rest))
     } else {
         Err(Error::Notation)

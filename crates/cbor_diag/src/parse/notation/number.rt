@@ -3,16 +3,17 @@ ghost use Rattle.std.specs.Prelude.{◌≡◌, ◌≢◌, ◌<◌, ℕ, length, 
 ghost use Rattle.cbor_notes.specs.Token.{capped};
 ghost use Rattle.cbor_diag.specs.Head.{FitsWidth};
 ghost use Rattle.cbor_diag.specs.Reading.{Gives};
-ghost use Rattle.cbor_diag.specs.NotationReading.{number_at, sized, sized_at, below_zero_at};
+ghost use Rattle.cbor_diag.specs.NotationReading.{read_number, with_width, read_unsigned_number, read_negative_number};
 
 use crate::error::{Error, Result};
 use crate::syntax::IntegerWidth;
 
 /// The value and the indicator of the longest number at the front; a value past 2^64 is 2^64 + 1.
-pub(super) fn number_at(text: &[u8]) -> Result<((u128, Option<u8>), &[u8])>
+pub(super) fn read_number(text: &[u8]) -> Result<((u128, Option<u8>), &[u8])>
     ensures gives { MatchResult result
-        (λ x. (value : ℕ) × (number_at text.now ≡ Ok ((value, x.0.1), x.1.now)) × (x.0.0 ≡ capped value))
-        (λ e. (e ≡ Error.Notation) × (number_at text.now ≡ Err Error.Notation)) }
+        (λ x. (value : ℕ) × (read_number text.now ≡ Ok ((value, x.0.1), x.1.now))
+        × (x.0.0 ≡ capped value))
+        (λ e. (e ≡ Error.Notation) × (read_number text.now ≡ Err Error.Notation)) }
     ensures shorter { IfOk result (λ x. length x.1.now < length text.now) }
 {
     match cbor_notes::number_at(text, 0) {
@@ -21,10 +22,10 @@ pub(super) fn number_at(text: &[u8]) -> Result<((u128, Option<u8>), &[u8])>
     }
 }
 
-/// A number and its width: the stated one, or without an indicator that of the first byte up to 23 and an
-/// open one for any other. It has to fit.
-fn sized(number: u128, indicator: Option<u8>) -> Result<(u64, IntegerWidth)>
-    ensures gives { Gives (λ x. (x.0, x.1)) result (sized number indicator) }
+/// A number with its width: the stated one; without an indicator `Zero` up to 23, and else unstated.
+/// It has to fit.
+fn with_width(number: u128, indicator: Option<u8>) -> Result<(u64, IntegerWidth)>
+    ensures gives { Gives (λ x. (x.0, x.1)) result (with_width number indicator) }
     ensures fits { IfOk result (λ x. FitsWidth x.1 x.0) }
     ensures memory { result ≢ Err Error.Memory }
 {
@@ -45,27 +46,27 @@ fn sized(number: u128, indicator: Option<u8>) -> Result<(u64, IntegerWidth)>
     }
 }
 
-/// An integer or a tag's number at the front.
-pub(super) fn sized_at(text: &[u8]) -> Result<((u64, IntegerWidth), &[u8])>
+/// The number of an unsigned integer or a tag at the front, with its width.
+pub(super) fn read_unsigned_number(text: &[u8]) -> Result<((u64, IntegerWidth), &[u8])>
     ensures gives { Gives (λ x. ((x.0.0, x.0.1), x.1.now)) result
-        (sized_at text.now) }
+        (read_unsigned_number text.now) }
     ensures fits { IfOk result (λ x. FitsWidth x.0.1 x.0.0) }
     ensures shorter { IfOk result (λ x. length x.1.now < length text.now) }
 {
-    let ((number, indicator), rest) = number_at(text)?;
-    Ok((sized(number, indicator)?, rest))
+    let ((number, indicator), rest) = read_number(text)?;
+    Ok((with_width(number, indicator)?, rest))
 }
 
-/// The number that is encoded for a negative one, which is one less than what stands behind the `-`.
-pub(super) fn below_zero_at(text: &[u8]) -> Result<((u64, IntegerWidth), &[u8])>
+/// The number that is encoded for a negative integer: one less than the number after its `-`.
+pub(super) fn read_negative_number(text: &[u8]) -> Result<((u64, IntegerWidth), &[u8])>
     ensures gives { Gives (λ x. ((x.0.0, x.0.1), x.1.now)) result
-        (below_zero_at text.now) }
+        (read_negative_number text.now) }
     ensures fits { IfOk result (λ x. FitsWidth x.0.1 x.0.0) }
     ensures shorter { IfOk result (λ x. length x.1.now < length text.now) }
 {
-    let ((number, indicator), rest) = number_at(text)?;
+    let ((number, indicator), rest) = read_number(text)?;
     if number == 0 {
         return Err(Error::Notation);
     }
-    Ok((sized(number - 1, indicator)?, rest))
+    Ok((with_width(number - 1, indicator)?, rest))
 }

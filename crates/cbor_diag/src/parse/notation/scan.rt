@@ -2,13 +2,13 @@
 ghost use Rattle.std.specs.Prelude.{◌≡◌, ◌⊎◌, ◌<◌, ◌≤◌, length, IfOk, IfSome, option_map};
 ghost use Rattle.cbor_notes.specs.Token.{is_whitespace};
 ghost use Rattle.cbor_diag.specs.Reading.{Gives};
-ghost use Rattle.cbor_diag.specs.NotationReading.{or_refused, blank_at, after_byte, after_word, after_space, end_at, length_at};
+ghost use Rattle.cbor_diag.specs.NotationReading.{or_refused, skip_blank, after_byte, after_word, after_space, after_end, read_length};
 
 use crate::error::{Error, Result};
 use crate::syntax::IntegerWidth;
 
-/// Whether a byte is a space, a tab, a line feed or a carriage return. Most bytes of a text are above all of
-/// these, which one comparison tells.
+/// Whether a byte is a space, a tab, a line feed or a carriage return. Most bytes of a text are
+/// above all of these, which one comparison tells.
 fn is_whitespace(byte: u8) -> bool
     ensures { result ≡ is_whitespace byte }
 {
@@ -17,7 +17,7 @@ fn is_whitespace(byte: u8) -> bool
 
 /// The text behind the longest blank at its front.
 pub(super) fn after_blank(text: &[u8]) -> &[u8]
-    ensures gives { result.now ≡ blank_at text.now }
+    ensures gives { result.now ≡ skip_blank text.now }
     ensures shorter { length result.now ≤ length text.now }
 {
     &text[cbor_notes::blank_end(text, 0)..]
@@ -69,10 +69,10 @@ fn after_space(text: &[u8], close: u8) -> Option<&[u8]>
     after_byte(&text[spaces..], close)
 }
 
-/// The text behind what closes a list, where that stands here: its close, or a last comma, whitespace and
-/// the close.
-pub(super) fn end_at(text: &[u8], close: u8) -> Option<&[u8]>
-    ensures gives { option_map (λ x. x.now) result ≡ end_at close text.now }
+/// The text behind what closes a list, where that stands here: its close, or a last comma,
+/// whitespace and the close.
+pub(super) fn after_end(text: &[u8], close: u8) -> Option<&[u8]>
+    ensures gives { option_map (λ x. x.now) result ≡ after_end close text.now }
     ensures shorter { IfSome result (λ x. length x.now < length text.now) }
 {
     match text {
@@ -81,10 +81,11 @@ pub(super) fn end_at(text: &[u8], close: u8) -> Option<&[u8]>
     }
 }
 
-/// The width of a container's count, open or, after `_`, none, and the text behind that.
-pub(super) fn length_at(text: &[u8]) -> (Option<IntegerWidth>, &[u8])
-    ensures gives { let answer = length_at text.now in (result.0 ≡ answer.0) × (result.1.now ≡ answer.1) }
-    ensures open { (result.0 ≡ None) ⊎ (result.0 ≡ Some IntegerWidth.Unknown) }
+/// The width of a container's count, which is unstated, or none after `_`, and the text after that.
+pub(super) fn read_length(text: &[u8]) -> (Option<IntegerWidth>, &[u8])
+    ensures gives { let answer = read_length text.now in
+        (result.0 ≡ answer.0) × (result.1.now ≡ answer.1) }
+    ensures unstated { (result.0 ≡ None) ⊎ (result.0 ≡ Some IntegerWidth.Unknown) }
     ensures shorter { length result.1.now ≤ length text.now }
 {
     match after_byte(text, b'_') {

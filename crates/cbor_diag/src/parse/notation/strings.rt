@@ -1,21 +1,22 @@
 //! Strings in pieces, and the chunks of indefinite ones.
 //!
-//! Most strings are one piece, a text without escapes or hex digits without blanks, right behind which a list
-//! goes on or closes. These are read by a short way, straight into the item; all others piece by piece.
+//! Most strings are one piece, a text without escapes or hex digits without blanks, right behind
+//! which a list goes on or closes. These are read by a short way, straight into the item; all
+//! others piece by piece.
 ghost use Rattle.std.specs.Prelude.{◌≡◌, ◌-◌, ◌++◌, ◌<◌, ◌≤◌, ℕ, List, Some, suc, length, map, IfOk, IfSome, Ok, OnOk, true, false};
 ghost use Rattle.std.specs.List.{AllByRecursion};
 ghost use Rattle.cbor_diag.specs.declared.syntax.IntegerWidth.TheVariants.{Unknown};
 ghost use Rattle.cbor_diag.specs.View.{view, items_view, byte_chunk, text_chunk};
-ghost use Rattle.cbor_diag.specs.WellFormed.{WellFormed, WellFormedItems, IsByteChunk, IsTextChunk};
+ghost use Rattle.cbor_diag.specs.WellFormed.{levels_left, WellFormed, WellFormedItems, IsByteChunk, IsTextChunk};
 ghost use Rattle.cbor_diag.specs.Bytes.{bytes_kind, text_kind};
 ghost use Rattle.cbor_diag.specs.Written.{encoded_items};
 ghost use Rattle.cbor_diag.specs.Item.{Item};
 ghost use Rattle.cbor_diag.specs.Reading.{Gives, Read};
-ghost use Rattle.cbor_diag.specs.NotationReading.{base16_of, byte_string_at, text_string_at, checked, chunk_at, chunks_at, embedded_at, ends_string, item_at, members_at, one_string, piece_at, pieces_at, string_at};
+ghost use Rattle.cbor_diag.specs.NotationReading.{base16_of, read_byte_string, read_text_string, checked, read_chunk, read_chunks, read_embedded, ends_string, read_item, read_members, one_string, read_piece, read_pieces, read_string};
 
-use super::content::{b_notation, base16, h_notation, plain_at, quoted_at};
-use super::items_at;
-use super::scan::{after_blank, after_byte, after_word, end_at, expect_byte};
+use super::content::{b_notation, base16, h_notation, read_plain, read_quoted};
+use super::read_items;
+use super::scan::{after_blank, after_byte, after_end, after_word, expect_byte};
 use super::start::Start;
 use crate::encode::push_items;
 use crate::error::Error;
@@ -23,7 +24,7 @@ use crate::syntax::{ByteString, DataItem, IntegerWidth, TextString};
 use memchr::memchr;
 use std::alloc::{AllocError, Global};
 
-/// A byte string of an open width.
+/// A byte string of unstated width.
 fn byte_string(content: Vec<u8>) -> ByteString
     ensures gives { Ok (byte_chunk result) ≡ checked bytes_kind content.items }
     ensures well { IsByteChunk (byte_chunk result) }
@@ -36,7 +37,7 @@ fn byte_string(content: Vec<u8>) -> ByteString
     }
 }
 
-/// A text string of an open width, where the content is UTF-8.
+/// A text string of unstated width, if the content is UTF-8.
 #[tactic(auto, using(crate::proofs::Utf8::utf8_fails, crate::proofs::Utf8::utf8_passes))]
 fn text_string(content: Vec<u8>) -> crate::Result<TextString>
     ensures gives { Gives (λ x. text_chunk x) result (checked text_kind content.items) }
@@ -77,48 +78,55 @@ fn encoded(alloc: Global, items: &Vec<DataItem>) -> Result<Vec<u8>, AllocError>
 
 /// Items behind the first `<` of `<<`, up to their `>>`, in bytes.
 #[cycle(diag)]
-fn embedded_at(alloc: Global, text: &[u8], inner: u8) -> crate::Result<(Vec<u8>, &[u8])>
+fn read_embedded(alloc: Global, text: &[u8], inner: u8) -> crate::Result<(Vec<u8>, &[u8])>
     requires { inner ≤ 129 }
-    ensures gives { Gives (λ x. (x.0.items, x.1.now)) result (embedded_at (item_at (129 - inner)) text.now) }
+    ensures gives { Gives (λ x. (x.0.items, x.1.now)) result
+        (read_embedded (read_item (levels_left inner)) text.now) }
     ensures shorter { IfOk result (λ x. length x.1.now < length text.now) }
 {
     let rest = expect_byte(text, b'<')?;
-    let (items, rest) = items_at(alloc, b'>', rest, inner)?;
+    let (items, rest) = read_items(alloc, b'>', rest, inner)?;
     let rest = expect_byte(rest, b'>')?;
     Ok((encoded(alloc, &items)?, rest))
 }
 
 /// A piece of a string: a text, or a notation of bytes, whose items stand at `inner`.
 #[cycle(diag)]
-fn piece_at(alloc: Global, text: &[u8], inner: u8) -> crate::Result<(Vec<u8>, &[u8])>
+fn read_piece(alloc: Global, text: &[u8], inner: u8) -> crate::Result<(Vec<u8>, &[u8])>
     requires { inner ≤ 129 }
-    ensures gives { Gives (λ x. (x.0.items, x.1.now)) result (piece_at (item_at (129 - inner)) text.now) }
+    ensures gives { Gives (λ x. (x.0.items, x.1.now)) result
+        (read_piece (read_item (levels_left inner)) text.now) }
     ensures shorter { IfOk result (λ x. length x.1.now < length text.now) }
 {
     let (start, rest) = Start::split(text);
     match start {
-        Start::Quote => quoted_at(alloc, rest, b'"'),
-        Start::Apostrophe => quoted_at(alloc, rest, b'\''),
-        Start::Angle => embedded_at(alloc, rest, inner),
+        Start::Quote => read_quoted(alloc, rest, b'"'),
+        Start::Apostrophe => read_quoted(alloc, rest, b'\''),
+        Start::Angle => read_embedded(alloc, rest, inner),
         Start::LetterB => b_notation(alloc, rest),
         Start::LetterH => h_notation(alloc, rest),
         _ => Err(Error::Notation),
     }
 }
 
-/// The pieces from here on, with blanks between them and after them; `texts` is whether texts may be
-/// pieces.
+/// The pieces from here on, with blanks between them and after them; `texts` is whether texts may
+/// be pieces.
 #[cycle(diag)]
-fn pieces_at(alloc: Global, texts: bool, text: &[u8], inner: u8) -> crate::Result<(Vec<u8>, &[u8])>
+fn read_pieces(
+    alloc: Global,
+    texts: bool,
+    text: &[u8],
+    inner: u8,
+) -> crate::Result<(Vec<u8>, &[u8])>
     requires { inner ≤ 129 }
     ensures gives { Gives (λ x. (x.0.items, x.1.now)) result
-        (pieces_at (item_at (129 - inner)) texts (suc (length text.now)) text.now) }
+        (read_pieces (read_item (levels_left inner)) texts (suc (length text.now)) text.now) }
     ensures shorter { IfOk result (λ x. length x.1.now ≤ length text.now) }
 {
     let mut content = Vec::new(alloc);
     let mut rest = text;
     'pieces: while Start::of(rest).begins_piece(texts) {
-        let (piece, after) = piece_at(alloc, rest, inner)?;
+        let (piece, after) = read_piece(alloc, rest, inner)?;
         append(&mut content, piece)?;
         rest = after_blank(after);
     }
@@ -127,50 +135,51 @@ fn pieces_at(alloc: Global, texts: bool, text: &[u8], inner: u8) -> crate::Resul
 
 /// A byte string of definite length, and the blank after it.
 #[cycle(diag)]
-fn byte_string_at(alloc: Global, text: &[u8], inner: u8) -> crate::Result<(ByteString, &[u8])>
+fn read_byte_string(alloc: Global, text: &[u8], inner: u8) -> crate::Result<(ByteString, &[u8])>
     requires { inner ≤ 129 }
     ensures gives { Gives (λ x. (byte_chunk x.0, x.1.now)) result
-        (string_at (item_at (129 - inner)) bytes_kind text.now) }
+        (read_string (read_item (levels_left inner)) bytes_kind text.now) }
     ensures well { IfOk result (λ x. IsByteChunk (byte_chunk x.0)) }
     ensures shorter { IfOk result (λ x. length x.1.now ≤ length text.now) }
 {
     if !Start::of(text).begins_piece(false) {
         return Err(Error::Notation);
     }
-    let (content, rest) = pieces_at(alloc, false, text, inner)?;
+    let (content, rest) = read_pieces(alloc, false, text, inner)?;
     Ok((byte_string(content), rest))
 }
 
 /// A text string of definite length, and the blank after it.
 #[cycle(diag)]
-fn text_string_at(alloc: Global, text: &[u8], inner: u8) -> crate::Result<(TextString, &[u8])>
+fn read_text_string(alloc: Global, text: &[u8], inner: u8) -> crate::Result<(TextString, &[u8])>
     requires { inner ≤ 129 }
     ensures gives { Gives (λ x. (text_chunk x.0, x.1.now)) result
-        (string_at (item_at (129 - inner)) text_kind text.now) }
+        (read_string (read_item (levels_left inner)) text_kind text.now) }
     ensures well { IfOk result (λ x. IsTextChunk (text_chunk x.0)) }
     ensures shorter { IfOk result (λ x. length x.1.now ≤ length text.now) }
 {
     let Start::Quote = Start::of(text) else {
         return Err(Error::Notation);
     };
-    let (content, rest) = pieces_at(alloc, true, text, inner)?;
+    let (content, rest) = read_pieces(alloc, true, text, inner)?;
     Ok((text_string(content)?, rest))
 }
 
-/// Whether a string ends before this text: a list goes on or closes here. Neither a blank nor a piece of a
-/// string begins so.
+/// Whether a string ends before this text: a list goes on or closes here. Neither a blank nor a
+/// piece of a string begins so.
 fn ends_string(text: &[u8]) -> bool
     ensures { result ≡ ends_string text.now }
 {
     matches!(text, [b',' | b':' | b']' | b'}', ..])
 }
 
-/// What stands between the quotes of an `h'..'`, up to its first apostrophe, and the text behind it, where a
-/// string ends there. If that is hex digits, it is the whole string. `None` anywhere else.
-fn plain_hex_at(text: &[u8]) -> Option<(&[u8], &[u8])>
+/// What stands between the quotes of an `h'..'`, up to its first apostrophe, and the text behind
+/// it, where a string ends there. If that is hex digits, it is the whole string. `None` anywhere
+/// else.
+fn read_plain_hex(text: &[u8]) -> Option<(&[u8], &[u8])>
     ensures gives { IfSome result (λ x. (read : List ℕ → Read Item) (bytes : List ℕ)
         → base16_of x.0.now ≡ Some bytes
-        → byte_string_at read text.now ≡ one_string bytes_kind bytes x.1.now) }
+        → read_byte_string read text.now ≡ one_string bytes_kind bytes x.1.now) }
     ensures shorter { IfSome result (λ x. length x.1.now ≤ length text.now) }
 {
     let inner = after_word(text, b"h'")?;
@@ -185,7 +194,7 @@ fn plain_hex_at(text: &[u8]) -> Option<(&[u8], &[u8])>
 
 /// A byte string, or `''_`, an indefinite one of no chunks.
 #[cycle(diag)]
-pub(super) fn byte_item_at(
+pub(super) fn read_byte_item(
     alloc: Global,
     text: &[u8],
     inner: u8,
@@ -193,12 +202,12 @@ pub(super) fn byte_item_at(
     requires low { 1 ≤ inner }
     requires high { inner ≤ 129 }
     ensures gives { Gives (λ x. (view x.0, x.1.now)) result
-        (byte_string_at (item_at (129 - inner)) text.now) }
+        (read_byte_string (read_item (levels_left inner)) text.now) }
     ensures well { IfOk result (λ x. WellFormed (inner - 1) (view x.0)) }
     ensures shorter { IfOk result (λ x. length x.1.now ≤ length text.now) }
 {
     // Most byte strings are so, and their digits are then decoded where they stand.
-    if let Some((digits, rest)) = plain_hex_at(text) {
+    if let Some((digits, rest)) = read_plain_hex(text) {
         if let Some(content) = base16(alloc, digits)? {
             return Ok((DataItem::ByteString(byte_string(content)), rest));
         }
@@ -206,19 +215,19 @@ pub(super) fn byte_item_at(
     if let Some(rest) = after_word(text, b"''_") {
         return Ok((DataItem::IndefiniteByteString(Vec::new(alloc)), rest));
     }
-    let (string, rest) = byte_string_at(alloc, text, inner)?;
+    let (string, rest) = read_byte_string(alloc, text, inner)?;
     Ok((DataItem::ByteString(string), rest))
 }
 
-/// The content of a text of one piece without escapes, and the text behind it, where a string ends there.
-/// `None` anywhere else.
-fn plain_text_at(text: &[u8]) -> Option<(&[u8], &[u8])>
+/// The content of a text of one piece without escapes, and the text behind it, where a string ends
+/// there. `None` anywhere else.
+fn read_plain_text(text: &[u8]) -> Option<(&[u8], &[u8])>
     ensures gives { IfSome result (λ x. (read : List ℕ → Read Item)
-        → text_string_at read text.now ≡ one_string text_kind x.0.now x.1.now) }
+        → read_text_string read text.now ≡ one_string text_kind x.0.now x.1.now) }
     ensures shorter { IfSome result (λ x. length x.1.now ≤ length text.now) }
 {
     let inner = after_byte(text, b'"')?;
-    let (content, rest) = plain_at(inner)?;
+    let (content, rest) = read_plain(inner)?;
     if ends_string(rest) {
         Some((content, rest))
     } else {
@@ -228,7 +237,7 @@ fn plain_text_at(text: &[u8]) -> Option<(&[u8], &[u8])>
 
 /// A text string, or `""_`, an indefinite one of no chunks.
 #[cycle(diag)]
-pub(super) fn text_item_at(
+pub(super) fn read_text_item(
     alloc: Global,
     text: &[u8],
     inner: u8,
@@ -236,40 +245,44 @@ pub(super) fn text_item_at(
     requires low { 1 ≤ inner }
     requires high { inner ≤ 129 }
     ensures gives { Gives (λ x. (view x.0, x.1.now)) result
-        (text_string_at (item_at (129 - inner)) text.now) }
+        (read_text_string (read_item (levels_left inner)) text.now) }
     ensures well { IfOk result (λ x. WellFormed (inner - 1) (view x.0)) }
     ensures shorter { IfOk result (λ x. length x.1.now ≤ length text.now) }
 {
     // Most texts are so, and their content is then copied from where it stands.
-    if let Some((content, rest)) = plain_text_at(text) {
+    if let Some((content, rest)) = read_plain_text(text) {
         let string = text_string(content.to_vec(alloc)?)?;
         return Ok((DataItem::TextString(string), rest));
     }
     if let Some(rest) = after_word(text, b"\"\"_") {
         return Ok((DataItem::IndefiniteTextString(Vec::new(alloc)), rest));
     }
-    let (string, rest) = text_string_at(alloc, text, inner)?;
+    let (string, rest) = read_text_string(alloc, text, inner)?;
     Ok((DataItem::TextString(string), rest))
 }
 
 /// The chunks of an indefinite byte string behind its opening, up to its close.
 #[cycle(diag)]
-fn byte_chunks_at(alloc: Global, text: &[u8], inner: u8) -> crate::Result<(Vec<ByteString>, &[u8])>
+fn read_byte_chunks(
+    alloc: Global,
+    text: &[u8],
+    inner: u8,
+) -> crate::Result<(Vec<ByteString>, &[u8])>
     requires { inner ≤ 129 }
     ensures gives { Gives (λ x. (map byte_chunk x.0.items, x.1.now)) result
-        (members_at (chunk_at (item_at (129 - inner)) bytes_kind) 41 text.now) }
+        (read_members (read_chunk (read_item (levels_left inner)) bytes_kind) 41 text.now) }
     ensures well { IfOk result (λ x. AllByRecursion IsByteChunk (map byte_chunk x.0.items)) }
     ensures shorter { IfOk result (λ x. length x.1.now ≤ length text.now) }
 {
     let mut chunks = Vec::new(alloc);
     let mut rest = after_blank(text);
-    if let Some(after) = end_at(rest, b')') {
+    if let Some(after) = after_end(rest, b')') {
         return Ok((chunks, after));
     }
     'chunks: loop {
-        let (chunk, after) = byte_string_at(alloc, after_blank(rest), inner)?;
+        let (chunk, after) = read_byte_string(alloc, after_blank(rest), inner)?;
         chunks.push(chunk)?;
-        if let Some(end) = end_at(after, b')') {
+        if let Some(end) = after_end(after, b')') {
             return Ok((chunks, end));
         }
         rest = expect_byte(after, b',')?;
@@ -278,46 +291,51 @@ fn byte_chunks_at(alloc: Global, text: &[u8], inner: u8) -> crate::Result<(Vec<B
 
 /// The chunks of an indefinite text string behind its opening, up to its close.
 #[cycle(diag)]
-fn text_chunks_at(alloc: Global, text: &[u8], inner: u8) -> crate::Result<(Vec<TextString>, &[u8])>
+fn read_text_chunks(
+    alloc: Global,
+    text: &[u8],
+    inner: u8,
+) -> crate::Result<(Vec<TextString>, &[u8])>
     requires { inner ≤ 129 }
     ensures gives { Gives (λ x. (map text_chunk x.0.items, x.1.now)) result
-        (members_at (chunk_at (item_at (129 - inner)) text_kind) 41 text.now) }
+        (read_members (read_chunk (read_item (levels_left inner)) text_kind) 41 text.now) }
     ensures well { IfOk result (λ x. AllByRecursion IsTextChunk (map text_chunk x.0.items)) }
     ensures shorter { IfOk result (λ x. length x.1.now ≤ length text.now) }
 {
     let mut chunks = Vec::new(alloc);
     let mut rest = after_blank(text);
-    if let Some(after) = end_at(rest, b')') {
+    if let Some(after) = after_end(rest, b')') {
         return Ok((chunks, after));
     }
     'chunks: loop {
-        let (chunk, after) = text_string_at(alloc, after_blank(rest), inner)?;
+        let (chunk, after) = read_text_string(alloc, after_blank(rest), inner)?;
         chunks.push(chunk)?;
-        if let Some(end) = end_at(after, b')') {
+        if let Some(end) = after_end(after, b')') {
             return Ok((chunks, end));
         }
         rest = expect_byte(after, b',')?;
     }
 }
 
-/// An indefinite string behind its `(`. Its first chunk tells its kind, and without chunks it is one of
-/// bytes.
+/// An indefinite string behind its `(`. Its first chunk tells its kind, and without chunks it is
+/// one of bytes.
 #[cycle(diag)]
-pub(super) fn chunks_at(alloc: Global, text: &[u8], inner: u8) -> crate::Result<(DataItem, &[u8])>
+pub(super) fn read_chunks(alloc: Global, text: &[u8], inner: u8) -> crate::Result<(DataItem, &[u8])>
     requires low { 1 ≤ inner }
     requires high { inner ≤ 129 }
-    ensures gives { Gives (λ x. (view x.0, x.1.now)) result (chunks_at (item_at (129 - inner)) text.now) }
+    ensures gives { Gives (λ x. (view x.0, x.1.now)) result
+        (read_chunks (read_item (levels_left inner)) text.now) }
     ensures well { IfOk result (λ x. WellFormed (inner - 1) (view x.0)) }
     ensures shorter { IfOk result (λ x. length x.1.now ≤ length text.now) }
 {
     let rest = after_blank(expect_byte(text, b'_')?);
     match Start::of(rest) {
         Start::Quote => {
-            let (chunks, rest) = text_chunks_at(alloc, rest, inner)?;
+            let (chunks, rest) = read_text_chunks(alloc, rest, inner)?;
             Ok((DataItem::IndefiniteTextString(chunks), rest))
         }
         _ => {
-            let (chunks, rest) = byte_chunks_at(alloc, rest, inner)?;
+            let (chunks, rest) = read_byte_chunks(alloc, rest, inner)?;
             Ok((DataItem::IndefiniteByteString(chunks), rest))
         }
     }

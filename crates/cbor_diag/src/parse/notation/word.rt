@@ -5,9 +5,9 @@ ghost use Rattle.std.specs.Char.{digit_value};
 ghost use Rattle.cbor_diag.specs.View.{view};
 ghost use Rattle.cbor_diag.specs.WellFormed.{deepest, WellFormed, FitsFloat};
 ghost use Rattle.cbor_diag.specs.Reading.{Gives};
-ghost use Rattle.cbor_diag.specs.NotationReading.{or_refused, numeral, named_at, simple_at, float_of, float_at, word_at};
+ghost use Rattle.cbor_diag.specs.NotationReading.{or_refused, numeral, named, read_simple, float_of, read_float, read_word};
 
-use super::number::number_at;
+use super::number::read_number;
 use super::scan::{after_word, expect_byte};
 use crate::error::{Error, Result};
 use crate::syntax::{DataItem, FloatWidth, Simple};
@@ -20,12 +20,12 @@ fn are_decimal(digits: &[u8]) -> bool
 }
 
 /// A simple value behind `simple(`: decimal digits of a value below 256, and `)`.
-fn simple_at(text: &[u8]) -> Result<(DataItem, &[u8])>
-    ensures gives { Gives (λ x. (view x.0, x.1.now)) result (simple_at text.now) }
+fn read_simple(text: &[u8]) -> Result<(DataItem, &[u8])>
+    ensures gives { Gives (λ x. (view x.0, x.1.now)) result (read_simple text.now) }
     ensures well { IfOk result (λ x. (level : ℕ) → level ≤ deepest → WellFormed level (view x.0)) }
     ensures shorter { IfOk result (λ x. length x.1.now < length text.now) }
 {
-    let ((value, _), rest) = number_at(text)?;
+    let ((value, _), rest) = read_number(text)?;
     if value > 255 || !are_decimal(&text[..text.len() - rest.len()]) {
         return Err(Error::Notation);
     }
@@ -69,7 +69,7 @@ fn hex_number(digits: &[u8]) -> Result<u64>
 }
 
 /// Where the first apostrophe stands.
-fn apostrophe_at(text: &[u8]) -> Result<usize>
+fn find_apostrophe(text: &[u8]) -> Result<usize>
     ensures gives { Gives (λ n. n) result (or_refused (position (λ b. b == 39) text.now)) }
     ensures within { IfOk result (λ n. n < length text.now) }
 {
@@ -80,12 +80,12 @@ fn apostrophe_at(text: &[u8]) -> Result<usize>
 }
 
 /// A float behind `float'`: 4, 8 or 16 hex digits and `'`.
-fn float_at(text: &[u8]) -> Result<(DataItem, &[u8])>
-    ensures gives { Gives (λ x. (view x.0, x.1.now)) result (float_at text.now) }
+fn read_float(text: &[u8]) -> Result<(DataItem, &[u8])>
+    ensures gives { Gives (λ x. (view x.0, x.1.now)) result (read_float text.now) }
     ensures well { IfOk result (λ x. (level : ℕ) → level ≤ deepest → WellFormed level (view x.0)) }
     ensures shorter { IfOk result (λ x. length x.1.now < length text.now) }
 {
-    let count = apostrophe_at(text)?;
+    let count = find_apostrophe(text)?;
     let bitwidth = FloatWidth::of_digits(count)?;
     let bits = hex_number(&text[..count])?;
     Ok((DataItem::Float { bits, bitwidth }, &text[count + 1..]))
@@ -93,7 +93,7 @@ fn float_at(text: &[u8]) -> Result<(DataItem, &[u8])>
 
 /// A simple value by its name.
 fn named(value: Simple, rest: &[u8]) -> Result<(DataItem, &[u8])>
-    ensures gives { Gives (λ x. (view x.0, x.1.now)) result (named_at value.0 rest.now) }
+    ensures gives { Gives (λ x. (view x.0, x.1.now)) result (named value.0 rest.now) }
     ensures well { IfOk result (λ x. (level : ℕ) → level ≤ deepest → WellFormed level (view x.0)) }
     ensures shorter { IfOk result (λ x. length x.1.now ≤ length rest.now) }
 {
@@ -101,8 +101,8 @@ fn named(value: Simple, rest: &[u8]) -> Result<(DataItem, &[u8])>
 }
 
 /// A simple value or a float at the front.
-pub(super) fn word_at(text: &[u8]) -> Result<(DataItem, &[u8])>
-    ensures gives { Gives (λ x. (view x.0, x.1.now)) result (word_at text.now) }
+pub(super) fn read_word(text: &[u8]) -> Result<(DataItem, &[u8])>
+    ensures gives { Gives (λ x. (view x.0, x.1.now)) result (read_word text.now) }
     ensures well { IfOk result (λ x. (level : ℕ) → level ≤ deepest → WellFormed level (view x.0)) }
     ensures shorter { IfOk result (λ x. length x.1.now ≤ length text.now) }
 {
@@ -115,9 +115,9 @@ pub(super) fn word_at(text: &[u8]) -> Result<(DataItem, &[u8])>
     } else if let Some(rest) = after_word(text, b"undefined") {
         named(Simple::UNDEFINED, rest)
     } else if let Some(rest) = after_word(text, b"simple(") {
-        simple_at(rest)
+        read_simple(rest)
     } else if let Some(rest) = after_word(text, b"float'") {
-        float_at(rest)
+        read_float(rest)
     } else {
         Err(Error::Notation)
     }

@@ -3,7 +3,7 @@ use Rattle.std.specs.Prelude.{option_map}
 use Rattle.std.proofs.lemmas.Result.{err_from_is_err_and}
 use Rattle.cbor_diag.specs.View.{view}
 use Rattle.cbor_diag.specs.Reading.{Fails}
-use Rattle.cbor_diag.specs.Counting.{Stops, later, wanted_at, atom_at}
+use Rattle.cbor_diag.specs.Counting.{Stops, later, read_item_head, read_atom}
 use Rattle.cbor_diag.specs.Stack.{frame, outer_of, top_of, depth}
 use Rattle.cbor_diag.specs.declared.error.Error.TheVariants as refusal
 use Rattle.cbor_diag.proofs.HeadRefusals.{err_is}
@@ -44,7 +44,7 @@ returns-in_err-head-clause-stops c =
     let s = c.args.stack.now in
     let p = err_from_is_err_and c.from_residual-in_err-head.result c.from_residual-in_err-head.ensures.1 in
     let left : 129 - (c.from.result + c.depth.result) ≡ (129 - c.args.level) - depth s = omega arith in
-    let fails = subst (λ n. Fails c.in_err-head.field-0.0 (wanted_at n c.args.bytes.now)) left c.in_err-head.ensures.gives in
+    let fails = subst (λ n. Fails c.in_err-head.field-0.0 (read_item_head n c.args.bytes.now)) left c.in_err-head.ensures.gives in
     rw (p.1, p.2, c.rise.ensures) (wanted_stops c.in_err-head.field-0.0 (129 - c.args.level) c.args.turns.now (outer_of s) (top_of s) c.args.bytes.now c.in_default.ensures fails)
 
 pub returns-in_err-container-clause-memory : goal.returns-in_err-container-clause-memory
@@ -61,10 +61,10 @@ returns-in_err-item-in-None-clause-stops c =
     let s = c.args.stack.now in
     let p = err_from_is_err_and c.from_residual-in_err-item-in-None.result c.from_residual-in_err-item-in-None.ensures.1 in
     let left : 129 - (c.from.result + c.depth.result) ≡ (129 - c.args.level) - depth s = omega arith in
-    let wanted = ap (λ n. wanted_at n c.args.bytes.now) (sym left) ∙ c.in_ok-head.ensures.gives in
+    let wanted = ap (λ n. read_item_head n c.args.bytes.now) (sym left) ∙ c.in_ok-head.ensures.gives in
     let is = sym c.in_ok-container.ensures.opens ∙ ap (option_map frame) c.in-None.is in
-    let stops = subst (λ t. Stops c.in_err-item-in-None.field-0.0 c.atom_at.new.turns (later t (atom_at c.in_ok-head.head c.in_ok-head.rest.now))) c.rise.ensures c.in_err-item-in-None.ensures.gives in
-    rw (p.1, p.2) (atom_stops c.in_err-item-in-None.field-0.0 (129 - c.args.level) c.args.turns.now c.atom_at.new.turns (outer_of s) (top_of s) c.args.bytes.now c.in_ok-head.head c.in_ok-head.rest.now c.in_default.ensures wanted is stops)
+    let stops = subst (λ t. Stops c.in_err-item-in-None.field-0.0 c.read_atom.new.turns (later t (read_atom c.in_ok-head.head c.in_ok-head.rest.now))) c.rise.ensures c.in_err-item-in-None.ensures.gives in
+    rw (p.1, p.2) (atom_stops c.in_err-item-in-None.field-0.0 (129 - c.args.level) c.args.turns.now c.read_atom.new.turns (outer_of s) (top_of s) c.args.bytes.now c.in_ok-head.head c.in_ok-head.rest.now c.in_default.ensures wanted is stops)
 
 pub returns-in_err-item-in-None-clause-memory : goal.returns-in_err-item-in-None-clause-memory
 returns-in_err-item-in-None-clause-memory c = λ e none.
@@ -76,7 +76,7 @@ pub returns-in_ok-open-in-Some-2-clause-gives : goal.returns-in_ok-open-in-Some-
 returns-in_ok-open-in-Some-2-clause-gives c =
     let s = c.args.stack.now in
     let left : 129 - (c.from.result + c.depth.result) ≡ (129 - c.args.level) - depth s = omega arith in
-    let wanted = ap (λ n. wanted_at n c.args.bytes.now) (sym left) ∙ c.in_ok-head.ensures.gives in
+    let wanted = ap (λ n. read_item_head n c.args.bytes.now) (sym left) ∙ c.in_ok-head.ensures.gives in
     let is = sym c.in_ok-container.ensures.opens ∙ ap (option_map frame) c.in-Some-2.is in
     rw (c.rise.ensures, c.in_ok-open-in-Some-2.ensures.outer, c.in_ok-open-in-Some-2.ensures.top) (opens (129 - c.args.level) c.args.turns.now (outer_of s) (top_of s) c.args.bytes.now c.in_ok-head.head (frame c.in-Some-2.container) c.in_ok-head.rest.now c.requires.bottom c.in_default.ensures wanted is)
 
@@ -84,7 +84,7 @@ pub returns-in_ok-open-in-Some-2-clause-level : goal.returns-in_ok-open-in-Some-
 returns-in_ok-open-in-Some-2-clause-level c =
     let s = c.args.stack.now in
     let left : 129 - (c.from.result + c.depth.result) ≡ (129 - c.args.level) - depth s = omega arith in
-    let wanted = ap (λ n. wanted_at n c.args.bytes.now) (sym left) ∙ c.in_ok-head.ensures.gives in
+    let wanted = ap (λ n. read_item_head n c.args.bytes.now) (sym left) ∙ c.in_ok-head.ensures.gives in
     omega (arith, opened_level (129 - c.args.level) (outer_of s) (outer_of c.open.new.self) (top_of s) (top_of c.open.new.self) c.args.bytes.now c.in_ok-head.head (frame c.in-Some-2.container) c.in_ok-head.rest.now c.requires.bottom wanted c.in_ok-open-in-Some-2.ensures.outer c.in_ok-open-in-Some-2.ensures.top)
 
 pub returns-in_ok-open-in-Some-2-clause-opens : goal.returns-in_ok-open-in-Some-2-clause-opens
@@ -96,10 +96,10 @@ pub returns-in_ok-item-in-None-clause-gives : goal.returns-in_ok-item-in-None-cl
 returns-in_ok-item-in-None-clause-gives c =
     let s = c.args.stack.now in
     let left : 129 - (c.from.result + c.depth.result) ≡ (129 - c.args.level) - depth s = omega arith in
-    let wanted = ap (λ n. wanted_at n c.args.bytes.now) (sym left) ∙ c.in_ok-head.ensures.gives in
+    let wanted = ap (λ n. read_item_head n c.args.bytes.now) (sym left) ∙ c.in_ok-head.ensures.gives in
     let is = sym c.in_ok-container.ensures.opens ∙ ap (option_map frame) c.in-None.is in
-    let whole = ap (λ t. later t (atom_at c.in_ok-head.head c.in_ok-head.rest.now)) (sym c.rise.ensures) ∙ c.in_ok-item-in-None.ensures.gives in
-    atom_whole (129 - c.args.level) c.args.turns.now c.atom_at.new.turns (outer_of s) (top_of s) c.args.bytes.now c.in_ok-head.head c.in_ok-head.rest.now (view c.in_ok-item-in-None.item) c.in_ok-item-in-None.rest.now c.in_default.ensures wanted is whole
+    let whole = ap (λ t. later t (read_atom c.in_ok-head.head c.in_ok-head.rest.now)) (sym c.rise.ensures) ∙ c.in_ok-item-in-None.ensures.gives in
+    atom_whole (129 - c.args.level) c.args.turns.now c.read_atom.new.turns (outer_of s) (top_of s) c.args.bytes.now c.in_ok-head.head c.in_ok-head.rest.now (view c.in_ok-item-in-None.item) c.in_ok-item-in-None.rest.now c.in_default.ensures wanted is whole
 
 pub returns-in_ok-open-in-Some-2-clause-falls : goal.returns-in_ok-open-in-Some-2-clause-falls
 returns-in_ok-open-in-Some-2-clause-falls c =

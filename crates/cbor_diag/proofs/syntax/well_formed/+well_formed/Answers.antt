@@ -30,29 +30,29 @@ then_held level n w Held Whole r parts high fits h = (λ t. parts.1 (high, fits,
 else_count : (level n : ℕ) (w : Option IntegerWidth) (Held Whole : Type 0) (r : Bool) → Whole ↔ Parts level w n Held → IsTrue r ↔ FitsCount w n → r ≡ false → IsTrue r ↔ Whole
 else_count level n w Held Whole r parts h past = (λ t. absurd (false≢true (sym past ∙ t)), λ well. h.1 (parts.0 well).1)
 
-pub well_formed_at-returns-then-count_fits : goal.well_formed_at-returns-then-count_fits
-well_formed_at-returns-then-count_fits t c =
+pub well_formed_at_level-returns-then-count_fits : goal.well_formed_at_level-returns-then-count_fits
+well_formed_at_level-returns-then-count_fits t c =
     let v = c.in-Array.content in
     let w = c.in-Array.bitwidth in
     let parts = array_parts c.args.level c.len.result (items_view v.items) w _ (ap view c.in-Array.is ∙ view-Array v w) (omega (arith, item_count_view v.items, v.ok.0)) in
     then_held c.args.level c.len.result w _ _ _ parts (omega arith) (c.count_fits.ensures.0 c.if-count_fits.true) c.items_well_formed.ensures
 
-pub well_formed_at-returns-else-count_fits : goal.well_formed_at-returns-else-count_fits
-well_formed_at-returns-else-count_fits t c =
+pub well_formed_at_level-returns-else-count_fits : goal.well_formed_at_level-returns-else-count_fits
+well_formed_at_level-returns-else-count_fits t c =
     let v = c.in-Array.content in
     let w = c.in-Array.bitwidth in
     let parts = array_parts c.args.level c.len.result (items_view v.items) w _ (ap view c.in-Array.is ∙ view-Array v w) (omega (arith, item_count_view v.items, v.ok.0)) in
     else_count c.args.level c.len.result w _ _ _ parts c.count_fits.ensures c.if-count_fits.false
 
-pub well_formed_at-returns-then-count_fits-2 : goal.well_formed_at-returns-then-count_fits-2
-well_formed_at-returns-then-count_fits-2 t c =
+pub well_formed_at_level-returns-then-count_fits-2 : goal.well_formed_at_level-returns-then-count_fits-2
+well_formed_at_level-returns-then-count_fits-2 t c =
     let v = c.in-Map.content in
     let w = c.in-Map.bitwidth in
     let parts = map_parts c.args.level c.len-in-Map.result (pairs_view v.items) w _ (ap view c.in-Map.is ∙ view-Map v w) (omega (arith, pair_count_view v.items, v.ok.0)) in
     then_held c.args.level c.len-in-Map.result w _ _ _ parts (omega arith) (c.count_fits-in-Map.ensures.0 c.if-count_fits-2.true) c.pairs_well_formed.ensures
 
-pub well_formed_at-returns-else-count_fits-2 : goal.well_formed_at-returns-else-count_fits-2
-well_formed_at-returns-else-count_fits-2 t c =
+pub well_formed_at_level-returns-else-count_fits-2 : goal.well_formed_at_level-returns-else-count_fits-2
+well_formed_at_level-returns-else-count_fits-2 t c =
     let v = c.in-Map.content in
     let w = c.in-Map.bitwidth in
     let parts = map_parts c.args.level c.len-in-Map.result (pairs_view v.items) w _ (ap view c.in-Map.is ∙ view-Map v w) (omega (arith, pair_count_view v.items, v.ok.0)) in

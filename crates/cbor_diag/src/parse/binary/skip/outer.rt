@@ -7,12 +7,12 @@ use crate::syntax::DEEPEST;
 use std::marker::Model;
 
 /// How many containers may be open round another.
-const ROOM: usize = DEEPEST as usize;
+const CAPACITY: usize = DEEPEST as usize;
 
 /// The containers round the innermost one that is open, the outermost first.
 #[derive(Drop)]
 pub(super) struct Outer {
-    open: [ToCome; ROOM],
+    open: [ToCome; CAPACITY],
     len: usize,
 }
 
@@ -33,7 +33,7 @@ impl Outer {
         ensures { result ≡ [] }
     {
         Outer {
-            open: [ToCome::Items(Count::Definite(0)); ROOM],
+            open: [ToCome::Items(Count::Definite(0)); CAPACITY],
             len: 0,
         }
     }
@@ -41,7 +41,7 @@ impl Outer {
     /// How many are open.
     pub(super) fn len(&self) -> usize
         ensures count { result ≡ length self.now }
-        ensures room { result ≤ deepest }
+        ensures most { result ≤ deepest }
     {
         self.len
     }

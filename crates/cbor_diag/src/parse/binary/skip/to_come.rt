@@ -26,7 +26,7 @@ pub(super) enum ToCome {
 
 impl Count {
     /// The bytes after the parts, where none is to come: the same bytes, or those behind the break.
-    fn end_at(self, bytes: &[u8]) -> Option<&[u8]>
+    fn after_end(self, bytes: &[u8]) -> Option<&[u8]>
         ensures { option_map (λ x. x.now) result ≡ count_end self bytes.now }
     {
         match self {
@@ -66,11 +66,11 @@ impl ToCome {
     }
 
     /// The bytes after the container, where it ends here.
-    pub(super) fn end_at(self, bytes: &[u8]) -> Option<&[u8]>
+    pub(super) fn after_end(self, bytes: &[u8]) -> Option<&[u8]>
         ensures { option_map (λ x. x.now) result ≡ end_of self bytes.now }
     {
         match self {
-            ToCome::Items(count) | ToCome::Pairs(count) => count.end_at(bytes),
+            ToCome::Items(count) | ToCome::Pairs(count) => count.after_end(bytes),
             ToCome::Value(_) => None,
         }
     }

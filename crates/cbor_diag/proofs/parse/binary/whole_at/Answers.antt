@@ -1,8 +1,0 @@
-use Rattle.std.proofs.lemmas.Result.{err_from_is_err_and}
-use Rattle.cbor_diag.proofs.Outcomes.{front_refusal}
-use Rattle.cbor_diag.proofs.parse.binary.whole_at.Goals as goal
-
-pub returns-in_err-front_at-clause-answer : goal.returns-in_err-front_at-clause-answer
-returns-in_err-front_at-clause-answer c =
-    let p = err_from_is_err_and c.from_residual.result c.from_residual.ensures.1 in
-    rw (p.1, p.2) (front_refusal c.args.level c.args.bytes.now c.in_err-front_at.field-0.0 c.in_err-front_at.ensures.outcome)
