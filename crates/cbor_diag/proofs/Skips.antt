@@ -1,5 +1,5 @@
 -- Steps of skipping, and what they skip: contents, chunks and heads.
-use Rattle.std.proofs.Common.{◌≡◌, ◌≢◌, ℕ, zero, suc, ◌+◌, ◌-◌, ◌/◌, ◌%◌, ◌<◌, ◌≤◌, List, [], ◌∷◌, ◌++◌, length, get_or, take, drop, Option, Some, None, Ok, Err, ◌⊎◌, inl, inr, refl, sym, ap, subst, ◌∙◌, append_assoc, arith}
+use Rattle.std.proofs.Common.{◌≡◌, ◌≢◌, ℕ, zero, suc, ◌-◌, ◌/◌, ◌%◌, ◌<◌, ◌≤◌, List, [], ◌∷◌, ◌++◌, length, get_or, take, drop, Option, Some, None, Ok, Err, ◌⊎◌, inl, inr, refl, sym, ap, subst, ◌∙◌, append_assoc, arith}
 use Rattle.std.specs.Prelude.{IsUtf8}
 use Rattle.std.proofs.lemmas.List.{append-nil, length-append, length-take, take-append-drop, take_all}
 use Rattle.std.proofs.lemmas.Str.{IsUtf8-nil}
@@ -14,7 +14,6 @@ use Rattle.cbor_diag.specs.declared.parse.binary.skip.Stop.{Stop}
 use Rattle.cbor_diag.specs.declared.parse.binary.skip.Stop.TheVariants as stops
 use Rattle.cbor_diag.specs.Item.{Chunk}
 use Rattle.cbor_diag.specs.Head.{break_byte}
-use Rattle.cbor_diag.specs.WellFormed.{deepest}
 use Rattle.cbor_diag.specs.Bytes.{StringKind, bytes_kind, text_kind, major_of, IsContent}
 use Rattle.cbor_diag.specs.Refused.{BadHead, no_info, no_length}
 use Rattle.cbor_diag.specs.Reading.{Read, ◌>>=◌, Fails, read_info, head_of, read_head, read_content, chunk_of, read_chunk, more_chunks, read_chunks, read_body, read_item}

@@ -1,10 +1,10 @@
-use Rattle.std.proofs.Common.{◌≡◌, ◌≢◌, ℕ, List, ◌/◌, ◌%◌, ◌∷◌, get_or, length, Ok, Err, subst, ap, sym, ◌∙◌, arith}
+use Rattle.std.proofs.Common.{◌≡◌, ◌≢◌, ℕ, List, ◌/◌, ◌∷◌, get_or, length, Ok, Err, subst, ap, sym, ◌∙◌, arith}
 use Rattle.std.proofs.lemmas.Result.{err_from_is_err_and}
 use Rattle.cbor_diag.specs.declared.error.Error.TheVariants.{Head}
 use Rattle.cbor_diag.specs.declared.parse.binary.head.Info.{Info}
 use Rattle.cbor_diag.specs.Head.{break_byte}
 use Rattle.cbor_diag.specs.Bytes.{major_of}
-use Rattle.cbor_diag.specs.Reading.{◌>>=◌, read_info}
+use Rattle.cbor_diag.specs.Reading.{◌>>=◌}
 use Rattle.cbor_diag.specs.Skipping.{here, Goes, Shows, StopsSo, stop_of, kind_of, skip_content, skip_chunks}
 use Rattle.cbor_diag.proofs.Heads.{IsBytes, IsBytes-rest}
 use Rattle.cbor_diag.proofs.Skips.{goes_then, goes_within, stops_then, stops_within, break_goes, chunk_goes, kind_shows, indefinite_shows, info_stops, no_chunks, more_keeps, behind_first, first_is, at_first, fits_first, empty_is}

@@ -1,9 +1,8 @@
-use Rattle.std.proofs.Common.{◌≡◌, ◌<◌, ◌-◌, ℕ, List, ◌∷◌, get_or, length, Ok, Err, subst, ap, sym, ◌∙◌, arith}
+use Rattle.std.proofs.Common.{◌-◌, ℕ, List, get_or, length, Ok, Err, subst, ap, sym, ◌∙◌, arith}
 use Rattle.cbor_diag.specs.declared.error.Error.TheVariants.{Head, TooDeep}
 use Rattle.cbor_diag.specs.declared.parse.binary.head.ItemHead.{ItemHead}
 use Rattle.cbor_diag.specs.Reading.{Fails, read_head}
 use Rattle.cbor_diag.specs.Skipping.{Goes, Shows, StopsSo, stop_of, skip_item, skip_body}
-use Rattle.cbor_diag.proofs.Heads.{IsBytes}
 use Rattle.cbor_diag.proofs.Skips.{head_goes, head_stops, break_shows, deep_shows, no_item, behind_first, first_is, at_first, fits_first, empty_is}
 use Rattle.cbor_diag.proofs.parse.binary.skip.read_item_head.Goals as goal
 
