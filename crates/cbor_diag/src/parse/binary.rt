@@ -57,7 +57,7 @@ fn read_item_head(bytes: &[u8], level: usize) -> Result<(ItemHead, &[u8])>
     if level > usize::from(DEEPEST) {
         return Err(no_level_left(bytes));
     }
-    read_head(bytes)
+    Ok(read_head(bytes)?)
 }
 
 /// The item without parts after its head. A break is no item, and it ends nothing here; heads of

@@ -16,9 +16,10 @@ ghost use Rattle.cbor_diag.specs.Bytes.{IsContent, major_of};
 ghost use Rattle.cbor_diag.specs.Head.{major_number};
 ghost use Rattle.cbor_diag.specs.Facts.{BeginsWithItem, IsCut, HasFault};
 ghost use Rattle.cbor_diag.specs.Extent.{IfItem, IfFault, FaultEnds, IsExtent};
+ghost use Rattle.cbor_diag.specs.HeadErrors.{head_error};
 ghost use Rattle.cbor_diag.specs.Skipping.{here, Goes, StopsSo, stop_of, kind_of, skip_content, skip_chunks, after_chunk, skip_item, skip_body, opened, begun};
 
-use super::head::{Info, ItemHead, read_head, read_info};
+use super::head::{HeadError, Info, ItemHead, read_head, read_info};
 use crate::error::Error;
 use crate::syntax::DEEPEST;
 use crate::syntax::major::Major;
@@ -40,12 +41,15 @@ enum Stop {
 
 impl Stop {
     /// The reason for this error, with `after` bytes after those that show it.
-    fn new(error: Error, after: usize) -> Stop
-        ensures { result ≡ stop_of error after }
+    fn new(why: HeadError, after: usize) -> Stop
+        ensures { result ≡ stop_of (head_error why) after }
     {
-        match error {
-            Error::CutShort => Stop::Cut,
-            _ => Stop::Fault { error, after },
+        match why {
+            HeadError::CutShort => Stop::Cut,
+            HeadError::Head => {
+                let error = Error::Head;
+                Stop::Fault { error, after }
+            }
         }
     }
 }
