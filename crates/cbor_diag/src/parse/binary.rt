@@ -1,9 +1,9 @@
-//! Reads an item from bytes (RFC 7049 section 2), by a loop over turns and a stack of the
-//! containers that are open.
+//! Reads an item from bytes (RFC 7049 section 2): a loop over turns with a stack of the open
+//! containers.
 //!
-//! Each private function takes the bytes that are left and gives a value with the bytes after it,
-//! or the first refusal from the left, `CutShort` where the bytes end. What a head claims is never
-//! believed: memory is taken for the bytes and members that are there, and for a few members at
+//! Each private function takes the remaining bytes and returns a value with the bytes after it, or
+//! the first error from the left, `CutShort` if the bytes end. No claimed length or count is
+//! trusted: memory is reserved for the bytes and members that are there, and for a few members at
 //! once.
 mod frame;
 mod head;
@@ -25,15 +25,16 @@ ghost use Rattle.cbor_diag.specs.Stack.{outer_of, top_of, depth, resumed, resume
 
 use crate::error::{Error, Result};
 use crate::parse::turns::Turns;
-use crate::syntax::{DEEPEST, DataItem, Simple};
+use crate::syntax::{ByteString, DEEPEST, DataItem, Simple, TextString};
 use frame::Frame;
 use head::{ItemHead, read_head};
 pub use skip::{Extent, extent};
 use stack::Stack;
 use std::alloc::Global;
-use strings::{read_byte_chunks, read_byte_string, read_text_chunks, read_text_string};
+use strings::{DefiniteString, read_chunks};
 
-/// Why no item can stand below the deepest level: there are bytes for one, or there are none.
+/// The error below the deepest level: `TooDeep` if there are bytes for an item, and else
+/// `CutShort`.
 fn no_level_left(bytes: &[u8]) -> Error
     ensures gives { no_level_left bytes.now ≡ Err result }
     ensures memory { result ≢ Error.Memory }
@@ -45,7 +46,7 @@ fn no_level_left(bytes: &[u8]) -> Error
     }
 }
 
-/// The head of an item that stands at `level`, from 1 to 129. At level 129 no item can stand.
+/// The head of an item at `level`, from 1 to 129. No item is allowed at level 129.
 fn read_item_head(bytes: &[u8], level: usize) -> Result<(ItemHead, &[u8])>
     requires { level ≤ deepest + 1 }
     ensures gives { Gives (λ x. (x.0, x.1.now)) result
@@ -56,11 +57,11 @@ fn read_item_head(bytes: &[u8], level: usize) -> Result<(ItemHead, &[u8])>
     if level > usize::from(DEEPEST) {
         return Err(no_level_left(bytes));
     }
-    read_head(bytes)
+    Ok(read_head(bytes)?)
 }
 
-/// The item without parts behind its head. A break is none, and ends nothing where a head is
-/// wanted; the heads of containers are none either, but `Frame::new` takes them before.
+/// The item without parts after its head. A break is no item, and it ends nothing here; heads of
+/// containers are handled by `Frame::new` before.
 fn read_atom<'a>(
     alloc: Global,
     head: ItemHead,
@@ -82,19 +83,19 @@ fn read_atom<'a>(
         ItemHead::Float(bits, bitwidth) => Ok((DataItem::Float { bits, bitwidth }, bytes)),
         ItemHead::Simple(value) => Ok((DataItem::Simple(Simple(value)), bytes)),
         ItemHead::Bytes(count, bitwidth) => {
-            let (string, rest) = read_byte_string(alloc, count, bitwidth, bytes)?;
+            let (string, rest) = ByteString::read(alloc, count, bitwidth, bytes)?;
             Ok((DataItem::ByteString(string), rest))
         }
         ItemHead::Text(count, bitwidth) => {
-            let (string, rest) = read_text_string(alloc, count, bitwidth, bytes)?;
+            let (string, rest) = TextString::read(alloc, count, bitwidth, bytes)?;
             Ok((DataItem::TextString(string), rest))
         }
         ItemHead::OpenBytes => {
-            let (chunks, rest) = read_byte_chunks(alloc, bytes, turns)?;
+            let (chunks, rest) = read_chunks(alloc, bytes, turns)?;
             Ok((DataItem::IndefiniteByteString(chunks), rest))
         }
         ItemHead::OpenText => {
-            let (chunks, rest) = read_text_chunks(alloc, bytes, turns)?;
+            let (chunks, rest) = read_chunks(alloc, bytes, turns)?;
             Ok((DataItem::IndefiniteTextString(chunks), rest))
         }
         ItemHead::Array(..)
@@ -106,10 +107,10 @@ fn read_atom<'a>(
     }
 }
 
-/// One turn: closes the innermost container where it ends, or else reads the head that stands next,
-/// with the content of a string. Gives the item that is whole with it, if one is, and the bytes
-/// that are left; the outermost item stands at `level`. Each turn takes bytes or closes what an
-/// earlier one opened, so they are at most two for each byte.
+/// One turn: closes the innermost container if it ends here, and otherwise reads the next head,
+/// with the content of a string. Returns the item that this completes, if any, and the remaining
+/// bytes. The outermost item is at `level`. Each turn takes bytes or closes what an earlier one
+/// opened, so there are at most two for each byte.
 fn turn<'a>(
     stack: &mut Stack,
     bytes: &'a [u8],
@@ -152,7 +153,7 @@ fn turn<'a>(
     }
 }
 
-/// The item at the front, which stands at `level`, from 1 to 129.
+/// The item at the front, which is at `level`, from 1 to 129.
 fn read_item<'a>(
     alloc: Global,
     bytes: &'a [u8],
@@ -180,8 +181,8 @@ fn read_item<'a>(
     }
 }
 
-/// What stands at the front of the bytes, read from `level`: an item and how many bytes it takes,
-/// or `None` where the bytes end before the item does.
+/// What the bytes begin with, read from `level`: an item and its length, or `None` if the bytes end
+/// before the item does.
 fn read_counted_front(
     alloc: Global,
     bytes: &[u8],
@@ -207,7 +208,7 @@ fn read_counted_front(
     }
 }
 
-/// The same, with turns that nobody asks for.
+/// The same, without counting turns.
 pub(crate) fn read_front(
     alloc: Global,
     bytes: &[u8],

@@ -1,12 +1,12 @@
 //! Reads an item from diagnostic notation (RFC 7049 section 6), by recursion over the levels of
 //! nesting.
 //!
-//! Each private function takes the text that is left, as bytes of UTF-8, and gives a value with the
-//! text after it, or the first refusal from the left. What stands next is told by its first byte,
-//! but for `''_` and `""_`, and for a list's last comma, behind which whitespace and the close are
-//! looked for. The text is read once, and a string's first piece once more where the short way of
-//! `strings` doesn't serve. What stands between `read_core` and the list that keeps its item is
-//! inlined, and a map's loop reads key and value itself, so that an item isn't handed from one to
+//! Each private function takes the remaining text, as bytes of UTF-8, and returns a value with the
+//! text after it, or the first error from the left. The first byte decides what comes next, except
+//! for `''_` and `""_`, and for a list's last comma, after which whitespace and the closing byte
+//! are looked for. The text is read once, and a string's first piece once more if the fast path of
+//! `strings` does not apply. What is between `read_core` and the list that keeps its item is
+//! inlined, and a map's loop reads key and value itself, so that an item is not moved from one to
 //! the other.
 mod content;
 mod number;
@@ -35,8 +35,8 @@ use std::alloc::Global;
 use strings::{read_byte_item, read_chunks, read_text_item};
 use word::read_word;
 
-/// The item at the front, which stands at `level`, from 1 to 129, with the blanks round it. At
-/// level 129 no item can stand.
+/// The item at the front, which is at `level`, from 1 to 129, with the blanks around it. No item is
+/// allowed at level 129.
 #[cycle(diag)]
 #[inline(always)]
 fn read_item(alloc: Global, text: &[u8], level: u8) -> Result<(DataItem, &[u8])>
@@ -53,7 +53,7 @@ fn read_item(alloc: Global, text: &[u8], level: u8) -> Result<(DataItem, &[u8])>
     Ok((item, after_blank(rest)))
 }
 
-/// The item at the front, without the blanks round it; the items in it stand at `inner`, from 2 to
+/// The item at the front, without the blanks around it; the items in it are at `inner`, from 2 to
 /// 129.
 #[cycle(diag)]
 #[inline(never)]
@@ -119,8 +119,8 @@ fn integer_or_tag(alloc: Global, text: &[u8], inner: u8) -> Result<(DataItem, &[
     ))
 }
 
-/// The items of a list behind its opening, up to its close. Room is made for two at first, since
-/// many lists are no longer.
+/// The items of a list after its opening byte, up to its closing byte. Memory is reserved for two
+/// at first, since many lists are no longer.
 #[cycle(diag)]
 fn read_items(alloc: Global, close: u8, text: &[u8], level: u8) -> Result<(Vec<DataItem>, &[u8])>
     requires { level ≤ 129 }
@@ -144,7 +144,8 @@ fn read_items(alloc: Global, close: u8, text: &[u8], level: u8) -> Result<(Vec<D
     }
 }
 
-/// The pairs of a map behind its opening, up to its close. Room is made for one at first.
+/// The pairs of a map after its opening byte, up to its closing byte. Memory is reserved for one at
+/// first.
 #[cycle(diag)]
 fn read_pairs(alloc: Global, text: &[u8], level: u8) -> Result<(Vec<(DataItem, DataItem)>, &[u8])>
     requires { level ≤ 129 }

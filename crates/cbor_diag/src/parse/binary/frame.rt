@@ -1,4 +1,4 @@
-//! Containers that are open: what was read of them, and what they still want.
+//! Open containers: what was read of them, and what they still need.
 ghost use Rattle.std.specs.Prelude.{◌≡◌, ◌≤◌, ℕ, Some, IsSome, IfSome, IfOk, IfErr, OnOk, option_map};
 ghost use Rattle.cbor_diag.specs.View.{view};
 ghost use Rattle.cbor_diag.specs.Reading.{after_break};
@@ -13,23 +13,23 @@ use std::alloc::Global;
 /// The most members that memory is reserved for before they are read.
 const MOST_RESERVED: usize = 32;
 
-/// How a container says where it ends.
+/// How a container ends.
 #[derive(Clone, Copy)]
 pub(super) enum Length {
-    /// So many members or pairs, and the width of their count.
+    /// After this many members or pairs; and the width of the count.
     Definite(u64, IntegerWidth),
-    /// A break ends it.
+    /// By a break.
     Indefinite,
 }
 
-/// An array, a map or a tag that is not closed yet.
+/// An array, a map or a tag that is not complete yet.
 #[derive(Drop)]
 pub(super) enum Frame {
     Array {
         content: Vec<DataItem>,
         len: Length,
     },
-    /// A map, with a key that waits for its value.
+    /// A map, with a key whose value is not read yet.
     Map {
         content: Vec<(DataItem, DataItem)>,
         key: Option<DataItem>,
@@ -58,7 +58,7 @@ fn reserved(count: u64, following: usize) -> usize
     }
 }
 
-/// The bytes behind the break at the front, where one stands there.
+/// The bytes after the break at the front, if there is one.
 fn after_break(bytes: &[u8]) -> Option<&[u8]>
     ensures { option_map (λ x. x.now) result ≡ after_break bytes.now }
 {
@@ -79,8 +79,8 @@ impl Length {
         }
     }
 
-    /// The bytes behind a container with so many members, where it ends here: the same bytes where
-    /// none is wanted any more, or those behind the break.
+    /// The bytes after a container with `held` members, if it ends here: the same bytes if it needs
+    /// no more members, or those after the break.
     fn after_end(self, held: usize, bytes: &[u8]) -> Option<&[u8]>
         ensures { option_map (λ x. x.now) result ≡ wanted_end (wanted self held) bytes.now }
     {
@@ -93,8 +93,8 @@ impl Length {
 }
 
 impl Frame {
-    /// The container that a head opens, none of its parts read yet, where so many bytes follow;
-    /// `None` where the head opens no container. Memory is reserved for few members.
+    /// The container that a head opens, still empty, with `following` bytes after the head; `None`
+    /// if the head opens no container. Memory is reserved for few members.
     pub(super) fn new(alloc: Global, head: ItemHead, following: usize) -> Result<Option<Frame>>
         ensures opens { IfOk result (λ o. option_map frame o ≡ opened head) }
         ensures few { IfOk result (λ o. IfSome o (λ container. ReservesFew following container)) }
@@ -135,7 +135,7 @@ impl Frame {
         Ok(Some(frame))
     }
 
-    /// The bytes behind the container, where it ends here.
+    /// The bytes after the container, if it ends here.
     pub(super) fn after_end<'a>(&self, bytes: &'a [u8]) -> Option<&'a [u8]>
         ensures { option_map (λ x. x.now) result ≡ after_end (frame self.now) bytes.now }
     {
@@ -151,7 +151,7 @@ impl Frame {
         }
     }
 
-    /// Takes one part more: a member, a key, the value of the key before, or a tag's item.
+    /// Adds one part: a member, a key, the value of the key before, or a tag's item.
     pub(super) fn put(&mut self, part: DataItem) -> Result<()>
         ensures put { OnOk result (frame self.new ≡ put (frame self.old) (view part)) }
         ensures memory { IfErr result (λ e. e ≡ Error.Memory) }
@@ -167,7 +167,7 @@ impl Frame {
         Ok(())
     }
 
-    /// The item that the container is, once it ends.
+    /// The item that the complete container is.
     pub(super) fn close(self, alloc: Global) -> Result<DataItem>
         requires { IsSome (closed (frame self)) }
         ensures item { IfOk result (λ i. closed (frame self) ≡ Some (view i)) }

@@ -1,12 +1,35 @@
 //! Heads (RFC 7049 section 2): the first byte of an item, and the number that goes with it.
-ghost use Rattle.std.specs.Prelude.{◌≡◌, ◌≢◌, ◌<◌, ◌≤◌, length, IfOk};
+ghost use Rattle.std.specs.Prelude.{◌≡◌, ◌<◌, ◌≤◌, length, IfOk};
 ghost use Rattle.std.specs.Int.{w8, w16, w32, w64};
 ghost use Rattle.cbor_diag.specs.Head.{FitsStated, major_number};
-ghost use Rattle.cbor_diag.specs.Reading.{Gives, FitsInfo, read_number, read_info, numbered, unnumbered, simple_or_float, head_of, read_head};
+ghost use Rattle.cbor_diag.specs.HeadErrors.{Finds, head_error};
+ghost use Rattle.cbor_diag.specs.Reading.{FitsInfo, read_number, read_info, numbered, unnumbered, simple_or_float, head_of, read_head};
 
-use crate::error::{Error, Result};
+use crate::error::Error;
 use crate::syntax::major::Major;
 use crate::syntax::{FloatWidth, IntegerWidth};
+
+/// Why a head is not read.
+#[derive(Clone, Copy)]
+pub(super) enum HeadError {
+    /// The bytes end before the head does.
+    CutShort,
+    /// No item has this head.
+    Head,
+}
+
+type Result<T> = std::result::Result<T, HeadError>;
+
+impl From<HeadError> for Error {
+    ghost from_gives = { λ why e. e ≡ head_error why };
+
+    fn from(why: HeadError) -> Error {
+        match why {
+            HeadError::CutShort => Error::CutShort,
+            HeadError::Head => Error::Head,
+        }
+    }
+}
 
 /// What the five bits of info in a head's first byte say.
 #[derive(Clone, Copy)]
@@ -41,32 +64,29 @@ pub(super) enum ItemHead {
 }
 
 fn read_u8(bytes: &[u8]) -> Result<(u8, &[u8])>
-    ensures gives { Gives (λ x. (x.0, x.1.now)) result (read_number w8 bytes.now) }
-    ensures memory { result ≢ Err Error.Memory }
+    ensures gives { Finds (λ x. (x.0, x.1.now)) result (read_number w8 bytes.now) }
 {
     match bytes {
-        [] => Err(Error::CutShort),
+        [] => Err(HeadError::CutShort),
         [byte, rest @ ..] => Ok((*byte, rest)),
     }
 }
 
 fn read_u16(bytes: &[u8]) -> Result<(u16, &[u8])>
-    ensures gives { Gives (λ x. (x.0, x.1.now)) result (read_number w16 bytes.now) }
-    ensures memory { result ≢ Err Error.Memory }
+    ensures gives { Finds (λ x. (x.0, x.1.now)) result (read_number w16 bytes.now) }
 {
     if bytes.len() < 2 {
-        return Err(Error::CutShort);
+        return Err(HeadError::CutShort);
     }
     let (front, rest) = bytes.split_at(2);
     Ok((u16::from_be_bytes([front[0], front[1]]), rest))
 }
 
 fn read_u32(bytes: &[u8]) -> Result<(u32, &[u8])>
-    ensures gives { Gives (λ x. (x.0, x.1.now)) result (read_number w32 bytes.now) }
-    ensures memory { result ≢ Err Error.Memory }
+    ensures gives { Finds (λ x. (x.0, x.1.now)) result (read_number w32 bytes.now) }
 {
     if bytes.len() < 4 {
-        return Err(Error::CutShort);
+        return Err(HeadError::CutShort);
     }
     let (front, rest) = bytes.split_at(4);
     let number = u32::from_be_bytes([front[0], front[1], front[2], front[3]]);
@@ -74,11 +94,10 @@ fn read_u32(bytes: &[u8]) -> Result<(u32, &[u8])>
 }
 
 fn read_u64(bytes: &[u8]) -> Result<(u64, &[u8])>
-    ensures gives { Gives (λ x. (x.0, x.1.now)) result (read_number w64 bytes.now) }
-    ensures memory { result ≢ Err Error.Memory }
+    ensures gives { Finds (λ x. (x.0, x.1.now)) result (read_number w64 bytes.now) }
 {
     if bytes.len() < 8 {
-        return Err(Error::CutShort);
+        return Err(HeadError::CutShort);
     }
     let (front, rest) = bytes.split_at(8);
     let number = u64::from_be_bytes([
@@ -91,9 +110,8 @@ fn read_u64(bytes: &[u8]) -> Result<(u64, &[u8])>
 #[tactic(auto, unfolding(crate::specs::Reading::read_info, crate::specs::Reading::read_wide))]
 pub(super) fn read_info(bits: u8, bytes: &[u8]) -> Result<(Info, &[u8])>
     requires { bits < 32 }
-    ensures gives { Gives (λ x. (x.0, x.1.now)) result (read_info bits bytes.now) }
+    ensures gives { Finds (λ x. (x.0, x.1.now)) result (read_info bits bytes.now) }
     ensures fits { IfOk result (λ x. FitsInfo x.0) }
-    ensures memory { result ≢ Err Error.Memory }
     ensures shorter { IfOk result (λ x. length x.1.now ≤ length bytes.now) }
 {
     match bits {
@@ -117,7 +135,7 @@ pub(super) fn read_info(bits: u8, bytes: &[u8]) -> Result<(Info, &[u8])>
             let (number, rest) = read_u64(bytes)?;
             Ok((Info::Number(number, IntegerWidth::SixtyFour), rest))
         }
-        28..=30 => Err(Error::Head),
+        28..=30 => Err(HeadError::Head),
         31 => Ok((Info::Indefinite, bytes)),
         _ => unreachable!(),
     }
@@ -160,11 +178,10 @@ impl ItemHead {
     /// What a head of that major type without a number opens.
     #[tactic(auto, unfolding(crate::specs::Reading::unnumbered))]
     fn unnumbered(major: Major) -> Result<ItemHead>
-        ensures gives { result ≡ unnumbered (major_number major) }
-        ensures memory { result ≢ Err Error.Memory }
+        ensures { Finds (λ h. h) result (unnumbered (major_number major)) }
     {
         match major {
-            Major::Unsigned | Major::Negative | Major::Tag => Err(Error::Head),
+            Major::Unsigned | Major::Negative | Major::Tag => Err(HeadError::Head),
             Major::Bytes => Ok(ItemHead::OpenBytes),
             Major::Text => Ok(ItemHead::OpenText),
             Major::Array => Ok(ItemHead::OpenArray),
@@ -176,8 +193,7 @@ impl ItemHead {
     /// What a head of that major type and info opens.
     pub(super) fn new(major: Major, info: Info) -> Result<ItemHead>
         requires { FitsInfo info }
-        ensures gives { result ≡ head_of (major_number major) info }
-        ensures memory { result ≢ Err Error.Memory }
+        ensures { Finds (λ h. h) result (head_of (major_number major) info) }
     {
         match info {
             Info::Number(number, width) => Ok(ItemHead::numbered(major, number, width)),
@@ -189,12 +205,11 @@ impl ItemHead {
 /// The head at the front.
 #[tactic(auto, unfolding(crate::specs::Reading::read_head))]
 pub(super) fn read_head(bytes: &[u8]) -> Result<(ItemHead, &[u8])>
-    ensures gives { Gives (λ x. (x.0, x.1.now)) result (read_head bytes.now) }
+    ensures gives { Finds (λ x. (x.0, x.1.now)) result (read_head bytes.now) }
     ensures shorter { IfOk result (λ x. length x.1.now < length bytes.now) }
-    ensures memory { result ≢ Err Error.Memory }
 {
     match bytes {
-        [] => Err(Error::CutShort),
+        [] => Err(HeadError::CutShort),
         [first, rest @ ..] => {
             let (info, rest) = read_info(*first % 32, rest)?;
             Ok((ItemHead::new(Major::of(*first), info)?, rest))

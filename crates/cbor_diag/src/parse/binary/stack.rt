@@ -40,7 +40,7 @@ impl Stack {
         self.open.len()
     }
 
-    /// The bytes behind the innermost container, where it ends here.
+    /// The bytes after the innermost container, if it ends here.
     pub(super) fn after_end<'a>(&self, bytes: &'a [u8]) -> Option<&'a [u8]>
         ensures { option_map (λ x. x.now) result
             ≡ option_and_then (λ f. after_end f bytes.now) (top_of self.now) }
@@ -62,7 +62,7 @@ impl Stack {
         Ok(())
     }
 
-    /// Closes the innermost container, which ends, and gives the item that it is.
+    /// Closes the innermost container, which is complete, and returns its item.
     pub(super) fn close(&mut self) -> Result<DataItem>
         requires { IsSome (option_and_then closed (top_of self.old)) }
         ensures item { IfOk result (λ i. option_and_then closed (top_of self.old) ≡ Some (view i)) }

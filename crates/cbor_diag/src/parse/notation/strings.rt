@@ -1,8 +1,8 @@
 //! Strings in pieces, and the chunks of indefinite ones.
 //!
-//! Most strings are one piece, a text without escapes or hex digits without blanks, right behind
-//! which a list goes on or closes. These are read by a short way, straight into the item; all
-//! others piece by piece.
+//! Most strings are one piece, a text without escapes or hex digits without blanks, and right after
+//! it a list goes on or closes. A fast path reads these straight into the item; all others are read
+//! piece by piece.
 ghost use Rattle.std.specs.Prelude.{◌≡◌, ◌-◌, ◌++◌, ◌<◌, ◌≤◌, ℕ, List, Some, suc, length, map, IfOk, IfSome, Ok, OnOk, true, false};
 ghost use Rattle.std.specs.List.{AllByRecursion};
 ghost use Rattle.cbor_diag.specs.declared.syntax.IntegerWidth.TheVariants.{Unknown};
@@ -29,7 +29,7 @@ fn byte_string(content: Vec<u8>) -> ByteString
     ensures gives { Ok (byte_chunk result) ≡ checked bytes_kind content.items }
     ensures well { IsByteChunk (byte_chunk result) }
 {
-    // A slice is no longer than a length of 64 bits tells, which `well` asks for.
+    // A slice's length fits in 64 bits, which `well` needs.
     let _content = content.as_slice();
     ByteString {
         content,
@@ -76,7 +76,7 @@ fn encoded(alloc: Global, items: &Vec<DataItem>) -> Result<Vec<u8>, AllocError>
     Ok(bytes)
 }
 
-/// Items behind the first `<` of `<<`, up to their `>>`, in bytes.
+/// The items after the first `<` of `<<`, up to their `>>`, in bytes.
 #[cycle(diag)]
 fn read_embedded(alloc: Global, text: &[u8], inner: u8) -> crate::Result<(Vec<u8>, &[u8])>
     requires { inner ≤ 129 }
@@ -90,7 +90,7 @@ fn read_embedded(alloc: Global, text: &[u8], inner: u8) -> crate::Result<(Vec<u8
     Ok((encoded(alloc, &items)?, rest))
 }
 
-/// A piece of a string: a text, or a notation of bytes, whose items stand at `inner`.
+/// A piece of a string: a text, or a notation of bytes, whose items are at `inner`.
 #[cycle(diag)]
 fn read_piece(alloc: Global, text: &[u8], inner: u8) -> crate::Result<(Vec<u8>, &[u8])>
     requires { inner ≤ 129 }
@@ -173,9 +173,8 @@ fn ends_string(text: &[u8]) -> bool
     matches!(text, [b',' | b':' | b']' | b'}', ..])
 }
 
-/// What stands between the quotes of an `h'..'`, up to its first apostrophe, and the text behind
-/// it, where a string ends there. If that is hex digits, it is the whole string. `None` anywhere
-/// else.
+/// What is between the quotes of an `h'..'`, up to its first apostrophe, and the text after it, if
+/// a string ends there. If that is hex digits, it is the whole string. `None` otherwise.
 fn read_plain_hex(text: &[u8]) -> Option<(&[u8], &[u8])>
     ensures gives { IfSome result (λ x. (read : List ℕ → Read Item) (bytes : List ℕ)
         → base16_of x.0.now ≡ Some bytes
@@ -206,7 +205,7 @@ pub(super) fn read_byte_item(
     ensures well { IfOk result (λ x. WellFormed (inner - 1) (view x.0)) }
     ensures shorter { IfOk result (λ x. length x.1.now ≤ length text.now) }
 {
-    // Most byte strings are so, and their digits are then decoded where they stand.
+    // The digits of most byte strings are decoded in place.
     if let Some((digits, rest)) = read_plain_hex(text) {
         if let Some(content) = base16(alloc, digits)? {
             return Ok((DataItem::ByteString(byte_string(content)), rest));
@@ -219,8 +218,8 @@ pub(super) fn read_byte_item(
     Ok((DataItem::ByteString(string), rest))
 }
 
-/// The content of a text of one piece without escapes, and the text behind it, where a string ends
-/// there. `None` anywhere else.
+/// The content of a text of one piece without escapes, and the text after it, if a string ends
+/// there. `None` otherwise.
 fn read_plain_text(text: &[u8]) -> Option<(&[u8], &[u8])>
     ensures gives { IfSome result (λ x. (read : List ℕ → Read Item)
         → read_text_string read text.now ≡ one_string text_kind x.0.now x.1.now) }
@@ -249,7 +248,7 @@ pub(super) fn read_text_item(
     ensures well { IfOk result (λ x. WellFormed (inner - 1) (view x.0)) }
     ensures shorter { IfOk result (λ x. length x.1.now ≤ length text.now) }
 {
-    // Most texts are so, and their content is then copied from where it stands.
+    // The content of most texts is copied from where it is.
     if let Some((content, rest)) = read_plain_text(text) {
         let string = text_string(content.to_vec(alloc)?)?;
         return Ok((DataItem::TextString(string), rest));
@@ -261,7 +260,7 @@ pub(super) fn read_text_item(
     Ok((DataItem::TextString(string), rest))
 }
 
-/// The chunks of an indefinite byte string behind its opening, up to its close.
+/// The chunks of an indefinite byte string after its opening, up to its closing byte.
 #[cycle(diag)]
 fn read_byte_chunks(
     alloc: Global,
@@ -289,7 +288,7 @@ fn read_byte_chunks(
     }
 }
 
-/// The chunks of an indefinite text string behind its opening, up to its close.
+/// The chunks of an indefinite text string after its opening, up to its closing byte.
 #[cycle(diag)]
 fn read_text_chunks(
     alloc: Global,
@@ -317,8 +316,8 @@ fn read_text_chunks(
     }
 }
 
-/// An indefinite string behind its `(`. Its first chunk tells its kind, and without chunks it is
-/// one of bytes.
+/// An indefinite string after its `(`. Its first chunk decides its kind; without chunks it is one
+/// of bytes.
 #[cycle(diag)]
 pub(super) fn read_chunks(alloc: Global, text: &[u8], inner: u8) -> crate::Result<(DataItem, &[u8])>
     requires low { 1 ≤ inner }
