@@ -3,7 +3,7 @@ use Rattle.std.proofs.Common.{◌≡◌, ℕ, suc, ◌+◌, ◌-◌, ◌<◌, �
 use Rattle.std.specs.List.{AllByRecursion}
 use Rattle.std.proofs.lemmas.List.{drop_more}
 use Rattle.cbor_notes.specs.Layout.{DumpLine}
-use Rattle.cbor_notes.proofs.Trees.{all_front, all_back}
+use Rattle.cbor_notes.proofs.columns.Trees.{all_front, all_back}
 use Rattle.cbor_diag.specs.declared.syntax.IntegerWidth.{IntegerWidth}
 use Rattle.cbor_diag.specs.declared.syntax.DataItem.{DataItem, Array, Map}
 use Rattle.cbor_diag.specs.declared.encode.dump.place.Place.{Place}

@@ -3,7 +3,7 @@ use Rattle.std.proofs.Common.{◌≡◌, ℕ, ◌+◌, List, [], ◌∷◌, ◌+
 use Rattle.std.proofs.Common.{subst, ◌∙◌, append_assoc, arith}
 use Rattle.std.specs.List.{flat_map}
 use Rattle.cbor_notes.specs.Token.{nothing}
-use Rattle.cbor_notes.proofs.Blanks.{Blank-append}
+use Rattle.cbor_notes.proofs.tokens.Blanks.{Blank-append}
 use Rattle.cbor_diag.specs.declared.syntax.IntegerWidth.{IntegerWidth}
 use Rattle.cbor_diag.specs.ContainerStyle.{ContainerStyle}
 use Rattle.cbor_diag.specs.ContainerStyle as style

@@ -2,7 +2,7 @@
 use Rattle.std.proofs.Common.{◌≡◌, ℕ, ◌+◌, ◌<◌, List, [], ◌∷◌, ◌++◌, map, length, take, drop, get_or, refl, sym, ap, subst, ◌∙◌, append_assoc}
 use Rattle.std.specs.List.{AllByRecursion, flat_map}
 use Rattle.std.proofs.lemmas.List.{drop_more}
-use Rattle.cbor_notes.proofs.Trees.{all_front, all_back}
+use Rattle.cbor_notes.proofs.columns.Trees.{all_front, all_back}
 use Rattle.cbor_diag.specs.Item.{Chunk}
 use Rattle.cbor_notes.specs.Layout.{DumpLine}
 use Rattle.cbor_diag.specs.Dump.{content_lines, piece_line}

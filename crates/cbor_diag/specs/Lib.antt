@@ -11,6 +11,7 @@ pub mod Bytes
 pub mod Refused
 pub mod Turns
 pub mod Reading
+pub mod HeadErrors
 pub mod Counting
 pub mod Stack
 pub mod Answer

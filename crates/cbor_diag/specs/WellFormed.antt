@@ -29,7 +29,7 @@ pub record IsTextChunk (c : Chunk) : Type 0 where
   pub bytes : AllByRecursion (λ b. b < 256) c.bytes
   pub utf8 : IsUtf8 c.bytes
 
--- the bits of a float can be written in this width; an open one is 64 bits
+-- the bits of a float can be written in this width; an unstated one is 64 bits
 abbrev pub FitsFloat : FloatWidth → ℕ → Type 0
 FitsFloat float_width.Unknown bits = bits < 2 ^ 64
 FitsFloat float_width.Sixteen bits = bits < 2 ^ 16
