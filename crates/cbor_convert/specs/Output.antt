@@ -20,7 +20,7 @@ Reads source.Bytes input i = IsItem input i
 Reads source.Hex input i = IsUtf8 input × IsHexOf input i
 Reads source.Diag input i = IsUtf8 input × IsNotation input i
 
--- why the input is no item in that form
+-- why the input is not an item in that form
 abbrev pub Refuses : Source → List ℕ → Error → Type 0
 Refuses source.Bytes input e = IsNoItem input e
 Refuses source.Hex input e =

@@ -38,7 +38,8 @@ pub fn read_item(alloc: Global, from: Source, input: &[u8]) -> Result<DataItem, 
     }
 }
 
-/// The output of an item, in the memory of `spare`, whose bytes are dropped; a dump has memory of its own.
+/// The output of an item, in the memory of `spare`, whose bytes are dropped; a dump has memory of
+/// its own.
 pub fn write_item(alloc: Global, to: To, item: &DataItem, spare: Vec<u8>) -> Result<Vec<u8>, Error>
     requires { IsWellFormed (view item.now) }
     ensures written { IfOk result (λ output. output.items ≡ output_of to (view item.now)) }

@@ -1,4 +1,5 @@
-//! From an item in one form to the same item in another: bytes, hex with comments, diagnostic notation.
+//! From an item in one form to the same item in another: bytes, hex with comments, diagnostic
+//! notation.
 #![tactic(auto)]
 
 mod conversion;

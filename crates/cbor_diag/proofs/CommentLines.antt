@@ -3,7 +3,7 @@ use Rattle.std.proofs.Common.{◌≢◌, ℕ, ◌+◌, ◌==◌, ◌&&◌, true,
 use Rattle.hex.specs.Hex.{encode_lower, lower_digits}
 use Rattle.cbor_notes.specs.TagNames.{tag_name}
 use Rattle.cbor_notes.specs.Text.{grouped, escaped_text}
-use Rattle.cbor_notes.proofs.OneLine.{Free, FreeName, named, unnamed, from_test, free_both, free_cond, free_hex, hex_line, standard_line, url_safe_line, decimal_line, grouped_line, quoted_line, escaped_line, tag_name_free}
+use Rattle.cbor_notes.proofs.columns.OneLine.{Free, FreeName, named, unnamed, from_test, free_both, free_cond, free_hex, hex_line, standard_line, url_safe_line, decimal_line, grouped_line, quoted_line, escaped_line, tag_name_free}
 use Rattle.cbor_diag.specs.declared.encode.encoding.Encoding.{Encoding}
 use Rattle.cbor_diag.specs.declared.encode.encoding.Encoding.TheVariants.{Base16, Base64, Base64Url}
 use Rattle.cbor_diag.specs.Comments.{in_brackets, unsigned_comment, negative_comment, float_comment, simple_kind, simple_comment, count_text, counted_comment}

@@ -9,8 +9,8 @@ use Rattle.hex.specs.Hex.{encode_lower, encode_with, lower_digits}
 use Rattle.cbor_notes.specs.Element.{element_size, element_text}
 use Rattle.cbor_notes.specs.Layout.{DumpLine}
 use Rattle.cbor_notes.specs.Columns.{digits_of}
-use Rattle.cbor_notes.proofs.DecodedLineLemmas.{encode_with-append}
-use Rattle.cbor_notes.proofs.OneLine.{Free, free_hex, from_test}
+use Rattle.cbor_notes.proofs.bases.DecodedLineLemmas.{encode_with-append}
+use Rattle.cbor_notes.proofs.columns.OneLine.{Free, free_hex, from_test}
 use Rattle.cbor_diag.specs.declared.syntax.IntegerWidth.{IntegerWidth}
 use Rattle.cbor_diag.specs.declared.encode.encoding.Encoding.{Encoding}
 use Rattle.cbor_diag.specs.Item as spec

@@ -11,11 +11,11 @@ use Rattle.cbor_notes.specs.Element.{element_size, element_text}
 use Rattle.cbor_notes.specs.Layout.{DumpLine, blanks, left_column, line_text, reach, width_of}
 use Rattle.cbor_notes.specs.Columns.{IsPlain, Lacks}
 use Rattle.cbor_notes.specs.LineTree.{IsFit}
-use Rattle.cbor_notes.proofs.CommentTexts.{element_line}
-use Rattle.cbor_notes.proofs.OneLine.{Free, from_test, free_both, free_cond, free_hex, free_same, lacks_of}
+use Rattle.cbor_notes.proofs.columns.CommentTexts.{element_line}
+use Rattle.cbor_notes.proofs.columns.OneLine.{Free, from_test, free_both, free_cond, free_hex, free_same, lacks_of}
 use Rattle.cbor_diag.proofs.CommentLines.{unsigned_line, negative_line, float_line, simple_line, counted_line, tag_line, bytes_line, text_line, free_head}
-use Rattle.cbor_notes.proofs.HexLemmas.{IsAscii-encode_lower, IsAscii-from_test}
-use Rattle.cbor_notes.proofs.Trees.{all_both}
+use Rattle.cbor_notes.proofs.texts.HexLemmas.{IsAscii-encode_lower, IsAscii-from_test}
+use Rattle.cbor_notes.proofs.columns.Trees.{all_both}
 use Rattle.cbor_diag.specs.declared.syntax.IntegerWidth.{IntegerWidth}
 use Rattle.cbor_diag.specs.declared.syntax.IntegerWidth.TheVariants as width
 use Rattle.cbor_diag.specs.declared.syntax.FloatWidth.{FloatWidth}

@@ -1,7 +1,7 @@
 -- The elements of typed arrays: how long they are.
 use Rattle.std.proofs.Common.{ℕ, ◌≤◌, true, false, cond, min, List, length, Option, Some, None, arith}
 use Rattle.cbor_notes.specs.Element.{element_size, is_typed_array, size}
-use Rattle.cbor_notes.proofs.ElementLemmas.{size_small}
+use Rattle.cbor_notes.proofs.texts.ElementLemmas.{size_small}
 use Rattle.cbor_diag.proofs.Cuts.{Cuts}
 
 -- an element, if there are any, has from 1 to 16 bytes

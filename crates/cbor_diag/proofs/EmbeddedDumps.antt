@@ -7,8 +7,8 @@ use Rattle.std.proofs.lemmas.List.{length-append, length-drop, length-take}
 use Rattle.std.proofs.lemmas.Str.{IsCharBoundary-after_ascii, IsUtf8-drop}
 use Rattle.cbor_notes.specs.Columns.{IsPlain}
 use Rattle.cbor_notes.specs.Layout.{DumpLine, line_text}
-use Rattle.cbor_notes.proofs.OneColumn.{first_at, before, after}
-use Rattle.cbor_notes.proofs.OneLine.{lacks_of}
+use Rattle.cbor_notes.proofs.columns.OneColumn.{first_at, before, after}
+use Rattle.cbor_notes.proofs.columns.OneLine.{lacks_of}
 use Rattle.cbor_diag.specs.declared.error.Error.{Error}
 use Rattle.cbor_diag.specs.declared.error.Error.TheVariants as refusal
 use Rattle.cbor_diag.specs.Item.{Item}

@@ -3,8 +3,8 @@ use Rattle.std.proofs.Common.{◌≡◌, ℕ, zero, suc, ◌+◌, ◌-◌, List,
 use Rattle.std.proofs.lemmas.List.{length-append}
 use Rattle.cbor_diag.specs.declared.syntax.IntegerWidth.{IntegerWidth}
 use Rattle.cbor_diag.specs.declared.syntax.DataItem.{DataItem}
-use Rattle.cbor_diag.specs.declared.parse.binary.open.Length.{Length}
-use Rattle.cbor_diag.specs.declared.parse.binary.open.Length.TheVariants.{Definite, Indefinite}
+use Rattle.cbor_diag.specs.declared.parse.binary.frame.Length.{Length}
+use Rattle.cbor_diag.specs.declared.parse.binary.frame.Length.TheVariants.{Definite, Indefinite}
 use Rattle.cbor_diag.specs.Item.{no_items, item, no_pairs, pair}
 use Rattle.cbor_diag.specs.View.{view, items_view, pairs_view}
 use Rattle.cbor_diag.specs.Counting.{joined, joined_pairs, so_many, one_less}

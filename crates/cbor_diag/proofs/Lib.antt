@@ -50,7 +50,7 @@ pub mod HexDigits
 pub mod Appending
 pub mod NotationTexts
 pub mod EmbeddedItems
-pub mod Rooms
+pub mod DigitCounts
 pub mod TextParts
 pub mod NormalForm
 pub mod NormalWell

@@ -88,7 +88,7 @@ open_fits m n Sixteen le fits = let lt : n < 2 ^ 16 = fits in omega arith
 open_fits m n ThirtyTwo le fits = let lt : n < 2 ^ 32 = fits in omega arith
 open_fits m n SixtyFour le fits = let lt : n < 2 ^ 64 = fits in omega arith
 
--- the head of a length that is no greater, in an open width, is no longer
+-- the head of a length that is no greater, in an unstated width, is no longer
 pub head_no_longer : (major m n : ℕ) (w : IntegerWidth) → m ≤ n → FitsWidth w n → length (encoded_head major m Unknown) ≤ length (encoded_head major n w)
 head_no_longer major m n w le fits =
     let whole = stated_fits w n fits in

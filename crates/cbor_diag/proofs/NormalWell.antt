@@ -1,14 +1,13 @@
 -- The normal form of a well-formed item is well formed, and its encoding is no longer.
-use Rattle.std.proofs.Common.{◌≡◌, ℕ, zero, suc, ◌+◌, ◌≤◌, List, [], ◌∷◌, ◌++◌, length, map, Option, Some, None, inl, inr, refl, ap, subst, arith}
+use Rattle.std.proofs.Common.{◌≡◌, ℕ, zero, suc, ◌+◌, ◌≤◌, List, [], ◌∷◌, ◌++◌, length, map, Option, Some, None, ◌⊎◌}
+use Rattle.std.proofs.Common.{inl, inr, eqb, false, refl, ap, subst, arith}
 use Rattle.std.specs.List.{AllByRecursion, flat_map}
-use Rattle.std.proofs.lemmas.Bool.{cases_lt, lt-ltb, le-ltb}
+use Rattle.std.proofs.lemmas.Bool.{cases_lt, lt-ltb, le-ltb, cases_eq, ne_eqb}
 use Rattle.std.proofs.lemmas.List.{length-append}
 use Rattle.cbor_diag.specs.declared.syntax.IntegerWidth.{IntegerWidth}
 use Rattle.cbor_diag.specs.declared.syntax.IntegerWidth.TheVariants.{Unknown}
 use Rattle.cbor_diag.specs.declared.syntax.FloatWidth.{FloatWidth}
 use Rattle.cbor_diag.specs.declared.syntax.FloatWidth.TheVariants as float_width
-use Rattle.cbor_diag.specs.declared.encode.notation.context.Content.{Content}
-use Rattle.cbor_diag.specs.declared.encode.notation.context.Content.TheVariants as content
 use Rattle.cbor_diag.specs.Item as spec
 use Rattle.cbor_diag.specs.Item.{Chunk, Atom, integer, negative, byte_string, text_string, byte_chunks, text_chunks, float, simple, Item, atom, array, tagged, Items, no_items, item, Pairs, no_pairs, pair, item_count, pair_count}
 use Rattle.cbor_diag.specs.Head.{FitsWidth, head, break_byte, HeadThen}
@@ -16,7 +15,6 @@ use Rattle.cbor_diag.specs.WellFormed.{IsByteChunk, IsTextChunk, WellFormedAtom,
 use Rattle.cbor_diag.specs.Bytes.{StringKind, bytes_kind, text_kind, major_of, any, ChunkThen, SpellsChunks, SpellsAtom, SpellsFloat, SpellsSimple, MembersThen, Spells, SpellsItems, SpellsPairs}
 use Rattle.cbor_diag.specs.Written.{encoded_head, encoded_chunk, encoded_float, encoded_simple, encoded_atom, encoded_open, encoded_close, encoded, encoded_items, encoded_pairs}
 use Rattle.cbor_diag.specs.Embedded.{embedded_at, sequence_at}
-use Rattle.cbor_diag.specs.NotationText.{content_below}
 use Rattle.cbor_diag.specs.Normal.{normal_width, normal_chunk, normal_count, normal_items, normal_pairs, normal_embedded, normal_sequence, normal_content, normal_atom, normal_with, normal_at}
 use Rattle.cbor_diag.proofs.Strict.{stated_is}
 use Rattle.cbor_diag.proofs.Resolved.{spells_well}
@@ -140,10 +138,29 @@ module _ (level left : ℕ) (levels : level + left ≡ 129) (into : Item → Ite
 
 -- ---- one level
 
-content_serves : (level left : ℕ) → level + left ≡ 129 → (into : Content → Item → Item) → ((i : Item) → WellFormed level i → Serves level i (into content.Bytes i)) → (shown : Content) (b : List ℕ) → AllBytes b → ServesBytes b (normal_content left into shown b)
-content_serves level left levels into serves content.Bytes b all = record { bytes = all; no_longer = omega arith }
-content_serves level left levels into serves content.Item b all = embedded_serves level left levels (into content.Bytes) serves b (embedded_at left b) all refl
-content_serves level left levels into serves content.Sequence b all = sequence_serves level left levels (into content.Bytes) serves b all
+-- a tag below which bytes are one item, or items one after the other, or stay
+pub tag_kind : (t : ℕ) → (t ≡ 24) ⊎ ((t ≡ 63) ⊎ ((eqb t 24 ≡ false) × (eqb t 63 ≡ false)))
+tag_kind t =
+    elim (cases_eq t 24) [
+      | inl is ↦ inl is
+      | inr differs ↦ elim (cases_eq t 63) [
+        | inl is ↦ inr (inl is)
+        | inr none ↦ inr (inr (ne_eqb t 24 differs, ne_eqb t 63 none))
+      ]
+    ]
+
+content_serves : (level left : ℕ) → level + left ≡ 129 → (into : Item → Item)
+    → ((i : Item) → WellFormed level i → Serves level i (into i))
+    → (tag : Option ℕ) (b : List ℕ) → AllBytes b → ServesBytes b (normal_content left into tag b)
+content_serves level left levels into serves None b all = record { bytes = all; no_longer = omega arith }
+content_serves level left levels into serves (Some t) b all =
+    elim (tag_kind t) [
+      | inl is ↦ rw is (embedded_serves level left levels into serves b (embedded_at left b) all refl)
+      | inr rest ↦ elim rest [
+        | inl is ↦ rw is (sequence_serves level left levels into serves b all)
+        | inr other ↦ rw (other.0, other.1) (record { bytes = all; no_longer = omega arith })
+      ]
+    ]
 
 -- a string whose content is replaced so
 string_no_longer : (major : ℕ) (c : Chunk) (x : List ℕ) → FitsWidth c.width (length c.bytes) → length x ≤ length c.bytes → length (encoded_chunk major (record { bytes = x; width = Unknown })) ≤ length (encoded_chunk major c)
@@ -180,41 +197,57 @@ container_no_longer major m n None x y same fits le = omega (arith, length-appen
 container_no_longer major m n (Some w) x y same fits le =
     omega (arith, head_no_longer major m n w (omega arith) fits, length-append (encoded_head major m Unknown) (x ++ []), length-append (encoded_head major n w) (y ++ []), length-append x [], length-append y [])
 
-module _ (level left : ℕ) (levels : (level + 1) + left ≡ 129) (into : Content → Item → Item) (serves : (shown : Content) (i : Item) → WellFormed (level + 1) i → Serves (level + 1) i (into shown i)) where
-  atom_serves : (shown : Content) (a : Atom) → WellFormedAtom a → WellFormedAtom (normal_atom left into shown a) × (length (encoded_atom (normal_atom left into shown a)) ≤ length (encoded_atom a))
-  atom_serves shown (integer n w) h = (normal_fits n w h, omega (arith, ap length (normal_head 0 n w)))
-  atom_serves shown (negative n w) h = (normal_fits n w h, omega (arith, ap length (normal_head 1 n w)))
-  atom_serves shown (byte_string c) h =
-      let x = normal_content left into shown c.bytes in
-      let s = content_serves (level + 1) left levels into (serves content.Bytes) shown c.bytes h.bytes in
+module _ (level left : ℕ) (levels : (level + 1) + left ≡ 129) (into : Option ℕ → Item → Item)
+    (serves : (tag : Option ℕ) (i : Item) → WellFormed (level + 1) i → Serves (level + 1) i (into tag i)) where
+  atom_serves : (tag : Option ℕ) (a : Atom) → WellFormedAtom a
+      → WellFormedAtom
+      (normal_atom left into tag a) × (length (encoded_atom (normal_atom left into tag a)) ≤ length (encoded_atom a))
+  atom_serves tag (integer n w) h = (normal_fits n w h, omega (arith, ap length (normal_head 0 n w)))
+  atom_serves tag (negative n w) h = (normal_fits n w h, omega (arith, ap length (normal_head 1 n w)))
+  atom_serves tag (byte_string c) h =
+      let x = normal_content left (into None) tag c.bytes in
+      let s = content_serves (level + 1) left levels (into None) (serves None) tag c.bytes h.bytes in
       (record { fits = open_fits (length x) (length c.bytes) c.width s.no_longer h.fits; bytes = s.bytes }, string_no_longer 2 c x h.fits s.no_longer)
-  atom_serves shown (text_string c) h =
+  atom_serves tag (text_string c) h =
       (record { fits = open_fits (length c.bytes) (length c.bytes) c.width (omega arith) h.fits; bytes = h.bytes; utf8 = h.utf8 }, string_no_longer 3 c c.bytes h.fits (omega arith))
-  atom_serves shown (byte_chunks cs) h =
+  atom_serves tag (byte_chunks cs) h =
       let s = byte_chunks_serve cs h in
       (s.0, omega (arith, s.1, length-append (flat_map (encoded_chunk 2) (map normal_chunk cs)) (break_byte ∷ []), length-append (flat_map (encoded_chunk 2) cs) (break_byte ∷ [])))
-  atom_serves shown (text_chunks cs) h =
+  atom_serves tag (text_chunks cs) h =
       let s = text_chunks_serve cs h in
       (s.0, omega (arith, s.1, length-append (flat_map (encoded_chunk 3) (map normal_chunk cs)) (break_byte ∷ []), length-append (flat_map (encoded_chunk 3) cs) (break_byte ∷ [])))
-  atom_serves shown (float bits w) h = (float_fits bits w h, omega (arith, ap length (normal_float bits w)))
-  atom_serves shown (simple n) h = (h, omega arith)
+  atom_serves tag (float bits w) h = (float_fits bits w h, omega (arith, ap length (normal_float bits w)))
+  atom_serves tag (simple n) h = (h, omega arith)
 
-  with_serves : (shown : Content) (i : Item) → WellFormed level i → Serves level i (normal_with left into shown i)
-  with_serves shown (atom a) h = let s = atom_serves shown a h.1 in record { well = (h.0, s.0); no_longer = s.1 }
-  with_serves shown (array is w) h =
-      let s = items_serve (level + 1) left levels (into content.Bytes) (serves content.Bytes) is h.2 in
-      let same = normal_items_count (into content.Bytes) is in
+  with_serves : (tag : Option ℕ) (i : Item) → WellFormed level i → Serves level i (normal_with left into tag i)
+  with_serves tag (atom a) h = let s = atom_serves tag a h.1 in record { well = (h.0, s.0); no_longer = s.1 }
+  with_serves tag (array is w) h =
+      let s = items_serve (level + 1) left levels (into None) (serves None) is h.2 in
+      let same = normal_items_count (into None) is in
       record { well = (h.0, count_fits w _ _ same h.1, s.0); no_longer = container_no_longer 4 _ _ w _ _ same h.1 s.1 }
-  with_serves shown (spec.map ps w) h =
-      let s = pairs_serve (level + 1) left levels (into content.Bytes) (serves content.Bytes) ps h.2 in
-      let same = normal_pairs_count (into content.Bytes) ps in
+  with_serves tag (spec.map ps w) h =
+      let s = pairs_serve (level + 1) left levels (into None) (serves None) ps h.2 in
+      let same = normal_pairs_count (into None) ps in
       record { well = (h.0, count_fits w _ _ same h.1, s.0); no_longer = container_no_longer 5 _ _ w _ _ same h.1 s.1 }
-  with_serves shown (tagged t w i) h =
-      let s = serves (content_below t) i h.2 in
-      record { well = (h.0, normal_fits t w h.1, s.well); no_longer = omega (arith, s.no_longer, ap length (normal_head 6 t w), length-append (encoded_head 6 t w) (encoded i), length-append (encoded_head 6 t (normal_width w t)) (encoded (into (content_below t) i))) }
+  with_serves tag (tagged t w i) h =
+      let s = serves (Some t) i h.2 in
+      record {
+        well = (h.0, normal_fits t w h.1, s.well);
+        no_longer =
+            omega (
+              arith,
+              s.no_longer,
+              ap length (normal_head 6 t w),
+              length-append (encoded_head 6 t w)
+                  (encoded i),
+              length-append (encoded_head 6 t (normal_width w t)) (encoded (into (Some t) i)),
+            );
+      }
 
 -- The normal form of a well-formed item serves in its place.
-pub normal_serves : (level left : ℕ) → level + left ≡ 129 → (shown : Content) (i : Item) → WellFormed level i → Serves level i (normal_at left shown i)
+pub normal_serves : (level left : ℕ) → level + left ≡ 129 → (tag : Option ℕ) (i : Item) → WellFormed level i
+    → Serves level i (normal_at left tag i)
 unfolding normal_at
-normal_serves level zero levels shown i h = record { well = h; no_longer = omega arith }
-normal_serves level (suc left) levels shown i h = with_serves level left (omega arith) (normal_at left) (normal_serves (level + 1) left (omega arith)) shown i h
+normal_serves level zero levels tag i h = record { well = h; no_longer = omega arith }
+normal_serves level (suc left) levels tag i h =
+    with_serves level left (omega arith) (normal_at left) (normal_serves (level + 1) left (omega arith)) tag i h

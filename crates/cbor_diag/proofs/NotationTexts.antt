@@ -4,10 +4,12 @@ use Rattle.std.specs.List.{flat_map, list_any}
 use Rattle.std.proofs.lemmas.List.{length-take, take_more, drop_more, drop-append-le, drop_at, append-nil}
 use Rattle.std.proofs.lemmas.Grind.{flat_map-append}
 use Rattle.std.proofs.lemmas.Bool.Decides.{nat_tests}
-use Rattle.cbor_diag.specs.NotationText.{is_escaped, escaped, start, end, members, last_line, opened, chunks_text}
-use Rattle.cbor_diag.specs.declared.encode.notation.context.Listing.{Listing}
+use Rattle.cbor_diag.specs.NotationText.{is_escaped, escaped, members, bracketed, opened, chunks_text}
+use Rattle.cbor_diag.specs.ContainerStyle as style
+use Rattle.cbor_diag.specs.ContainerStyle.{ContainerStyle, OneLine, MultiLine}
+use Rattle.cbor_diag.specs.LayoutView.{before_member, after_member}
 
--- a byte that stands behind a backslash is a character
+-- a byte that is escaped is a character
 pub escaped_ascii : (b : ℕ) → is_escaped b ≡ true → b < 128
 escaped_ascii b h = grind (arith, nat_tests)
 
@@ -49,22 +51,52 @@ plain_text (b ∷ bs) h =
 pub drop_here : {X : Type 0} (xs : List X) (i : ℕ) (x : X) → i < length xs → x ≡ get_or xs i x → drop i xs ≡ x ∷ drop (i + 1) xs
 drop_here xs i x here is = drop_more xs i x here ∙ ap (λ y. y ∷ drop (i + 1) xs) (sym is)
 
+-- what is still to be written of the members: the first of all has no comma before it
+unfoldable pub members_left : ContainerStyle → Bool → List (List ℕ) → List ℕ
+members_left l first [] = []
+members_left l first (m ∷ ms) = before_member l first ++ (m ++ (after_member l ++ members_left l false ms))
+
+further_left : (separator : List ℕ) (l : ContainerStyle) → before_member l false ≡ separator → after_member l ≡ []
+    → (ms : List (List ℕ)) → members_left l false ms ≡ flat_map (λ x. separator ++ x) ms
+unfolding members_left
+further_left separator l p q [] = refl
+further_left separator l p q (m ∷ ms) =
+    rw (p, q, further_left separator l p q ms) (sym (append_assoc separator m (flat_map (λ x. separator ++ x) ms)))
+
+lines_left : (indent : ℕ) (first : Bool) (ms : List (List ℕ))
+    → members_left (MultiLine indent) first ms ≡ members (MultiLine indent) ms
+unfolding members_left
+lines_left indent first [] = refl
+lines_left indent first (m ∷ ms) = rw (lines_left indent false ms) (simp append_assoc)
+
+-- before the first member they are all still to be written
+pub members_all : (l : ContainerStyle) (ms : List (List ℕ)) → members_left l true ms ≡ members l ms
+unfolding members_left
+members_all style.Compact [] = refl
+members_all style.Compact (m ∷ ms) = ap (λ r. m ++ r) (further_left (codes ",") style.Compact refl refl ms)
+members_all (OneLine indent) [] = refl
+members_all (OneLine indent) (m ∷ ms) = ap (λ r. m ++ r) (further_left (codes ", ") (OneLine indent) refl refl ms)
+members_all (MultiLine indent) ms = lines_left indent true ms
+
 -- a member more is written
-pub member_more : (l : Listing) (first : Bool) (m : List ℕ) (ms : List (List ℕ)) (out started written ended whole : List ℕ) → started ≡ out ++ start l first → written ≡ started ++ m → ended ≡ written ++ end l
-    → out ++ members l first (m ∷ ms) ≡ whole → ended ++ members l false ms ≡ whole
-unfolding members
+pub member_more : (l : ContainerStyle) (first : Bool) (m : List ℕ) (ms : List (List ℕ))
+    (out started written ended whole : List ℕ) → started ≡ out ++ before_member l first → written ≡ started ++ m
+    → ended ≡ written ++ after_member l
+    → out ++ members_left l first (m ∷ ms) ≡ whole → ended ++ members_left l false ms ≡ whole
+unfolding members_left
 member_more l first m ms out started written ended whole p q r h =
-    ap (λ x. x ++ members l false ms) (r ∙ ap (λ x. x ++ end l) (q ∙ ap (λ x. x ++ m) p)) ∙ simp append_assoc h
+    ap (λ x. x ++ members_left l false ms) (r ∙ ap (λ x. x ++ after_member l) (q ∙ ap (λ x. x ++ m) p))
+    ∙ simp append_assoc h
 
 -- all members are written
-pub members_end : (l : Listing) (first : Bool) (out whole : List ℕ) → out ++ members l first [] ≡ whole → out ≡ whole
-unfolding members
-members_end l first out whole h = sym (append-nil out) ∙ h
+pub members_end : (l : ContainerStyle) (first : Bool) (out old : List ℕ) (ms : List (List ℕ))
+    → out ++ members_left l first [] ≡ old ++ members_left l true ms → out ≡ old ++ members l ms
+unfolding members_left
+members_end l first out old ms h = sym (append-nil out) ∙ h ∙ ap (λ r. old ++ r) (members_all l ms)
 
 -- the chunks of a string that has some
-pub chunks_written : {X Y : Type 0} (l : Listing) (empty : List ℕ) (f : Y → List ℕ) (g : X → Y) (xs : List X) (out started written ended : List ℕ) → eqb (length xs) 0 ≡ false
-    → started ≡ out ++ opened l (codes "(") None → written ≡ started ++ members l true (map f (map g xs)) → ended ≡ written ++ (last_line l ++ codes ")")
-    → ended ≡ out ++ chunks_text l empty (map f (map g xs))
-chunks_written l empty f g [] out started written ended some p q r = absurd cc
-chunks_written l empty f g (x ∷ xs) out started written ended some p q r =
-    r ∙ ap (λ y. y ++ (last_line l ++ codes ")")) (q ∙ ap (λ y. y ++ members l true (map f (map g (x ∷ xs)))) p) ∙ simp append_assoc
+pub chunks_written : {X : Type 0} (l : ContainerStyle) (empty : List ℕ) (f : X → List ℕ) (xs : List X)
+    → eqb (length xs) 0 ≡ false
+    → chunks_text l empty (map f xs) ≡ bracketed l (opened l (codes "(") None) (map f xs) (codes ")")
+chunks_written l empty f [] some = absurd cc
+chunks_written l empty f (x ∷ xs) some = refl

@@ -10,11 +10,11 @@ use Rattle.cbor_diag.specs.declared.error.Error.TheVariants as refusal
 use Rattle.cbor_notes.specs.Token.{Blank, IsLongest, IsNumber, IsSomeNumber, is_whitespace}
 use Rattle.cbor_notes.specs.Token.{in_quotes, DigitsBetween}
 use Rattle.cbor_notes.specs.TokenReading.{after_blank, number_of, unquoted, digits_of}
-use Rattle.cbor_notes.proofs.Blanks.{after_longest_blank}
-use Rattle.cbor_notes.proofs.Numbers.{IsNumber-number_of, number_of-longest}
-use Rattle.cbor_notes.proofs.Quoted.{in_quotes-unquoted, unquoted-in_quotes}
-use Rattle.cbor_notes.proofs.Spaced.{DigitsBetween-digits_of, digits_of-DigitsBetween}
-use Rattle.cbor_notes.proofs.TextPlaces.{part_and_rest}
+use Rattle.cbor_notes.proofs.tokens.Blanks.{after_longest_blank}
+use Rattle.cbor_notes.proofs.tokens.Numbers.{IsNumber-number_of, number_of-longest}
+use Rattle.cbor_notes.proofs.tokens.Quoted.{in_quotes-unquoted, unquoted-in_quotes}
+use Rattle.cbor_notes.proofs.tokens.Spaced.{DigitsBetween-digits_of, digits_of-DigitsBetween}
+use Rattle.cbor_notes.proofs.tokens.TextPlaces.{part_and_rest}
 use Rattle.cbor_diag.specs.Reading.{◌>>=◌}
 use Rattle.cbor_diag.specs.NotationReading.{or_refused, skip_blank, read_number, after_byte, after_space, numeral}
 

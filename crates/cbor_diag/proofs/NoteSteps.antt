@@ -1,7 +1,7 @@
 -- Notes are lines without digits: what a sink does with them.
 use Rattle.std.proofs.Common.{◌≡◌, ℕ, ◌+◌, ◌<◌, List, [], ◌∷◌, map, max, refl, ap, ◌∙◌, arith}
 use Rattle.std.specs.List.{flat_map}
-use Rattle.cbor_notes.proofs.HexLemmas.{IsAscii-from_test}
+use Rattle.cbor_notes.proofs.texts.HexLemmas.{IsAscii-from_test}
 use Rattle.cbor_diag.specs.Dump.{note_line, note_lines}
 use Rattle.cbor_diag.specs.ShownLines.{Takes}
 use Rattle.cbor_diag.specs.Passes.{taken, step, widest}

@@ -15,9 +15,9 @@ use Rattle.cbor_notes.specs.Element.{element_size}
 use Rattle.cbor_notes.specs.Identifier.{uuid_lines}
 use Rattle.cbor_notes.specs.Text.{grouped}
 use Rattle.cbor_notes.specs.Url.{is_url}
-use Rattle.cbor_notes.proofs.CommentTexts.{ipv4_line, ipv6_line, mac_line, uuid_lines_line, base64_lines_line}
-use Rattle.cbor_notes.proofs.DateLines.{date_of_epoch_line, datetime_of_epoch_line, epoch_of_date_line, epoch_of_datetime_line}
-use Rattle.cbor_notes.proofs.OneLine.{Free, from_test, free_both, free_cond, decimal_line, grouped_line, escaped_line}
+use Rattle.cbor_notes.proofs.columns.CommentTexts.{ipv4_line, ipv6_line, mac_line, uuid_lines_line, base64_lines_line}
+use Rattle.cbor_notes.proofs.columns.DateLines.{date_of_epoch_line, datetime_of_epoch_line, epoch_of_date_line, epoch_of_datetime_line}
+use Rattle.cbor_notes.proofs.columns.OneLine.{Free, from_test, free_both, free_cond, decimal_line, grouped_line, escaped_line}
 use Rattle.cbor_diag.proofs.CommentLines.{brackets_line}
 use Rattle.cbor_diag.specs.declared.encode.dump.notes.addresses.Family.{Family}
 use Rattle.cbor_diag.specs.declared.encode.dump.notes.addresses.Family.TheVariants.{IPv4, IPv6}

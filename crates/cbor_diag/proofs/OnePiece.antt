@@ -5,8 +5,8 @@ use Rattle.std.proofs.lemmas.Bool.{cond-false, eqb-true}
 use Rattle.std.proofs.lemmas.List.{append-nil}
 use Rattle.cbor_notes.specs.Token.{is_special}
 use Rattle.cbor_notes.specs.TokenReading.{unquoted, with_front}
-use Rattle.cbor_notes.proofs.Quoted.{unquoted-plain, closes}
-use Rattle.cbor_notes.proofs.TextPlaces.{first_at}
+use Rattle.cbor_notes.proofs.tokens.Quoted.{unquoted-plain, closes}
+use Rattle.cbor_notes.proofs.tokens.TextPlaces.{first_at}
 use Rattle.cbor_diag.specs.declared.error.Error.{Error}
 use Rattle.cbor_diag.specs.Item.{Item, Atom, Chunk, atom, text_string}
 use Rattle.cbor_diag.specs.Bytes.{bytes_kind, text_kind}

@@ -15,7 +15,7 @@ use Rattle.hex.proofs.HexLemmas.{decode_of-encode_lower}
 use Rattle.base64.specs.Rfc4648.{encode_group, encode_symbols, padding_len}
 use Rattle.cbor_notes.specs.Base64.{standard, url_safe}
 use Rattle.cbor_notes.specs.Token.{Blank, nothing, whitespace, IsNumber, AreDigits, Indicates, is_digit, Spaced, blank, digit, DigitsBetween, in_quotes}
-use Rattle.cbor_notes.proofs.WrittenNumbers.{decimal_IsNumber}
+use Rattle.cbor_notes.proofs.tokens.WrittenNumbers.{decimal_IsNumber}
 use Rattle.cbor_diag.specs.declared.syntax.IntegerWidth.{IntegerWidth}
 use Rattle.cbor_diag.specs.declared.syntax.IntegerWidth.TheVariants.{Unknown, Zero, Eight, Sixteen, ThirtyTwo, SixtyFour}
 use Rattle.cbor_diag.specs.declared.syntax.FloatWidth.{FloatWidth}

@@ -1,5 +1,5 @@
 -- What is still to come in containers, one part after the other.
-use Rattle.std.proofs.Common.{◌≡◌, ℕ, zero, suc, ◌+◌, ◌-◌, ◌<◌, ◌≤◌, List, [], ◌∷◌, ◌++◌, length, Option, Some, None, Result, Ok, Err, refl, sym, ap, subst, ◌∙◌, append_assoc, inl, inr, arith}
+use Rattle.std.proofs.Common.{◌≡◌, ℕ, zero, suc, ◌-◌, ◌<◌, ◌≤◌, List, [], ◌∷◌, ◌++◌, length, Some, None, Result, Ok, Err, refl, sym, ap, subst, ◌∙◌, append_assoc, inl, inr, arith}
 use Rattle.std.proofs.lemmas.List.{length-append}
 use Rattle.cbor_diag.specs.declared.error.Error.{Error}
 use Rattle.cbor_diag.specs.declared.error.Error.TheVariants as refusal
@@ -18,7 +18,7 @@ use Rattle.cbor_diag.specs.WellFormed.{deepest}
 use Rattle.cbor_diag.specs.Bytes.{bytes_kind, text_kind}
 use Rattle.cbor_diag.specs.Reading.{Read, ◌>>=◌, read_content, read_chunks, read_items, read_pair, read_pairs, after_break, unless_break, read_open_items, read_open_pairs, read_item}
 use Rattle.cbor_diag.specs.declared.syntax.IntegerWidth.{IntegerWidth}
-use Rattle.cbor_diag.specs.Skipping.{Skip, rest_of, here, Goes, Shows, StopsSo, skip_content, skip_chunks, skip_item, skip_body, one_less, count_end, end_of, after_part, opened, skip_items, skip_pairs, skip_parts, begun, closing, skip_open}
+use Rattle.cbor_diag.specs.Skipping.{Skip, rest_of, here, Goes, StopsSo, skip_content, skip_chunks, skip_item, skip_body, one_less, count_end, end_of, after_part, opened, skip_items, skip_pairs, skip_parts, begun, closing, skip_open}
 use Rattle.cbor_diag.proofs.Heads.{bind_ok, ok_is, cons_is}
 use Rattle.cbor_diag.proofs.Shorter.{item_shorter}
 use Rattle.cbor_diag.proofs.Found.{break_ways}

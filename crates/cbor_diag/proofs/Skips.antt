@@ -1,5 +1,5 @@
 -- Steps of skipping, and what they skip: contents, chunks and heads.
-use Rattle.std.proofs.Common.{◌≡◌, ◌≢◌, ℕ, zero, suc, ◌+◌, ◌-◌, ◌/◌, ◌%◌, ◌<◌, ◌≤◌, List, [], ◌∷◌, ◌++◌, length, get_or, take, drop, Option, Some, None, Ok, Err, ◌⊎◌, inl, inr, refl, sym, ap, subst, ◌∙◌, append_assoc, arith}
+use Rattle.std.proofs.Common.{◌≡◌, ◌≢◌, ℕ, zero, suc, ◌-◌, ◌/◌, ◌%◌, ◌<◌, ◌≤◌, List, [], ◌∷◌, ◌++◌, length, get_or, take, drop, Option, Some, None, Ok, Err, ◌⊎◌, inl, inr, refl, sym, ap, subst, ◌∙◌, append_assoc, arith}
 use Rattle.std.specs.Prelude.{IsUtf8}
 use Rattle.std.proofs.lemmas.List.{append-nil, length-append, length-take, take-append-drop, take_all}
 use Rattle.std.proofs.lemmas.Str.{IsUtf8-nil}
@@ -14,10 +14,9 @@ use Rattle.cbor_diag.specs.declared.parse.binary.skip.Stop.{Stop}
 use Rattle.cbor_diag.specs.declared.parse.binary.skip.Stop.TheVariants as stops
 use Rattle.cbor_diag.specs.Item.{Chunk}
 use Rattle.cbor_diag.specs.Head.{break_byte}
-use Rattle.cbor_diag.specs.WellFormed.{deepest}
 use Rattle.cbor_diag.specs.Bytes.{StringKind, bytes_kind, text_kind, major_of, IsContent}
 use Rattle.cbor_diag.specs.Refused.{BadHead, no_info, no_length}
-use Rattle.cbor_diag.specs.Reading.{Read, ◌>>=◌, Fails, read_info, head_of, read_head, read_content, chunk_of, read_chunk, more_chunks, read_chunks, read_body, read_item}
+use Rattle.cbor_diag.specs.Reading.{Read, ◌>>=◌, read_info, head_of, read_head, read_content, chunk_of, read_chunk, more_chunks, read_chunks, read_body, read_item}
 use Rattle.cbor_diag.specs.Skipping.{Skip, rest_of, here, Goes, Shows, StopsSo, stop_of, skip_content, skip_chunks, skip_item, skip_body}
 use Rattle.cbor_diag.proofs.Heads.{IsBytes, IsBytes-rest, bind_ok, ok_is, cons_is, number_bytes, InfoIs, info_takes, info_again, head_takes}
 use Rattle.cbor_diag.proofs.Shorter.{Leaves, chunk_leaves}
@@ -245,11 +244,6 @@ kind_shows kind first b no_break other =
       ]
     ])
 
--- a refusal that is no want of memory is the one that reading gives
-fails_is : {X : Type 0} (e : Error) (read : Read X) → Fails e read → e ≢ refusal.Memory → read ≡ Err e
-fails_is refusal.Memory read h some = absurd (some refl)
-fails_is e read h some = h
-
 -- a stop is a cut, or an error
 stop_either : (from : List ℕ → Skip) (b : List ℕ) (e : Error) (after : ℕ) → (e ≡ refusal.CutShort → from b ≡ Err refusal.CutShort) → (e ≢ refusal.CutShort → Shows from b e after) → StopsSo from b (stop_of e after)
 stop_either from b refusal.CutShort after cut shows = cut refl
@@ -272,9 +266,8 @@ indefinite_shows kind first b rest fits no_break major e =
 info_cut : (kind : StringKind) (first : ℕ) (b : List ℕ) → first ≢ break_byte → first / 32 ≡ major_of kind → read_info (first % 32) b ≡ Err refusal.CutShort → skip_chunks kind (first ∷ b) ≡ Err refusal.CutShort
 info_cut kind first b no_break major e = chunks_next kind (first ∷ b) ∙ ap (chunks_after kind) (chunk_reads kind first b (Err refusal.CutShort) no_break major e)
 
-pub info_stops : (kind : StringKind) (first : ℕ) (b : List ℕ) (e : Error) → first ≢ break_byte → first / 32 ≡ major_of kind → Fails e (read_info (first % 32) b) → e ≢ refusal.Memory → StopsSo (skip_chunks kind) (first ∷ b) (stop_of e (length b))
-info_stops kind first b e no_break major h some =
-    let is = fails_is e (read_info (first % 32) b) h some in
+pub info_stops : (kind : StringKind) (first : ℕ) (b : List ℕ) (e : Error) → first ≢ break_byte → first / 32 ≡ major_of kind → read_info (first % 32) b ≡ Err e → StopsSo (skip_chunks kind) (first ∷ b) (stop_of e (length b))
+info_stops kind first b e no_break major is =
     stop_either (skip_chunks kind) (first ∷ b) e (length b) (λ cut. info_cut kind first b no_break major (is ∙ ap (λ d. Err d) cut)) (info_shows kind first b e no_break major is)
 
 pub no_chunks : (kind : StringKind) → skip_chunks kind [] ≡ Err refusal.CutShort
@@ -345,9 +338,8 @@ unfolding read_item
 head_short zero b some e = absurd (omega arith)
 head_short (suc left) b some e = ap (λ r. rest_of (r >>= λ h. read_body (read_item left) h.0 h.1)) e
 
-pub head_stops : (left first : ℕ) (b : List ℕ) (e : Error) → 0 < left → IsBytes (first ∷ b) → Fails e (read_head (first ∷ b)) → e ≢ refusal.Memory → StopsSo (skip_item left) (first ∷ b) (stop_of e (length b))
-head_stops left first b e some fits h no_memory =
-    let is = fails_is e (read_head (first ∷ b)) h no_memory in
+pub head_stops : (left first : ℕ) (b : List ℕ) (e : Error) → 0 < left → IsBytes (first ∷ b) → read_head (first ∷ b) ≡ Err e → StopsSo (skip_item left) (first ∷ b) (stop_of e (length b))
+head_stops left first b e some fits is =
     stop_either (skip_item left) (first ∷ b) e (length b) (λ cut. head_short left (first ∷ b) some (is ∙ ap (λ d. Err d) cut)) (head_shows left first b e some fits is)
 
 pub no_item : (left : ℕ) → skip_item left [] ≡ Err refusal.CutShort

@@ -1,8 +1,7 @@
 -- Compact texts are equal exactly where the normal forms of the items are.
-use Rattle.std.proofs.Common.{◌≡◌, ◌↔◌, List, ℕ, sym, ap, subst, ◌∙◌, arith}
-use Rattle.cbor_diag.specs.declared.encode.notation.context.Content.TheVariants.{Bytes}
+use Rattle.std.proofs.Common.{◌≡◌, ◌↔◌, List, ℕ, None, refl, sym, ap, subst, ◌∙◌, arith}
 use Rattle.cbor_diag.specs.declared.encode.encoding.Encoding.TheVariants.{Base16}
-use Rattle.cbor_diag.specs.declared.encode.notation.context.Layout.TheVariants.{Compact}
+use Rattle.cbor_diag.specs.Layout.{Compact}
 use Rattle.cbor_diag.specs.Item.{Item}
 use Rattle.cbor_diag.specs.Facts.{IsWellFormed, diag_of, normal_of}
 use Rattle.cbor_diag.specs.Notation.{Reads}
@@ -12,10 +11,10 @@ use Rattle.cbor_diag.proofs.ReadBack.{reads_back}
 use Rattle.cbor_diag.proofs.notation.OneReading.{one_reading}
 
 text_read : (i : Item) → IsWellFormed i → Reads 128 (diag_of i) (normal_of i)
-text_read i well = reads_back 1 128 (omega arith) (in_encoding Compact Base16) i well
+text_read i well = reads_back 1 128 (omega arith) (in_encoding Compact Base16) None i refl well
 
 text_of_normal : (i : Item) → IsWellFormed i → diag_of (normal_of i) ≡ diag_of i
-text_of_normal i well = normal_text 1 128 (omega arith) Base16 Bytes i well
+text_of_normal i well = normal_text 1 128 (omega arith) Base16 None i well
 
 pub texts_alike : (i j : Item) → IsWellFormed i → IsWellFormed j → (diag_of i ≡ diag_of j) ↔ (normal_of i ≡ normal_of j)
 texts_alike i j well other = (

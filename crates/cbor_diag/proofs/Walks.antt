@@ -3,7 +3,7 @@ use Rattle.std.proofs.Common.{◌≡◌, Result, OnOk, ℕ, ◌+◌, ◌<◌, Li
 use Rattle.std.specs.List.{AllByRecursion, flat_map}
 use Rattle.std.proofs.lemmas.List.{drop_more}
 use Rattle.std.proofs.lemmas.Result.{on_ok_weaker}
-use Rattle.cbor_notes.proofs.Trees.{all_front, all_back}
+use Rattle.cbor_notes.proofs.columns.Trees.{all_front, all_back}
 use Rattle.cbor_diag.specs.Item.{Chunk}
 use Rattle.cbor_notes.specs.Layout.{DumpLine}
 use Rattle.cbor_diag.specs.Dump.{content_lines, piece_line}

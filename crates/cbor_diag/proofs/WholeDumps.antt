@@ -5,7 +5,7 @@ use Rattle.std.specs.String.{string_bytes}
 use Rattle.cbor_notes.specs.Columns.{IsPlain}
 use Rattle.cbor_notes.specs.LineTree.{IsFit}
 use Rattle.cbor_notes.specs.Layout.{DumpLine, layout, line_text, width_of}
-use Rattle.cbor_notes.proofs.Trees.{fit_width}
+use Rattle.cbor_notes.proofs.columns.Trees.{fit_width}
 use Rattle.cbor_diag.specs.declared.encode.dump.pass.Pass.{Pass}
 use Rattle.cbor_diag.specs.declared.encode.dump.pass.Pass.TheVariants as pass
 use Rattle.cbor_diag.specs.declared.encode.dump.writer.Writer.{Writer}

@@ -1,10 +1,10 @@
 -- Diagnostic notation on one line, without blanks (RFC 7049 section 6).
-use Rattle.std.specs.Prelude.{ℕ, ◌-◌, List}
+use Rattle.std.specs.Prelude.{ℕ, List}
 use Rattle.cbor_diag.specs.declared.encode.encoding.Encoding.{Encoding}
-use Rattle.cbor_diag.specs.declared.encode.notation.context.Layout.TheVariants.{Compact}
+use Rattle.cbor_diag.specs.Layout.{Compact}
 use Rattle.cbor_diag.specs.Item.{Item}
-use Rattle.cbor_diag.specs.NotationText.{in_encoding, text_at}
+use Rattle.cbor_diag.specs.NotationText.{in_encoding, text_at_level}
 
--- an item that stands at this level, its byte strings in this encoding
+-- an item at this level, its byte strings in this encoding
 abbrev pub compact : Encoding → ℕ → Item → List ℕ
-compact e level i = text_at (129 - level) (in_encoding Compact e) i
+compact e level i = text_at_level level (in_encoding Compact e) i

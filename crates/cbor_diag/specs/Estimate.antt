@@ -10,45 +10,45 @@ use Rattle.cbor_diag.specs.Item.{Chunk, Atom, integer, negative, byte_string, te
 abbrev pub digit_count : ℕ → ℕ
 digit_count n = length (decimal n)
 
-abbrev pub full_bytes : Chunk → ℕ
-full_bytes c = 2 * length c.bytes + 4
+abbrev pub estimated_bytes : Chunk → ℕ
+estimated_bytes c = 2 * length c.bytes + 4
 
-abbrev pub full_text : Chunk → ℕ
-full_text c = length c.bytes + 2
+abbrev pub estimated_text : Chunk → ℕ
+estimated_text c = length c.bytes + 2
 
-abbrev pub full_float : FloatWidth → ℕ
-full_float float_width.Sixteen = 11
-full_float float_width.ThirtyTwo = 15
-full_float _ = 23
+abbrev pub estimated_float : FloatWidth → ℕ
+estimated_float float_width.Sixteen = 11
+estimated_float float_width.ThirtyTwo = 15
+estimated_float _ = 23
 
 -- Of a negative integer it is the encoded number whose digits count.
-abbrev pub full_atom : Atom → ℕ
-full_atom (integer n w) = digit_count n + 2
-full_atom (negative n w) = digit_count n + 3
-full_atom (byte_string c) = full_bytes c
-full_atom (text_string c) = full_text c
-full_atom (byte_chunks cs) = 4 + sum_by (λ c. full_bytes c + 2) cs
-full_atom (text_chunks cs) = 4 + sum_by (λ c. full_text c + 2) cs
-full_atom (float bits w) = full_float w
-full_atom (simple n) = digit_count n + 8
+abbrev pub estimated_atom : Atom → ℕ
+estimated_atom (integer n w) = digit_count n + 2
+estimated_atom (negative n w) = digit_count n + 3
+estimated_atom (byte_string c) = estimated_bytes c
+estimated_atom (text_string c) = estimated_text c
+estimated_atom (byte_chunks cs) = 4 + sum_by (λ c. estimated_bytes c + 2) cs
+estimated_atom (text_chunks cs) = 4 + sum_by (λ c. estimated_text c + 2) cs
+estimated_atom (float bits w) = estimated_float w
+estimated_atom (simple n) = digit_count n + 8
 
 -- The whole sum. A member of a container counts two more, for what separates it from the next; a map's
 -- member is a key with its value.
 abbrev mutual
-  pub full : Item → ℕ
-  full (atom a) = full_atom a
-  full (array is w) = 4 + full_items is
-  full (spec.map ps w) = 4 + full_pairs ps
-  full (tagged t w i) = digit_count t + 2 + full i
+  pub estimated_length : Item → ℕ
+  estimated_length (atom a) = estimated_atom a
+  estimated_length (array is w) = 4 + estimated_items is
+  estimated_length (spec.map ps w) = 4 + estimated_pairs ps
+  estimated_length (tagged t w i) = digit_count t + 2 + estimated_length i
 
-  pub full_items : Items → ℕ
-  full_items no_items = 0
-  full_items (item i is) = full i + 2 + full_items is
+  pub estimated_items : Items → ℕ
+  estimated_items no_items = 0
+  estimated_items (item i is) = estimated_length i + 2 + estimated_items is
 
-  pub full_pairs : Pairs → ℕ
-  full_pairs no_pairs = 0
-  full_pairs (pair k v ps) = full k + full v + 2 + full_pairs ps
+  pub estimated_pairs : Pairs → ℕ
+  estimated_pairs no_pairs = 0
+  estimated_pairs (pair k v ps) = estimated_length k + estimated_length v + 2 + estimated_pairs ps
 
--- a container this long or longer takes a line for each member
-abbrev pub long : ℕ
-long = 60
+-- a container that is estimated as this long or longer takes a line for each member
+abbrev pub one_line_limit : ℕ
+one_line_limit = 60

@@ -18,7 +18,7 @@ major_number major.Map = 5
 major_number major.Tag = 6
 major_number major.Special = 7
 
--- the number can be written in this width; an open width is the shortest that fits
+-- the number can be written in this width; an unstated width is the shortest that fits
 abbrev pub FitsWidth : IntegerWidth → ℕ → Type 0
 FitsWidth Unknown n = n < 2 ^ 64
 FitsWidth Zero n = n < 24
@@ -47,7 +47,7 @@ stated Unknown n = shortest n
 stated w n = w
 
 -- Three bits of major type, then five of info: the number itself up to 23, or 24 to 27 and the number
--- in the next 1, 2, 4 or 8 bytes, big endian. An open width has no head of its own.
+-- in the next 1, 2, 4 or 8 bytes, big endian. An unstated width has no head of its own.
 abbrev pub head : ℕ → ℕ → IntegerWidth → List ℕ
 head major n Unknown = []
 head major n Zero = (32 * major + n) ∷ []

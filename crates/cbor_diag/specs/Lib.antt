@@ -11,6 +11,7 @@ pub mod Bytes
 pub mod Refused
 pub mod Turns
 pub mod Reading
+pub mod HeadErrors
 pub mod Counting
 pub mod Stack
 pub mod Answer
@@ -25,7 +26,10 @@ pub mod ShownLines
 pub mod Passes
 pub mod Embedded
 pub mod Estimate
+pub mod Layout
+pub mod ContainerStyle
 pub mod NotationText
+pub mod LayoutView
 pub mod Notes
 pub mod Compact
 pub mod Pretty

@@ -1,17 +1,15 @@
--- What a text tells of an item: two items have the same compact text exactly where their normal forms are
+-- What a text keeps of an item: two items have the same compact text exactly where their normal forms are
 -- equal.
-use Rattle.std.specs.Prelude.{ℕ, zero, suc, ◌-◌, List, ◌++◌, map, Option, Some, None, nat_lt, if◌then◌else◌}
+use Rattle.std.specs.Prelude.{ℕ, zero, suc, List, ◌++◌, map, Option, Some, None, nat_lt, if◌then◌else◌, ◌==◌}
 use Rattle.cbor_diag.specs.declared.syntax.IntegerWidth.{IntegerWidth}
 use Rattle.cbor_diag.specs.declared.syntax.IntegerWidth.TheVariants.{Unknown, Zero}
-use Rattle.cbor_diag.specs.declared.encode.notation.context.Content.{Content}
-use Rattle.cbor_diag.specs.declared.encode.notation.context.Content.TheVariants as content
+use Rattle.cbor_diag.specs.WellFormed.{levels_left}
 use Rattle.cbor_diag.specs.Item as spec
 use Rattle.cbor_diag.specs.Item.{Chunk, Atom, integer, negative, byte_string, text_string, byte_chunks, text_chunks, float, simple, Item, atom, array, tagged, Items, no_items, item, Pairs, no_pairs, pair}
 use Rattle.cbor_diag.specs.Written.{encoded, encoded_items, resolve_float}
 use Rattle.cbor_diag.specs.Embedded.{embedded_at, sequence_at}
-use Rattle.cbor_diag.specs.NotationText.{content_below}
 
--- an open width of a number or a tag up to 23 is that of the first byte; every other width stays
+-- an unstated width of a number or a tag up to 23 is that of the first byte; every other width stays
 abbrev pub normal_width : IntegerWidth → ℕ → IntegerWidth
 normal_width Unknown n = if nat_lt n 24 then Zero else Unknown
 normal_width w n = w
@@ -43,36 +41,41 @@ normal_embedded into b None = b
 abbrev pub normal_sequence : (Item → Item) → Items × List ℕ → List ℕ
 normal_sequence into s = encoded_items (normal_items into s.0) ++ s.1
 
--- the bytes of a byte string, so many levels being left below it
-abbrev pub normal_content : ℕ → (Content → Item → Item) → Content → List ℕ → List ℕ
-normal_content left into content.Bytes b = b
-normal_content left into content.Item b = normal_embedded (into content.Bytes) b (embedded_at left b)
-normal_content left into content.Sequence b = normal_sequence (into content.Bytes) (sequence_at left b)
+-- The bytes of a byte string right below this tag, if there is one, with this many levels left below the string:
+-- below tag 24 those of the one item that they are, below tag 63 those of the items.
+abbrev pub normal_content : ℕ → (Item → Item) → Option ℕ → List ℕ → List ℕ
+normal_content left into None b = b
+normal_content left into (Some t) b =
+    if t == 24 then normal_embedded into b (embedded_at left b)
+    else if t == 63 then normal_sequence into (sequence_at left b)
+    else b
 
-abbrev pub normal_atom : ℕ → (Content → Item → Item) → Content → Atom → Atom
-normal_atom left into shown (integer n w) = integer n (normal_width w n)
-normal_atom left into shown (negative n w) = negative n (normal_width w n)
-normal_atom left into shown (byte_string c) = byte_string (record { bytes = normal_content left into shown c.bytes; width = Unknown })
-normal_atom left into shown (text_string c) = text_string (normal_chunk c)
-normal_atom left into shown (byte_chunks cs) = byte_chunks (map normal_chunk cs)
-normal_atom left into shown (text_chunks cs) = text_chunks (map normal_chunk cs)
-normal_atom left into shown (float bits w) = float bits (resolve_float w)
-normal_atom left into shown (simple n) = simple n
+-- an item right below this tag, if there is one
+abbrev pub normal_atom : ℕ → (Option ℕ → Item → Item) → Option ℕ → Atom → Atom
+normal_atom left into tag (integer n w) = integer n (normal_width w n)
+normal_atom left into tag (negative n w) = negative n (normal_width w n)
+normal_atom left into tag (byte_string c) =
+    byte_string (record { bytes = normal_content left (into None) tag c.bytes; width = Unknown })
+normal_atom left into tag (text_string c) = text_string (normal_chunk c)
+normal_atom left into tag (byte_chunks cs) = byte_chunks (map normal_chunk cs)
+normal_atom left into tag (text_chunks cs) = text_chunks (map normal_chunk cs)
+normal_atom left into tag (float bits w) = float bits (resolve_float w)
+normal_atom left into tag (simple n) = simple n
 
-abbrev pub normal_with : ℕ → (Content → Item → Item) → Content → Item → Item
-normal_with left into shown (atom a) = atom (normal_atom left into shown a)
-normal_with left into shown (array is w) = array (normal_items (into content.Bytes) is) (normal_count w)
-normal_with left into shown (spec.map ps w) = spec.map (normal_pairs (into content.Bytes) ps) (normal_count w)
-normal_with left into shown (tagged t w i) = tagged t (normal_width w t) (into (content_below t) i)
+abbrev pub normal_with : ℕ → (Option ℕ → Item → Item) → Option ℕ → Item → Item
+normal_with left into tag (atom a) = atom (normal_atom left into tag a)
+normal_with left into tag (array is w) = array (normal_items (into None) is) (normal_count w)
+normal_with left into tag (spec.map ps w) = spec.map (normal_pairs (into None) ps) (normal_count w)
+normal_with left into tag (tagged t w i) = tagged t (normal_width w t) (into (Some t) i)
 
--- An item with so many levels left for it and what is nested in it, embedded items included: 129 less the
--- level that it stands at. Where none is left there is no item.
-unfoldable pub normal_at : ℕ → Content → Item → Item
-normal_at zero shown i = i
-normal_at (suc left) shown i = normal_with left (normal_at left) shown i
+-- An item with this many levels left for it and what is nested in it, embedded items included: `levels_left`
+-- of its level. Where none is left there is no item.
+unfoldable pub normal_at : ℕ → Option ℕ → Item → Item
+normal_at zero tag i = i
+normal_at (suc left) tag i = normal_with left (normal_at left) tag i
 
--- The normal form of an item that stands at this level. Nothing is left of the widths of lengths, nor of
--- an open width that a text shows as another; bytes that are shown as embedded items are the bytes of the
--- normal items. Nothing else changes.
+-- The normal form of an item at this level. Nothing is left of the widths of lengths, nor of an unstated width
+-- that a text shows as another; bytes that are shown as embedded items are the bytes of the normal items.
+-- Nothing else changes.
 abbrev pub normal : ℕ → Item → Item
-normal level i = normal_at (129 - level) content.Bytes i
+normal level i = normal_at (levels_left level) None i

@@ -40,7 +40,7 @@ abbrev pub width_of : ℕ → IntegerWidth
 width_of indicator = if indicator == 0 then Eight else if indicator == 1 then Sixteen else if indicator == 2 then ThirtyTwo else SixtyFour
 
 -- the width of a number: the stated one; without an indicator that of the first byte for a number up to
--- 23, and an open one for any other
+-- 23, and an unstated one for any other
 abbrev pub number_width : ℕ → Option ℕ → IntegerWidth
 number_width n (Some indicator) = width_of indicator
 number_width n None = if nat_lt n 24 then Zero else Unknown
@@ -91,7 +91,7 @@ pairs_list (pair k v ps) = (k, v) ∷ pairs_list ps
 abbrev pub PairOf : (List ℕ → Item → Type 0) → List ℕ → Item × Item → Type 0
 PairOf Read text p = (key value : List ℕ) × (text ≡ key ++ (codes ":" ++ value)) × Read key p.0 × Read value p.1
 
--- A bracket and nothing where the length is definite, whose width is open then; a bracket and at once `_`
+-- A bracket and nothing where the length is definite, whose width is unstated then; a bracket and at once `_`
 -- where it is not.
 abbrev pub Opens : List ℕ → Option IntegerWidth → List ℕ → Type 0
 Opens bracket (Some w) opening = (w ≡ Unknown) × (opening ≡ bracket)
@@ -133,7 +133,7 @@ abbrev pub BeginsAs : StringKind → List ℕ → Type 0
 BeginsAs bytes_kind text = Unit {0}
 BeginsAs text_kind text = (rest : List ℕ) × (text ≡ codes "\"" ++ rest)
 
--- a string: its pieces, which together are UTF-8 in a text string; the width of its length is open
+-- a string: its pieces, which together are UTF-8 in a text string; the width of its length is unstated
 abbrev pub StringOf : StringKind → (List ℕ → Item → Type 0) → List ℕ → Chunk → Type 0
 StringOf kind Read text c = (c.width ≡ Unknown) × BeginsAs kind text × Joined (PieceOf kind Read) text c.bytes × IsContent kind c.bytes
 

@@ -1,6 +1,7 @@
 -- Diagnostic notation as it is written (RFC 7049 section 6): what compact and pretty text have in common.
 -- They differ in their `Layout` alone.
-use Rattle.std.specs.Prelude.{ℕ, zero, suc, ◌+◌, List, [], ◌∷◌, ◌++◌, map, replicate, codes, Bool, true, false, Option, Some, None, nat_lt, ◌==◌, ◌||◌, if◌then◌else◌}
+use Rattle.std.specs.Prelude.{ℕ, zero, suc, ◌+◌, List, [], ◌∷◌, ◌++◌, map, replicate, codes, Bool, Option, Some, None}
+use Rattle.std.specs.Prelude.{nat_lt, ◌==◌, ◌||◌, if◌then◌else◌}
 use Rattle.std.specs.List.{flat_map}
 use Rattle.std.specs.Fmt.{decimal}
 use Rattle.std.specs.Int.{w16, w32, w64, to_be_bytes}
@@ -12,17 +13,15 @@ use Rattle.cbor_diag.specs.declared.syntax.FloatWidth.{FloatWidth}
 use Rattle.cbor_diag.specs.declared.syntax.FloatWidth.TheVariants as float_width
 use Rattle.cbor_diag.specs.declared.encode.encoding.Encoding.{Encoding}
 use Rattle.cbor_diag.specs.declared.encode.encoding.Encoding.TheVariants.{Base16, Base64, Base64Url}
-use Rattle.cbor_diag.specs.declared.encode.notation.context.Content.{Content}
-use Rattle.cbor_diag.specs.declared.encode.notation.context.Content.TheVariants as content
-use Rattle.cbor_diag.specs.declared.encode.notation.context.Layout.{Layout}
-use Rattle.cbor_diag.specs.declared.encode.notation.context.Layout.TheVariants.{Compact, Pretty}
-use Rattle.cbor_diag.specs.declared.encode.notation.context.Listing.{Listing}
-use Rattle.cbor_diag.specs.declared.encode.notation.context.Listing.TheVariants.{Joined, Row, Lines}
-use Rattle.cbor_diag.specs.declared.encode.notation.context.Context.{Context}
+use Rattle.cbor_diag.specs.Layout as content
+use Rattle.cbor_diag.specs.Layout.{Content, Layout, Compact, Pretty, Context}
+use Rattle.cbor_diag.specs.ContainerStyle as style
+use Rattle.cbor_diag.specs.ContainerStyle.{ContainerStyle, OneLine, MultiLine}
 use Rattle.cbor_diag.specs.Item as spec
 use Rattle.cbor_diag.specs.Item.{Chunk, Atom, integer, negative, byte_string, text_string, byte_chunks, text_chunks, float, simple, Item, atom, array, tagged, Items, no_items, item, Pairs, no_pairs, pair}
 use Rattle.cbor_diag.specs.Embedded.{embedded_at, sequence_at}
-use Rattle.cbor_diag.specs.Estimate.{full_atom, full, long}
+use Rattle.cbor_diag.specs.WellFormed.{levels_left}
+use Rattle.cbor_diag.specs.Estimate.{estimated_length, one_line_limit}
 
 -- ---- numbers, strings, floats, simple values
 
@@ -39,7 +38,7 @@ indicator width.SixtyFour = codes "_3"
 abbrev pub number : ℕ → IntegerWidth → List ℕ
 number n w = decimal n ++ indicator w
 
--- what stands before the quotes of bytes
+-- the prefix of quoted bytes
 abbrev pub prefix : Encoding → List ℕ
 prefix Base16 = codes "h"
 prefix Base64 = codes "b64"
@@ -54,7 +53,7 @@ encoded_bytes Base64Url b = url_safe b
 abbrev pub quoted : Encoding → List ℕ → List ℕ
 quoted e b = prefix e ++ (codes "'" ++ (encoded_bytes e b ++ codes "'"))
 
--- a quote or a backslash, which stands behind a backslash
+-- a quote or a backslash, which is escaped by a backslash
 abbrev pub is_escaped : ℕ → Bool
 is_escaped b = (b == 34) || (b == 92)
 
@@ -65,7 +64,7 @@ escaped b = if is_escaped b then 92 ∷ b ∷ [] else b ∷ []
 abbrev pub text : List ℕ → List ℕ
 text b = codes "\"" ++ (flat_map escaped b ++ codes "\"")
 
--- a float by its bits, an open width being 64 bits
+-- a float by its bits, an unstated width being 64 bits
 abbrev pub float_bits : ℕ → FloatWidth → List ℕ
 float_bits n float_width.Unknown = to_be_bytes w64 n
 float_bits n float_width.Sixteen = to_be_bytes w16 n
@@ -85,68 +84,63 @@ simple_text n =
 
 -- ---- members of containers
 
--- a new line with so many blanks
+-- a new line with this many blanks
 abbrev pub line : ℕ → List ℕ
 line indent = 10 ∷ replicate indent 32
 
 -- one line or several, as pretty text has it: one where the container is short
-abbrev pub listing : Layout → ℕ → Listing
-listing Compact size = Joined
-listing (Pretty indent) size = if nat_lt size long then Row indent else Lines indent
+abbrev pub container_style : Layout → ℕ → ContainerStyle
+container_style Compact size = style.Compact
+container_style (Pretty indent) size = if nat_lt size one_line_limit then OneLine indent else MultiLine indent
 
--- the layout of what stands in the members
-abbrev pub members_layout : Listing → Layout
-members_layout Joined = Compact
-members_layout (Row indent) = Pretty indent
-members_layout (Lines indent) = Pretty (indent + 4)
+-- the layout of the members
+abbrev pub members_layout : ContainerStyle → Layout
+members_layout style.Compact = Compact
+members_layout (OneLine indent) = Pretty indent
+members_layout (MultiLine indent) = Pretty (indent + 4)
 
 -- the indent of a layout, which is a number of blanks that the code can count
 abbrev pub indent_of : Layout → ℕ
 indent_of Compact = 0
 indent_of (Pretty indent) = indent
 
-abbrev pub listing_indent : Listing → ℕ
-listing_indent Joined = 0
-listing_indent (Row indent) = indent
-listing_indent (Lines indent) = indent
+abbrev pub style_indent : ContainerStyle → ℕ
+style_indent style.Compact = 0
+style_indent (OneLine indent) = indent
+style_indent (MultiLine indent) = indent
 
--- what stands before the first member, and before each other one
-abbrev pub start : Listing → Bool → List ℕ
-start Joined first = if first then [] else codes ","
-start (Row indent) first = if first then [] else codes ", "
-start (Lines indent) first = line (indent + 4)
+-- texts with a separator between them
+abbrev pub separated : List ℕ → List (List ℕ) → List ℕ
+separated separator [] = []
+separated separator (m ∷ ms) = m ++ flat_map (λ x. separator ++ x) ms
 
--- what stands behind each member
-abbrev pub end : Listing → List ℕ
-end (Lines indent) = codes ","
-end _ = []
+-- the members, each already written: with a comma between them, or each on a line with a comma after it
+abbrev pub members : ContainerStyle → List (List ℕ) → List ℕ
+members style.Compact ms = separated (codes ",") ms
+members (OneLine indent) ms = separated (codes ", ") ms
+members (MultiLine indent) ms = flat_map (λ m. line (indent + 4) ++ (m ++ codes ",")) ms
 
--- the members, each already written
-unfoldable pub members : Listing → Bool → List (List ℕ) → List ℕ
-members l first [] = []
-members l first (m ∷ ms) = start l first ++ (m ++ (end l ++ members l false ms))
-
--- what stands before the closing bracket
-abbrev pub last_line : Listing → List ℕ
-last_line (Lines indent) = line indent
+-- what is before the closing bracket
+abbrev pub last_line : ContainerStyle → List ℕ
+last_line (MultiLine indent) = line indent
 last_line _ = []
 
 -- members between brackets
-abbrev pub bracketed : Listing → List ℕ → List (List ℕ) → List ℕ → List ℕ
-bracketed l opening ms closing = opening ++ (members l true ms ++ (last_line l ++ closing))
+abbrev pub bracketed : ContainerStyle → List ℕ → List (List ℕ) → List ℕ → List ℕ
+bracketed l opening ms closing = opening ++ (members l ms ++ (last_line l ++ closing))
 
--- an indefinite length has an underscore behind its bracket, and in a row a blank
-abbrev pub mark : Listing → List ℕ
-mark (Row indent) = codes "_ "
+-- an indefinite length has an underscore after its bracket, and on one line a blank
+abbrev pub mark : ContainerStyle → List ℕ
+mark (OneLine indent) = codes "_ "
 mark _ = codes "_"
 
-abbrev pub opened : Listing → List ℕ → Option IntegerWidth → List ℕ
+abbrev pub opened : ContainerStyle → List ℕ → Option IntegerWidth → List ℕ
 opened l bracket (Some w) = bracket
 opened l bracket None = bracket ++ mark l
 
 -- between a key and its value
-abbrev pub colon : Listing → List ℕ
-colon Joined = codes ":"
+abbrev pub colon : ContainerStyle → List ℕ
+colon style.Compact = codes ":"
 colon _ = codes ": "
 
 -- between a sequence and its rest
@@ -154,7 +148,7 @@ abbrev pub rest_gap : Layout → List ℕ
 rest_gap Compact = []
 rest_gap (Pretty indent) = codes " "
 
--- ---- where an item stands
+-- ---- where an item is
 
 -- at the beginning of a text
 abbrev pub in_encoding : Layout → Encoding → Context
@@ -179,6 +173,9 @@ inside l c = in_encoding l c.encoding
 
 -- ---- items, the items in them written by `write`
 
+abbrev pub Writer : Type 0
+Writer = Context → Item → List ℕ
+
 abbrev pub item_texts : (Item → List ℕ) → Items → List (List ℕ)
 item_texts write no_items = []
 item_texts write (item i is) = write i ∷ item_texts write is
@@ -188,11 +185,11 @@ pair_texts write between no_pairs = []
 pair_texts write between (pair k v ps) = (write k ++ (between ++ write v)) ∷ pair_texts write between ps
 
 -- the one item that bytes are, or the bytes
-abbrev pub item_text : (Context → Item → List ℕ) → Context → List ℕ → Option Item → List ℕ
+abbrev pub item_text : Writer → Context → List ℕ → Option Item → List ℕ
 item_text write c b (Some e) = codes "<<" ++ (write (inside c.layout c) e ++ codes ">>")
 item_text write c b None = quoted c.encoding b
 
-abbrev pub embedded_text : (Context → Item → List ℕ) → Context → List ℕ → Option Item → List ℕ
+abbrev pub embedded_text : Writer → Context → List ℕ → Option Item → List ℕ
 embedded_text write c [] e = codes "<<>>"
 embedded_text write c b e = item_text write c b e
 
@@ -202,65 +199,75 @@ rest_text c [] = []
 rest_text c b = rest_gap c.layout ++ quoted c.encoding b
 
 -- items between brackets
-abbrev pub items_text : (Context → Item → List ℕ) → Context → Listing → List ℕ → Items → List ℕ → List ℕ
-items_text write c l opening is closing = bracketed l opening (item_texts (write (inside (members_layout l) c)) is) closing
+abbrev pub items_text : Writer → Context → ContainerStyle → List ℕ → Items → List ℕ → List ℕ
+items_text write c l opening is closing =
+    bracketed l opening (item_texts (write (inside (members_layout l) c)) is) closing
 
-abbrev pub pairs_text : (Context → Item → List ℕ) → Context → Listing → List ℕ → Pairs → List ℕ → List ℕ
-pairs_text write c l opening ps closing = bracketed l opening (pair_texts (write (inside (members_layout l) c)) (colon l) ps) closing
+abbrev pub pairs_text : Writer → Context → ContainerStyle → List ℕ → Pairs → List ℕ → List ℕ
+pairs_text write c l opening ps closing =
+    bracketed l opening (pair_texts (write (inside (members_layout l) c)) (colon l) ps) closing
 
 -- the items of a sequence, laid out so, and its rest
-abbrev pub sequence_listed : (Context → Item → List ℕ) → Context → Listing → Items × List ℕ → List ℕ
+abbrev pub sequence_listed : Writer → Context → ContainerStyle → Items × List ℕ → List ℕ
 sequence_listed write c l s = items_text write c l (codes "<<") s.0 (codes ">>") ++ rest_text c s.1
+
+-- the style of a container there
+abbrev pub item_style : Context → Item → ContainerStyle
+item_style c i = container_style c.layout (estimated_length i)
 
 -- A sequence is laid out as an array of its items.
 abbrev pub sequence_size : Items × List ℕ → ℕ
-sequence_size s = full (array s.0 None)
+sequence_size s = estimated_length (array s.0 None)
 
-abbrev pub sequence_text : (Context → Item → List ℕ) → Context → Items × List ℕ → List ℕ
-sequence_text write c s = sequence_listed write c (listing c.layout (sequence_size s)) s
+abbrev pub sequence_text : Writer → Context → Items × List ℕ → List ℕ
+sequence_text write c s = sequence_listed write c (container_style c.layout (sequence_size s)) s
 
--- The bytes of a byte string of definite length, so many levels being left below it.
-abbrev pub content_text : ℕ → (Context → Item → List ℕ) → Content → Context → List ℕ → List ℕ
+-- The bytes of a byte string of definite length, with this many levels left below it.
+abbrev pub content_text : ℕ → Writer → Content → Context → List ℕ → List ℕ
 content_text left write content.Bytes c b = quoted c.encoding b
 content_text left write content.Item c b = embedded_text write c b (embedded_at left b)
 content_text left write content.Sequence c b = sequence_text write c (sequence_at left b)
 
 -- The chunks of an indefinite string; where there are none, `empty` keeps their kind (RFC 8949 section 8.1).
-abbrev pub chunks_text : Listing → List ℕ → List (List ℕ) → List ℕ
+abbrev pub chunks_text : ContainerStyle → List ℕ → List (List ℕ) → List ℕ
 chunks_text l empty [] = empty
 chunks_text l empty ms = bracketed l (opened l (codes "(") None) ms (codes ")")
 
-abbrev pub byte_chunks_text : Encoding → Listing → List Chunk → List ℕ
+abbrev pub byte_chunks_text : Encoding → ContainerStyle → List Chunk → List ℕ
 byte_chunks_text e l cs = chunks_text l (codes "''_") (map (λ s. quoted e s.bytes) cs)
 
-abbrev pub text_chunks_text : Listing → List Chunk → List ℕ
+abbrev pub text_chunks_text : ContainerStyle → List Chunk → List ℕ
 text_chunks_text l cs = chunks_text l (codes "\"\"_") (map (λ s. text s.bytes) cs)
 
-abbrev pub atom_text : ℕ → (Context → Item → List ℕ) → Context → Atom → List ℕ
+abbrev pub atom_text : ℕ → Writer → Context → Atom → List ℕ
 atom_text left write c (integer n w) = number n w
 atom_text left write c (negative n w) = codes "-" ++ number (n + 1) w
 atom_text left write c (byte_string s) = content_text left write c.content c s.bytes
 atom_text left write c (text_string s) = text s.bytes
-atom_text left write c (byte_chunks cs) = byte_chunks_text c.encoding (listing c.layout (full_atom (byte_chunks cs))) cs
-atom_text left write c (text_chunks cs) = text_chunks_text (listing c.layout (full_atom (text_chunks cs))) cs
+atom_text left write c (byte_chunks cs) = byte_chunks_text c.encoding (item_style c (atom (byte_chunks cs))) cs
+atom_text left write c (text_chunks cs) = text_chunks_text (item_style c (atom (text_chunks cs))) cs
 atom_text left write c (float n w) = float_text n w
 atom_text left write c (simple n) = simple_text n
 
-abbrev pub array_text : (Context → Item → List ℕ) → Context → Listing → Items → Option IntegerWidth → List ℕ
+abbrev pub array_text : Writer → Context → ContainerStyle → Items → Option IntegerWidth → List ℕ
 array_text write c l is w = items_text write c l (opened l (codes "[") w) is (codes "]")
 
-abbrev pub map_text : (Context → Item → List ℕ) → Context → Listing → Pairs → Option IntegerWidth → List ℕ
+abbrev pub map_text : Writer → Context → ContainerStyle → Pairs → Option IntegerWidth → List ℕ
 map_text write c l ps w = pairs_text write c l (opened l (codes "{") w) ps (codes "}")
 
--- an item, so many levels being left below it, and the items in it written by `write`
-abbrev pub text_with : ℕ → (Context → Item → List ℕ) → Context → Item → List ℕ
+-- an item with this many levels left below it, and the items in it written by `write`
+abbrev pub text_with : ℕ → Writer → Context → Item → List ℕ
 text_with left write c (atom a) = atom_text left write c a
-text_with left write c (array is w) = array_text write c (listing c.layout (full (array is w))) is w
-text_with left write c (spec.map ps w) = map_text write c (listing c.layout (full (spec.map ps w))) ps w
+text_with left write c (array is w) = array_text write c (item_style c (array is w)) is w
+text_with left write c (spec.map ps w) = map_text write c (item_style c (spec.map ps w)) ps w
 text_with left write c (tagged t w i) = number t w ++ (codes "(" ++ (write (below t c) i ++ codes ")"))
 
--- An item with so many levels left for it and what is nested in it, embedded items included: 129 less the
--- level that it stands at. Where none is left there is no item.
+-- An item with this many levels left for it and what is nested in it, embedded items included: `levels_left` of its
+-- level. Where none is left there is no item.
 unfoldable pub text_at : ℕ → Context → Item → List ℕ
 text_at zero c i = []
 text_at (suc left) c i = text_with left (text_at left) c i
+
+-- writes an item at this level
+abbrev pub text_at_level : ℕ → Writer
+text_at_level level = text_at (levels_left level)

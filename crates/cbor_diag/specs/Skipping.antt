@@ -17,7 +17,6 @@ use Rattle.cbor_diag.specs.declared.parse.binary.skip.to_come.Count.{Count}
 use Rattle.cbor_diag.specs.declared.parse.binary.skip.to_come.Count.TheVariants.{Definite, ToBreak}
 use Rattle.cbor_diag.specs.declared.parse.binary.skip.to_come.ToCome.{ToCome}
 use Rattle.cbor_diag.specs.declared.parse.binary.skip.to_come.ToCome.TheVariants.{Items, Pairs, Value}
-use Rattle.cbor_diag.specs.Item as spec
 use Rattle.cbor_diag.specs.WellFormed.{deepest}
 use Rattle.cbor_diag.specs.Bytes.{StringKind, bytes_kind, text_kind}
 use Rattle.cbor_diag.specs.Reading.{Read, ◌>>=◌, read_content, read_chunks, read_items, read_pairs, after_break, read_open_items}

@@ -1,9 +1,9 @@
--- The containers that an `Open` and a `Stack` are, in the words of `specs/Counting.antt`.
+-- The containers that a `Frame` and a `Stack` are, in the words of `specs/Counting.antt`.
 use Rattle.std.specs.Prelude.{◌≡◌, ℕ, ◌+◌, ◌-◌, ◌*◌, ◌≤◌, vec_capacity, List, [], ◌∷◌, length, map, Option, Some, None, option_map, Ok}
-use Rattle.cbor_diag.specs.declared.parse.binary.open.Length.{Length}
-use Rattle.cbor_diag.specs.declared.parse.binary.open.Length.TheVariants.{Definite, Indefinite}
-use Rattle.cbor_diag.specs.declared.parse.binary.open.Open.{Open}
-use Rattle.cbor_diag.specs.declared.parse.binary.open.Open.TheVariants as open_item
+use Rattle.cbor_diag.specs.declared.parse.binary.frame.Length.{Length}
+use Rattle.cbor_diag.specs.declared.parse.binary.frame.Length.TheVariants.{Definite, Indefinite}
+use Rattle.cbor_diag.specs.declared.parse.binary.frame.Frame as code
+use Rattle.cbor_diag.specs.declared.parse.binary.frame.Frame.TheVariants as code_frame
 use Rattle.cbor_diag.specs.declared.parse.binary.stack.Stack.{Stack}
 use Rattle.cbor_diag.specs.Item.{Item}
 use Rattle.cbor_diag.specs.View.{view, items_view, pairs_view}
@@ -15,28 +15,28 @@ abbrev pub wanted : Length → ℕ → Wanted
 wanted (Definite n w) held = so_many (n - held) w
 wanted Indefinite held = to_break
 
-abbrev pub frame : Open → Frame
-frame (open_item.Array content len) = items_in (items_view content.items) (wanted len (length content.items))
-frame (open_item.Map content None len) = pairs_in (pairs_view content.items) (wanted len (length content.items))
-frame (open_item.Map content (Some key) len) =
+abbrev pub frame : code.Frame → Frame
+frame (code_frame.Array content len) = items_in (items_view content.items) (wanted len (length content.items))
+frame (code_frame.Map content None len) = pairs_in (pairs_view content.items) (wanted len (length content.items))
+frame (code_frame.Map content (Some key) len) =
     value_of (pairs_view content.items) (view key) (wanted len (length content.items + 1))
-frame (open_item.Tag tag width None) = tag_of tag.0 width
-frame (open_item.Tag tag width (Some value)) = tagged_with tag.0 width (view value)
+frame (code_frame.Tag tag width None) = tag_of tag.0 width
+frame (code_frame.Tag tag width (Some value)) = tagged_with tag.0 width (view value)
 
--- room is made for few members at once, and only where as many bytes follow
-abbrev pub ReservesFew : ℕ → Open → Type 0
-ReservesFew following (open_item.Array content len) = (vec_capacity content ≤ following) × (vec_capacity content ≤ 32)
-ReservesFew following (open_item.Map content key len) =
+-- memory is reserved for few members at once, and only where as many bytes follow
+abbrev pub ReservesFew : ℕ → code.Frame → Type 0
+ReservesFew following (code_frame.Array content len) = (vec_capacity content ≤ following) × (vec_capacity content ≤ 32)
+ReservesFew following (code_frame.Map content key len) =
     (2 * vec_capacity content ≤ following) × (vec_capacity content ≤ 32)
-ReservesFew following (open_item.Tag tag width value) = Unit {0}
+ReservesFew following (code_frame.Tag tag width value) = Unit {0}
 
 -- the last of a list, and those before it
-abbrev pub last_of : List Open → Option Open
+abbrev pub last_of : List code.Frame → Option code.Frame
 last_of [] = None
 last_of (x ∷ []) = Some x
 last_of (x ∷ y ∷ xs) = last_of (y ∷ xs)
 
-abbrev pub before_last : List Open → List Open
+abbrev pub before_last : List code.Frame → List code.Frame
 before_last [] = []
 before_last (x ∷ []) = []
 before_last (x ∷ y ∷ xs) = x ∷ before_last (y ∷ xs)

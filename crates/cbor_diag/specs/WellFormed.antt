@@ -1,5 +1,5 @@
 -- Which items have an encoding (RFC 7049 section 2).
-use Rattle.std.specs.Prelude.{ℕ, ◌+◌, ◌^◌, ◌<◌, ◌≤◌, length, Option, Some, None, IsUtf8}
+use Rattle.std.specs.Prelude.{ℕ, ◌+◌, ◌-◌, ◌^◌, ◌<◌, ◌≤◌, length, Option, Some, None, IsUtf8}
 use Rattle.std.specs.List.{AllByRecursion}
 use Rattle.cbor_diag.specs.declared.syntax.IntegerWidth.{IntegerWidth}
 use Rattle.cbor_diag.specs.declared.syntax.FloatWidth.{FloatWidth}
@@ -14,6 +14,10 @@ use Rattle.cbor_diag.specs.Head.{FitsWidth}
 abbrev pub deepest : ℕ
 deepest = 128
 
+-- how many levels are left for an item at this level and the items in it
+abbrev pub levels_left : ℕ → ℕ
+levels_left level = deepest + 1 - level
+
 -- the length fits its width, and the bytes are bytes
 pub record IsByteChunk (c : Chunk) : Type 0 where
   pub fits : FitsWidth c.width (length c.bytes)
@@ -25,7 +29,7 @@ pub record IsTextChunk (c : Chunk) : Type 0 where
   pub bytes : AllByRecursion (λ b. b < 256) c.bytes
   pub utf8 : IsUtf8 c.bytes
 
--- the bits of a float can be written in this width; an open one is 64 bits
+-- the bits of a float can be written in this width; an unstated one is 64 bits
 abbrev pub FitsFloat : FloatWidth → ℕ → Type 0
 FitsFloat float_width.Unknown bits = bits < 2 ^ 64
 FitsFloat float_width.Sixteen bits = bits < 2 ^ 16

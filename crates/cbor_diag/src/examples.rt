@@ -14,7 +14,7 @@ ghost use Rattle.cbor_diag.specs.Embedded.{embedded, sequence};
 ghost use Rattle.cbor_diag.specs.Compact.{compact};
 ghost use Rattle.cbor_diag.specs.Dump.{dump, lines};
 ghost use Rattle.cbor_diag.specs.Pieces.{text_pieces};
-ghost use Rattle.cbor_diag.specs.Estimate.{full};
+ghost use Rattle.cbor_diag.specs.Estimate.{estimated_length};
 ghost use Rattle.cbor_diag.specs.Normal.{normal};
 ghost use Rattle.cbor_diag.specs.Pretty.{pretty};
 ghost use Rattle.cbor_diag.specs.HexText.{strip};
@@ -117,9 +117,9 @@ pub(crate) fn normal_form()
     ensures past { normal 1 (atom (integer 24 Unknown)) ≡ atom (integer 24 Unknown) }
 {}
 
-/// Pretty text: what is 59 long stands in one line, what is longer has a line for each member.
+/// Pretty text: what is 59 long is on one line, what is longer has a line for each member.
 pub(crate) fn pretty_text()
-    ensures estimate { full (ones 11) ≡ 59 }
+    ensures estimate { estimated_length (ones 11) ≡ 59 }
     ensures row { pretty Base16 1 0 (ones 11) ≡ codes "[1, 1, 1, 1, 1, 1, 1, 1, 1, 1, 1]" }
     ensures lines { pretty Base16 1 0 (array (item (ones 12) no_items) (Some Zero))
         ≡ codes "[\n    [\n        1,\n        1,\n        1,\n        1,\n        1,\n        1,\n        1,\n        1,\n        1,\n        1,\n        1,\n        1,\n    ],\n]" }

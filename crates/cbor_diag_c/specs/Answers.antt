@@ -14,7 +14,7 @@ abbrev pub IfError : ℤ → (ℕ → Type 0) → Type 0
 IfError (pos n) Fact = ⊤
 IfError (negsuc n) Fact = Fact (n + 1)
 
--- The buffer after a text was written to it: as much of the text as there is room for, and what stood after.
+-- The buffer after a text was written to it: as much of the text as there is room for, and what was after that.
 abbrev pub written : List ℕ → List ℕ → List ℕ
 written text buffer = take (length buffer) text ++ drop (length text) buffer
 
@@ -22,12 +22,12 @@ written text buffer = take (length buffer) text ++ drop (length text) buffer
 abbrev pub no_form : ℕ
 no_form = 11
 
--- A conversion of so many bytes, and the buffer after it.
+-- A conversion with an output of this length, and the buffer after it.
 abbrev pub IsWhole : ℕ → ℕ → List ℕ → List ℕ → List ℕ → ℕ → Type 0
 IsWhole from to input old new n =
     (whole : List ℕ) × IsConversion from to input (Ok whole) × (n ≡ length whole) × (new ≡ written whole old)
 
--- why there is no conversion, by the error's number, want of memory aside
+-- why there is no conversion, by the error's number, out of memory aside
 abbrev pub IsWhy : ℕ → ℕ → List ℕ → ℕ → Type 0
 IsWhy from to input n =
     ((e : Error) × (n ≡ number_of e) × IsConversion from to input (Err e))

@@ -6,7 +6,7 @@ use Rattle.cbor_diag.specs.declared.parse.binary.skip.answer.Extent.TheVariants.
 use Rattle.cbor_diag.specs.Extent.{IsExtent}
 use Rattle.cbor_diag.specs.Refusals.{number_of}
 
--- an item of so many bytes, which end here
+-- an item of this length, which ends here
 abbrev pub IsItemOf : List ℕ → ℕ → ℕ → Type 0
 IsItemOf input n end = IsExtent input (Item n) × (end ≡ n)
 

@@ -37,8 +37,8 @@ fn read_as(form: To) -> Source
 
 /// Converts an input from one form to another.
 ///
-/// Answers the length of the whole output, of which as much is written as there is room for; or minus the
-/// number of the error, and then nothing is written.
+/// Answers the length of the whole output, of which as much is written as there is room for; or
+/// minus the number of the error, and then nothing is written.
 #[unsafe(no_mangle)]
 pub extern "C" fn cbor_diag_convert(
     alloc: Global,

@@ -6,11 +6,12 @@ ghost use Rattle.cbor_diag_c.specs.Answers.{IfLength, IfError};
 use crate::answer::refused;
 use cbor_diag::{Error, Extent, extent};
 
-/// Tells how some bytes begin, and takes no memory.
+/// How some bytes begin; allocates nothing.
 ///
-/// Answers how many bytes the item at the front takes, or minus the number of the error: that the bytes are
-/// cut, or that no item begins so. `end` gets how many first bytes tell that: those of the item, all that
-/// are cut, or those that show the error.
+/// Returns how many bytes the item at the front takes, or minus the number of the error: `CutShort`
+/// if the bytes end before the item does, else why the item is malformed. Sets `end` to how many
+/// first bytes decide that: those of the item, all of them if they are cut, or those that show the
+/// error.
 #[unsafe(no_mangle)]
 pub extern "C" fn cbor_diag_extent(input: &[u8], end: &mut usize) -> i64
     ensures item { IfLength result (λ n. IsItemOf input.now n end.new) }

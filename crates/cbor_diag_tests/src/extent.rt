@@ -1,5 +1,5 @@
-// `extent`: what it answers of examples worked out by hand, and that of all other inputs it answers what
-// `parse_bytes_partial` does, with the end of an error where fewer bytes are cut.
+// `extent`: what it answers of examples worked out by hand, and that of all other inputs it answers
+// what `parse_bytes_partial` does, with the end of an error where fewer bytes are cut.
 
 use crate::calls::bytes_of;
 use crate::samples::SAMPLES;
@@ -69,7 +69,7 @@ const CUTS: [&[u8]; 9] = [
     b"\xc1",
 ];
 
-/// What stands in the place of a byte: heads of each kind, the break, and bytes of no UTF-8.
+/// What replaces a byte: heads of each kind, the break, and bytes of no UTF-8.
 const CHANGES: [u8; 10] = [0x00, 0x1c, 0x41, 0x5f, 0x61, 0x7f, 0x82, 0xbf, 0xc3, 0xff];
 
 /// The least number of first bytes that have an error.
@@ -102,7 +102,7 @@ fn check_as_read(rt: &impl Abort, alloc: Global, bytes: &[u8]) -> Result<(), Err
     Ok(())
 }
 
-/// The first so many bytes, or all where there are fewer.
+/// The first `count` bytes, or all if there are fewer.
 fn front(bytes: &[u8], count: usize) -> &[u8] {
     bytes.get(..count).unwrap_or(bytes)
 }
@@ -152,7 +152,7 @@ fn examples(rt: HostRuntime) -> Result<(), Fail> {
     Ok(())
 }
 
-/// So many openings, and then a number.
+/// `count` openings, and then a number.
 fn check_openings(
     rt: &impl Abort,
     alloc: Global,
@@ -220,7 +220,7 @@ fn samples_with_a_byte_changed(rt: HostRuntime) -> Result<(), Fail> {
 
 // ---- docs/BYTES.md
 
-/// The log behind its first record.
+/// The log after its first record.
 fn after_record(log: &[u8]) -> Option<&[u8]> {
     match extent(log) {
         Extent::Item(len) => Some(&log[len..]),

@@ -10,7 +10,7 @@ use std::process::Abort;
 /// Items in hex that have one text, compact and pretty, and the bytes of their normal form: lengths
 /// are as short as they can be, also in bytes that are shown as items.
 const ONE_TEXT: &[(&str, &str, &str)] = &[
-    // each width of a number is told
+    // each width of a number
     ("17", "23", "17"),
     ("1817", "23_0", "1817"),
     ("01", "1", "01"),

@@ -8,7 +8,7 @@ use cbor_diag::{Error, Result};
 use std::alloc::Global;
 use std::process::Abort;
 
-/// Why bytes are no item, by the answer of `parse_bytes_partial`.
+/// Why bytes are not an item, by the result of `parse_bytes_partial`.
 fn refusal_expected(alloc: Global, bytes: &[u8]) -> Option<Error> {
     match read_front(alloc, bytes) {
         Ok(Some((_, used))) if used == bytes.len() => None,

@@ -240,7 +240,7 @@ const LONGEST: &[(&str, &str, &str, usize, &str, &str)] = &[
 ];
 
 /// Items in hex, their pretty texts, and how many letters the longest text has that is on one line
-/// with them in an array: what is left of the estimate 59 tells what the item counts.
+/// with them in an array: what is left of the estimate 59 is the item's own estimate.
 const MEMBERS: &[(&str, &str, usize)] = &[
     ("01", "1", 46),
     ("1864", "100_0", 44),

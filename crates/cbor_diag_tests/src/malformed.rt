@@ -1,4 +1,4 @@
-// What is cut, and what no item begins with.
+// Bytes that are cut, and bytes that begin no item.
 
 use crate::calls::{Input, View, check, check_table, of_bytes, read, read_front};
 use crate::ends::check_faults;

@@ -72,7 +72,7 @@ const READ: &[(&str, &str)] = &[
     ("float'3C00'", "f93c00"),
 ];
 
-/// Texts that are no item, and the name of the error.
+/// Texts that are not an item, and the name of the error.
 const REFUSED: &[(&str, &str)] = &[
     ("", "Notation"),
     ("/x", "Notation"),

@@ -25,7 +25,7 @@ const STRINGS: &[(&str, &str)] = &[
         "d7 40",
         "d7    # suggested base16 encoding, tag(23)\n   40 #   bytes(0)\n      #     \"\"\n",
     ),
-    // escapes stand in one line
+    // escapes are on one line
     ("61 0a", "61    # text(1)\n   0a #   \"\\n\"\n"),
     (
         "63 23 0a 23",

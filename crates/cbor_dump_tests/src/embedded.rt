@@ -33,7 +33,7 @@ const DUMPS: &[(&str, &str)] = &[
                    #                #     f4 # false, simple(20)
 "#,
     ),
-    // why bytes are no item
+    // why bytes are not an item
     (
         "d8 18 41 ff",
         r#"d8 18    # encoded cbor data item, tag(24)
@@ -84,7 +84,7 @@ const DUMPS: &[(&str, &str)] = &[
                #              #     01 # unsigned(1)
 "#,
     ),
-    // the embedded dump is not in the encoding of what stands round it
+    // the embedded dump is not in the encoding of what is around it
     (
         "d5 d8 18 42 41 ff",
         r#"d5            # suggested base64url encoding, tag(21)
@@ -262,7 +262,7 @@ encoded cbor data item
   9f    # array(*)
      ff #   break",
     ),
-    // a rest behind no item, one, and two
+    // a rest after no item, one, and two
     (
         "63(h'ff')",
         "failed to parse remaining encoded cbor sequence\n  no item can have this head",

@@ -1,5 +1,6 @@
-//! Tells by its exit status how the bytes of standard input begin: 0 with a CBOR data item, 1 where they
-//! end before the item does, 2 with an error, 3 where they can't be read or kept. It prints nothing.
+//! Reports by its exit status how the bytes of standard input begin: 0 with a CBOR data item, 1 where
+//! they end before the item does, 2 with an error, 3 where they can't be read or kept. It prints
+//! nothing.
 #![tactic(auto)]
 
 use cbor_diag::{Extent, extent};

@@ -1,5 +1,6 @@
 -- Network addresses as text. IPv6 is written as RFC 5952, sections 4 and 5, recommends.
-use Rattle.std.specs.Prelude.{◌≡◌, ℕ, ◌+◌, ◌≤◌, ◌==◌, nat_le, max, Bool, false, List, [], ◌∷◌, ◌++◌, length, take, drop, map, replicate, if◌then◌else◌, codes, decimal, bytes_eq}
+use Rattle.std.specs.Prelude.{◌≡◌, ℕ, ◌+◌, ◌≤◌, ◌==◌, nat_le, max, Bool, false, List, [], ◌∷◌, ◌++◌, length, take, drop}
+use Rattle.std.specs.Prelude.{map, replicate, if◌then◌else◌, codes, decimal, bytes_eq}
 use Rattle.std.specs.Fmt.{digits}
 use Rattle.std.specs.List.{join_with_byte, prefix_len}
 use Rattle.std.specs.Net.Addr.{segments_of}
@@ -29,7 +30,7 @@ abbrev pub shortened : List ℕ → ℕ → ℕ → List ℕ
 shortened groups start count =
     groups_text (take start groups) ++ codes "::" ++ groups_text (drop (start + count) groups)
 
--- `count` zero groups stand from the place `start` on
+-- there are `count` zero groups from the place `start` on
 abbrev pub IsZeroRun : List ℕ → ℕ → ℕ → Type 0
 IsZeroRun groups start count =
     (start + count ≤ length groups) × (take count (drop start groups) ≡ replicate count 0)
@@ -49,7 +50,7 @@ abbrev pub longest_run : List ℕ → ℕ
 longest_run [] = 0
 longest_run (group ∷ rest) = max (zeros_first (group ∷ rest)) (longest_run rest)
 
--- the first place from which so many zero groups stand, and no more
+-- the first place with that number of zero groups from there on, and no more
 abbrev pub first_run : ℕ → List ℕ → ℕ
 first_run count [] = 0
 first_run count (group ∷ rest) =
@@ -62,7 +63,7 @@ hex_text groups =
     then shortened groups (first_run (longest_run groups) groups) (longest_run groups)
     else groups_text groups
 
--- the first 96 bits of an address that stands for an IPv4 address: 80 zeros and 16 ones
+-- the first 96 bits of an address that maps an IPv4 address: 80 zeros and 16 ones
 abbrev pub ipv4_prefix : List ℕ
 ipv4_prefix = replicate 10 0 ++ 255 ∷ 255 ∷ []
 

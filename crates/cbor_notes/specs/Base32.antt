@@ -1,11 +1,12 @@
 -- Base 32 and base 32 with the extended hex alphabet: RFC 4648, sections 6 and 7.
-use Rattle.std.specs.Prelude.{◌≡◌, ℕ, zero, suc, ◌+◌, ◌-◌, ◌*◌, ◌/◌, ◌%◌, ◌^◌, ◌<◌, ◌≤◌, List, [], ◌∷◌, ◌++◌, map, take, replicate, length, slice_index, codes}
+use Rattle.std.specs.Prelude.{◌≡◌, ℕ, zero, suc, ◌+◌, ◌-◌, ◌*◌, ◌/◌, ◌%◌, ◌^◌, ◌<◌, ◌≤◌, List, [], ◌∷◌, ◌++◌, map, take}
+use Rattle.std.specs.Prelude.{replicate, length, slice_index, codes}
 use Rattle.std.specs.Int.Digits.{AllBelowBase, number_from_digits}
 use Rattle.cbor_notes.specs.AreBytes.{AreBytes}
 use Rattle.cbor_notes.specs.declared.base32.Alphabet.{Alphabet}
 use Rattle.cbor_notes.specs.declared.base32.Alphabet.TheVariants.{Standard, ExtendedHex}
 
--- the 32 characters of an alphabet, at the values of five bits that they stand for
+-- the 32 characters of an alphabet, at their values of five bits
 abbrev pub characters : Alphabet → List ℕ
 characters Standard = codes "ABCDEFGHIJKLMNOPQRSTUVWXYZ234567"
 characters ExtendedHex = codes "0123456789ABCDEFGHIJKLMNOPQRSTUV"
@@ -26,11 +27,11 @@ places base (suc count) number = places base count (number / base) ++ (number % 
 abbrev pub forty_bits : List ℕ → ℕ
 forty_bits group = number_from_digits 256 group * 256 ^ (5 - length group)
 
--- how many digits of five bits it takes to hold so many bytes
+-- how many digits of five bits it takes to hold a number of bytes
 abbrev pub digit_count : ℕ → ℕ
 digit_count bytes = (8 * bytes + 4) / 5
 
--- so many digits hold one to five bytes
+-- numbers of digits that hold one to five bytes
 abbrev pub IsDigitCount : ℕ → Type 0
 IsDigitCount count = (bytes : ℕ) × (0 < bytes) × (bytes ≤ 5) × (count ≡ digit_count bytes)
 

@@ -2,7 +2,7 @@
 use Rattle.std.specs.Prelude.{ℕ, ◌==◌, ◌<◌, List, [], ◌∷◌, ◌++◌, map, replicate, length, take_while, slice_index, codes}
 use Rattle.std.specs.Int.Digits.{digits_of, number_from_digits}
 
--- the 58 characters, at the values that they stand for
+-- the 58 characters, at their values
 abbrev pub characters : List ℕ
 characters = codes "123456789ABCDEFGHJKLMNPQRSTUVWXYZabcdefghijkmnopqrstuvwxyz"
 

@@ -14,11 +14,11 @@ pub record IsPlain (line : DumpLine) : Type 0 where
   pub no_feed : Lacks 10 line.hex
   pub one_line : Lacks 10 line.comment
 
--- of each line of a text, the first `#` stands at that place, counted from 0
+-- of each line of a text, the first `#` is at that place, counted from 0
 abbrev pub IsColumn : ℕ → List ℕ → Type 0
 IsColumn place text = AllByRecursion (λ line. position (λ b. b == 35) line ≡ Some place) (lines text)
 
--- what a text says without its comments: of each line what stands before its first `#`, without blanks
+-- what a text says without its comments: of each line what comes before its first `#`, without blanks
 abbrev pub uncommented : List ℕ → List ℕ
 uncommented text = flat_map (λ line. filter (λ b. not (b == 32)) (before_first (λ b. b == 35) line)) (lines text)
 

@@ -1,6 +1,8 @@
 -- Dates and times of day, as texts and as the days and seconds since 1970-01-01. The dates that there
 -- are, and the number of the day of each, are those of `jiff`.
-use Rattle.std.specs.Prelude.{◌≡◌, ℕ, ◌+◌, ◌*◌, ◌/◌, ◌%◌, ◌≤◌, suc, ℤ, pos, negsuc, ◌+ℤ◌, ◌*ℤ◌, ◌≤ℤ◌, int_le, unsigned_abs, Bool, true, false, ◌&&◌, if◌then◌else◌, Option, Some, None, option_map, List, [], ◌∷◌, ◌++◌, codes, bytes_eq}
+use Rattle.std.specs.Prelude.{◌≡◌, ℕ, ◌+◌, ◌*◌, ◌/◌, ◌%◌, ◌≤◌, suc, ℤ, pos, negsuc, ◌+ℤ◌, ◌*ℤ◌, ◌≤ℤ◌, int_le}
+use Rattle.std.specs.Prelude.{unsigned_abs, Bool, true, false, ◌&&◌, if◌then◌else◌, Option, Some, None, option_map}
+use Rattle.std.specs.Prelude.{List, [], ◌∷◌, ◌++◌, codes, bytes_eq}
 use Rattle.std.specs.Int.{int_div_euclid, int_rem_euclid}
 use Rattle.jiff.specs.Types.{Date}
 use Rattle.jiff.specs.Words.{epoch_day}
@@ -86,11 +88,11 @@ unfoldable pub epoch_of_date : List ℕ → Option (List ℕ)
 epoch_of_date text = first_found day_count (λ n.
     if is_day_text text (calendar_day n) then Some (grouped_signed (day_number n)) else None)
 
--- `20:04:00`, so many seconds after midnight
+-- `20:04:00`, the time of day so far after midnight in seconds
 abbrev pub time_text : ℕ → List ℕ
 time_text seconds = clock_text (seconds / 3600) (seconds / 60 % 60) (seconds % 60)
 
--- the text of the moment so many seconds after 1970-01-01T00:00:00Z: whole days of 86,400 seconds give
+-- the text of the moment `seconds` after 1970-01-01T00:00:00Z: whole days of 86,400 seconds give
 -- its date, and the seconds that are left over its time of day
 unfoldable pub datetime_of_epoch : ℤ → Option (List ℕ)
 datetime_of_epoch seconds =

@@ -1,6 +1,8 @@
 -- The texts of a date, a time of day and an offset from UTC, after RFC 3339, and the seconds since
 -- 1970-01-01T00:00:00Z that they name.
-use Rattle.std.specs.Prelude.{IsTrue, ◌≡◌, ◌⊎◌, ℕ, ◌+◌, ◌*◌, ◌<◌, ◌≤◌, ℤ, pos, neg_ℤ, ◌-ℤ◌, ◌≤ℤ◌, int_le, Bool, ◌&&◌, ◌||◌, Option, Some, None, option_map, option_and_then, List, [], ◌∷◌, ◌++◌, length, take, drop, take_while, get_or, replicate, codes, bytes_eq, nat_eq, ◌==◌, if◌then◌else◌}
+use Rattle.std.specs.Prelude.{IsTrue, ◌≡◌, ◌⊎◌, ℕ, ◌+◌, ◌*◌, ◌<◌, ◌≤◌, ℤ, pos, neg_ℤ, ◌-ℤ◌, ◌≤ℤ◌, int_le, Bool, ◌&&◌}
+use Rattle.std.specs.Prelude.{◌||◌, Option, Some, None, option_map, option_and_then, List, [], ◌∷◌, ◌++◌, length, take}
+use Rattle.std.specs.Prelude.{drop, take_while, get_or, replicate, codes, bytes_eq, nat_eq, ◌==◌, if◌then◌else◌}
 use Rattle.std.specs.Char.{is_ascii_digit}
 use Rattle.std.specs.Fmt.{signed_decimal}
 use Rattle.std.specs.List.{ends_with, list_all}
@@ -13,7 +15,8 @@ use Rattle.cbor_notes.specs.Search.{first_found, first_minute}
 -- `.` and one digit or more, or nothing, and the digits
 pub data IsFraction (text digits : List ℕ) : Type 0 where
   no_fraction : text ≡ [] → digits ≡ [] → IsFraction text digits
-  some_digits : text ≡ 46 ∷ digits → 0 < length digits → IsTrue (list_all is_ascii_digit digits) → IsFraction text digits
+  some_digits : text ≡ 46 ∷ digits → 0 < length digits → IsTrue (list_all is_ascii_digit digits)
+      → IsFraction text digits
 
 -- a sign with hours and minutes, and the seconds that a clock is ahead of UTC, which are negative where
 -- it is behind

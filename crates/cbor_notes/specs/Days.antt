@@ -1,6 +1,7 @@
 -- The days of the calendar, one after the other. They are the dates of `jiff`, with the same numbers, as
 -- the law `calendar_days` of laws.rt states.
-use Rattle.std.specs.Prelude.{◌≡◌, ℕ, zero, suc, ◌+◌, Bool, ◌&&◌, int_le, int_lt, unsigned_abs, ℤ, pos, neg_ℤ, ◌+ℤ◌, ◌-ℤ◌, nat_lt, if◌then◌else◌}
+use Rattle.std.specs.Prelude.{◌≡◌, ℕ, zero, suc, ◌+◌, Bool, ◌&&◌, int_le, int_lt, unsigned_abs, ℤ, pos, neg_ℤ, ◌+ℤ◌}
+use Rattle.std.specs.Prelude.{◌-ℤ◌, nat_lt, if◌then◌else◌}
 use Rattle.jiff.specs.Types.{Date}
 use Rattle.jiff.specs.Words.{days_in_month, epoch_day}
 
@@ -26,7 +27,7 @@ next_day today =
     else if nat_lt today.month 12 then record { year = today.year; month = today.month + 1; day = 1 }
     else record { year = today.year +ℤ pos 1; month = 1; day = 1 }
 
--- the day so many days after -9999-01-01
+-- the day a number of days after -9999-01-01
 unfoldable pub calendar_day : ℕ → CalendarDay
 calendar_day zero = record { year = neg_ℤ (pos 9999); month = 1; day = 1 }
 calendar_day (suc n) = next_day (calendar_day n)
@@ -35,7 +36,7 @@ calendar_day (suc n) = next_day (calendar_day n)
 abbrev pub day_count : ℕ
 day_count = 7_304_484
 
--- the number of the day so many days after -9999-01-01, where 1970-01-01 has the number 0
+-- the number of the day a number of days after -9999-01-01, where 1970-01-01 has the number 0
 abbrev pub day_number : ℕ → ℤ
 day_number n = pos n -ℤ pos 4_371_587
 

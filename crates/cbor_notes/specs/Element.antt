@@ -1,5 +1,6 @@
 -- The elements of typed arrays: RFC 8746, section 2.
-use Rattle.std.specs.Prelude.{ℕ, ◌+◌, ◌-◌, ◌*◌, ◌/◌, ◌%◌, ◌^◌, ◌==◌, nat_le, nat_lt, Bool, true, false, not, ◌&&◌, if◌then◌else◌, Option, Some, None, List, ◌++◌, length, reverse, codes}
+use Rattle.std.specs.Prelude.{ℕ, ◌+◌, ◌-◌, ◌*◌, ◌/◌, ◌%◌, ◌^◌, ◌==◌, nat_le, nat_lt, Bool, true, false, not, ◌&&◌}
+use Rattle.std.specs.Prelude.{if◌then◌else◌, Option, Some, None, List, ◌++◌, length, reverse, codes}
 use Rattle.std.specs.Int.Digits.{number_from_digits}
 use Rattle.hex.specs.Hex.{encode_lower}
 use Rattle.cbor_notes.specs.declared.element.Kind.{Kind}
@@ -29,7 +30,7 @@ size tag = 2 ^ (tag / 16 % 2 + tag % 4)
 abbrev pub element_size : ℕ → Option ℕ
 element_size tag = if is_typed_array tag then Some (size tag) else None
 
--- a number of so many bytes in two's complement, grouped: from half of its range on it is negative
+-- a number of that many bytes in two's complement, grouped: from half of its range on it is negative
 abbrev pub signed_text : ℕ → ℕ → List ℕ
 signed_text bytes number =
     if nat_lt number (2 ^ (8 * bytes - 1)) then grouped number false

@@ -1,7 +1,8 @@
--- How the lines of a dump stand in columns: hex digits on the left, comments on the right.
-use Rattle.std.specs.Prelude.{ℕ, ◌+◌, ◌-◌, ◌*◌, ◌==◌, List, [], ◌∷◌, ◌++◌, length, max, replicate, codes, flat_map, if◌then◌else◌}
+-- How the lines of a dump are laid out in columns: hex digits on the left, comments on the right.
+use Rattle.std.specs.Prelude.{ℕ, ◌+◌, ◌-◌, ◌*◌, ◌==◌, List, [], ◌∷◌, ◌++◌, length, max, replicate, codes, flat_map}
+use Rattle.std.specs.Prelude.{if◌then◌else◌}
 
--- a line: how deep it stands, its hex digits, of which there may be none, and its comment
+-- a line: its depth, its hex digits, of which there may be none, and its comment
 pub record DumpLine : Type 0 where
   pub depth : ℕ
   pub hex : List ℕ

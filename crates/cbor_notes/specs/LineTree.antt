@@ -16,13 +16,14 @@ abbrev pub tree_lines : Line → ℕ → List DumpLine
 tree_lines = fold-Line (ℕ → List DumpLine) tree_step
 
 abbrev pub first_line : Line → ℕ → DumpLine
-first_line line depth = record { depth = depth; hex = string_bytes (out-Line line).hex; comment = string_bytes (out-Line line).comment }
+first_line line depth = record { depth = depth; hex = string_bytes (out-Line line).hex; comment =
+    string_bytes (out-Line line).comment }
 
 -- the lines of several trees, one after the other
 abbrev pub forest_lines : List Line → ℕ → List DumpLine
 forest_lines trees depth = flat_map (λ tree. tree_lines tree depth) trees
 
--- how deep the lines of a tree may stand, and how long the hex of a line may be
+-- how deep the lines of a tree may be, and how long the hex of a line may be
 abbrev pub most_levels : ℕ
 most_levels = 140
 

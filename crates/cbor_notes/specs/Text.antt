@@ -1,5 +1,6 @@
 -- How bytes, text and numbers are written in a comment.
-use Rattle.std.specs.Prelude.{◌≡◌, ◌<◌, ◌≤◌, ℕ, ◌%◌, ◌==◌, ◌&&◌, ◌||◌, nat_lt, nat_le, Bool, List, [], ◌∷◌, ◌++◌, length, if◌then◌else◌, codes, decimal, false, flat_map, encode_utf8}
+use Rattle.std.specs.Prelude.{◌≡◌, ◌<◌, ◌≤◌, ℕ, ◌%◌, ◌==◌, ◌&&◌, ◌||◌, nat_lt, nat_le, Bool, List, [], ◌∷◌, ◌++◌}
+use Rattle.std.specs.Prelude.{length, if◌then◌else◌, codes, decimal, false, flat_map, encode_utf8}
 use Rattle.std.specs.List.{AllByRecursion, concat}
 use Rattle.std.specs.Fmt.{digits}
 use Rattle.std.specs.Str.{chars}
@@ -71,4 +72,5 @@ pub record IsGrouped (digits text : List ℕ) : Type 0 where
 
 -- the text is a number in decimal digits, grouped so, after a minus if it is negative
 abbrev pub IsGroupedNumber : ℕ → Bool → List ℕ → Type 0
-IsGroupedNumber number negative text = (digits : List ℕ) × IsGrouped (decimal number) digits × (text ≡ minus_if negative ++ digits)
+IsGroupedNumber number negative text = (digits : List ℕ) × IsGrouped (decimal number) digits
+    × (text ≡ minus_if negative ++ digits)

@@ -1,6 +1,7 @@
--- The tokens of diagnostic notation: which texts they are, and what they stand for. A text is the list
+-- The tokens of diagnostic notation: which texts they are, and what they mean. A text is the list
 -- of its bytes in UTF-8.
-use Rattle.std.specs.Prelude.{◌≡◌, ◌≢◌, ◌⊎◌, ℕ, ◌+◌, ◌<◌, ◌≤◌, ◌^◌, min, Bool, not, ◌==◌, ◌&&◌, ◌||◌, if◌then◌else◌, IsTrue, List, [], ◌∷◌, ◌++◌, length, flat_map, codes, Option, Some, None}
+use Rattle.std.specs.Prelude.{◌≡◌, ◌≢◌, ◌⊎◌, ℕ, ◌+◌, ◌<◌, ◌≤◌, ◌^◌, min, Bool, not, ◌==◌, ◌&&◌, ◌||◌, if◌then◌else◌}
+use Rattle.std.specs.Prelude.{IsTrue, List, [], ◌∷◌, ◌++◌, length, flat_map, codes, Option, Some, None}
 use Rattle.std.specs.List.{AllByRecursion}
 use Rattle.std.specs.Str.Parse.{IsNumeral, digits_value}
 use Rattle.cbor_notes.specs.declared.token.number.Base.{Base}
@@ -21,12 +22,14 @@ is_whitespace byte = (byte == 32) || (byte == 9) || (byte == 10) || (byte == 13)
 -- `/`, any bytes but `/`, and `/`.
 pub data Blank (comments : Bool) : List ℕ → Type 0 where
   nothing : Blank comments []
-  whitespace : {byte : ℕ} {rest : List ℕ} → IsTrue (is_whitespace byte) → Blank comments rest → Blank comments (byte ∷ rest)
-  comment : {text : List ℕ} (words rest : List ℕ) → IsTrue comments → AllByRecursion (λ byte. byte ≢ 47) words → Blank comments rest → text ≡ 47 ∷ words ++ 47 ∷ rest → Blank comments text
+  whitespace : {byte : ℕ} {rest : List ℕ} → IsTrue (is_whitespace byte) → Blank comments rest
+      → Blank comments (byte ∷ rest)
+  comment : {text : List ℕ} (words rest : List ℕ) → IsTrue comments → AllByRecursion (λ byte. byte ≢ 47) words
+      → Blank comments rest → text ≡ 47 ∷ words ++ 47 ∷ rest → Blank comments text
 
 -- Numbers
 
--- what stands before the digits of a base
+-- what comes before the digits of a base
 abbrev pub prefix : Base → List ℕ
 prefix Decimal = []
 prefix Hexadecimal = codes "0x"
@@ -46,7 +49,8 @@ AreDigits base text value = IsNumeral base text × (value ≡ digits_value base 
 -- what may follow the digits: nothing, or `_` and decimal digits whose value is the indicator, 0 to 3
 abbrev pub Indicates : List ℕ → Option ℕ → Type 0
 Indicates text None = text ≡ []
-Indicates text (Some indicator) = (digits : List ℕ) × (text ≡ codes "_" ++ digits) × AreDigits 10 digits indicator × (indicator ≤ 3)
+Indicates text (Some indicator) = (digits : List ℕ) × (text ≡ codes "_" ++ digits) × AreDigits 10 digits indicator
+    × (indicator ≤ 3)
 
 -- A number, its value and its indicator: the prefix of a base, digits of that base, and an indicator or
 -- none. There may be leading zeros.
@@ -72,12 +76,12 @@ capped value = min value (2 ^ 64 + 1)
 abbrev pub is_special : ℕ → ℕ → Bool
 is_special quote byte = (byte == quote) || (byte == 92)
 
--- a byte of the content as it stands between such quotes: a special one after a backslash, any other as
+-- a byte of the content as it is written between such quotes: a special one after a backslash, any other as
 -- it is
 abbrev pub escaped_byte : ℕ → ℕ → List ℕ
 escaped_byte quote byte = if is_special quote byte then 92 ∷ byte ∷ [] else byte ∷ []
 
--- content as it stands between such quotes
+-- content as it is written between such quotes
 abbrev pub in_quotes : ℕ → List ℕ → List ℕ
 in_quotes quote content = flat_map (escaped_byte quote) content
 
@@ -89,7 +93,9 @@ is_digit comments byte = not (is_whitespace byte || (byte == 39) || (comments &&
 -- digits with a blank, which may be empty, before each of them and after the last
 pub data Spaced (comments : Bool) : List ℕ → List ℕ → Type 0 where
   blank : {text : List ℕ} → Blank comments text → Spaced comments text []
-  digit : {text digits : List ℕ} {byte : ℕ} (before rest : List ℕ) → Blank comments before → IsTrue (is_digit comments byte) → Spaced comments rest digits → text ≡ before ++ byte ∷ rest → Spaced comments text (byte ∷ digits)
+  digit : {text digits : List ℕ} {byte : ℕ} (before rest : List ℕ) → Blank comments before
+      → IsTrue (is_digit comments byte) → Spaced comments rest digits → text ≡ before ++ byte ∷ rest
+      → Spaced comments text (byte ∷ digits)
 
 -- the content of quotes that is empty, or digits with blanks before, between or after them, with at least
 -- one digit

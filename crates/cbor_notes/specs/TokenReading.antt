@@ -1,6 +1,7 @@
 -- Functions that read tokens as the code does, between the code and the sets of texts in `Token`: of a
 -- text each gives what it reads and the rest. No public clause names them.
-use Rattle.std.specs.Prelude.{ℕ, ◌+◌, ◌*◌, Bool, true, false, not, ◌==◌, ◌&&◌, if◌then◌else◌, nat_lt, nat_le, List, [], ◌∷◌, ◌++◌, length, drop, Option, Some, None}
+use Rattle.std.specs.Prelude.{ℕ, ◌+◌, ◌*◌, Bool, true, false, not, ◌==◌, ◌&&◌, if◌then◌else◌, nat_lt, nat_le, List, []}
+use Rattle.std.specs.Prelude.{◌∷◌, ◌++◌, length, drop, Option, Some, None}
 use Rattle.std.specs.Char.{digit_value}
 use Rattle.cbor_notes.specs.Token.{is_whitespace, is_digit, is_special, prefix, radix}
 use Rattle.cbor_notes.specs.declared.token.number.Base.{Base}
@@ -64,7 +65,8 @@ after_run run = with_indicator run.0 run.1 (indicator_of run.1)
 
 -- the number in this base whose digits begin the text
 abbrev pub number_in : Base → List ℕ → Option (ℕ × Option ℕ × List ℕ)
-number_in base digits = if starts_with_digit (radix base) digits then Some (after_run (digit_run (radix base) 0 digits)) else None
+number_in base digits = if starts_with_digit (radix base) digits then Some (after_run (digit_run (radix base) 0 digits))
+    else None
 
 -- the number that begins the text
 abbrev pub number_of : List ℕ → Option (ℕ × Option ℕ × List ℕ)
@@ -78,7 +80,8 @@ with_front front (Some read) = Some (front ++ read.0, read.1)
 -- the content up to the quote, and what follows it; in an escape, the byte after the `\` comes first
 abbrev pub unquoted : ℕ → Bool → List ℕ → Option (List ℕ × List ℕ)
 unquoted quote escape [] = None
-unquoted quote true (byte ∷ rest) = if is_special quote byte then with_front (byte ∷ []) (unquoted quote false rest) else None
+unquoted quote true (byte ∷ rest) = if is_special quote byte then with_front (byte ∷ []) (unquoted quote false rest)
+    else None
 unquoted quote false (byte ∷ rest) =
     if byte == quote then Some ([], rest)
     else if byte == 92 then unquoted quote true rest
@@ -101,4 +104,5 @@ some_digits (Some read) = if nat_lt 0 (length read.0) then Some read else None
 -- the digits of content that is empty or has at least one
 abbrev pub digits_of : Bool → List ℕ → Option (List ℕ × List ℕ)
 digits_of comments [] = None
-digits_of comments (byte ∷ rest) = if byte == 39 then Some ([], rest) else some_digits (digits_in comments false (byte ∷ rest))
+digits_of comments (byte ∷ rest) = if byte == 39 then Some ([], rest)
+    else some_digits (digits_in comments false (byte ∷ rest))

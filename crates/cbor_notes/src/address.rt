@@ -8,8 +8,8 @@ use crate::text::push_hex_byte;
 use std::alloc::{AllocError, Global};
 use std::net::{Ipv4Addr, Ipv6Addr};
 
-/// The IPv4 address of four octets, in network order: four decimal numbers with `.` between them, as
-/// in `192.0.2.1`. The only refusal is want of memory.
+/// The IPv4 address of four octets, in network order: four decimal numbers with `.` between them,
+/// as in `192.0.2.1`. The only error is out of memory.
 pub fn ipv4_text(alloc: Global, octets: &[u8; 4]) -> Result<String, AllocError>
     ensures text { IfOk result (λ text. string_bytes text ≡ spec.ipv4_text octets.now) }
 {
@@ -18,10 +18,10 @@ pub fn ipv4_text(alloc: Global, octets: &[u8; 4]) -> Result<String, AllocError>
 
 /// The IPv6 address of sixteen octets, in network order, as RFC 5952 recommends, sections 4 and 5.
 ///
-/// An address in `::ffff:0:0/96` is `::ffff:` and its last four octets as an IPv4 address. Any other
-/// is eight groups of hex digits in lower case without leading zeros, with `:` between them, and the
-/// first longest run of at least two zero groups is `::`, as in `2001:db8::1`. The only refusal is
-/// want of memory.
+/// An address in `::ffff:0:0/96` is `::ffff:` and its last four octets as an IPv4 address. Any
+/// other is eight groups of hex digits in lower case without leading zeros, with `:` between them,
+/// and the first longest run of at least two zero groups is `::`, as in `2001:db8::1`. The only
+/// error is out of memory.
 pub fn ipv6_text(alloc: Global, octets: &[u8; 16]) -> Result<String, AllocError>
     ensures text { IfOk result (λ text. string_bytes text ≡ spec.ipv6_text octets.now) }
     ensures shortened { IfOk result
@@ -31,7 +31,7 @@ pub fn ipv6_text(alloc: Global, octets: &[u8; 16]) -> Result<String, AllocError>
 }
 
 /// The MAC address of six octets: two hex digits in lower case for each, with `:` between them, as
-/// in `00:00:5e:00:53:01`. The only refusal is want of memory.
+/// in `00:00:5e:00:53:01`. The only error is out of memory.
 pub fn mac_text(alloc: Global, octets: &[u8; 6]) -> Result<String, AllocError>
     ensures text { IfOk result (λ text. string_bytes text ≡ spec.mac_text octets.now) }
 {

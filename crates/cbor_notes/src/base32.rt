@@ -1,6 +1,7 @@
 //! Base 32 and base 32 with the extended hex alphabet, decoded: RFC 4648, sections 6 and 7.
 
-ghost use Rattle.std.specs.Prelude.{◌≡◌, ◌≢◌, ◌-◌, ◌*◌, ◌<◌, ◌≤◌, ◌^◌, ℕ, List, drop, length, replicate, slice_index, Some, IfSome, IfNone, IfOk, IsSomeAnd};
+ghost use Rattle.std.specs.Prelude.{◌≡◌, ◌≢◌, ◌-◌, ◌*◌, ◌<◌, ◌≤◌, ◌^◌, ℕ, List, drop, length};
+ghost use Rattle.std.specs.Prelude.{replicate, slice_index, Some, IfSome, IfNone, IfOk, IsSomeAnd};
 ghost use Rattle.std.specs.Int.Digits.{number_from_digits};
 ghost use Rattle.cbor_notes.specs.AreBytes.{AreBytes};
 ghost use Rattle.cbor_notes.specs.Base32.{
@@ -17,7 +18,7 @@ ghost use Rattle.cbor_notes.specs.Base32.{
 
 use std::alloc::{AllocError, Global};
 
-/// The characters that stand for the 32 values of five bits.
+/// The characters of the 32 values of five bits.
 #[derive(Clone, Copy)]
 enum Alphabet {
     /// `A` to `Z`, and then `2` to `7`: RFC 4648, section 6.
@@ -26,14 +27,15 @@ enum Alphabet {
     ExtendedHex,
 }
 
-/// The bytes that `digits` encode in base 32 (RFC 4648, section 6), or `None` where they encode none:
-/// another character, a length that is no multiple of eight, padding that is not the last group's, or
-/// an unused bit that is set. No digits encode no bytes.
+/// The bytes that `digits` encode in base 32 (RFC 4648, section 6), or `None` where they encode
+/// none: another character, a length that is no multiple of eight, padding that is not the last
+/// group's, or an unused bit that is set. No digits encode no bytes.
 ///
-/// The only refusal is want of memory.
+/// The only error is out of memory.
 pub fn base32_decode(alloc: Global, digits: &[u8]) -> Result<Option<Vec<u8>>, AllocError>
     ensures found { IfOk result
-        (λ found. IfSome found (λ bytes. AreBytes bytes.items × (digits.now ≡ base32 bytes.items))) }
+        (λ found. IfSome found (λ bytes. AreBytes bytes.items
+            × (digits.now ≡ base32 bytes.items))) }
     ensures none { IfOk result (λ found. IfNone found
         ((bytes : List ℕ) → AreBytes bytes → digits.now ≢ base32 bytes)) }
     // No two lists of bytes have the same digits.
@@ -43,13 +45,14 @@ pub fn base32_decode(alloc: Global, digits: &[u8]) -> Result<Option<Vec<u8>>, Al
     decode(alloc, Alphabet::Standard, digits)
 }
 
-/// The bytes that `digits` encode in base 32 with the extended hex alphabet (RFC 4648, section 7), or
-/// `None` where they encode none, as `base32_decode` says.
+/// The bytes that `digits` encode in base 32 with the extended hex alphabet (RFC 4648, section 7),
+/// or `None` where they encode none, as `base32_decode` says.
 ///
-/// The only refusal is want of memory.
+/// The only error is out of memory.
 pub fn base32hex_decode(alloc: Global, digits: &[u8]) -> Result<Option<Vec<u8>>, AllocError>
     ensures found { IfOk result
-        (λ found. IfSome found (λ bytes. AreBytes bytes.items × (digits.now ≡ base32hex bytes.items))) }
+        (λ found. IfSome found (λ bytes. AreBytes bytes.items
+            × (digits.now ≡ base32hex bytes.items))) }
     ensures none { IfOk result (λ found. IfNone found
         ((bytes : List ℕ) → AreBytes bytes → digits.now ≢ base32hex bytes)) }
     // No two lists of bytes have the same digits.
@@ -61,7 +64,8 @@ pub fn base32hex_decode(alloc: Global, digits: &[u8]) -> Result<Option<Vec<u8>>,
 
 fn decode(alloc: Global, alphabet: Alphabet, digits: &[u8]) -> Result<Option<Vec<u8>>, AllocError>
     ensures found { IfOk result
-        (λ found. IfSome found (λ bytes. AreBytes bytes.items × (digits.now ≡ encode alphabet bytes.items))) }
+        (λ found. IfSome found (λ bytes. AreBytes bytes.items
+            × (digits.now ≡ encode alphabet bytes.items))) }
     ensures only { (bytes : List ℕ) → AreBytes bytes → digits.now ≡ encode alphabet bytes
         → IfOk result (λ found. IsSomeAnd found (λ answer. answer.items ≡ bytes)) }
 {
@@ -89,7 +93,7 @@ fn decode(alloc: Global, alphabet: Alphabet, digits: &[u8]) -> Result<Option<Vec
 }
 
 impl Alphabet {
-    /// The five bits that a digit stands for.
+    /// The five bits of a digit.
     fn value(self, digit: u8) -> Option<u8>
         ensures found { IfSome result
             (λ value. (value < 32) × (slice_index (characters self) value ≡ digit)) }
@@ -127,7 +131,8 @@ impl Alphabet {
     fn whole_group(self, digits: &[u8]) -> Option<[u8; 5]>
         requires { length digits.now ≡ 8 }
         ensures found { IfSome result
-            (λ group. AreBytes group × (length group ≡ 5) × (digits.now ≡ encode_group self group)) }
+            (λ group. AreBytes group × (length group ≡ 5)
+                × (digits.now ≡ encode_group self group)) }
         ensures only { (group : List ℕ) → AreBytes group → length group ≡ 5
             → digits.now ≡ encode_group self group → result ≡ Some group }
     {
@@ -154,7 +159,7 @@ impl Alphabet {
     }
 }
 
-/// How many digits of a group stand before its padding: the fewest, of 2, 4, 5, 7 and 8, after which
+/// How many digits of a group come before its padding: the fewest, of 2, 4, 5, 7 and 8, after which
 /// all are `=`.
 fn unpadded_len(digits: &[u8]) -> usize
     requires { length digits.now ≡ 8 }

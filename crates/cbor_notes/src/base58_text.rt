@@ -10,10 +10,10 @@ use std::alloc::{AllocError, Global};
 /// The characters for the digits 0 to 57: digits and letters but for `0`, `I`, `O` and `l`.
 const CHARACTERS: [u8; 58] = *b"123456789ABCDEFGHJKLMNPQRSTUVWXYZabcdefghijkmnopqrstuvwxyz";
 
-/// The base 58 text of sixteen bytes: one `1` for each leading zero byte, and then the digits of the
-/// number that the bytes are, the first byte highest; none for zero.
+/// The base 58 text of sixteen bytes: one `1` for each leading zero byte, and then the digits of
+/// the number that the bytes are, the first byte highest; none for zero.
 ///
-/// The only refusal is want of memory.
+/// The only error is out of memory.
 pub fn base58(alloc: Global, bytes: &[u8; 16]) -> Result<String, AllocError>
     ensures text { IfOk result (λ text. string_bytes text ≡ base58_of bytes.now) }
     // The digits are those whose value is the number, and which do not begin with a zero.
@@ -28,7 +28,7 @@ pub fn base58(alloc: Global, bytes: &[u8; 16]) -> Result<String, AllocError>
     Ok(text)
 }
 
-/// Appends what [`base58`] writes of `bytes` to `text`. After a refusal `text` may end with a part
+/// Appends what [`base58`] writes of `bytes` to `text`. After an error `text` may end with a part
 /// of it.
 pub(crate) fn push_base58(text: &mut String, bytes: &[u8; 16]) -> Result<(), AllocError>
     ensures text { OnOk result

@@ -1,6 +1,7 @@
 //! Base 64, decoded: RFC 4648, sections 4 and 5.
 
-ghost use Rattle.std.specs.Prelude.{◌≡◌, ◌≢◌, ◌⊎◌, ◌*◌, ◌≤◌, ℕ, List, length, map, option_map, IfSome, IfNone, IfOk, IsSomeAnd};
+ghost use Rattle.std.specs.Prelude.{◌≡◌, ◌≢◌, ◌⊎◌, ◌*◌, ◌≤◌, ℕ, List, length, map, option_map};
+ghost use Rattle.std.specs.Prelude.{IfSome, IfNone, IfOk, IsSomeAnd};
 ghost use Rattle.std.specs.List.{list_any};
 ghost use Rattle.std.specs.String.{string_bytes};
 ghost use Rattle.base64.specs.GeneralPurpose.{IsStrict, decoded_of, encode_of};
@@ -14,11 +15,11 @@ use base64::engine::general_purpose::{GeneralPurpose, STANDARD, URL_SAFE_NO_PAD}
 use std::alloc::{AllocError, Global};
 
 /// The bytes that `digits` encode in base 64: either in the alphabet that is safe in URLs, without
-/// padding (RFC 4648, section 5), or in the standard alphabet with padding (section 4); or `None` where
-/// they encode none in either, by another character, a wrong length or padding, or an unused bit that
-/// is set. Digits that are both encode the same bytes in both.
+/// padding (RFC 4648, section 5), or in the standard alphabet with padding (section 4); or `None`
+/// where they encode none in either, by another character, a wrong length or padding, or an unused
+/// bit that is set. Digits that are both encode the same bytes in both.
 ///
-/// The only refusal is want of memory.
+/// The only error is out of memory.
 pub fn base64_any_decode(alloc: Global, digits: &[u8]) -> Result<Option<Vec<u8>>, AllocError>
     ensures found { IfOk result (λ found. IfSome found
         (λ bytes. AreBytes bytes.items
@@ -34,12 +35,12 @@ pub fn base64_any_decode(alloc: Global, digits: &[u8]) -> Result<Option<Vec<u8>>
     decode(alloc, digits, !is_standard_only(digits))
 }
 
-/// The lines that show what `text` encodes in base 64, in the alphabet that is safe in URLs, without
-/// padding, if `url` is set (RFC 4648, section 5), and else in the standard alphabet with padding
-/// (section 4); or `None` where it encodes nothing in that one. There is a line for each sixteen decoded
-/// bytes: their hex digits, in the last line filled up with blanks to the width of the first one's, then
-/// ` # ` and the bytes as [`quoted_bytes`] writes them. Where nothing is decoded there are no lines. The
-/// only refusal is want of memory.
+/// The lines that show what `text` encodes in base 64, in the alphabet that is safe in URLs,
+/// without padding, if `url` is set (RFC 4648, section 5), and else in the standard alphabet with
+/// padding (section 4); or `None` where it encodes nothing in that one. There is a line for each
+/// sixteen decoded bytes: their hex digits, in the last line filled up with blanks to the width of
+/// the first one's, then ` # ` and the bytes as [`quoted_bytes`] writes them. Where nothing is
+/// decoded there are no lines. The only error is out of memory.
 ///
 /// [`quoted_bytes`]: crate::quoted_bytes
 pub fn base64_lines(alloc: Global, text: &str, url: bool) -> Result<Option<Vec<String>>, AllocError>
@@ -52,7 +53,8 @@ pub fn base64_lines(alloc: Global, text: &str, url: bool) -> Result<Option<Vec<S
         (λ lines. map string_bytes lines.items ≡ decoded_lines bytes)) }
     // The same as a function of the text.
     ensures value { IfOk result
-        (λ found. option_map (λ lines. map string_bytes lines.items) found ≡ base64_lines url text.now) }
+        (λ found. option_map (λ lines. map string_bytes lines.items) found
+            ≡ base64_lines url text.now) }
 {
     match decode(alloc, text.as_bytes(), url)? {
         Some(bytes) => Ok(Some(decoded_lines(alloc, &bytes)?)),
@@ -89,8 +91,9 @@ fn decoded_line(alloc: Global, piece: &[u8], width: usize) -> Result<String, All
     Ok(line)
 }
 
-/// Whether one of the digits is `+`, `/` or `=`, which only the standard encoding has. Digits without
-/// them that are the standard encoding of some bytes are the other encoding of these bytes, too.
+/// Whether one of the digits is `+`, `/` or `=`, which only the standard encoding has. Digits
+/// without them that are the standard encoding of some bytes are the other encoding of these bytes,
+/// too.
 fn is_standard_only(digits: &[u8]) -> bool
     ensures { result ≡ list_any is_standard_only digits.now }
 {
@@ -99,8 +102,8 @@ fn is_standard_only(digits: &[u8]) -> bool
         .any(|digit| *digit == b'+' || *digit == b'/' || *digit == b'=')
 }
 
-/// The bytes that `digits` encode in the alphabet that is safe in URLs, without padding, if `url` is
-/// set, and else in the standard alphabet with padding.
+/// The bytes that `digits` encode in the alphabet that is safe in URLs, without padding, if `url`
+/// is set, and else in the standard alphabet with padding.
 fn decode(alloc: Global, digits: &[u8], url: bool) -> Result<Option<Vec<u8>>, AllocError>
     ensures found { IfOk result (λ found. IfSome found
         (λ bytes. AreBytes bytes.items × (digits.now ≡ encoding url bytes.items))) }

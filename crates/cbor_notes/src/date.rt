@@ -1,6 +1,7 @@
 //! Dates, as texts and as days from 1970-01-01.
 
-ghost use Rattle.std.specs.Prelude.{◌≡◌, ◌↔◌, ◌++◌, ℕ, ◌<◌, [], ◌∷◌, pos, IsSome, IfSome, IfOk, OnOk, IsSomeAnd, option_map};
+ghost use Rattle.std.specs.Prelude.{◌≡◌, ◌↔◌, ◌++◌, ℕ, ◌<◌, [], ◌∷◌, pos, IsSome, IfSome, IfOk};
+ghost use Rattle.std.specs.Prelude.{OnOk, IsSomeAnd, option_map};
 ghost use Rattle.std.specs.String.{string_bytes};
 ghost use Rattle.jiff.specs.Types.{Date as CivilDate};
 ghost use Rattle.jiff.specs.Words.{IsDate, IsEpochDay, IsYear, IsYmd, epoch_day};
@@ -14,10 +15,11 @@ use std::alloc::{AllocError, Global};
 
 /// The date of a day, counted from 1970-01-01, as in `2013-03-21`; a year before 0 has a `-` before
 /// its four digits. `None` for a day before -9999-01-01, which is -4371587, or after 9999-12-31,
-/// which is 2932896. The calendar is the Gregorian one, for all years. The only refusal is want of
-/// memory.
+/// which is 2932896. The calendar is the Gregorian one, for all years. The only error is
+/// out of memory.
 pub fn date_of_epoch(alloc: Global, day: i64) -> Result<Option<String>, AllocError>
-    ensures found { IfOk result (λ found. IfSome found (λ text. IsDayText day (string_bytes text))) }
+    ensures found { IfOk result (λ found. IfSome found
+        (λ text. IsDayText day (string_bytes text))) }
     ensures range { IfOk result (λ found. IsSome found ↔ IsEpochDay day) }
     ensures value { IfOk result
         (λ found. option_map string_bytes found ≡ spec.date_of_epoch day) }
@@ -35,8 +37,8 @@ pub fn date_of_epoch(alloc: Global, day: i64) -> Result<Option<String>, AllocErr
 
 /// The day of a date such as `1940-10-09`, counted from 1970-01-01, in groups of three digits as
 /// [`grouped`] writes them. A date is exactly four digits, two and two, with `-` between them, and
-/// the calendar has it (RFC 8943, section 1.1); `None` for any other text. The only refusal is want
-/// of memory.
+/// the calendar has it (RFC 8943, section 1.1); `None` for any other text. The only error is
+/// out of memory.
 ///
 /// [`grouped`]: crate::grouped
 pub fn epoch_of_date(alloc: Global, text: &str) -> Result<Option<String>, AllocError>
@@ -47,7 +49,8 @@ pub fn epoch_of_date(alloc: Global, text: &str) -> Result<Option<String>, AllocE
         (λ found. option_map string_bytes found ≡ spec.epoch_of_date text.now) }
     // No text is that of two dates.
     ensures only { (date : CivilDate) → IsDateText text.now date
-        → IfOk result (λ found. IsSomeAnd found (λ day. string_bytes day ≡ spec.grouped_signed (epoch_day date))) }
+        → IfOk result (λ found. IsSomeAnd found
+            (λ day. string_bytes day ≡ spec.grouped_signed (epoch_day date))) }
 {
     let Some(date) = text_date(text) else {
         return Ok(None);
@@ -127,9 +130,10 @@ pub(crate) fn two_digits(tens: u8, ones: u8) -> Option<u8>
     }
 }
 
-/// Appends a date, as [`date_of_epoch`] writes it. After a refusal `text` may end with a part of it.
+/// Appends a date, as [`date_of_epoch`] writes it. After an error `text` may end with a part of it.
 pub(crate) fn push_date(text: &mut String, date: Date) -> Result<(), AllocError>
-    ensures text { OnOk result (string_bytes text.new ≡ string_bytes text.old ++ spec.date_text date) }
+    ensures text { OnOk result (string_bytes text.new ≡ string_bytes text.old
+        ++ spec.date_text date) }
 {
     push_year(text, date.year())?;
     text.push('-')?;
@@ -141,7 +145,8 @@ pub(crate) fn push_date(text: &mut String, date: Date) -> Result<(), AllocError>
 /// Appends a year of at most four digits, with a `-` before a negative one.
 fn push_year(text: &mut String, year: i16) -> Result<(), AllocError>
     requires { IsYear year }
-    ensures text { OnOk result (string_bytes text.new ≡ string_bytes text.old ++ spec.year_text year) }
+    ensures text { OnOk result (string_bytes text.new ≡ string_bytes text.old
+        ++ spec.year_text year) }
 {
     if year < 0 {
         text.push('-')?;
@@ -149,7 +154,7 @@ fn push_year(text: &mut String, year: i16) -> Result<(), AllocError>
     push_four_digits(text, year.unsigned_abs())
 }
 
-/// Appends a number below 10,000 in four digits. After a refusal `text` may end with some of them.
+/// Appends a number below 10,000 in four digits. After an error `text` may end with some of them.
 fn push_four_digits(text: &mut String, number: u16) -> Result<(), AllocError>
     requires { number < 10000 }
     ensures text { OnOk result
@@ -159,7 +164,7 @@ fn push_four_digits(text: &mut String, number: u16) -> Result<(), AllocError>
     push_two_digits(text, (number % 100) as u8)
 }
 
-/// Appends a number below 100 in two digits. After a refusal `text` may end with one of them.
+/// Appends a number below 100 in two digits. After an error `text` may end with one of them.
 pub(crate) fn push_two_digits(text: &mut String, number: u8) -> Result<(), AllocError>
     requires { number < 100 }
     ensures text { OnOk result

@@ -1,6 +1,8 @@
 //! Dates with a time of day, as texts and as seconds from 1970-01-01T00:00:00Z.
 
-ghost use Rattle.std.specs.Prelude.{IsTrue, length, take_while, ◌≡◌, ◌↔◌, ◌++◌, ℕ, ◌+◌, ◌*◌, ◌/◌, ◌%◌, ◌<◌, ◌≤◌, pos, ◌+ℤ◌, ◌-ℤ◌, ◌*ℤ◌, ℤ, List, IsSome, IfSome, IfOk, OnOk, IsSomeAnd, option_map};
+ghost use Rattle.std.specs.Prelude.{IsTrue, length, take_while, ◌≡◌, ◌↔◌, ◌++◌, ℕ, ◌+◌, ◌*◌, ◌/◌};
+ghost use Rattle.std.specs.Prelude.{◌%◌, ◌<◌, ◌≤◌, pos, ◌+ℤ◌, ◌-ℤ◌, ◌*ℤ◌, ℤ, List, IsSome, IfSome};
+ghost use Rattle.std.specs.Prelude.{IfOk, OnOk, IsSomeAnd, option_map};
 ghost use Rattle.std.specs.Int.{int_div_euclid};
 ghost use Rattle.std.specs.Char.{is_ascii_digit};
 ghost use Rattle.std.specs.List.{list_all};
@@ -21,7 +23,7 @@ const DAY: i64 = 86_400;
 
 /// The moment that many seconds after 1970-01-01T00:00:00Z, in UTC and without leap seconds, as in
 /// `2013-03-21T20:04:00Z`; a year before 0 has a `-` before its four digits. `None` for a moment
-/// before the year -9999 or after the year 9999. The only refusal is want of memory.
+/// before the year -9999 or after the year 9999. The only error is out of memory.
 pub fn datetime_of_epoch(alloc: Global, seconds: i64) -> Result<Option<String>, AllocError>
     ensures found { IfOk result
         (λ found. IfSome found (λ text. IsMomentText seconds (string_bytes text))) }
@@ -51,8 +53,8 @@ pub fn datetime_of_epoch(alloc: Global, seconds: i64) -> Result<Option<String>, 
 /// seconds, perhaps a `.` and digits, and `Z`, `z` or a sign, hours and minutes. Hours are at most
 /// 23, minutes 59, and seconds 60, at any time of day: second 60 counts as the next one. `None` for
 /// any other text. The fraction is cut to nine digits, and written in 3, 6 or 9, the fewest after
-/// which there are zeros alone; it counts on from the seconds, also before 1970. The only refusal is
-/// want of memory.
+/// which there are zeros alone; it counts on from the seconds, also before 1970. The only error is
+/// out of memory.
 pub fn epoch_of_datetime(alloc: Global, text: &str) -> Result<Option<String>, AllocError>
     ensures found { IfOk result (λ found. IfSome found
         (λ answer. (seconds : ℤ) × (digits : List ℕ) × IsDateTimeText text.now seconds digits
@@ -93,8 +95,8 @@ fn read_datetime(text: &[u8]) -> Option<(i64, &[u8])>
     Some((moment_seconds(date, clock, offset), digits))
 }
 
-/// The seconds from 1970-01-01T00:00:00Z to so many seconds after the midnight of a date, on a clock
-/// that is `offset` seconds ahead of UTC.
+/// The seconds from 1970-01-01T00:00:00Z to `clock` seconds after the midnight of a date, on a
+/// clock that is `offset` seconds ahead of UTC.
 fn moment_seconds(date: Date, clock: u32, offset: i32) -> i64
     ensures { result ≡ (epoch_day date *ℤ pos 86400 +ℤ pos clock) -ℤ offset }
 {
@@ -198,7 +200,8 @@ fn push_clock(text: &mut String, seconds: u32) -> Result<(), AllocError>
     push_two_digits(text, (seconds % 60) as u8)
 }
 
-/// Appends a fraction, cut to nine digits: `.` and 3, 6 or 9 digits, or nothing where they are zeros.
+/// Appends a fraction, cut to nine digits: `.` and 3, 6 or 9 digits, or nothing where they are
+/// zeros.
 fn push_fraction(text: &mut String, digits: &[u8]) -> Result<(), AllocError>
     requires { IsTrue (list_all is_ascii_digit digits.now) }
     ensures text { OnOk result
@@ -213,7 +216,7 @@ fn push_fraction(text: &mut String, digits: &[u8]) -> Result<(), AllocError>
     push_digits(text, &nine[..shown])
 }
 
-/// Appends ASCII characters. After a refusal `text` may end with some of them.
+/// Appends ASCII characters. After an error `text` may end with some of them.
 fn push_digits(text: &mut String, digits: &[u8]) -> Result<(), AllocError>
     requires { IsAscii digits.now }
     ensures text { OnOk result (string_bytes text.new ≡ string_bytes text.old ++ digits.now) }

@@ -1,6 +1,8 @@
 //! The elements of typed arrays: RFC 8746, section 2.
 
-ghost use Rattle.std.specs.Prelude.{◌≡◌, [], ◌++◌, is_some, unwrap_or, ◌-◌, ◌<◌, ◌≤◌, ◌*◌, ◌^◌, length, take, reverse, option_map, if◌then◌else◌, IfSome, IfNone, IfOk, OnOk, OnErr, false, true};
+ghost use Rattle.std.specs.Prelude.{◌≡◌, [], ◌++◌, is_some, unwrap_or, ◌-◌, ◌<◌, ◌≤◌, ◌*◌, ◌^◌};
+ghost use Rattle.std.specs.Prelude.{length, take, reverse, option_map, if◌then◌else◌, IfSome};
+ghost use Rattle.std.specs.Prelude.{IfNone, IfOk, OnOk, OnErr, false, true};
 ghost use Rattle.std.specs.Io.{StartsWith};
 ghost use Rattle.std.specs.Int.{IsInRange};
 ghost use Rattle.std.specs.Int.Digits.{number_from_digits};
@@ -26,7 +28,7 @@ struct Element {
     size: usize,
 }
 
-/// The bytes of one element of the typed array that `tag` stands before: 1 to 16 for the tags 64 to 75
+/// The bytes of one element of the typed array of `tag`: 1 to 16 for the tags 64 to 75
 /// and 77 to 87, and `None` for every other tag.
 pub fn element_size(tag: u64) -> Option<usize>
     ensures size { result ≡ spec.element_size tag }
@@ -34,10 +36,10 @@ pub fn element_size(tag: u64) -> Option<usize>
     Some(Element::of_tag(tag)?.size)
 }
 
-/// One element of the typed array that `tag` stands before: `unsigned(1,000)`, `signed(-1)`, or
-/// `float(3c00)`, with numbers grouped and the bits of a float in hex, the highest first, whatever the
-/// order of the bytes. `None` for a tag of no typed array, and for bytes that are not as many as one
-/// element has. The only refusal is want of memory.
+/// One element of the typed array of `tag`: `unsigned(1,000)`, `signed(-1)`, or
+/// `float(3c00)`, with numbers grouped and the bits of a float in hex, the highest first, whatever
+/// the order of the bytes. `None` for a tag of no typed array, and for bytes that are not as many
+/// as one element has. The only error is out of memory.
 pub fn element_text(alloc: Global, tag: u64, bytes: &[u8]) -> Result<Option<String>, AllocError>
     ensures text { IfOk result
         (λ found. option_map string_bytes found ≡ spec.element_text tag bytes.now) }
@@ -51,8 +53,8 @@ pub fn element_text(alloc: Global, tag: u64, bytes: &[u8]) -> Result<Option<Stri
     }
 }
 
-/// Appends what [`element_text`] answers to `text`, and answers whether there is such a text. The only
-/// error is out of memory, and after it `text` is unchanged.
+/// Appends what [`element_text`] answers to `text`, and answers whether there is such a text. The
+/// only error is out of memory, and after it `text` is unchanged.
 pub fn push_element_text(text: &mut String, tag: u64, bytes: &[u8]) -> Result<bool, AllocError>
     ensures some { IfOk result (λ some. some ≡ is_some (spec.element_text tag bytes.now)) }
     ensures text { OnOk result (string_bytes text.new
@@ -72,8 +74,8 @@ pub fn push_element_text(text: &mut String, tag: u64, bytes: &[u8]) -> Result<bo
     Ok(true)
 }
 
-/// Appends an element, whose highest byte comes first, between brackets, after what it is called. After
-/// an error `text` may end with a part of it.
+/// Appends an element, whose highest byte comes first, between brackets, after what it is called.
+/// After an error `text` may end with a part of it.
 fn write_value_text(text: &mut String, kind: Kind, bytes: &[u8]) -> Result<(), AllocError>
     requires { IsInRange 1 16 (length bytes.now) }
     ensures text { OnOk result
@@ -171,8 +173,8 @@ fn number(bytes: &[u8]) -> u128
     number
 }
 
-/// Appends a number in two's complement, grouped: from half of its range on it is negative. After an
-/// error `text` is unchanged.
+/// Appends a number in two's complement, grouped: from half of its range on it is negative. After
+/// an error `text` is unchanged.
 fn push_signed(text: &mut String, bytes: &[u8]) -> Result<(), AllocError>
     requires { IsInRange 1 16 (length bytes.now) }
     ensures text { OnOk result (string_bytes text.new ≡ string_bytes text.old

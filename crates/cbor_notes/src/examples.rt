@@ -1,6 +1,7 @@
-//! What the definitions of `specs/` say of a few inputs: each is computed when the crate is checked, so
-//! that a wrong definition does not pass. Nothing calls these functions.
-ghost use Rattle.std.specs.Prelude.{◌≡◌, [], ◌∷◌, ◌++◌, map, replicate, codes, true, false, Some, None, ◌+◌, ◌^◌, List, ℕ, pos, negsuc, neg_ℤ};
+//! What the definitions of `specs/` say of a few inputs: each is computed when the crate is
+//! checked, so that a wrong definition does not pass. Nothing calls these functions.
+ghost use Rattle.std.specs.Prelude.{◌≡◌, [], ◌∷◌, ◌++◌, map, replicate, codes, true, false, Some};
+ghost use Rattle.std.specs.Prelude.{None, ◌+◌, ◌^◌, List, ℕ, pos, negsuc, neg_ℤ};
 ghost use Rattle.cbor_notes.specs.Address.{ipv4_text, ipv6_text, mac_text};
 ghost use Rattle.cbor_notes.specs.Base32.{base32, base32hex};
 ghost use Rattle.cbor_notes.specs.Base58.{base58_of};
@@ -12,7 +13,8 @@ ghost use Rattle.cbor_notes.specs.Layout.{layout, line_text, reach, width_of};
 ghost use Rattle.cbor_notes.specs.LayoutExamples.{bare, deep, head, number};
 ghost use Rattle.cbor_notes.specs.TagNames.{tag_name};
 ghost use Rattle.cbor_notes.specs.Text.{escaped_text, grouped, quoted_bytes};
-ghost use Rattle.cbor_notes.specs.Token.{Blank, DigitsBetween, IsLongest, IsNumber, IsSomeNumber, capped, in_quotes};
+ghost use Rattle.cbor_notes.specs.Token.{Blank, DigitsBetween, IsLongest, IsNumber, IsSomeNumber};
+ghost use Rattle.cbor_notes.specs.Token.{capped, in_quotes};
 ghost use Rattle.jiff.specs.Types.{Date};
 ghost use Rattle.jiff.specs.Words.{IsYmd, epoch_day};
 ghost use Rattle.cbor_notes.specs.Date.{civil_seconds, clock_text, date_text, grouped_signed};
@@ -22,18 +24,24 @@ ghost use Rattle.cbor_notes.specs.Url.{is_url};
 
 /// The test vectors of RFC 4648, section 10.
 pub(crate) fn base32_vectors()
-    ensures upper { map base32 (codes "" ∷ codes "f" ∷ codes "fo" ∷ codes "foo" ∷ codes "foob" ∷ codes "fooba"
-        ∷ codes "foobar" ∷ []) ≡ codes "" ∷ codes "MY======" ∷ codes "MZXQ====" ∷ codes "MZXW6===" ∷ codes "MZXW6YQ="
+    ensures upper { map base32 (codes "" ∷ codes "f" ∷ codes "fo" ∷ codes "foo" ∷ codes "foob"
+        ∷ codes "fooba"
+        ∷ codes "foobar" ∷ []) ≡ codes "" ∷ codes "MY======" ∷ codes "MZXQ====" ∷ codes "MZXW6==="
+            ∷ codes "MZXW6YQ="
         ∷ codes "MZXW6YTB" ∷ codes "MZXW6YTBOI======" ∷ [] }
-    ensures hex { map base32hex (codes "" ∷ codes "f" ∷ codes "fo" ∷ codes "foo" ∷ codes "foob" ∷ codes "fooba"
-        ∷ codes "foobar" ∷ []) ≡ codes "" ∷ codes "CO======" ∷ codes "CPNG====" ∷ codes "CPNMU===" ∷ codes "CPNMUOG="
+    ensures hex { map base32hex (codes "" ∷ codes "f" ∷ codes "fo" ∷ codes "foo" ∷ codes "foob"
+        ∷ codes "fooba"
+        ∷ codes "foobar" ∷ []) ≡ codes "" ∷ codes "CO======" ∷ codes "CPNG====" ∷ codes "CPNMU==="
+            ∷ codes "CPNMUOG="
         ∷ codes "CPNMUOJ1" ∷ codes "CPNMUOJ1E8======" ∷ [] }
 {}
 
 /// The test vectors of RFC 4648, section 10, and the last two digits of each alphabet.
 pub(crate) fn base64_vectors()
-    ensures vectors { map standard (codes "" ∷ codes "f" ∷ codes "fo" ∷ codes "foo" ∷ codes "foob" ∷ codes "fooba"
-        ∷ codes "foobar" ∷ []) ≡ codes "" ∷ codes "Zg==" ∷ codes "Zm8=" ∷ codes "Zm9v" ∷ codes "Zm9vYg=="
+    ensures vectors { map standard (codes "" ∷ codes "f" ∷ codes "fo" ∷ codes "foo" ∷ codes "foob"
+        ∷ codes "fooba"
+        ∷ codes "foobar" ∷ []) ≡ codes "" ∷ codes "Zg==" ∷ codes "Zm8=" ∷ codes "Zm9v"
+            ∷ codes "Zm9vYg=="
         ∷ codes "Zm9vYmE=" ∷ codes "Zm9vYmFy" ∷ [] }
     ensures standard { standard (0xfb ∷ 0xff ∷ []) ≡ codes "+/8=" }
     ensures url_safe { url_safe (0xfb ∷ 0xff ∷ []) ≡ codes "-_8" }
@@ -47,19 +55,23 @@ pub(crate) fn base58_digits()
 
 /// Seventeen zero bytes are two lines, and blanks fill the second one's digits.
 pub(crate) fn lines_of_decoded()
-    ensures { decoded_lines (replicate 17 0) ≡ codes "00000000000000000000000000000000 # \"\\x00\\x00\\x00\\x00\\x00\\x00\\x00\\x00\\x00\\x00\\x00\\x00\\x00\\x00\\x00\\x00\""
+    ensures { decoded_lines (replicate 17 0)
+        ≡ codes
+        "00000000000000000000000000000000 # \"\\x00\\x00\\x00\\x00\\x00\\x00\\x00\\x00\\x00\\x00\\x00\\x00\\x00\\x00\\x00\\x00\""
         ∷ codes "00                               # \"\\x00\"" ∷ [] }
 {}
 
 /// A text has the lines of what it encodes, and none in the other encoding.
 pub(crate) fn lines_of_texts()
-    ensures standard { base64_lines false (codes "+/8=") ≡ Some (codes "fbff # \"\\xfb\\xff\"" ∷ []) }
+    ensures standard { base64_lines false (codes "+/8=")
+        ≡ Some (codes "fbff # \"\\xfb\\xff\"" ∷ []) }
     ensures url_safe { base64_lines true (codes "-_8") ≡ Some (codes "fbff # \"\\xfb\\xff\"" ∷ []) }
-    ensures other { map (base64_lines true) (codes "+/8=" ∷ codes "-_8=" ∷ codes "-_9" ∷ []) ≡ replicate 3 None }
+    ensures other { map (base64_lines true) (codes "+/8=" ∷ codes "-_8=" ∷ codes "-_9" ∷ [])
+        ≡ replicate 3 None }
     ensures empty { base64_lines false [] ≡ Some [] }
 {}
 
-/// Digits stand in groups of three from the right.
+/// Digits are in groups of three from the right.
 pub(crate) fn numbers_in_groups()
     ensures zero { grouped 0 false ≡ codes "0" }
     ensures one_group { grouped 999 false ≡ codes "999" }
@@ -67,7 +79,7 @@ pub(crate) fn numbers_in_groups()
     ensures three_groups { grouped 1234567 true ≡ codes "-1,234,567" }
 {}
 
-/// Bytes between quotes, and characters that can stand there: of U+0000, U+0085, U+00E9 and U+2028 the
+/// Bytes between quotes, and characters that can be there: of U+0000, U+0085, U+00E9 and U+2028 the
 /// first two are control characters.
 pub(crate) fn escapes()
     ensures bytes { quoted_bytes (0x00 ∷ 0x41 ∷ 0x22 ∷ 0x27 ∷ 0x5c ∷ 0x0a ∷ 0x7f ∷ [])
@@ -76,32 +88,43 @@ pub(crate) fn escapes()
         ≡ codes "\\u{0}\\u{85}" ++ 0xc3 ∷ 0xa9 ∷ 0xe2 ∷ 0x80 ∷ 0xa8 ∷ [] }
 {}
 
-/// An IPv4 address of RFC 5737, a MAC address of RFC 7042, and IPv6 addresses as RFC 5952 has them: the
-/// longest run of zero groups is `::`, of two as long the first, and one zero group by itself stays.
+/// An IPv4 address of RFC 5737, a MAC address of RFC 7042, and IPv6 addresses as RFC 5952 has them:
+/// the longest run of zero groups is `::`, of two as long the first, and one zero group by itself
+/// stays.
 pub(crate) fn addresses()
     ensures ipv4 { ipv4_text (192 ∷ 0 ∷ 2 ∷ 1 ∷ []) ≡ codes "192.0.2.1" }
-    ensures mac { mac_text (0x00 ∷ 0x00 ∷ 0x5e ∷ 0x00 ∷ 0x53 ∷ 0x01 ∷ []) ≡ codes "00:00:5e:00:53:01" }
-    ensures longest { ipv6_text (0x20 ∷ 0x01 ∷ 0 ∷ 0 ∷ 0 ∷ 0 ∷ 0 ∷ 0x01 ∷ 0 ∷ 0 ∷ 0 ∷ 0 ∷ 0 ∷ 0 ∷ 0 ∷ 0x01 ∷ [])
+    ensures mac { mac_text (0x00 ∷ 0x00 ∷ 0x5e ∷ 0x00 ∷ 0x53 ∷ 0x01 ∷ [])
+        ≡ codes "00:00:5e:00:53:01" }
+    ensures longest { ipv6_text (0x20 ∷ 0x01 ∷ 0 ∷ 0 ∷ 0 ∷ 0 ∷ 0 ∷ 0x01 ∷ 0 ∷ 0 ∷ 0 ∷ 0 ∷ 0 ∷ 0 ∷ 0
+        ∷ 0x01 ∷ [])
         ≡ codes "2001:0:0:1::1" }
-    ensures first { ipv6_text (0x20 ∷ 0x01 ∷ 0x0d ∷ 0xb8 ∷ 0 ∷ 0 ∷ 0 ∷ 0 ∷ 0 ∷ 0x01 ∷ 0 ∷ 0 ∷ 0 ∷ 0 ∷ 0 ∷ 0x01 ∷ [])
+    ensures first { ipv6_text (0x20 ∷ 0x01 ∷ 0x0d ∷ 0xb8 ∷ 0 ∷ 0 ∷ 0 ∷ 0 ∷ 0 ∷ 0x01 ∷ 0 ∷ 0 ∷ 0 ∷ 0
+        ∷ 0 ∷ 0x01 ∷ [])
         ≡ codes "2001:db8::1:0:0:1" }
-    ensures one_zero { ipv6_text (0x20 ∷ 0x01 ∷ 0x0d ∷ 0xb8 ∷ 0 ∷ 0 ∷ 0 ∷ 0x01 ∷ 0 ∷ 0x01 ∷ 0 ∷ 0x01 ∷ 0 ∷ 0x01 ∷ 0
+    ensures one_zero { ipv6_text (0x20 ∷ 0x01 ∷ 0x0d ∷ 0xb8 ∷ 0 ∷ 0 ∷ 0 ∷ 0x01 ∷ 0 ∷ 0x01 ∷ 0 ∷ 0x01
+        ∷ 0 ∷ 0x01 ∷ 0
         ∷ 0x01 ∷ []) ≡ codes "2001:db8:0:1:1:1:1:1" }
     ensures zeros { ipv6_text (replicate 16 0) ≡ codes "::" }
-    ensures mapped { ipv6_text (replicate 10 0 ++ 0xff ∷ 0xff ∷ 192 ∷ 0 ∷ 2 ∷ 1 ∷ []) ≡ codes "::ffff:192.0.2.1" }
+    ensures mapped { ipv6_text (replicate 10 0 ++ 0xff ∷ 0xff ∷ 192 ∷ 0 ∷ 2 ∷ 1 ∷ [])
+        ≡ codes "::ffff:192.0.2.1" }
 {}
 
-/// The UUID of sixteen zero bytes, that of sixteen bytes `ff`, and the example of RFC 4122, section 3.
+/// The UUID of sixteen zero bytes, that of sixteen bytes `ff`, and the example of RFC 4122, section
+/// 3.
 pub(crate) fn identifiers()
     ensures nil { uuid_lines (replicate 16 0) ≡ codes "uuid(variant(NCS), version(0, Nil))"
         ∷ codes "base16(00000000-0000-0000-0000-000000000000)"
         ∷ codes "base58(1111111111111111)" ∷ codes "base64(AAAAAAAAAAAAAAAAAAAAAA)" ∷ [] }
-    ensures max { fields_line (replicate 16 0xff) ≡ codes "uuid(variant(Future), version(15, Max))" }
-    ensures example { fields_line (0xf8 ∷ 0x1d ∷ 0x4f ∷ 0xae ∷ 0x7d ∷ 0xec ∷ 0x11 ∷ 0xd0 ∷ 0xa7 ∷ 0x65 ∷ 0x00 ∷ 0xa0
+    ensures max { fields_line (replicate 16 0xff)
+        ≡ codes "uuid(variant(Future), version(15, Max))" }
+    ensures example { fields_line (0xf8 ∷ 0x1d ∷ 0x4f ∷ 0xae ∷ 0x7d ∷ 0xec ∷ 0x11 ∷ 0xd0 ∷ 0xa7
+        ∷ 0x65 ∷ 0x00 ∷ 0xa0
         ∷ 0xc9 ∷ 0x1e ∷ 0x6b ∷ 0xf6 ∷ []) ≡ codes "uuid(variant(RFC4122), version(1, Mac))" }
-    ensures base16 { base16_line (0xf8 ∷ 0x1d ∷ 0x4f ∷ 0xae ∷ 0x7d ∷ 0xec ∷ 0x11 ∷ 0xd0 ∷ 0xa7 ∷ 0x65 ∷ 0x00 ∷ 0xa0
+    ensures base16 { base16_line (0xf8 ∷ 0x1d ∷ 0x4f ∷ 0xae ∷ 0x7d ∷ 0xec ∷ 0x11 ∷ 0xd0 ∷ 0xa7
+        ∷ 0x65 ∷ 0x00 ∷ 0xa0
         ∷ 0xc9 ∷ 0x1e ∷ 0x6b ∷ 0xf6 ∷ []) ≡ codes "base16(f81d4fae-7dec-11d0-a765-00a0c91e6bf6)" }
-    ensures base64 { base64_line (0xf8 ∷ 0x1d ∷ 0x4f ∷ 0xae ∷ 0x7d ∷ 0xec ∷ 0x11 ∷ 0xd0 ∷ 0xa7 ∷ 0x65 ∷ 0x00 ∷ 0xa0
+    ensures base64 { base64_line (0xf8 ∷ 0x1d ∷ 0x4f ∷ 0xae ∷ 0x7d ∷ 0xec ∷ 0x11 ∷ 0xd0 ∷ 0xa7
+        ∷ 0x65 ∷ 0x00 ∷ 0xa0
         ∷ 0xc9 ∷ 0x1e ∷ 0x6b ∷ 0xf6 ∷ []) ≡ codes "base64(+B1Prn3sEdCnZQCgyR5r9g)" }
 {}
 
@@ -111,7 +134,8 @@ pub(crate) fn laid_out()
     ensures reach { reach number ≡ 5 }
     ensures width { width_of (head ∷ number ∷ bare ∷ []) ≡ 5 }
     ensures note { layout (head ∷ number ∷ bare ∷ [])
-        ≡ codes "d8 20 # tag" ++ 10 ∷ codes "   01 #   one" ++ 10 ∷ codes "      #   note" ++ 10 ∷ [] }
+        ≡ codes "d8 20 # tag" ++ 10 ∷ codes "   01 #   one" ++ 10 ∷ codes "      #   note"
+            ++ 10 ∷ [] }
     ensures first { line_text 9 head ≡ codes "d8 20     # tag" ++ 10 ∷ [] }
     ensures deeper { layout (deep ∷ []) ≡ codes "      ff #     break" ++ 10 ∷ [] }
     ensures bare { layout (bare ∷ []) ≡ codes " #   note" ++ 10 ∷ [] }
@@ -145,7 +169,8 @@ pub(crate) fn blanks()
     ensures no_comments { ¬ (Blank false (codes "//")) }
 {}
 
-/// Numbers in their bases, with leading zeros, with indicators of 0 to 3 alone, and the longest of a text.
+/// Numbers in their bases, with leading zeros, with indicators of 0 to 3 alone, and the longest of
+/// a text.
 pub(crate) fn numbers()
     ensures zeros { IsNumber (codes "007") 7 None }
     ensures hexadecimal { IsNumber (codes "0x1aF_1") 431 (Some 1) }
@@ -166,8 +191,8 @@ pub(crate) fn quoted()
     ensures double { in_quotes 34 (codes "it's \"\\") ≡ codes "it's \\\"\\\\" }
 {}
 
-/// Digits with blanks: a comment may hold a quote; blanks alone are no content, nor is a `/` that opens no
-/// comment; without comments a `/` is a digit.
+/// Digits with blanks: a comment may hold a quote; blanks alone are no content, nor is a `/` that
+/// opens no comment; without comments a `/` is a digit.
 pub(crate) fn spaced()
     ensures around { DigitsBetween true (codes " 0/'/1 ") (codes "01") }
     ensures empty { DigitsBetween true [] [] }
@@ -177,12 +202,15 @@ pub(crate) fn spaced()
     ensures quote { (digits : List ℕ) → ¬ (DigitsBetween false (codes "0'1") digits) }
 {}
 
-/// Dates as texts and as days, the first of them the example of RFC 8943, section 1.1, and a time of day.
+/// Dates as texts and as days, the first of them the example of RFC 8943, section 1.1, and a time
+/// of day.
 pub(crate) fn dates()
-    ensures text { (date : Date) → IsYmd (pos 1940) (pos 10) (pos 9) date → date_text date ≡ codes "1940-10-09" }
+    ensures text { (date : Date) → IsYmd (pos 1940) (pos 10) (pos 9) date
+        → date_text date ≡ codes "1940-10-09" }
     ensures day { (date : Date) → IsYmd (pos 1940) (pos 10) (pos 9) date
         → grouped_signed (epoch_day date) ≡ codes "-10,676" }
-    ensures leap_day { (date : Date) → IsYmd (pos 2000) (pos 2) (pos 29) date → epoch_day date ≡ pos 11016 }
+    ensures leap_day { (date : Date) → IsYmd (pos 2000) (pos 2) (pos 29) date
+        → epoch_day date ≡ pos 11016 }
     ensures before_year_0 { (date : Date) → IsYmd (negsuc 0) (pos 12) (pos 31) date
         → date_text date ≡ codes "-0001-12-31" }
     ensures seconds { (date : Date) → IsYmd (pos 2013) (pos 3) (pos 21) date
@@ -198,7 +226,8 @@ pub(crate) fn zones()
     ensures past { ¬ (IsZone (codes "+0130") (pos 5400)) }
 {}
 
-/// A fraction takes three, six or nine digits, is cut after the ninth, and is left out where it is zero.
+/// A fraction takes three, six or nine digits, is cut after the ninth, and is left out where it is
+/// zero.
 pub(crate) fn fractions()
     ensures three { epoch_text (negsuc 0) (codes "5") ≡ codes "-1.500" }
     ensures six { fraction_text (codes "0001") ≡ codes ".000100" }
@@ -208,7 +237,8 @@ pub(crate) fn fractions()
     ensures without { epoch_text (pos 1363896240) [] ≡ codes "1363896240" }
 {}
 
-/// The sizes of the table in RFC 8746, section 2.1, the tag 76 that has none, and elements of both orders.
+/// The sizes of the table in RFC 8746, section 2.1, the tag 76 that has none, and elements of both
+/// orders.
 pub(crate) fn elements()
     ensures unsigned_sizes { map element_size (64 ∷ 65 ∷ 66 ∷ 67 ∷ 68 ∷ 69 ∷ 70 ∷ 71 ∷ [])
         ≡ map Some (1 ∷ 2 ∷ 4 ∷ 8 ∷ 1 ∷ 2 ∷ 4 ∷ 8 ∷ []) }
@@ -224,7 +254,7 @@ pub(crate) fn elements()
     ensures too_long { element_text 64 (1 ∷ 2 ∷ []) ≡ None }
 {}
 
-/// A URL wants a scheme.
+/// A URL needs a scheme.
 pub(crate) fn urls()
     ensures absolute { is_url (codes "http://www.example.com") ≡ true }
     ensures relative { is_url (codes "www.example.com") ≡ false }

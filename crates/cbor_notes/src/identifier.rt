@@ -21,7 +21,7 @@ use uuid::{Uuid, Variant, Version};
 /// The variant is that of RFC 4122, section 4.1.1: `NCS`, `RFC4122`, `Microsoft` or `Future`. The
 /// version is the number of section 4.1.3, whatever the variant, and its name, or `Unknown`; `Nil`
 /// and `Max` are the names of sixteen bytes `00` and sixteen bytes `ff` alone. Base 64 has the
-/// standard alphabet and no padding. The only refusal is want of memory.
+/// standard alphabet and no padding. The only error is out of memory.
 pub fn uuid_lines(alloc: Global, bytes: &[u8; 16]) -> Result<Vec<String>, AllocError>
     ensures texts { IfOk result
         (λ lines. map string_bytes lines.items ≡ spec.uuid_lines bytes.now) }

@@ -1,9 +1,10 @@
-//! Texts that stand in comments beside CBOR data, and that know no item: base 32, base 58 and base 64,
+//! Texts for comments beside CBOR data, which need no item: base 32, base 58 and base 64,
 //! numbers in groups, escaped bytes and texts, addresses, UUIDs, dates, URLs, the elements of typed
-//! arrays and the names of tags; the lines of dumps, in columns; and the tokens of diagnostic notation.
+//! arrays and the names of tags; the lines of dumps, in columns; and the tokens of diagnostic
+//! notation.
 //!
-//! A call that allocates takes an allocator first and answers `AllocError` where a growth was refused;
-//! every other answer depends on its arguments alone.
+//! A call that allocates takes an allocator first and returns `AllocError` if memory runs out;
+//! every other result depends on its arguments alone.
 #![tactic(auto)]
 
 mod address;

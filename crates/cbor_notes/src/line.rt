@@ -1,12 +1,14 @@
 //! The lines of a dump, in two columns: hex digits on the left, comments on the right.
 
-ghost use Rattle.std.specs.Prelude.{◌≡◌, ◌≤◌, ◌<◌, ◌+◌, ◌*◌, ◌++◌, [], length, replicate, IfOk, OnOk, OnErr, IsTrue, ◌↔◌};
+ghost use Rattle.std.specs.Prelude.{◌≡◌, ◌≤◌, ◌<◌, ◌+◌, ◌*◌, ◌++◌, [], length, replicate, IfOk};
+ghost use Rattle.std.specs.Prelude.{OnOk, OnErr, IsTrue, ◌↔◌};
 ghost use Rattle.std.specs.List.{AllByRecursion, flat_map};
 ghost use Rattle.std.specs.String.{string_bytes, string_len, string_capacity};
 ghost use Rattle.std.specs.Str.{IsAscii};
 ghost use Rattle.cbor_notes.specs.Columns.{IsColumn, IsPlain, digits_of, uncommented};
 ghost use Rattle.cbor_notes.specs.Layout.{left_column, line_text, layout, reach, width_of};
-ghost use Rattle.cbor_notes.specs.LineTree.{Fits, IsFit, first_line, forest_lines, most_hex, most_levels, tree_lines};
+ghost use Rattle.cbor_notes.specs.LineTree.{Fits, IsFit, first_line, forest_lines, most_hex};
+ghost use Rattle.cbor_notes.specs.LineTree.{most_levels, tree_lines};
 ghost use Rattle.cbor_notes.specs.declared.line.Line.{out-Line};
 
 use std::alloc::{AllocError, Global};
@@ -19,7 +21,7 @@ const MOST_HEX: usize = 64;
 
 const BLANKS: &str = "                                                                ";
 
-/// A line of a dump, with the lines that stand below it.
+/// A line of a dump, with the lines below it.
 #[derive(Drop)]
 pub struct Line {
     /// The hex digits; a line may have none.
@@ -44,8 +46,8 @@ impl Line {
         }
     }
 
-    /// Whether `merge` lays the tree out: it has at most 140 levels, and the hex of each line is ASCII of at
-    /// most 64 bytes. It takes no memory, and goes no deeper than that.
+    /// Whether `merge` lays the tree out: it has at most 140 levels, and the hex of each line is
+    /// ASCII of at most 64 bytes. It takes no memory, and goes no deeper than that.
     pub fn fits(&self) -> bool
         ensures { IsTrue result ↔ Fits self.now }
     {
@@ -59,7 +61,7 @@ impl Line {
         depth < MOST_LEVELS && self.hex.len() <= MOST_HEX && self.hex.is_ascii()
     }
 
-    /// The same of a tree whose first line stands at a depth.
+    /// The same of a tree whose first line is at a depth.
     #[cycle(fits)]
     fn fits_at(&self, depth: usize) -> bool
         requires { depth ≤ most_levels }
@@ -80,7 +82,7 @@ impl Line {
         }
     }
 
-    /// The width of the left column, of a tree whose first line stands at a depth.
+    /// The width of the left column, of a tree whose first line is at a depth.
     #[cycle(width)]
     fn width_at(&self, depth: usize) -> usize
         requires { AllByRecursion IsFit (tree_lines self.now depth) }
@@ -90,7 +92,7 @@ impl Line {
             .max(greatest_width_at(&self.sublines, depth + 1))
     }
 
-    /// Appends a tree whose first line stands at a depth.
+    /// Appends a tree whose first line is at a depth.
     #[cycle(put)]
     fn put_at(&self, out: &mut String, width: usize, depth: usize) -> Result<(), AllocError>
         requires fits { AllByRecursion IsFit (tree_lines self.now depth) }
@@ -148,16 +150,16 @@ fn put_all_at(
     Ok(())
 }
 
-/// The text of a tree of lines: each line and then its sublines, one deeper, with all comments in one
-/// column, as [`put_line`] writes them. The width of the left column is the farthest that the digits of any
-/// line reach.
+/// The text of a tree of lines: each line and then its sublines, one deeper, with all comments in
+/// one column, as [`put_line`] writes them. The width of the left column is the farthest that the
+/// digits of any line reach.
 ///
-/// The tree has to fit, which [`Line::fits`] tells. The only refusal is want of memory.
+/// The tree has to fit, as [`Line::fits`] checks. The only error is out of memory.
 pub fn merge(alloc: Global, line: &Line) -> Result<String, AllocError>
     requires { Fits line.now }
     ensures text { IfOk result (λ text. string_bytes text ≡ layout (tree_lines line.now 0)) }
-    // Where no digit is a `#` and no line feed stands in the tree, its lines are those of the text, and the
-    // first `#` of each stands in one column.
+    // If no digit is a `#` and the tree has no line feed, its lines are those of the text, and the
+    // first `#` of each is in one column.
     ensures one_column { AllByRecursion IsPlain (tree_lines line.now 0) → IfOk result (λ text.
         IsColumn (width_of (tree_lines line.now 0) + 1) (string_bytes text)) }
     // And without comments and blanks the text is the digits.
@@ -181,7 +183,8 @@ fn blanks(count: usize) -> &'static str
 
 /// Appends `count` blanks.
 fn push_blanks(out: &mut String, count: usize) -> Result<(), AllocError>
-    ensures bytes { OnOk result (string_bytes out.new ≡ string_bytes out.old ++ replicate count 32) }
+    ensures bytes { OnOk result (string_bytes out.new ≡ string_bytes out.old
+        ++ replicate count 32) }
     ensures len { OnOk result (string_len out.new ≡ string_len out.old + count) }
     ensures capacity { string_capacity out.old ≤ string_capacity out.new }
     ensures full { OnErr result (string_capacity out.old < string_len out.old + count) }
@@ -194,7 +197,7 @@ fn push_blanks(out: &mut String, count: usize) -> Result<(), AllocError>
     out.push_str(blanks(left))
 }
 
-/// Appends the left column of a line: its hex behind three blanks for each depth, and blanks up to a
+/// Appends the left column of a line: its hex after three blanks for each depth, and blanks up to a
 /// width.
 fn push_left(out: &mut String, width: usize, depth: usize, hex: &str) -> Result<(), AllocError>
     requires depth { depth ≤ most_levels }
@@ -215,13 +218,13 @@ fn push_left(out: &mut String, width: usize, depth: usize, hex: &str) -> Result<
     push_blanks(out, width - indent - hex.len())
 }
 
-/// Appends one line of a dump to `out`: the digits of `hex` behind three blanks for each `depth`, with
-/// blanks up to `width`, or `width` blanks alone where `hex` is empty; then ` # `, two blanks for each
-/// `depth`, `comment` and a line feed.
+/// Appends one line of a dump to `out`: the digits of `hex` after three blanks for each `depth`,
+/// with blanks up to `width`, or `width` blanks alone where `hex` is empty; then ` # `, two blanks
+/// for each `depth`, `comment` and a line feed.
 ///
-/// `depth` is at most 140, `hex` is ASCII of at most 64 bytes, `width` is at most 484, and hex that isn't
-/// empty fits `width`: `3 * depth + hex.len()` is at most that. The only refusal is want of memory, and
-/// after it `out` is unchanged.
+/// `depth` is at most 140, `hex` is ASCII of at most 64 bytes, `width` is at most 484, and hex that
+/// isn't empty fits `width`: `3 * depth + hex.len()` is at most that. The only error is out of
+/// memory, and after it `out` is unchanged.
 pub fn put_line(
     out: &mut String,
     width: usize,

@@ -3,11 +3,12 @@
 ghost use Rattle.std.specs.Prelude.{◌≡◌, Some, None, MatchOption};
 ghost use Rattle.cbor_notes.specs.TagNames as spec;
 
-/// The name of a tag, or `None` for a tag that has none here. Named are the tags of RFC 7049 section 2.4,
-/// of RFC 8742, 8746, 8943 and 9164, and some of the IANA registry of CBOR tags; docs/NOTES.md has the table.
-/// It takes no memory.
+/// The name of a tag, or `None` for a tag that has none here. Named are the tags of RFC 7049
+/// section 2.4, of RFC 8742, 8746, 8943 and 9164, and some of the IANA registry of CBOR tags;
+/// docs/NOTES.md has the table. It takes no memory.
 pub fn tag_name(number: u64) -> Option<&'static str>
-    ensures { MatchOption result (spec.tag_name number ≡ None) (λ name. spec.tag_name number ≡ Some name.now) }
+    ensures { MatchOption result (spec.tag_name number ≡ None)
+        (λ name. spec.tag_name number ≡ Some name.now) }
 {
     match number {
         0 => Some("standard datetime string"),
@@ -41,7 +42,8 @@ pub fn tag_name(number: u64) -> Option<&'static str>
 
 /// The name of the tag of a typed array (RFC 8746 section 2.1).
 fn array_name(number: u64) -> Option<&'static str>
-    ensures { MatchOption result (spec.array_name number ≡ None) (λ name. spec.array_name number ≡ Some name.now) }
+    ensures { MatchOption result (spec.array_name number ≡ None)
+        (λ name. spec.array_name number ≡ Some name.now) }
 {
     match number {
         64 => Some("typed array of u8"),

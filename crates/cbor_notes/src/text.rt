@@ -1,6 +1,7 @@
 //! Bytes, text and numbers as a comment writes them.
 
-ghost use Rattle.std.specs.Prelude.{◌≡◌, ◌≤◌, ◌<◌, ◌+◌, ◌*◌, [], ◌∷◌, ◌++◌, length, take, IfOk, OnOk, OnErr};
+ghost use Rattle.std.specs.Prelude.{◌≡◌, ◌≤◌, ◌<◌, ◌+◌, ◌*◌, [], ◌∷◌, ◌++◌, length, take, IfOk};
+ghost use Rattle.std.specs.Prelude.{OnOk, OnErr};
 ghost use Rattle.std.specs.Io.{StartsWith};
 ghost use Rattle.std.specs.String.{string_bytes, string_capacity, string_len};
 ghost use Rattle.std.specs.String.Boundary.{IsSplitPoint};
@@ -14,9 +15,9 @@ use std::alloc::{AllocError, Global};
 
 /// `bytes` between quotes, as in `"\x00A\n"`.
 ///
-/// A tab, a carriage return and a line feed are `\t`, `\r` and `\n`; `'`, `"` and `\` stand after a
+/// A tab, a carriage return and a line feed are `\t`, `\r` and `\n`; `'`, `"` and `\` come after a
 /// backslash; the other bytes from `0x20` to `0x7e` are as they are; any other byte is `\x` and two
-/// hex digits in lower case. The only refusal is want of memory.
+/// hex digits in lower case. The only error is out of memory.
 pub fn quoted_bytes(alloc: Global, bytes: &[u8]) -> Result<String, AllocError>
     ensures text { IfOk result (λ text. string_bytes text ≡ spec.quoted_bytes bytes.now) }
 {
@@ -26,8 +27,8 @@ pub fn quoted_bytes(alloc: Global, bytes: &[u8]) -> Result<String, AllocError>
     Ok(text)
 }
 
-/// Appends what [`quoted_bytes`] writes of `bytes` to `text`. The only error is out of memory, and after
-/// it `text` is unchanged.
+/// Appends what [`quoted_bytes`] writes of `bytes` to `text`. The only error is out of memory, and
+/// after it `text` is unchanged.
 pub fn push_quoted_bytes(text: &mut String, bytes: &[u8]) -> Result<(), AllocError>
     ensures text { OnOk result
         (string_bytes text.new ≡ string_bytes text.old ++ spec.quoted_bytes bytes.now) }
@@ -38,8 +39,8 @@ pub fn push_quoted_bytes(text: &mut String, bytes: &[u8]) -> Result<(), AllocErr
     cut_after_error(text, len, answer)
 }
 
-/// Hands on what an append to `text` answered, and cuts `text` back to its first `len` bytes after an
-/// error.
+/// Hands on what an append to `text` answered, and cuts `text` back to its first `len` bytes after
+/// an error.
 pub(crate) fn cut_after_error(
     text: &mut String,
     len: usize,
@@ -91,10 +92,11 @@ fn push_escaped_byte(text: &mut String, byte: u8) -> Result<(), AllocError>
     }
 }
 
-/// Appends the hex digits of `bytes` to `text`, two for each, in lower case. The only error is out of
-/// memory, and after it `text` is unchanged.
+/// Appends the hex digits of `bytes` to `text`, two for each, in lower case. The only error is out
+/// of memory, and after it `text` is unchanged.
 pub fn push_hex(text: &mut String, bytes: &[u8]) -> Result<(), AllocError>
-    ensures text { OnOk result (string_bytes text.new ≡ string_bytes text.old ++ encode_lower bytes.now) }
+    ensures text { OnOk result (string_bytes text.new ≡ string_bytes text.old
+        ++ encode_lower bytes.now) }
     ensures unchanged { OnErr result (string_bytes text.new ≡ string_bytes text.old) }
 {
     // Room for all of them at once, so that no later append can fail.
@@ -114,10 +116,12 @@ const PIECE: usize = 64;
 /// Appends the hex digits of a few bytes to `text`, all at once: byte by byte takes longer.
 fn push_hex_piece(text: &mut String, piece: &[u8]) -> Result<(), AllocError>
     requires { length piece.now ≤ PIECE }
-    ensures text { OnOk result (string_bytes text.new ≡ string_bytes text.old ++ encode_lower piece.now) }
+    ensures text { OnOk result (string_bytes text.new ≡ string_bytes text.old
+        ++ encode_lower piece.now) }
     ensures len { OnOk result (string_len text.new ≡ string_len text.old + 2 * length piece.now) }
     ensures capacity { string_capacity text.old ≤ string_capacity text.new }
-    ensures full { OnErr result (string_capacity text.old < string_len text.old + 2 * length piece.now) }
+    ensures full { OnErr result (string_capacity text.old < string_len text.old + 2 * length
+        piece.now) }
 {
     let mut buffer = [0; 2 * PIECE];
     let digits = &mut buffer[..2 * piece.len()];
@@ -138,10 +142,10 @@ pub(crate) fn push_hex_byte(text: &mut String, byte: u8) -> Result<(), AllocErro
     text.push(char::from(digits[1]))
 }
 
-/// `text` with some of its characters escaped: `"` and `\` stand after a backslash; a tab, a carriage
-/// return and a line feed are `\t`, `\r` and `\n`; the other characters of U+0000 to U+001F and
-/// U+007F to U+009F are `\u{h}` with hex digits in lower case and no leading zero. No quotes are put
-/// round it. The only refusal is want of memory.
+/// `text` with some of its characters escaped: `"` and `\` come after a backslash; a tab, a
+/// carriage return and a line feed are `\t`, `\r` and `\n`; the other characters of U+0000 to
+/// U+001F and U+007F to U+009F are `\u{h}` with hex digits in lower case and no leading zero. No
+/// quotes are put round it. The only error is out of memory.
 pub fn escaped_text(alloc: Global, text: &str) -> Result<String, AllocError>
     ensures text { IfOk result (λ escaped. string_bytes escaped ≡ spec.escaped_text text.now) }
 {
@@ -150,8 +154,8 @@ pub fn escaped_text(alloc: Global, text: &str) -> Result<String, AllocError>
     Ok(escaped)
 }
 
-/// Appends what [`escaped_text`] writes of `text` to `escaped`. The only error is out of memory, and
-/// after it `escaped` is unchanged.
+/// Appends what [`escaped_text`] writes of `text` to `escaped`. The only error is out of memory,
+/// and after it `escaped` is unchanged.
 pub fn push_escaped_text(escaped: &mut String, text: &str) -> Result<(), AllocError>
     ensures text { OnOk result
         (string_bytes escaped.new ≡ string_bytes escaped.old ++ spec.escaped_text text.now) }
@@ -162,12 +166,13 @@ pub fn push_escaped_text(escaped: &mut String, text: &str) -> Result<(), AllocEr
     cut_after_error(escaped, len, answer)
 }
 
-/// The same as `push_escaped_text`, but after an error `escaped` may end with a part of what was to be
-/// appended.
+/// The same as `push_escaped_text`, but after an error `escaped` may end with a part of what was to
+/// be appended.
 fn write_escaped_text(escaped: &mut String, text: &str) -> Result<(), AllocError>
     ensures text { OnOk result
         (string_bytes escaped.new ≡ string_bytes escaped.old ++ spec.escaped_text text.now) }
-    ensures front { OnErr result (StartsWith (string_bytes escaped.new) (string_bytes escaped.old)) }
+    ensures front { OnErr result (StartsWith (string_bytes escaped.new)
+        (string_bytes escaped.old)) }
 {
     for character in text.chars() {
         push_escaped_char(escaped, character)?;
@@ -220,8 +225,8 @@ fn hex_digit(number: u8) -> char
     })
 }
 
-/// `number` in decimal digits, in groups of three from the right with `,` between them, and with `-`
-/// before it if `negative`: `999`, `1,000`, `-1,234,567`. The only refusal is want of memory.
+/// `number` in decimal digits, in groups of three from the right with `,` between them, and with
+/// `-` before it if `negative`: `999`, `1,000`, `-1,234,567`. The only error is out of memory.
 pub fn grouped(alloc: Global, number: u128, negative: bool) -> Result<String, AllocError>
     ensures text { IfOk result (λ text. string_bytes text ≡ spec.grouped number negative) }
     // From the right, each group has three digits.
@@ -233,8 +238,8 @@ pub fn grouped(alloc: Global, number: u128, negative: bool) -> Result<String, Al
     Ok(text)
 }
 
-/// Appends what [`grouped`] writes of `number` to `text`. The only error is out of memory, and after it
-/// `text` is unchanged.
+/// Appends what [`grouped`] writes of `number` to `text`. The only error is out of memory, and
+/// after it `text` is unchanged.
 pub fn push_grouped(text: &mut String, number: u128, negative: bool) -> Result<(), AllocError>
     ensures text { OnOk result
         (string_bytes text.new ≡ string_bytes text.old ++ spec.grouped number negative) }
@@ -245,7 +250,8 @@ pub fn push_grouped(text: &mut String, number: u128, negative: bool) -> Result<(
     cut_after_error(text, len, answer)
 }
 
-/// The same as `push_grouped`, but after an error `text` may end with a part of what was to be appended.
+/// The same as `push_grouped`, but after an error `text` may end with a part of what was to be
+/// appended.
 fn write_grouped(text: &mut String, number: u128, negative: bool) -> Result<(), AllocError>
     ensures text { OnOk result
         (string_bytes text.new ≡ string_bytes text.old ++ spec.grouped number negative) }

@@ -1,5 +1,5 @@
-//! The tokens of diagnostic notation, and its blanks: each call looks at a place of a text and answers
-//! the longest one that begins there, or the content up to its quote.
+//! The tokens of diagnostic notation, and its blanks: each call looks at a place of a text and
+//! answers the longest one that begins there, or the content up to its quote.
 //!
 //! A text is given as bytes of UTF-8. What a token means where the text goes on is for the caller.
 
@@ -15,12 +15,14 @@ pub use number::number_at;
 
 /// Where the longest blank from `at` on ends.
 ///
-/// A blank is any run, also empty, of whitespace (space, tab, line feed, carriage return) and comments. A
-/// comment is `/`, any bytes but `/`, and `/`; a `/` with no other after it belongs to no blank.
+/// A blank is any run, also empty, of whitespace (space, tab, line feed, carriage return) and
+/// comments. A comment is `/`, any bytes but `/`, and `/`; a `/` with no other after it belongs to
+/// no blank.
 pub fn blank_end(text: &[u8], at: usize) -> usize
     requires { at ≤ length text.now }
     ensures within { (at ≤ result) × (result ≤ length text.now) }
-    ensures longest { IsLongest (Blank true) (slice_range text.now at result) (drop result text.now) }
+    ensures longest { IsLongest (Blank true) (slice_range text.now at result)
+        (drop result text.now) }
 {
     end_of_blank(text, at, true)
 }
@@ -38,7 +40,7 @@ pub(crate) fn end_of_blank(text: &[u8], at: usize, comments: bool) -> usize
     end
 }
 
-/// Where the whitespace or the comment at `at` ends, if one stands there.
+/// Where the whitespace or the comment at `at` ends, if there is one.
 fn end_of_piece(text: &[u8], at: usize, comments: bool) -> Option<usize>
     requires { at ≤ length text.now }
     ensures within { IfSome result (λ end. (at < end) × (end ≤ length text.now)) }
@@ -59,8 +61,8 @@ fn end_of_piece(text: &[u8], at: usize, comments: bool) -> Option<usize>
     Some(at + words + 2)
 }
 
-/// Whether a byte is a space, a tab, a line feed or a carriage return. Most bytes of a text are above all of
-/// these, which one comparison tells.
+/// Whether a byte is a space, a tab, a line feed or a carriage return. Most bytes of a text are
+/// above all of these, so one comparison decides.
 pub(crate) fn is_whitespace(byte: u8) -> bool
     ensures { result ≡ is_whitespace byte }
 {

@@ -1,5 +1,5 @@
-//! Base 32, 58 and 64. The vectors of `foobar` are those of RFC 4648, section 10; the encodings of all
-//! bytes and the texts in base 58 were made by an independent implementation.
+//! Base 32, 58 and 64. The vectors of `foobar` are those of RFC 4648, section 10; the encodings of
+//! all bytes and the texts in base 58 were made by an independent implementation.
 
 use cbor_notes::{base32_decode, base32hex_decode, base58, base64_any_decode, base64_lines};
 use std::alloc::{AllocError, Global};
@@ -77,7 +77,7 @@ enum Decoder {
 use Decoder::{Base32, Base32Hex, Base64};
 
 /// Digits, and the bytes that they encode.
-const DECODED: [(Decoder, &str, &[u8]); 33] = [
+const DECODED: &[(Decoder, &str, &[u8])] = &[
     (Base32, "", b""),
     (Base32, "MY======", b"f"),
     (Base32, "MZXQ====", b"fo"),
@@ -117,7 +117,7 @@ const DECODED: [(Decoder, &str, &[u8]); 33] = [
 ];
 
 /// Digits that encode no bytes.
-const REFUSED: [(Decoder, &str); 61] = [
+const REFUSED: &[(Decoder, &str)] = &[
     // bits that no byte uses are set in the last digit
     (Base32, "MZ======"),
     (Base32, "MZXR===="),
@@ -187,7 +187,7 @@ const REFUSED: [(Decoder, &str); 61] = [
 ];
 
 /// Bytes that are no digits, nor UTF-8.
-const NO_DIGITS: [(Decoder, &[u8]); 2] = [(Base32, b"MZXW6YT\xc2"), (Base64, b"Zm9\xc2")];
+const NO_DIGITS: &[(Decoder, &[u8])] = &[(Base32, b"MZXW6YT\xc2"), (Base64, b"Zm9\xc2")];
 
 /// What digits decode to, in hex, and `none` where they encode nothing.
 fn decoded(alloc: Global, decoder: Decoder, digits: &[u8]) -> Result<String, AllocError> {
@@ -204,7 +204,7 @@ fn decoded(alloc: Global, decoder: Decoder, digits: &[u8]) -> Result<String, All
 
 #[test]
 fn digits_are_decoded(rt: HostRuntime) -> Result<(), Fail> {
-    for (decoder, digits, bytes) in DECODED {
+    for &(decoder, digits, bytes) in DECODED {
         let got = decoded(rt.alloc(), decoder, digits.as_bytes())?;
         let want = hex::encode(rt.alloc(), bytes)?;
         assert_eq!(rt; got.as_str(), want.as_str(), "{decoder:?} of {digits:?}");
@@ -214,20 +214,20 @@ fn digits_are_decoded(rt: HostRuntime) -> Result<(), Fail> {
 
 #[test]
 fn other_digits_are_refused(rt: HostRuntime) -> Result<(), Fail> {
-    for (decoder, digits) in REFUSED {
+    for &(decoder, digits) in REFUSED {
         let got = decoded(rt.alloc(), decoder, digits.as_bytes())?;
         assert_eq!(rt; got.as_str(), "none", "{decoder:?} of {digits:?}");
     }
-    for (decoder, digits) in NO_DIGITS {
+    for &(decoder, digits) in NO_DIGITS {
         let got = decoded(rt.alloc(), decoder, digits)?;
         assert_eq!(rt; got.as_str(), "none", "{decoder:?} of {digits:?}");
     }
     Ok(())
 }
 
-/// Texts, whether they are in the encoding for URLs, and the lines of what they encode, each with a line
-/// feed, or `none` where they encode nothing.
-const LINES: [(&str, bool, &str); 14] = [
+/// Texts, whether they are in the encoding for URLs, and the lines of what they encode, each with a
+/// line feed, or `none` where they encode nothing.
+const LINES: &[(&str, bool, &str)] = &[
     (
         "AAAAAAAAAAAAAAAAAAAAAAA=",
         false,
@@ -278,7 +278,7 @@ fn lines_of(alloc: Global, text: &str, url: bool) -> Result<String, AllocError> 
 
 #[test]
 fn decoded_bytes_stand_in_lines_of_sixteen(rt: HostRuntime) -> Result<(), Fail> {
-    for (text, url, want) in LINES {
+    for &(text, url, want) in LINES {
         let got = lines_of(rt.alloc(), text, url)?;
         assert_eq!(rt; got.as_str(), want, "{text:?}, for URLs: {url}");
     }
@@ -286,7 +286,7 @@ fn decoded_bytes_stand_in_lines_of_sixteen(rt: HostRuntime) -> Result<(), Fail> 
 }
 
 /// Some of the sixteen lines of all bytes.
-const LINES_OF_ALL: [(usize, &str); 3] = [
+const LINES_OF_ALL: &[(usize, &str)] = &[
     (
         0,
         r#"000102030405060708090a0b0c0d0e0f # "\x00\x01\x02\x03\x04\x05\x06\x07\x08\t\n\x0b\x0c\r\x0e\x0f""#,
@@ -305,7 +305,7 @@ const LINES_OF_ALL: [(usize, &str); 3] = [
 fn all_bytes_have_sixteen_lines(rt: HostRuntime) -> Result<(), Fail> {
     let lines = lines_of(rt.alloc(), ALL_BASE64, false)?;
     assert_eq!(rt; lines.as_str().lines().count(), 16);
-    for (place, want) in LINES_OF_ALL {
+    for &(place, want) in LINES_OF_ALL {
         let got = lines.as_str().lines().nth(place);
         assert_eq!(rt; got, Some(want), "line {place}");
     }
@@ -313,7 +313,7 @@ fn all_bytes_have_sixteen_lines(rt: HostRuntime) -> Result<(), Fail> {
 }
 
 /// Sixteen bytes in hex, and in base 58.
-const BASE58: [(&str, &str); 8] = [
+const BASE58: &[(&str, &str)] = &[
     ("00000000000000000000000000000000", "1111111111111111"),
     ("00000000000000000000000000000001", "1111111111111112"),
     ("0000000000000000000000000000003a", "11111111111111121"),
@@ -334,7 +334,7 @@ fn base58_of(alloc: Global, digits: &str) -> Result<String, Fail> {
 
 #[test]
 fn base58_of_sixteen_bytes(rt: HostRuntime) -> Result<(), Fail> {
-    for (bytes, want) in BASE58 {
+    for &(bytes, want) in BASE58 {
         assert_eq!(rt; base58_of(rt.alloc(), bytes)?.as_str(), want, "on {bytes}");
     }
     Ok(())

@@ -1,12 +1,12 @@
-// Dates and times. Days were counted by Python's `datetime`, and for years before 1 by it after whole
-// cycles of 400 years, which have 146,097 days each.
+// Dates and times. Days were counted by Python's `datetime`, and for years before 1 by it after
+// whole cycles of 400 years, which have 146,097 days each.
 
 use cbor_notes::{date_of_epoch, datetime_of_epoch, epoch_of_date, epoch_of_datetime};
 use std::alloc::{AllocError, Global};
 use std::test::Fail;
 
 /// Dates, and the numbers of their days.
-const DAYS: [(&str, &str); 17] = [
+const DAYS: &[(&str, &str)] = &[
     ("1940-10-09", "-10,676"),
     ("1970-01-01", "0"),
     ("1969-12-31", "-1"),
@@ -28,7 +28,7 @@ const DAYS: [(&str, &str); 17] = [
 ];
 
 /// Texts that are no dates.
-const NO_DATES: [&str; 20] = [
+const NO_DATES: &[&str] = &[
     "",
     "2023-02-29",
     "1900-02-29",
@@ -53,7 +53,7 @@ const NO_DATES: [&str; 20] = [
 ];
 
 /// Days, and their dates; `-` where there is none.
-const DATES: [(i64, &str); 21] = [
+const DATES: &[(i64, &str)] = &[
     (0, "1970-01-01"),
     (-1, "1969-12-31"),
     (-10_676, "1940-10-09"),
@@ -78,7 +78,7 @@ const DATES: [(i64, &str); 21] = [
 ];
 
 /// Seconds, and their moments; `-` where there is none.
-const MOMENTS: [(i64, &str); 15] = [
+const MOMENTS: &[(i64, &str)] = &[
     (0, "1970-01-01T00:00:00Z"),
     (-1, "1969-12-31T23:59:59Z"),
     (1_363_896_240, "2013-03-21T20:04:00Z"),
@@ -97,7 +97,7 @@ const MOMENTS: [(i64, &str); 15] = [
 ];
 
 /// Moments, and their seconds.
-const SECONDS: [(&str, &str); 19] = [
+const SECONDS: &[(&str, &str)] = &[
     ("2013-03-21T20:04:00Z", "1363896240"),
     ("2013-03-21t20:04:00z", "1363896240"),
     ("1970-01-01T00:00:00Z", "0"),
@@ -123,7 +123,7 @@ const SECONDS: [(&str, &str); 19] = [
 ];
 
 /// Moments with fractions of a second, and their seconds.
-const FRACTIONS: [(&str, &str); 15] = [
+const FRACTIONS: &[(&str, &str)] = &[
     ("2013-03-21t21:34:00.12+01:30", "1363896240.120"),
     ("1969-12-31T23:59:59.5Z", "-1.500"),
     ("1970-01-01T00:00:00.0Z", "0"),
@@ -143,7 +143,7 @@ const FRACTIONS: [(&str, &str); 15] = [
 ];
 
 /// Texts that are no moments.
-const NO_MOMENTS: [&str; 30] = [
+const NO_MOMENTS: &[&str] = &[
     "",
     "1970-01-01",
     "1970-01-01T",
@@ -202,10 +202,10 @@ fn seconds(alloc: Global, moment: &str) -> Result<String, AllocError> {
 
 #[test]
 fn days_of_dates(rt: HostRuntime) -> Result<(), Fail> {
-    for (text, want) in DAYS {
+    for &(text, want) in DAYS {
         assert_eq!(rt; day(rt.alloc(), text)?.as_str(), want, "on {text:?}");
     }
-    for text in NO_DATES {
+    for &text in NO_DATES {
         assert_eq!(rt; day(rt.alloc(), text)?.as_str(), "-", "on {text:?}");
     }
     Ok(())
@@ -213,7 +213,7 @@ fn days_of_dates(rt: HostRuntime) -> Result<(), Fail> {
 
 #[test]
 fn dates_of_days(rt: HostRuntime) -> Result<(), Fail> {
-    for (number, want) in DATES {
+    for &(number, want) in DATES {
         assert_eq!(rt; date(rt.alloc(), number)?.as_str(), want, "on {number}");
     }
     Ok(())
@@ -221,7 +221,7 @@ fn dates_of_days(rt: HostRuntime) -> Result<(), Fail> {
 
 #[test]
 fn moments_of_seconds(rt: HostRuntime) -> Result<(), Fail> {
-    for (number, want) in MOMENTS {
+    for &(number, want) in MOMENTS {
         assert_eq!(rt; moment(rt.alloc(), number)?.as_str(), want, "on {number}");
     }
     Ok(())
@@ -229,13 +229,13 @@ fn moments_of_seconds(rt: HostRuntime) -> Result<(), Fail> {
 
 #[test]
 fn seconds_of_moments(rt: HostRuntime) -> Result<(), Fail> {
-    for (text, want) in SECONDS {
+    for &(text, want) in SECONDS {
         assert_eq!(rt; seconds(rt.alloc(), text)?.as_str(), want, "on {text:?}");
     }
-    for (text, want) in FRACTIONS {
+    for &(text, want) in FRACTIONS {
         assert_eq!(rt; seconds(rt.alloc(), text)?.as_str(), want, "on {text:?}");
     }
-    for text in NO_MOMENTS {
+    for &text in NO_MOMENTS {
         assert_eq!(rt; seconds(rt.alloc(), text)?.as_str(), "-", "on {text:?}");
     }
     Ok(())

@@ -5,7 +5,7 @@ use std::alloc::{AllocError, Global};
 use std::test::Fail;
 
 /// Tags, and the sizes that the table of RFC 8746, section 2.1, gives.
-const SIZES: [(u64, Option<usize>); 33] = [
+const SIZES: &[(u64, Option<usize>)] = &[
     (64, Some(1)),
     (65, Some(2)),
     (66, Some(4)),
@@ -47,15 +47,15 @@ fn size(tag: u64) -> Option<usize> {
 
 #[test]
 fn sizes_of_elements(rt: HostRuntime) -> Result<(), Fail> {
-    for (tag, want) in SIZES {
+    for &(tag, want) in SIZES {
         assert_eq!(rt; size(tag), want, "on the tag {tag}");
     }
     Ok(())
 }
 
-/// Tags, bytes in hex, and the text of the element: whole numbers by their values, floats by their bits;
-/// `-` where there is none.
-const ELEMENTS: [(u64, &str, &str); 37] = [
+/// Tags, bytes in hex, and the text of the element: whole numbers by their values, floats by their
+/// bits; `-` where there is none.
+const ELEMENTS: &[(u64, &str, &str)] = &[
     (64, "ff", "unsigned(255)"),
     (68, "80", "unsigned(128)"),
     (65, "0102", "unsigned(258)"),
@@ -123,12 +123,20 @@ fn text_of(alloc: Global, tag: u64, digits: &str) -> Result<String, Fail> {
 
 #[test]
 fn elements(rt: HostRuntime) -> Result<(), Fail> {
-    for (tag, digits, want) in ELEMENTS {
+    for &(tag, digits, want) in ELEMENTS {
         let got = text_of(rt.alloc(), tag, digits)?;
         assert_eq!(rt; got.as_str(), want, "on {digits} below the tag {tag}");
     }
     Ok(())
 }
+
+/// Tags of arrays whose elements have one byte, or more, and a text after the element 7 was
+/// appended.
+const APPENDED: &[(u64, bool, &str)] = &[
+    (64, true, "a unsigned(7)"),
+    (76, false, "a unsigned(7)"),
+    (65, false, "a unsigned(7)"),
+];
 
 fn append(text: &mut String, tag: u64) -> Result<bool, AllocError> {
     push_element_text(text, tag, &[7])
@@ -137,11 +145,7 @@ fn append(text: &mut String, tag: u64) -> Result<bool, AllocError> {
 #[test]
 fn elements_are_appended(rt: HostRuntime) -> Result<(), Fail> {
     let mut text = String::from_str(rt.alloc(), "a ")?;
-    for (tag, want, after) in [
-        (64, true, "a unsigned(7)"),
-        (76, false, "a unsigned(7)"),
-        (65, false, "a unsigned(7)"),
-    ] {
+    for &(tag, want, after) in APPENDED {
         assert_eq!(rt; append(&mut text, tag)?, want, "on the tag {tag}");
         assert_eq!(rt; text.as_str(), after, "on the tag {tag}");
     }
@@ -149,7 +153,7 @@ fn elements_are_appended(rt: HostRuntime) -> Result<(), Fail> {
 }
 
 /// Cases of the URL Standard: a scheme has to be there, and what it asks for.
-const URLS: [(&str, bool); 12] = [
+const URLS: &[(&str, bool)] = &[
     ("http://www.example.com", true),
     ("urn:isbn:9780141036144", true),
     ("mailto:a@b", true),
@@ -170,7 +174,7 @@ fn is_url(alloc: Global, text: &str) -> Result<bool, AllocError> {
 
 #[test]
 fn urls(rt: HostRuntime) -> Result<(), Fail> {
-    for (text, want) in URLS {
+    for &(text, want) in URLS {
         assert_eq!(rt; is_url(rt.alloc(), text)?, want, "on {text:?}");
     }
     Ok(())

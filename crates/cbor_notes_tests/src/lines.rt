@@ -44,14 +44,14 @@ d8 20                                        # uri, tag(32)
 }
 
 /// The hex and the comment of lines without sublines, and their texts.
-const ALONE: [(&str, &str, &str); 2] = [
+const ALONE: &[(&str, &str, &str)] = &[
     ("01", "unsigned(1)", "01 # unsigned(1)\n"),
     ("", "é", " # é\n"),
 ];
 
 #[test]
 fn lines_without_digits_and_none_deeper(rt: HostRuntime) -> Result<(), Fail> {
-    for (hex, comment, want) in ALONE {
+    for &(hex, comment, want) in ALONE {
         let line = line(rt.alloc(), hex, comment)?;
         let got = merged(&rt, rt.alloc(), &line)?;
         assert_eq!(rt; got.as_str(), want, "on {hex:?} and {comment:?}");
@@ -60,7 +60,7 @@ fn lines_without_digits_and_none_deeper(rt: HostRuntime) -> Result<(), Fail> {
 }
 
 /// Hex, and whether a line with it fits, alone and below another line.
-const HEX: [(&str, bool); 3] = [
+const HEX: &[(&str, bool)] = &[
     (
         "0123456789abcdef0123456789abcdef0123456789abcdef0123456789abcdef",
         true,
@@ -74,7 +74,7 @@ const HEX: [(&str, bool); 3] = [
 
 #[test]
 fn long_and_foreign_digits_do_not_fit(rt: HostRuntime) -> Result<(), Fail> {
-    for (hex, want) in HEX {
+    for &(hex, want) in HEX {
         let alone = line(rt.alloc(), hex, "")?;
         assert_eq!(rt; alone.fits(), want, "on {hex:?}");
         let mut above = line(rt.alloc(), "", "")?;
@@ -84,7 +84,7 @@ fn long_and_foreign_digits_do_not_fit(rt: HostRuntime) -> Result<(), Fail> {
     Ok(())
 }
 
-/// A tree of so many levels, of one line each.
+/// A tree of `count` levels, of one line each.
 fn levels(alloc: Global, count: usize) -> Result<Line, AllocError> {
     let mut tree = line(alloc, "00", "")?;
     for _ in 1..count {
@@ -105,7 +105,7 @@ fn trees_of_140_levels_fit(rt: HostRuntime) -> Result<(), Fail> {
 }
 
 /// Widths, depths, hex and comments, and the lines that are appended.
-const APPENDED: [(usize, usize, &str, &str, &str); 3] = [
+const APPENDED: &[(usize, usize, &str, &str, &str)] = &[
     (5, 1, "0a", "\"\\n\"", "   0a #   \"\\n\"\n"),
     (5, 0, "", "note", "      # note\n"),
     (8, 1, "0a", "wider", "   0a    #   wider\n"),
@@ -133,7 +133,7 @@ fn append(
 fn a_line_is_appended(rt: HostRuntime) -> Result<(), Fail> {
     let mut text = String::from_str(rt.alloc(), "61    # text(1)\n")?;
     let mut want = String::from_str(rt.alloc(), "61    # text(1)\n")?;
-    for (width, depth, hex, comment, line) in APPENDED {
+    for &(width, depth, hex, comment, line) in APPENDED {
         append(&rt, &mut text, width, depth, hex, comment)?;
         want.push_str(line)?;
         assert_eq!(rt; text.as_str(), want.as_str(), "on {hex:?} and {comment:?}");

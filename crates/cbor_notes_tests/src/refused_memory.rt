@@ -1,5 +1,5 @@
-// Calls where memory is found, and where it is refused. What each has to answer is an example of the tests
-// on its subject.
+// Calls where memory is found, and where it is refused. What each has to answer is an example of
+// the tests on its subject.
 
 use cbor_notes::{
     Line, base32_decode, base32hex_decode, base58, base64_any_decode, base64_lines, date_of_epoch,
@@ -45,7 +45,7 @@ enum Call {
 }
 
 /// Each call that takes memory, with its answer as `answer` shows it.
-const ROWS: [(Call, &str); 28] = [
+const ROWS: &[(Call, &str)] = &[
     (Call::Base32, "666f6f6261"),
     (Call::Base32Hex, "666f6f6261"),
     // the second alphabet that is tried
@@ -259,19 +259,19 @@ fn answer(rt: &impl Abort, alloc: Global, call: Call) -> Result<String, AllocErr
 // A call that always answers out of memory meets its contract, so no proof finds it.
 #[test]
 fn calls_answer_where_memory_is_found(rt: HostRuntime) -> Result<(), Fail> {
-    for (call, want) in ROWS {
+    for &(call, want) in ROWS {
         let got = answer(&rt, rt.alloc(), call)?;
         assert_eq!(rt; got.as_str(), want, "{call:?}");
     }
     Ok(())
 }
 
-// `compare/failing_calls` runs this while it refuses requests for memory, and reads the lines: a call that a
-// request was refused in has to print `memory`, and any other `ok`. Where nothing is refused, as in the
-// gate, this shows no more than the test above.
+// `compare/failing_calls` runs this while it refuses requests for memory, and reads the lines: a
+// call that a request was refused in has to print `memory`, and any other `ok`. Where nothing is
+// refused, as in the gate, this shows no more than the test above.
 #[test]
 fn calls_answer_or_memory_is_refused(rt: HostRuntime) -> Result<(), Fail> {
-    for (call, want) in ROWS {
+    for &(call, want) in ROWS {
         for _ in 0..2 {
             match answer(&rt, rt.alloc(), call) {
                 Ok(got) => {

@@ -1,13 +1,13 @@
-// The texts of `cbor_notes` that know no item. Where a comment names no source, the values were written
-// by hand from the rules of docs/NOTES.md; base 58 and base 64 of the UUIDs of RFC 4122 were computed by an
-// independent implementation.
+// The texts of `cbor_notes`, which need no item. Where a comment names no source, the values were
+// written by hand from the rules of docs/NOTES.md; base 58 and base 64 of the UUIDs of RFC 4122
+// were computed by an independent implementation.
 
 use cbor_notes::{escaped_text, grouped, ipv4_text, ipv6_text, mac_text, quoted_bytes, uuid_lines};
 use std::alloc::{AllocError, Global};
 use std::test::Fail;
 
 /// Numbers, whether they are negative, and their texts.
-const GROUPED: [(u128, bool, &str); 9] = [
+const GROUPED: &[(u128, bool, &str)] = &[
     (0, false, "0"),
     (999, false, "999"),
     (1000, false, "1,000"),
@@ -38,7 +38,7 @@ fn in_groups(alloc: Global, number: u128, negative: bool) -> Result<String, Allo
 
 #[test]
 fn numbers_are_grouped_by_three(rt: HostRuntime) -> Result<(), Fail> {
-    for (number, negative, want) in GROUPED {
+    for &(number, negative, want) in GROUPED {
         let got = in_groups(rt.alloc(), number, negative)?;
         assert_eq!(rt; got.as_str(), want, "on {number}, negative: {negative}");
     }
@@ -46,7 +46,7 @@ fn numbers_are_grouped_by_three(rt: HostRuntime) -> Result<(), Fail> {
 }
 
 /// Bytes, and their text between quotes.
-const QUOTED: [(&[u8], &str); 3] = [
+const QUOTED: &[(&[u8], &str)] = &[
     (&[], "\"\""),
     (
         &[0x00, 0x41, 0x22, 0x27, 0x5c, 0x0a, 0x7f],
@@ -64,7 +64,7 @@ fn in_quotes(alloc: Global, bytes: &[u8]) -> Result<String, AllocError> {
 
 #[test]
 fn bytes_are_quoted(rt: HostRuntime) -> Result<(), Fail> {
-    for (bytes, want) in QUOTED {
+    for &(bytes, want) in QUOTED {
         let got = in_quotes(rt.alloc(), bytes)?;
         assert_eq!(rt; got.as_str(), want, "on {bytes:?}");
     }
@@ -72,7 +72,7 @@ fn bytes_are_quoted(rt: HostRuntime) -> Result<(), Fail> {
 }
 
 /// Texts, and the same with characters escaped.
-const ESCAPED: [(&str, &str); 4] = [
+const ESCAPED: &[(&str, &str)] = &[
     ("", ""),
     ("\0\u{85}é\u{2028}", "\\u{0}\\u{85}é\u{2028}"),
     ("a\"b'c\\d\te\rf\ng", "a\\\"b'c\\\\d\\te\\rf\\ng"),
@@ -88,7 +88,7 @@ fn escaped(alloc: Global, text: &str) -> Result<String, AllocError> {
 
 #[test]
 fn text_is_escaped(rt: HostRuntime) -> Result<(), Fail> {
-    for (text, want) in ESCAPED {
+    for &(text, want) in ESCAPED {
         let got = escaped(rt.alloc(), text)?;
         assert_eq!(rt; got.as_str(), want, "on {text:?}");
     }
@@ -96,12 +96,12 @@ fn text_is_escaped(rt: HostRuntime) -> Result<(), Fail> {
 }
 
 // The first of each is set aside for documentation, by RFC 5737 and RFC 7042.
-const IPV4: [([u8; 4], &str); 2] = [
+const IPV4: &[([u8; 4], &str)] = &[
     ([192, 0, 2, 1], "192.0.2.1"),
     ([0, 10, 100, 255], "0.10.100.255"),
 ];
 
-const MAC: [([u8; 6], &str); 2] = [
+const MAC: &[([u8; 6], &str)] = &[
     ([0x00, 0x00, 0x5e, 0x00, 0x53, 0x01], "00:00:5e:00:53:01"),
     ([0xab, 0xcd, 0xef, 0x0a, 0xf0, 0xff], "ab:cd:ef:0a:f0:ff"),
 ];
@@ -116,11 +116,11 @@ fn mac_of(alloc: Global, octets: &[u8; 6]) -> Result<String, AllocError> {
 
 #[test]
 fn ipv4_and_mac_addresses(rt: HostRuntime) -> Result<(), Fail> {
-    for (octets, want) in IPV4 {
+    for &(octets, want) in IPV4 {
         let got = ipv4_of(rt.alloc(), &octets)?;
         assert_eq!(rt; got.as_str(), want, "on {octets:?}");
     }
-    for (octets, want) in MAC {
+    for &(octets, want) in MAC {
         let got = mac_of(rt.alloc(), &octets)?;
         assert_eq!(rt; got.as_str(), want, "on {octets:?}");
     }
@@ -128,7 +128,7 @@ fn ipv4_and_mac_addresses(rt: HostRuntime) -> Result<(), Fail> {
 }
 
 /// The eight groups of IPv6 addresses, and their texts.
-const IPV6: [([u16; 8], &str); 16] = [
+const IPV6: &[([u16; 8], &str)] = &[
     ([0, 0, 0, 0, 0, 0, 0, 0], "::"),
     ([0, 0, 0, 0, 0, 0, 0, 1], "::1"),
     ([0x2001, 0xdb8, 0, 0, 0, 0, 0, 1], "2001:db8::1"),
@@ -167,7 +167,7 @@ fn ipv6_of(alloc: Global, groups: &[u16; 8]) -> Result<String, AllocError> {
 
 #[test]
 fn ipv6_addresses(rt: HostRuntime) -> Result<(), Fail> {
-    for (groups, want) in IPV6 {
+    for &(groups, want) in IPV6 {
         let got = ipv6_of(rt.alloc(), &groups)?;
         assert_eq!(rt; got.as_str(), want, "on {groups:?}");
     }
@@ -175,7 +175,7 @@ fn ipv6_addresses(rt: HostRuntime) -> Result<(), Fail> {
 }
 
 /// UUIDs in hex, and their four texts, a line each.
-const UUIDS: [(&str, &str); 5] = [
+const UUIDS: &[(&str, &str)] = &[
     (
         "00000000000000000000000000000000",
         "uuid(variant(NCS), version(0, Nil))
@@ -234,7 +234,7 @@ fn uuid_texts(alloc: Global, digits: &str) -> Result<String, Fail> {
 
 #[test]
 fn uuids(rt: HostRuntime) -> Result<(), Fail> {
-    for (digits, want) in UUIDS {
+    for &(digits, want) in UUIDS {
         let got = uuid_texts(rt.alloc(), digits)?;
         assert_eq!(rt; got.as_str(), want, "on {digits}");
     }
@@ -243,7 +243,7 @@ fn uuids(rt: HostRuntime) -> Result<(), Fail> {
 
 /// The bytes 6 and 8 of UUIDs whose other bytes are zero, and what the first text says of them: the
 /// variant by the top bits of byte 8, and the version by the upper half of byte 6.
-const FIELDS: [(u8, u8, &str); 18] = [
+const FIELDS: &[(u8, u8, &str)] = &[
     (0x40, 0x7f, "uuid(variant(NCS), version(4, Random))"),
     (0x40, 0x80, "uuid(variant(RFC4122), version(4, Random))"),
     (0x40, 0xbf, "uuid(variant(RFC4122), version(4, Random))"),
@@ -278,7 +278,7 @@ fn uuid_fields(alloc: Global, byte6: u8, byte8: u8) -> Result<String, AllocError
 
 #[test]
 fn variants_and_versions(rt: HostRuntime) -> Result<(), Fail> {
-    for (byte6, byte8, want) in FIELDS {
+    for &(byte6, byte8, want) in FIELDS {
         let got = uuid_fields(rt.alloc(), byte6, byte8)?;
         assert_eq!(rt; got.as_str(), want, "on {byte6:#x} and {byte8:#x}");
     }

@@ -6,7 +6,7 @@ use std::alloc::{AllocError, Global};
 use std::test::Fail;
 
 /// Texts, a place in each, and the end of the blank that begins there.
-const BLANKS: [(&str, usize, usize); 13] = [
+const BLANKS: &[(&str, usize, usize)] = &[
     ("", 0, 0),
     ("1", 0, 0),
     (" \t\r\n1", 0, 4),
@@ -30,7 +30,7 @@ fn blank(text: &[u8], at: usize) -> usize {
 
 #[test]
 fn a_blank_is_whitespace_and_closed_comments(rt: HostRuntime) -> Result<(), Fail> {
-    for (text, at, want) in BLANKS {
+    for &(text, at, want) in BLANKS {
         assert_eq!(rt;
             blank(text.as_bytes(), at),
             want,
@@ -42,7 +42,7 @@ fn a_blank_is_whitespace_and_closed_comments(rt: HostRuntime) -> Result<(), Fail
 
 /// Texts, a place in each, and the value and the indicator of the number that begins there, and the
 /// place after it.
-const NUMBERS: [(&str, usize, Option<(u128, Option<u8>, usize)>); 41] = [
+const NUMBERS: &[(&str, usize, Option<(u128, Option<u8>, usize)>)] = &[
     ("0", 0, Some((0, None, 1))),
     ("007,", 0, Some((7, None, 3))),
     ("0x18", 0, Some((24, None, 4))),
@@ -131,7 +131,7 @@ fn number(text: &[u8], at: usize) -> Option<(u128, Option<u8>, usize)> {
 
 #[test]
 fn a_number_is_as_long_as_it_can_be(rt: HostRuntime) -> Result<(), Fail> {
-    for (text, at, want) in NUMBERS {
+    for &(text, at, want) in NUMBERS {
         assert_eq!(rt;
             number(text.as_bytes(), at),
             want,
@@ -142,7 +142,7 @@ fn a_number_is_as_long_as_it_can_be(rt: HostRuntime) -> Result<(), Fail> {
 }
 
 /// Texts, a place in each, a quote, and the content up to it, with the place after it.
-const QUOTED: [(&str, usize, u8, &str, usize); 9] = [
+const QUOTED: &[(&str, usize, u8, &str, usize)] = &[
     ("'", 0, b'\'', "", 1),
     ("a'b'", 0, b'\'', "a", 2),
     ("it\\'s' ", 0, b'\'', "it's", 6),
@@ -155,7 +155,7 @@ const QUOTED: [(&str, usize, u8, &str, usize); 9] = [
 ];
 
 /// Texts that have no content up to a quote.
-const NOT_QUOTED: [(&str, u8); 9] = [
+const NOT_QUOTED: &[(&str, u8)] = &[
     ("", b'"'),
     ("a", b'"'),
     ("a'", b'"'),
@@ -189,21 +189,21 @@ fn quoted(alloc: Global, text: &[u8], at: usize, quote: u8) -> Result<String, Fa
 
 #[test]
 fn quoted_content_escapes_the_quote_and_the_backslash(rt: HostRuntime) -> Result<(), Fail> {
-    for (text, at, quote, content, after) in QUOTED {
+    for &(text, at, quote, content, after) in QUOTED {
         let got = quoted(rt.alloc(), text.as_bytes(), at, quote)?;
         let want = format!(in rt.alloc(); "{content} up to {after}")?;
         assert_eq!(rt; got.as_str(), want.as_str(), "on {text:?} from {at} on");
     }
-    for (text, quote) in NOT_QUOTED {
+    for &(text, quote) in NOT_QUOTED {
         let got = quoted(rt.alloc(), text.as_bytes(), 0, quote)?;
         assert_eq!(rt; got.as_str(), "none", "on {text:?}");
     }
     Ok(())
 }
 
-/// Texts, a place in each, whether comments are allowed, and the digits up to the quote, with the place
-/// after it.
-const DIGITS: [(&str, usize, bool, &str, usize); 10] = [
+/// Texts, a place in each, whether comments are allowed, and the digits up to the quote, with the
+/// place after it.
+const DIGITS: &[(&str, usize, bool, &str, usize)] = &[
     ("'", 0, true, "", 1),
     ("0 1'", 0, true, "01", 4),
     ("01 '", 0, true, "01", 4),
@@ -217,7 +217,7 @@ const DIGITS: [(&str, usize, bool, &str, usize); 10] = [
 ];
 
 /// Texts that have no digits up to a quote, and whether comments are allowed.
-const NO_DIGITS: [(&str, bool); 14] = [
+const NO_DIGITS: &[(&str, bool)] = &[
     ("", true),
     (" ", true),
     ("01", true),
@@ -241,19 +241,19 @@ fn digits(alloc: Global, text: &[u8], at: usize, comments: bool) -> Result<Strin
 
 #[test]
 fn digits_stand_between_blanks(rt: HostRuntime) -> Result<(), Fail> {
-    for (text, at, comments, content, after) in DIGITS {
+    for &(text, at, comments, content, after) in DIGITS {
         let got = digits(rt.alloc(), text.as_bytes(), at, comments)?;
         let want = format!(in rt.alloc(); "{content} up to {after}")?;
         assert_eq!(rt; got.as_str(), want.as_str(), "on {text:?} from {at} on");
     }
-    for (text, comments) in NO_DIGITS {
+    for &(text, comments) in NO_DIGITS {
         let got = digits(rt.alloc(), text.as_bytes(), 0, comments)?;
         assert_eq!(rt; got.as_str(), "none", "on {text:?}, comments: {comments}");
     }
     Ok(())
 }
 
-/// A piece so many times, and what follows it.
+/// A piece `times` times, and what follows it.
 fn repeated(alloc: Global, piece: &str, times: u32, after: &str) -> Result<Vec<u8>, AllocError> {
     let mut text = Vec::new(alloc);
     for _ in 0..times {
@@ -264,7 +264,7 @@ fn repeated(alloc: Global, piece: &str, times: u32, after: &str) -> Result<Vec<u
 }
 
 /// Pieces, how often each is repeated before a `1`, and the end of the blank that they are.
-const LONG_BLANKS: [(&str, u32, usize); 4] = [
+const LONG_BLANKS: &[(&str, u32, usize)] = &[
     (" ", 1_000_000, 1_000_000),
     ("//", 500_000, 1_000_000),
     ("/x/", 300_000, 900_000),
@@ -272,7 +272,7 @@ const LONG_BLANKS: [(&str, u32, usize); 4] = [
 ];
 
 /// Digits that are repeated a million times, what follows them, and the number that they are.
-const LONG_NUMBERS: [(&str, &str, Option<(u128, Option<u8>, usize)>); 2] = [
+const LONG_NUMBERS: &[(&str, &str, Option<(u128, Option<u8>, usize)>)] = &[
     ("0", "7_", Some((7, None, 1_000_001))),
     ("9", "_3", Some(((1 << 64) + 1, Some(3), 1_000_002))),
 ];
@@ -280,11 +280,11 @@ const LONG_NUMBERS: [(&str, &str, Option<(u128, Option<u8>, usize)>); 2] = [
 // Each of these is over in no time where the work is linear in the text.
 #[test]
 fn long_blanks_and_numbers_are_read_once(rt: HostRuntime) -> Result<(), Fail> {
-    for (piece, times, want) in LONG_BLANKS {
+    for &(piece, times, want) in LONG_BLANKS {
         let text = repeated(rt.alloc(), piece, times, "1")?;
         assert_eq!(rt; blank(&text, 0), want, "on {piece:?}, {times} times");
     }
-    for (piece, after, want) in LONG_NUMBERS {
+    for &(piece, after, want) in LONG_NUMBERS {
         let text = repeated(rt.alloc(), piece, 1_000_000, after)?;
         assert_eq!(rt; number(&text, 0), want, "on many {piece:?} and {after:?}");
     }
@@ -292,14 +292,14 @@ fn long_blanks_and_numbers_are_read_once(rt: HostRuntime) -> Result<(), Fail> {
 }
 
 /// Pieces, how often each is repeated before a quote, and the place after the quote.
-const LONG_CONTENTS: [(&str, u32, usize); 3] = [
+const LONG_CONTENTS: &[(&str, u32, usize)] = &[
     ("a", 1_000_000, 1_000_001),
     ("\\'", 500_000, 1_000_001),
     ("\\\\a", 300_000, 900_001),
 ];
 
 /// The same of digits, and what follows the pieces.
-const LONG_DIGITS: [(&str, u32, &str, Option<usize>); 4] = [
+const LONG_DIGITS: &[(&str, u32, &str, Option<usize>)] = &[
     ("0", 1_000_000, "'", Some(1_000_001)),
     ("0 ", 500_000, "'", Some(1_000_001)),
     ("0/x/", 250_000, "'", Some(1_000_001)),
@@ -317,12 +317,12 @@ fn end_of_digits(alloc: Global, text: &[u8]) -> Result<Option<usize>, AllocError
 
 #[test]
 fn long_contents_are_read_once(rt: HostRuntime) -> Result<(), Fail> {
-    for (piece, times, want) in LONG_CONTENTS {
+    for &(piece, times, want) in LONG_CONTENTS {
         let text = repeated(rt.alloc(), piece, times, "'")?;
         let got = end_of_quoted(rt.alloc(), &text)?;
         assert_eq!(rt; got, Some(want), "on {piece:?}, {times} times");
     }
-    for (piece, times, after, want) in LONG_DIGITS {
+    for &(piece, times, after, want) in LONG_DIGITS {
         let text = repeated(rt.alloc(), piece, times, after)?;
         let got = end_of_digits(rt.alloc(), &text)?;
         assert_eq!(rt; got, want, "on {piece:?}, {times} times");

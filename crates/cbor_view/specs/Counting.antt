@@ -23,7 +23,7 @@ abbrev pub failures_after : {X E : Type 0} → ℕ → Result X E → ℕ
 failures_after n (Ok x) = n
 failures_after n (Err e) = one_more n
 
--- whether a read or write of so many bytes, with this answer, was of at least one and moved none
+-- whether a read or write of `asked` bytes, with this answer, was of at least one and moved none
 abbrev pub moves_none : {E : Type 0} → ℕ → Result ℕ E → Bool
 moves_none asked (Ok moved) = nat_lt 0 asked && (moved == 0)
 moves_none asked (Err e) = false

@@ -8,11 +8,11 @@ use Rattle.cbor_view.specs.declared.error.ViewError.{ViewError}
 use Rattle.cbor_view.specs.declared.error.ViewError.TheVariants as view_error
 use Rattle.cbor_view.specs.Counting.{inner_of, failures_of, moved_none, one_more}
 
--- these are all the bytes that the reader had, where it tells them
+-- these are all the bytes that the reader had, if they are known
 abbrev pub HadAll : {T : Type 0} → (T → Option (List ℕ)) → Counted T → List ℕ → Type 0
 HadAll remaining input all = IfSome (remaining (inner_of input)) (λ bytes. bytes ≡ all)
 
--- the writer took these bytes and no others, where it tells its bytes
+-- the writer took these bytes and no others, if its bytes are known
 abbrev pub Gains : {T : Type 0} → (T → Option (List ℕ)) → Counted T → Counted T → List ℕ → Type 0
 Gains contents old new bytes = Appends (contents (inner_of old)) (contents (inner_of new)) bytes
 
@@ -51,7 +51,7 @@ abbrev pub is_write_error : {X : Type 0} → Result X ViewError → Bool
 is_write_error (Err view_error.Write) = true
 is_write_error _ = false
 
--- a fact for every end but a read that failed and want of memory
+-- a fact for every end but a read that failed and out of memory
 abbrev pub OnReadOut : {X : Type 0} → Result X ViewError → Type 0 → Type 0
 OnReadOut (Err view_error.Read) P = ⊤
 OnReadOut (Err (view_error.Item refusal.Memory)) P = ⊤

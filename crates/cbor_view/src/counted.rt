@@ -2,13 +2,14 @@
 ghost use Rattle.std.specs.Prelude.{◌≡◌, false, length};
 ghost use Rattle.std.specs.Io.{ReadsAtMost, WritesAtMost};
 ghost use Rattle.std.specs.Io.KnownBytes.{Keeps, ReadConsumes, WriteAppends};
-ghost use Rattle.cbor_view.specs.Counting.{inner_of, failures_of, moved_none, one_more, failures_after, moves_none};
+ghost use Rattle.cbor_view.specs.Counting.{inner_of, failures_of, moved_none, one_more};
+ghost use Rattle.cbor_view.specs.Counting.{failures_after, moves_none};
 
 use std::io::{Read, Result, Write};
 
 /// A reader or a writer, with what its calls showed: how many of them failed, and, for contracts,
-/// whether the last read or write was of at least one byte, did not fail and moved none. Of a reader
-/// that is the end of its input, of a writer that it takes no more.
+/// whether the last read or write was of at least one byte, did not fail and moved none. Of a
+/// reader that is the end of its input, of a writer that it takes no more.
 #[derive(Drop)]
 pub struct Counted<T> {
     inner: T,
@@ -53,7 +54,7 @@ impl<T> Counted<T> {
         self.failures = self.failures.saturating_add(1);
     }
 
-    /// Takes note of a read or write of so many bytes.
+    /// Takes note of a read or write of `asked` bytes.
     fn note(&mut self, asked: usize, answer: &Result<usize>)
         ensures inner { inner_of self.new ≡ inner_of self.old }
         ensures failures { failures_of self.new ≡ failures_after (failures_of self.old) answer.now }

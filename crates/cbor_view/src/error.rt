@@ -10,7 +10,7 @@ use std::alloc::AllocError;
 /// Why a run ends without its output.
 #[derive(Clone, Copy, PartialEq, Eq, Debug)]
 pub enum ViewError {
-    /// The input is no item, or memory for the conversion was refused.
+    /// The input is not an item, or memory ran out.
     Item(Error),
     /// A read failed.
     Read,

@@ -1,5 +1,5 @@
-//! An item in two forms, readers and writers for tests, which fail, give or take one byte a call, or note
-//! their calls, and what shows where outputs differ.
+//! An item in two forms, readers and writers for tests, which fail, give or take one byte a call,
+//! or note their calls, and what shows where outputs differ.
 use std::alloc::Global;
 use std::io;
 use std::io::{ErrorKind, Read, Write};

@@ -1,12 +1,12 @@
-//! Laws of the definitions of `specs/` alone: what is written of bytes, whoever writes it. Nothing calls
-//! these functions.
+//! Laws of the definitions of `specs/` alone: what is written of bytes, whoever writes it. Nothing
+//! calls these functions.
 ghost use Rattle.std.specs.Prelude.{◌≡◌, ℕ, List, ◌++◌};
 ghost use Rattle.cbor_diag.specs.declared.error.Error.{Error};
 ghost use Rattle.cbor_convert.specs.declared.form.To.{To};
 ghost use Rattle.cbor_view.specs.Sequence.{IsOutputOfFirst, IsOutputOfAll, IsOutputBefore};
 
-/// Bytes have one output as a sequence of items, and one error or none. The output of some first items is a
-/// beginning of it.
+/// Bytes have one output as a sequence of items, and one error or none. The output of some first
+/// items is a beginning of it.
 pub(crate) fn one_output()
     ensures of_all { (to : To) (input a b : List ℕ)
         → IsOutputOfAll to input a → IsOutputOfAll to input b → a ≡ b }

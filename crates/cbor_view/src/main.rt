@@ -1,15 +1,17 @@
 //! Converts one CBOR data item (RFC 7049): `cbor_view FROM TO` reads it from standard input, in the
 //! form FROM, and writes it to standard output, in the form TO.
 //!
-//! FROM is `bytes`, the item's own bytes, `hex`, its bytes in hex with comments, or `diag`, diagnostic
-//! notation. TO is `bytes`, `hex`, `diag`, diagnostic notation on one line, or `pretty`, the same over
-//! several lines. If FROM is `seq`, the input is the bytes of items one after the other (RFC 8742), and
-//! each is written in the form TO, in order. Their outputs are written in blocks.
+//! FROM is `bytes`, the item's own bytes, `hex`, its bytes in hex with comments, or `diag`,
+//! diagnostic notation. TO is `bytes`, `hex`, `diag`, diagnostic notation on one line, or `pretty`,
+//! the same over several lines. If FROM is `seq`, the input is the bytes of items one after the
+//! other (RFC 8742), and each is written in the form TO, in order. Their outputs are written in
+//! blocks.
 //!
-//! The exit status is 0 if the output was written. It is 1 if the input is no item, or no sequence of
-//! items, if it cannot be read, if the output cannot be written, or if memory runs out. Of an input that
-//! is no item nothing is written, and of a sequence the items before the error are. The status is 2, and
-//! nothing is read, if the arguments are not two such words. Standard error then says why.
+//! The exit status is 0 if the output was written. It is 1 if the input is no item, or no sequence
+//! of items, if it cannot be read, if the output cannot be written, or if memory runs out. Of an
+//! input that is no item nothing is written, and of a sequence the items before the error are. The
+//! status is 2, and nothing is read, if the arguments are not two such words. Standard error then
+//! says why.
 #![tactic(auto)]
 
 mod convert;
@@ -83,8 +85,8 @@ fn asked(rt: &(impl Env + Alloc)) -> Result<Job, Failure> {
     }
 }
 
-/// Tests the words, and only then reads. What was written of a sequence is flushed before its error is
-/// reported; if the flush fails, that is reported in its place.
+/// Tests the words, and only then reads. What was written of a sequence is flushed before its error
+/// is reported; if the flush fails, that is reported in its place.
 fn view(
     rt: &(impl Env + AllocGlobal),
     input: impl Read + Drop,
@@ -116,7 +118,7 @@ fn main(rt: HostRuntime) -> ExitCode {
     match view(&rt, rt.stdin(), rt.stdout()) {
         Ok(()) => ExitCode::SUCCESS,
         Err(failure) => {
-            // Nobody can be told where standard error itself fails.
+            // If standard error itself fails, there is nowhere to report it.
             let _ = eprintln!(rt; "cbor_view: {failure}");
             failure.status()
         }

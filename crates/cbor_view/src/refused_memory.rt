@@ -10,7 +10,8 @@ use std::alloc::{AllocError, Global};
 use std::process::Abort;
 use std::test::Fail;
 
-/// A run over an item in a form, or over a sequence where none is named, and what is written of each item.
+/// A run over an item in a form, or over a sequence where none is named, and what is written of
+/// each item.
 #[derive(Clone, Copy)]
 struct Case<'a> {
     from: Option<Source>,
@@ -105,8 +106,8 @@ fn after_outputs<'a>(bytes: &'a [u8], outputs: &[&[u8]]) -> (usize, &'a [u8]) {
     (count, rest)
 }
 
-/// A run writes all that it should; or memory is refused, and of an item nothing is written, of a sequence
-/// the output of some first items, each whole. Says whether memory was refused.
+/// A run writes all that it should; or memory is refused, and of an item nothing is written, of a
+/// sequence the output of some first items, each whole. Says whether memory was refused.
 fn check(rt: &impl Abort, alloc: Global, case: &Case, number: usize) -> Result<bool, AllocError> {
     let (written, end) = outcome(alloc, case)?;
     let (count, rest) = after_outputs(&written, case.outputs);
@@ -126,9 +127,9 @@ fn check(rt: &impl Abort, alloc: Global, case: &Case, number: usize) -> Result<b
     Ok(refused)
 }
 
-// `compare/failing_calls` runs this while it refuses requests for memory, and reads the lines: a run that a
-// request was refused in has to print `memory`, and any other `ok`. Where nothing is refused, as in the
-// gate, this shows no more than the tests of conversions and sequences.
+// `compare/failing_calls` runs this while it refuses requests for memory, and reads the lines: a
+// run that a request was refused in has to print `memory`, and any other `ok`. Where nothing is
+// refused, as in the gate, this shows no more than the tests of conversions and sequences.
 #[test]
 fn a_call_answers_or_memory_is_refused(rt: HostRuntime) -> Result<(), Fail> {
     for (number, case) in cases().iter().enumerate() {

@@ -1,11 +1,14 @@
 //! One run of the program, over any reader and writer.
-ghost use Rattle.std.specs.Prelude.{◌≡◌, ◌≢◌, ℕ, ◌+◌, ◌<◌, ◌≤◌, List, length, take, drop, vec_len, Ok, Err, IfOk, IfErr, OnOk, OnErr, MatchBool, ◌⊎◌};
+ghost use Rattle.std.specs.Prelude.{◌≡◌, ◌≢◌, ℕ, ◌+◌, ◌<◌, ◌≤◌, List, length, take, drop, vec_len};
+ghost use Rattle.std.specs.Prelude.{Ok, Err, IfOk, IfErr, OnOk, OnErr, MatchBool, ◌⊎◌};
 ghost use Rattle.std.specs.Bool.{OnTrue};
 ghost use Rattle.std.specs.Io.KnownBytes.{Consumes};
 ghost use Rattle.cbor_diag.specs.declared.error.Error.TheVariants as refusal;
 ghost use Rattle.cbor_view.specs.Counting.{inner_of, failures_of};
 ghost use Rattle.cbor_convert.specs.Output.{IsOutput};
-ghost use Rattle.cbor_view.specs.Running.{HadAll, Gains, GainsPart, IsReadOut, Stops, OnRefusal, OnReadOut, OnUnwritten, is_read_error, is_write_error, failures_then};
+ghost use Rattle.cbor_view.specs.Running.{HadAll, Gains, GainsPart, IsReadOut, Stops, OnRefusal};
+ghost use Rattle.cbor_view.specs.Running.{OnReadOut, OnUnwritten, is_read_error, is_write_error};
+ghost use Rattle.cbor_view.specs.Running.{failures_then};
 
 use crate::convert::convert;
 use crate::counted::Counted;
@@ -31,19 +34,19 @@ pub fn run<R: Read, W: Write>(
         × IsOutput from to all (Ok bytes)
         × Gains W.contents output.old output.new bytes) }
 
-    // A refusal, but want of memory, is why all that the reader had is no item.
+    // Any other error of an item than out of memory is why the whole input is not an item.
     ensures item { OnRefusal result (λ e. e ≢ refusal.Memory → (all : List ℕ)
         × HadAll R.remaining input.old all × IsOutput from to all (Err e)) }
 
-    // Where a write failed, a beginning of the output was written, and nothing else.
+    // If a write failed, a beginning of the output was written, and nothing else.
     ensures write { OnTrue (is_write_error result) ((all bytes : List ℕ)
         × HadAll R.remaining input.old all × IsOutput from to all (Ok bytes)
         × GainsPart W.contents output.old output.new bytes) }
 
-    // All was read, but where a read failed or memory was refused.
+    // All was read, unless a read failed or memory ran out.
     ensures read_out { OnReadOut result (IsReadOut R.remaining input.new) }
 
-    // A refusal and a failed read leave the output as it was.
+    // An error of an item and a failed read leave the output as it was.
     ensures unwritten { OnUnwritten result (output.new ≡ output.old) }
 
     // Any call that fails ends the run.
@@ -94,7 +97,7 @@ fn make_room(bytes: &mut Vec<u8>, filled: usize) -> Result<(), AllocError>
     Ok(())
 }
 
-/// One read into the room behind what is filled.
+/// One read into the unfilled part of the bytes.
 fn read_after<R: Read>(
     input: &mut Counted<R>,
     bytes: &mut [u8],

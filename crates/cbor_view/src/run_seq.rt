@@ -1,11 +1,14 @@
 //! One run of the program over a sequence of items, one after the other (RFC 8742).
-ghost use Rattle.std.specs.Prelude.{◌≡◌, ◌≢◌, ℕ, ◌<◌, ◌≤◌, List, ◌++◌, length, drop, IfOk, OnOk, OnErr, MatchBool, false};
+ghost use Rattle.std.specs.Prelude.{◌≡◌, ◌≢◌, ℕ, ◌<◌, ◌≤◌, List, ◌++◌, length, drop, IfOk, OnOk};
+ghost use Rattle.std.specs.Prelude.{OnErr, MatchBool, false};
 ghost use Rattle.std.specs.Bool.{OnTrue};
 ghost use Rattle.cbor_diag.specs.declared.error.Error.TheVariants as refusal;
 ghost use Rattle.cbor_diag.specs.Answer.{RefusedSo};
 ghost use Rattle.cbor_view.specs.Counting.{failures_of};
-ghost use Rattle.cbor_view.specs.Running.{HadAll, Gains, GainsPart, IsReadOut, Stops, OnRefusal, OnReadOut, is_read_error, is_write_error, failures_then};
-ghost use Rattle.cbor_view.specs.Sequence.{IsOutputOfFirst, IsOutputOfAll, IsOutputBefore, EndsTheItems};
+ghost use Rattle.cbor_view.specs.Running.{HadAll, Gains, GainsPart, IsReadOut, Stops, OnRefusal};
+ghost use Rattle.cbor_view.specs.Running.{OnReadOut, is_read_error, is_write_error, failures_then};
+ghost use Rattle.cbor_view.specs.Sequence.{IsOutputOfFirst, IsOutputOfAll, IsOutputBefore};
+ghost use Rattle.cbor_view.specs.Sequence.{EndsTheItems};
 
 use crate::counted::Counted;
 use crate::error::ViewError;
@@ -19,12 +22,13 @@ use std::io::{Read, Write};
 /// Outputs are gathered until they are at least this long, and then written.
 const BLOCK: usize = 64 * 1024;
 
-/// Reads the input to its end, converts one item after the other, from its front, and writes the outputs,
-/// in order and in blocks. Any call that fails ends the run, an interrupted one too.
+/// Reads the input to its end, converts one item after the other, from its front, and writes the
+/// outputs, in order and in blocks. Any call that fails ends the run, an interrupted one too.
 ///
-/// If what follows the items is no item, the run ends with `ViewError::Item` and why: `CutShort` if it is
-/// cut, else its fault. If memory runs out at an item, it ends with `Memory`. In both cases the output of
-/// all items before is written first, and if that write fails, the run ends with `ViewError::Write`.
+/// If what follows the items is no item, the run ends with `ViewError::Item` and why: `CutShort` if
+/// it is cut, else its fault. If memory runs out at an item, it ends with `Memory`. In both cases
+/// the output of all items before is written first, and if that write fails, the run ends with
+/// `ViewError::Write`.
 pub fn run_seq<R: Read, W: Write>(
     alloc: Global,
     to: To,
@@ -36,23 +40,24 @@ pub fn run_seq<R: Read, W: Write>(
         × IsOutputOfAll to all bytes
         × Gains W.contents output.old output.new bytes) }
 
-    // Something else follows the items: a refusal, but want of memory, is why that is no item, and the
-    // output of all items before it was written.
+    // Something else follows the items: any other error of an item than out of memory is why that
+    // is not an item, and the output of all items before it was written.
     ensures item { OnRefusal result (λ e. e ≢ refusal.Memory → (all bytes : List ℕ)
         × HadAll R.remaining input.old all × IsOutputBefore to all e bytes
         × Gains W.contents output.old output.new bytes) }
 
-    // Where memory was refused, what was written is the output of some first items, each whole.
+    // If memory ran out, what was written is the output of some first items, each whole.
     ensures memory { OnRefusal result (λ e. e ≡ refusal.Memory → (all bytes rest : List ℕ)
         × HadAll R.remaining input.old all × IsOutputOfFirst to all bytes rest
         × Gains W.contents output.old output.new bytes) }
 
-    // Where a write failed, a beginning of the output of some first items was written, and not all of it.
+    // If a write failed, a beginning of the output of some first items was written, and not all of
+    // it.
     ensures write { OnTrue (is_write_error result) ((all bytes rest : List ℕ)
         × HadAll R.remaining input.old all × IsOutputOfFirst to all bytes rest
         × GainsPart W.contents output.old output.new bytes) }
 
-    // All was read, but where a read failed or memory was refused.
+    // All was read, unless a read failed or memory ran out.
     ensures read_out { OnReadOut result (IsReadOut R.remaining input.new) }
 
     // A failed read leaves the output as it was.
@@ -99,9 +104,9 @@ fn write_items<W: Write>(
     Ok(())
 }
 
-/// Writes the output of one item after the other, from the front of the bytes, until a block is full or no
-/// item follows, in the memory of `block`. Says how many bytes these items take, and then why the sequence
-/// ends after them, if it does.
+/// Writes the output of one item after the other, from the front of the bytes, until a block is
+/// full or no item follows, in the memory of `block`. Says how many bytes these items take, and
+/// then why the sequence ends after them, if it does.
 fn write_block<W: Write>(
     alloc: Global,
     to: To,
@@ -130,8 +135,9 @@ fn write_block<W: Write>(
     (used, end)
 }
 
-/// Fills a block with the output of one item after the other, from the front of the bytes, until it is full
-/// or no item follows. Says how many bytes these items take, and then why none follows, if so.
+/// Fills a block with the output of one item after the other, from the front of the bytes, until it
+/// is full or no item follows. Says how many bytes these items take, and then why none follows, if
+/// so.
 fn fill(alloc: Global, to: To, bytes: &[u8], block: &mut Vec<u8>) -> (usize, Result<(), Error>)
     requires { 0 < length bytes.now }
     ensures used { result.0 ≤ length bytes.now }
@@ -150,8 +156,8 @@ fn fill(alloc: Global, to: To, bytes: &[u8], block: &mut Vec<u8>) -> (usize, Res
     (used, Ok(()))
 }
 
-/// Appends the output of the item at the front of the bytes, and says how many of them it takes. After an
-/// error the block is as it was.
+/// Appends the output of the item at the front of the bytes, and says how many of them it takes.
+/// After an error the block is as it was.
 fn append_first(alloc: Global, to: To, bytes: &[u8], block: &mut Vec<u8>) -> Result<usize, Error>
     requires { 0 < length bytes.now }
     ensures used { IfOk result (λ used. (1 ≤ used) × (used ≤ length bytes.now)) }

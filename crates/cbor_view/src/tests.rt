@@ -47,6 +47,11 @@ pub(crate) fn check(
     );
 }
 
+/// Words that name no form.
+const NO_FORMS: &[&str] = &[
+    "", "byte", "bytes ", "Bytes", "HEX", "hex\n", "-", "seq", "text",
+];
+
 #[test]
 fn words_name_forms(rt: HostRuntime) {
     assert_eq!(rt; from_word("bytes"), Some(Source::Bytes));
@@ -57,16 +62,14 @@ fn words_name_forms(rt: HostRuntime) {
     assert_eq!(rt; to_word("hex"), Some(To::Hex));
     assert_eq!(rt; to_word("diag"), Some(To::Diag));
     assert_eq!(rt; to_word("pretty"), Some(To::Pretty));
-    for word in [
-        "", "byte", "bytes ", "Bytes", "HEX", "hex\n", "-", "seq", "text",
-    ] {
+    for &word in NO_FORMS {
         assert_eq!(rt; from_word(word), None, "at {word:?}");
         assert_eq!(rt; to_word(word), None, "at {word:?}");
     }
 }
 
 /// Two words, an input and its output.
-const CONVERTED: [(&str, &str, &[u8], &[u8]); 11] = [
+const CONVERTED: &[(&str, &str, &[u8], &[u8])] = &[
     ("hex", "bytes", COMMENTED, &ITEM),
     ("bytes", "bytes", &ITEM, &ITEM),
     ("bytes", "hex", &ITEM, COMMENTED),
@@ -82,14 +85,14 @@ const CONVERTED: [(&str, &str, &[u8], &[u8]); 11] = [
 
 #[test]
 fn converts(rt: HostRuntime) {
-    for (from, to, input, wanted) in CONVERTED {
+    for &(from, to, input, wanted) in CONVERTED {
         check(&rt, from, to, input, wanted, "");
     }
 }
 
-/// Strings of no chunks: a text in notation, its bytes, and what is written of either as a dump, on one line
-/// and over several.
-const OF_NO_CHUNKS: [(&str, &[u8], &str, &str, &str); 8] = [
+/// Strings of no chunks: a text in notation, its bytes, and what is written of either as a dump, on
+/// one line and over several.
+const OF_NO_CHUNKS: &[(&str, &[u8], &str, &str, &str)] = &[
     (
         "''_",
         b"\x5f\xff",
@@ -167,7 +170,7 @@ d8 18      # encoded cbor data item, tag(24)
 
 #[test]
 fn converts_strings_of_no_chunks(rt: HostRuntime) {
-    for (notation, bytes, dump, compact, pretty) in OF_NO_CHUNKS {
+    for &(notation, bytes, dump, compact, pretty) in OF_NO_CHUNKS {
         let outputs = [
             ("bytes", bytes),
             ("hex", dump.as_bytes()),
@@ -182,7 +185,7 @@ fn converts_strings_of_no_chunks(rt: HostRuntime) {
 }
 
 /// The form of an input, an input that is no item in that form, and why.
-const REFUSED: [(&str, &[u8], &str); 19] = [
+const REFUSED: &[(&str, &[u8], &str)] = &[
     ("bytes", b"", "the item is cut short"),
     ("bytes", b"\xd8", "the item is cut short"),
     ("bytes", b"\x1c", "no item can have this head"),
@@ -206,7 +209,7 @@ const REFUSED: [(&str, &[u8], &str); 19] = [
 
 #[test]
 fn refuses(rt: HostRuntime) {
-    for (from, input, text) in REFUSED {
+    for &(from, input, text) in REFUSED {
         for to in ["bytes", "hex", "diag", "pretty"] {
             check(&rt, from, to, input, b"", text);
         }

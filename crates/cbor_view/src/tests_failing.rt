@@ -1,5 +1,5 @@
-//! Runs over readers and writers that fail at one of their calls, give or take one byte a call, or take
-//! nothing: each pair of words, sequences among them.
+//! Runs over readers and writers that fail at one of their calls, give or take one byte a call, or
+//! take nothing: each pair of words, sequences among them.
 use crate::counted::Counted;
 use crate::error::ViewError;
 use crate::fakes::{COMMENTED, Dripping, ITEM, Sipping, first_difference};
@@ -106,7 +106,8 @@ fn check_read(rt: &impl Abort, alloc: Global, pair: &Pair, failing: usize, kind:
     assert!(rt; output.into_inner().is_empty());
 }
 
-/// A run ends at a write that fails or takes nothing: it makes no further call, and all before was written.
+/// A run ends at a write that fails or takes nothing: it makes no further call, and all before was
+/// written.
 fn check_write(
     rt: &impl Abort,
     alloc: Global,
@@ -187,8 +188,8 @@ fn converts_what_comes_and_goes_byte_by_byte(rt: HostRuntime) {
     }
 }
 
-/// Runs over a sequence of 70 strings, of 1,000 bytes each, that this follows. The first block is the first
-/// 66,000 bytes of the output.
+/// Runs over a sequence of 70 strings, of 1,000 bytes each, that this follows. The first block is
+/// the first 66,000 bytes of the output.
 fn check_blocks(
     rt: &(impl Abort + AllocGlobal),
     behind: &[u8],
@@ -209,6 +210,6 @@ fn check_blocks(
 #[test]
 fn ends_at_a_write_that_fails_in_any_block(rt: HostRuntime) -> Result<(), Fail> {
     check_blocks(&rt, b"", Some(ErrorKind::Other))?;
-    // the write is told and not what follows the items
+    // the error is that of the write, not of what follows the items
     check_blocks(&rt, b"\xff", None)
 }

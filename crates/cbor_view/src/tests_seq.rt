@@ -7,9 +7,9 @@ use crate::words::To;
 use std::alloc::{AllocError, Global};
 use std::test::Fail;
 
-/// A form, items one after the other, perhaps with something else after them, what is written of the items,
-/// and why no item follows them, if so.
-const SEQUENCES: [(&str, &[u8], &[u8], &str); 13] = [
+/// A form, items one after the other, perhaps with something else after them, what is written of
+/// the items, and why no item follows them, if so.
+const SEQUENCES: &[(&str, &[u8], &[u8], &str)] = &[
     ("bytes", b"\xf8\x14\x80\x18\x64", b"\xf4\x80\x18\x64", ""),
     ("bytes", b"\xf8\x14\x80", b"\xf4\x80", ""),
     ("bytes", b"", b"", ""),
@@ -42,12 +42,12 @@ const SEQUENCES: [(&str, &[u8], &[u8], &str); 13] = [
 
 #[test]
 fn converts_each_item_up_to_what_is_none(rt: HostRuntime) {
-    for (to, input, wanted, text) in SEQUENCES {
+    for &(to, input, wanted, text) in SEQUENCES {
         check(&rt, "seq", to, input, wanted, text);
     }
 }
 
-/// So many times the same bytes.
+/// The same bytes `count` times.
 pub(crate) fn repeated(alloc: Global, piece: &[u8], count: usize) -> Result<Vec<u8>, AllocError> {
     let mut bytes = Vec::new(alloc);
     for _ in 0..count {
@@ -59,12 +59,21 @@ pub(crate) fn repeated(alloc: Global, piece: &[u8], count: usize) -> Result<Vec<
 /// The number 256 in two bytes. Their length does not divide that of a block.
 const NUMBER: [u8; 3] = [0x19, 0x01, 0x00];
 
-/// How many of these numbers, as bytes, fill a block: 65,538 bytes are the first whole outputs that are
-/// no shorter than 65,536.
+/// How many of these numbers, as bytes, fill a block: 65,538 bytes are the first whole outputs that
+/// are no shorter than 65,536.
 const IN_A_BLOCK: usize = 21_846;
 
+/// Counts of items that end just before a block, with it, after it, and in others.
+const COUNTS: &[usize] = &[
+    IN_A_BLOCK - 1,
+    IN_A_BLOCK,
+    IN_A_BLOCK + 1,
+    30_000,
+    2 * IN_A_BLOCK,
+];
+
 /// What follows the items, and why it is no item.
-const BEHIND: [(&[u8], &str); 4] = [
+const BEHIND: &[(&[u8], &str)] = &[
     (b"", ""),
     (b"\xff\x01", "no item can have this head"),
     (b"\x19\x01", "the item is cut short"),
@@ -73,14 +82,8 @@ const BEHIND: [(&[u8], &str); 4] = [
 
 #[test]
 fn writes_all_items_before_a_fault_in_any_block(rt: HostRuntime) -> Result<(), Fail> {
-    for count in [
-        IN_A_BLOCK - 1,
-        IN_A_BLOCK,
-        IN_A_BLOCK + 1,
-        30_000,
-        2 * IN_A_BLOCK,
-    ] {
-        for (behind, wanted_text) in BEHIND {
+    for &count in COUNTS {
+        for &(behind, wanted_text) in BEHIND {
             let mut input = repeated(rt.alloc(), &NUMBER, count)?;
             input.extend_from_slice(behind)?;
             for (to, piece) in [

@@ -17,7 +17,8 @@ pub fn from_word(word: &str) -> Option<Source>
     }
 }
 
-/// The form that a word names for the output: `bytes`, `hex`, `diag` or `pretty`. Any other word names none.
+/// The form that a word names for the output: `bytes`, `hex`, `diag` or `pretty`. Any other word
+/// names none.
 pub fn to_word(word: &str) -> Option<To>
     ensures named { IfSome result (λ target. word.now ≡ target_word target) }
     ensures each_word { (target : To) → word.now ≡ target_word target → result ≡ Some target }

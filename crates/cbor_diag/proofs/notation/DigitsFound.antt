@@ -5,9 +5,9 @@ use Rattle.std.proofs.lemmas.Slice.Eq.{bytes_eq-Decides}
 use Rattle.cbor_notes.specs.AreBytes.{AreBytes}
 use Rattle.cbor_notes.specs.Base32.{places, base32, base32hex}
 use Rattle.cbor_notes.specs.Base64.{standard, url_safe}
-use Rattle.cbor_notes.proofs.Base32Encode.{AllBelowBase-append}
-use Rattle.cbor_notes.proofs.Places.{AllBelowBase-places}
-use Rattle.cbor_notes.proofs.TextPlaces.{first_at}
+use Rattle.cbor_notes.proofs.bases.Base32Encode.{AllBelowBase-append}
+use Rattle.cbor_notes.proofs.dates.Places.{AllBelowBase-places}
+use Rattle.cbor_notes.proofs.tokens.TextPlaces.{first_at}
 use Rattle.cbor_diag.proofs.notation.Decoded.{url_safe_again, standard_again}
 use Rattle.cbor_diag.specs.NotationReading.{if_encoded, either, value_in, bytes_of_fives, from_fives, from_sixes, six_bits, unpadded, base32_of, base32hex_of, base64_of}
 

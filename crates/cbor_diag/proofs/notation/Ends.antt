@@ -4,8 +4,8 @@ use Rattle.std.specs.List.{list_any, list_all}
 use Rattle.std.specs.Char.{digit_value}
 use Rattle.std.proofs.lemmas.Bool.{and_parts, or_cases, or_parts, eqb-true, eqb-false, leb-true, not-true}
 use Rattle.cbor_notes.specs.Token.{nothing, whitespace, comment, is_whitespace}
-use Rattle.cbor_notes.proofs.Blanks.{at_whitespace, blank_left, after_blank-append, after_blank-ends, EndsBlank}
-use Rattle.cbor_notes.proofs.Numbers.{EndsNumber}
+use Rattle.cbor_notes.proofs.tokens.Blanks.{at_whitespace, blank_left, after_blank-append, after_blank-ends, EndsBlank}
+use Rattle.cbor_notes.proofs.tokens.Numbers.{EndsNumber}
 use Rattle.cbor_diag.specs.Notation.{IsBlank}
 use Rattle.cbor_diag.specs.NotationReading.{after_byte, skip_blank}
 

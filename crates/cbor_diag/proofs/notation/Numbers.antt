@@ -8,8 +8,8 @@ use Rattle.std.proofs.lemmas.List.{append_assoc}
 use Rattle.std.proofs.lemmas.Str.Parse.{digit_from_value}
 use Rattle.cbor_notes.specs.Token.{IsNumber}
 use Rattle.cbor_notes.specs.TokenReading.{starts_with_digit}
-use Rattle.cbor_notes.proofs.NumberFronts.{number_digit}
-use Rattle.cbor_notes.proofs.Numbers.{EndsNumber, number_of-append}
+use Rattle.cbor_notes.proofs.tokens.NumberFronts.{number_digit}
+use Rattle.cbor_notes.proofs.tokens.Numbers.{EndsNumber, number_of-append}
 use Rattle.cbor_diag.specs.declared.syntax.IntegerWidth.{IntegerWidth}
 use Rattle.cbor_diag.specs.declared.syntax.IntegerWidth.TheVariants.{Unknown, Zero, Eight, Sixteen, ThirtyTwo, SixtyFour}
 use Rattle.cbor_diag.specs.Item.{Item, atom, integer, negative, tagged}

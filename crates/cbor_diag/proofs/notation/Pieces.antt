@@ -4,8 +4,8 @@ use Rattle.std.proofs.lemmas.Bool.{not-true}
 use Rattle.std.proofs.lemmas.List.{append_assoc, append-nil, length-append}
 use Rattle.cbor_notes.specs.Token.{in_quotes, DigitsBetween}
 use Rattle.cbor_notes.specs.TokenReading.{unquoted}
-use Rattle.cbor_notes.proofs.Quoted.{unquoted-in_quotes}
-use Rattle.cbor_notes.proofs.Spaced.{digits_of-DigitsBetween}
+use Rattle.cbor_notes.proofs.tokens.Quoted.{unquoted-in_quotes}
+use Rattle.cbor_notes.proofs.tokens.Spaced.{digits_of-DigitsBetween}
 use Rattle.cbor_diag.specs.Item.{Item, Items, no_items, item}
 use Rattle.cbor_diag.specs.View.{items_of}
 use Rattle.cbor_diag.specs.Bytes.{StringKind, bytes_kind, text_kind}

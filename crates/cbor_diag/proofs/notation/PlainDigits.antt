@@ -9,7 +9,7 @@ use Rattle.hex.specs.declared.error.FromHexError.{FromHexError}
 use Rattle.hex.specs.Hex.{decode_of, is_hex_digit}
 use Rattle.hex.proofs.HexLemmas.{decode_of-ok}
 use Rattle.cbor_notes.specs.Token.{is_digit}
-use Rattle.cbor_notes.proofs.TextPlaces.{from_byte}
+use Rattle.cbor_notes.proofs.tokens.TextPlaces.{from_byte}
 use Rattle.cbor_diag.specs.Reading.{◌>>=◌}
 use Rattle.cbor_diag.specs.NotationReading.{or_refused, base16_bytes, base16_of, read_decoded}
 use Rattle.cbor_diag.proofs.NotationTokens.{digits_found}

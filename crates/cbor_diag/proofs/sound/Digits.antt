@@ -7,7 +7,7 @@ use Rattle.std.proofs.lemmas.Slice.Eq.{bytes_eq-Decides}
 use borrow.Author.Tests.{ltb-true}
 use Rattle.cbor_notes.specs.AreBytes.{AreBytes}
 use Rattle.cbor_notes.specs.Base32.{places}
-use Rattle.cbor_notes.proofs.Places.{AllBelowBase-places}
+use Rattle.cbor_notes.proofs.dates.Places.{AllBelowBase-places}
 use Rattle.cbor_diag.specs.NotationReading.{if_encoded, value_in, bytes_of_fives, from_fives, from_sixes, six_bits}
 use Rattle.cbor_diag.proofs.sound.Steps.{none_some, a_test}
 

@@ -1,7 +1,7 @@
 -- Items: what is read of a text is what the grammar says it is, and a refusal says what is true of it.
 use Rattle.std.proofs.Common.{◌≡◌, ℕ, zero, suc, ◌<◌, true, List, [], ◌∷◌, ◌++◌, codes, length, Option, Some, None, Ok, Err, refl, sym, ap, subst, ◌∙◌, append_assoc, append-nil, length-append, inl, inr, arith}
 use Rattle.cbor_notes.specs.Token.{Blank, nothing, whitespace, comment}
-use Rattle.cbor_notes.proofs.Blanks.{blank_left, Blank-append, at_whitespace}
+use Rattle.cbor_notes.proofs.tokens.Blanks.{blank_left, Blank-append, at_whitespace}
 use Rattle.cbor_diag.specs.declared.parse.notation.start.Start.{Start}
 use Rattle.cbor_diag.specs.declared.parse.notation.start.Start.TheVariants as start
 use Rattle.cbor_diag.specs.declared.syntax.IntegerWidth.TheVariants.{Unknown}

@@ -4,7 +4,7 @@ use Rattle.std.specs.List.{prefix_len}
 use Rattle.std.proofs.lemmas.List.{length-take-le}
 use borrow.Author.Tests.{ltb-true}
 use Rattle.cbor_notes.specs.Token.{Blank, nothing, whitespace, is_whitespace}
-use Rattle.cbor_notes.proofs.Blanks.{blank_left}
+use Rattle.cbor_notes.proofs.tokens.Blanks.{blank_left}
 use Rattle.cbor_diag.specs.Reading.{Read, ◌>>=◌}
 use Rattle.cbor_diag.specs.Notation.{IsBlank, IsSpace, Closes, Further, Members}
 use Rattle.cbor_diag.specs.NotationReading.{skip_blank, after_byte, after_space, after_end, more_members, members_from, members_or_end, read_members}

@@ -6,7 +6,7 @@ use Rattle.cbor_notes.specs.AreBytes.{AreBytes}
 use Rattle.cbor_notes.specs.Base32 as base32
 use Rattle.cbor_notes.specs.Base64 as base64
 use Rattle.cbor_notes.specs.TokenReading.{digits_of}
-use Rattle.cbor_notes.proofs.Spaced.{DigitsBetween-digits_of}
+use Rattle.cbor_notes.proofs.tokens.Spaced.{DigitsBetween-digits_of}
 use Rattle.cbor_diag.specs.Item.{Item}
 use Rattle.cbor_diag.specs.View.{items_of}
 use Rattle.cbor_diag.specs.Reading.{Read, ◌>>=◌}

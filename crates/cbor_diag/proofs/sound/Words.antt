@@ -10,8 +10,8 @@ use Rattle.std.proofs.lemmas.List.Sums.{sum_by-append, sum_by-cons}
 use borrow.Author.Tests.{ltb-true}
 use Rattle.cbor_notes.specs.Token.{IsNumber, AreDigits}
 use Rattle.cbor_notes.specs.TokenReading.{number_of}
-use Rattle.cbor_notes.proofs.NumberParts.{behind_underscore, decimal_number}
-use Rattle.cbor_notes.proofs.Numbers.{IsNumber-number_of}
+use Rattle.cbor_notes.proofs.tokens.NumberParts.{behind_underscore, decimal_number}
+use Rattle.cbor_notes.proofs.tokens.Numbers.{IsNumber-number_of}
 use Rattle.cbor_diag.specs.declared.error.Error.{Error}
 use Rattle.cbor_diag.specs.declared.error.Error.TheVariants as refusal
 use Rattle.cbor_diag.specs.declared.syntax.IntegerWidth.{IntegerWidth}

@@ -1,11 +1,12 @@
-//! Reads an item from bytes (RFC 7049 section 2), by a loop over turns and a stack of the containers that
-//! are open.
+//! Reads an item from bytes (RFC 7049 section 2): a loop over turns with a stack of the open
+//! containers.
 //!
-//! Each private function takes the bytes that are left and gives a value with the bytes after it, or
-//! the first refusal from the left, `CutShort` where the bytes end. What a head claims is never
-//! believed: memory is taken for the bytes and members that are there, and for a few members at once.
+//! Each private function takes the remaining bytes and returns a value with the bytes after it, or
+//! the first error from the left, `CutShort` if the bytes end. No claimed length or count is
+//! trusted: memory is reserved for the bytes and members that are there, and for a few members at
+//! once.
+mod frame;
 mod head;
-mod open;
 mod skip;
 mod stack;
 mod strings;
@@ -13,7 +14,7 @@ mod strings;
 ghost use Rattle.std.specs.Prelude.{◌≡◌, ◌≢◌, ℕ, ◌+◌, ◌-◌, ◌*◌, ◌^◌, ◌<◌, ◌≤◌, List, ◌++◌, length, take, ◌↔◌, IfOk, IfErr, IfSome, OnOk, option_map};
 ghost use Rattle.cbor_diag.specs.Item.{Item};
 ghost use Rattle.cbor_diag.specs.View.{view};
-ghost use Rattle.cbor_diag.specs.WellFormed.{deepest};
+ghost use Rattle.cbor_diag.specs.WellFormed.{deepest, levels_left};
 ghost use Rattle.cbor_diag.specs.Written.{encoded};
 ghost use Rattle.cbor_diag.specs.Answer.{Outcome, spelled, HasOutcome, HasAnswer, Gave, GaveItem, GaveRefusal, RefusedSo, MayWantMemory, HasTurns, size};
 ghost use Rattle.cbor_diag.specs.Turns.{item_turns, cut_spent, fault_spent};
@@ -24,15 +25,16 @@ ghost use Rattle.cbor_diag.specs.Stack.{outer_of, top_of, depth, resumed, resume
 
 use crate::error::{Error, Result};
 use crate::parse::turns::Turns;
-use crate::syntax::{DEEPEST, DataItem, Simple};
+use crate::syntax::{ByteString, DEEPEST, DataItem, Simple, TextString};
+use frame::Frame;
 use head::{ItemHead, read_head};
-use open::Open;
 pub use skip::{Extent, extent};
 use stack::Stack;
 use std::alloc::Global;
-use strings::{read_byte_chunks, read_byte_string, read_text_string, read_text_chunks};
+use strings::{DefiniteString, read_chunks};
 
-/// Why no item can stand below the deepest level: there are bytes for one, or there are none.
+/// The error below the deepest level: `TooDeep` if there are bytes for an item, and else
+/// `CutShort`.
 fn no_level_left(bytes: &[u8]) -> Error
     ensures gives { no_level_left bytes.now ≡ Err result }
     ensures memory { result ≢ Error.Memory }
@@ -44,21 +46,22 @@ fn no_level_left(bytes: &[u8]) -> Error
     }
 }
 
-/// The head of an item that stands at `level`, from 1 to 129. At level 129 no item can stand.
+/// The head of an item at `level`, from 1 to 129. No item is allowed at level 129.
 fn read_item_head(bytes: &[u8], level: usize) -> Result<(ItemHead, &[u8])>
     requires { level ≤ deepest + 1 }
-    ensures gives { Gives (λ x. (x.0, x.1.now)) result (read_item_head (deepest + 1 - level) bytes.now) }
+    ensures gives { Gives (λ x. (x.0, x.1.now)) result
+        (read_item_head (levels_left level) bytes.now) }
     ensures shorter { IfOk result (λ x. length x.1.now < length bytes.now) }
     ensures memory { result ≢ Err Error.Memory }
 {
     if level > usize::from(DEEPEST) {
         return Err(no_level_left(bytes));
     }
-    read_head(bytes)
+    Ok(read_head(bytes)?)
 }
 
-/// The item without parts behind its head. A break is none, and ends nothing where a head is wanted; the
-/// heads of containers are none either, but `Open::new` takes them before.
+/// The item without parts after its head. A break is no item, and it ends nothing here; heads of
+/// containers are handled by `Frame::new` before.
 fn read_atom<'a>(
     alloc: Global,
     head: ItemHead,
@@ -66,7 +69,8 @@ fn read_atom<'a>(
     turns: &mut Turns,
 ) -> Result<(DataItem, &'a [u8])>
     requires { turns.old + 2 * length bytes.now < 2 ^ 126 }
-    ensures gives { Runs (λ x. (view x.0, x.1.now)) turns.old turns.new result (read_atom head bytes.now) }
+    ensures gives { Runs (λ x. (view x.0, x.1.now)) turns.old turns.new result
+        (read_atom head bytes.now) }
     ensures falls { IfOk result (λ x.
         turns.new + 2 * length x.1.now ≤ turns.old + 2 * length bytes.now) }
     ensures few { turns.new ≤ turns.old + 2 * length bytes.now + 1 }
@@ -79,19 +83,19 @@ fn read_atom<'a>(
         ItemHead::Float(bits, bitwidth) => Ok((DataItem::Float { bits, bitwidth }, bytes)),
         ItemHead::Simple(value) => Ok((DataItem::Simple(Simple(value)), bytes)),
         ItemHead::Bytes(count, bitwidth) => {
-            let (string, rest) = read_byte_string(alloc, count, bitwidth, bytes)?;
+            let (string, rest) = ByteString::read(alloc, count, bitwidth, bytes)?;
             Ok((DataItem::ByteString(string), rest))
         }
         ItemHead::Text(count, bitwidth) => {
-            let (string, rest) = read_text_string(alloc, count, bitwidth, bytes)?;
+            let (string, rest) = TextString::read(alloc, count, bitwidth, bytes)?;
             Ok((DataItem::TextString(string), rest))
         }
         ItemHead::OpenBytes => {
-            let (chunks, rest) = read_byte_chunks(alloc, bytes, turns)?;
+            let (chunks, rest) = read_chunks(alloc, bytes, turns)?;
             Ok((DataItem::IndefiniteByteString(chunks), rest))
         }
         ItemHead::OpenText => {
-            let (chunks, rest) = read_text_chunks(alloc, bytes, turns)?;
+            let (chunks, rest) = read_chunks(alloc, bytes, turns)?;
             Ok((DataItem::IndefiniteTextString(chunks), rest))
         }
         ItemHead::Array(..)
@@ -103,12 +107,11 @@ fn read_atom<'a>(
     }
 }
 
-/// One turn: closes the innermost container where it ends, or else reads the head that stands next, with
-/// the content of a string. Gives the item that is whole with it, if one is, and the bytes that are left;
-/// the outermost item stands at `level`. Each turn takes bytes or closes what an earlier one opened, so they
-/// are at most two for each byte.
+/// One turn: closes the innermost container if it ends here, and otherwise reads the next head,
+/// with the content of a string. Returns the item that this completes, if any, and the remaining
+/// bytes. The outermost item is at `level`. Each turn takes bytes or closes what an earlier one
+/// opened, so there are at most two for each byte.
 fn turn<'a>(
-    alloc: Global,
     stack: &mut Stack,
     bytes: &'a [u8],
     level: u8,
@@ -116,11 +119,12 @@ fn turn<'a>(
 ) -> Result<(Option<DataItem>, &'a [u8])>
     requires level { level + depth stack.old ≤ deepest + 1 }
     requires bottom { IsStack (outer_of stack.old) (top_of stack.old) }
-    requires room { turns.old + 2 * length bytes.now < 2 ^ 126 }
-    ensures gives { IfOk result (λ x. later turns.old (resumed (deepest + 1 - level) stack.old bytes.now)
-        ≡ later turns.new (resumed_with (deepest + 1 - level) stack.new (option_map view x.0) x.1.now)) }
+    requires bounded { turns.old + 2 * length bytes.now < 2 ^ 126 }
+    ensures gives { IfOk result (λ x.
+        later turns.old (resumed (levels_left level) stack.old bytes.now) ≡ later turns.new
+        (resumed_with (levels_left level) stack.new (option_map view x.0) x.1.now)) }
     ensures stops { IfErr result (λ e. Stops e turns.new
-        (later turns.old (resumed (deepest + 1 - level) stack.old bytes.now))) }
+        (later turns.old (resumed (levels_left level) stack.old bytes.now))) }
     ensures level { IfOk result (λ x. level + depth stack.new ≤ deepest + 1) }
     ensures bottom { IfOk result (λ x. IsStack (outer_of stack.new) (top_of stack.new)) }
     ensures falls { IfOk result (λ x. turns.new + 2 * length x.1.now + depth stack.new
@@ -128,27 +132,28 @@ fn turn<'a>(
     ensures few { turns.new ≤ turns.old + 2 * length bytes.now + 1 }
     ensures rises { turns.old < turns.new }
     ensures memory { result ≡ Err Error.Memory → depth stack.old ≡ 0 → MayWantMemory bytes.now }
-    ensures opens { IfOk result (λ x. 0 < depth stack.new → depth stack.old ≡ 0 → MayWantMemory bytes.now) }
+    ensures opens { IfOk result
+        (λ x. 0 < depth stack.new → depth stack.old ≡ 0 → MayWantMemory bytes.now) }
     ensures held { IfOk result (λ x. x.0 ≡ None → 0 < depth stack.new) }
 {
     turns.rise();
     if let Some(rest) = stack.after_end(bytes) {
-        return Ok((Some(stack.close(alloc)?), rest));
+        return Ok((Some(stack.close()?), rest));
     }
     let (head, rest) = read_item_head(bytes, usize::from(level) + stack.depth())?;
-    match Open::new(alloc, head, rest.len())? {
+    match Frame::new(stack.alloc(), head, rest.len())? {
         Some(container) => {
             stack.open(container)?;
             Ok((None, rest))
         }
         None => {
-            let (item, rest) = read_atom(alloc, head, rest, turns)?;
+            let (item, rest) = read_atom(stack.alloc(), head, rest, turns)?;
             Ok((Some(item), rest))
         }
     }
 }
 
-/// The item at the front, which stands at `level`, from 1 to 129.
+/// The item at the front, which is at `level`, from 1 to 129.
 fn read_item<'a>(
     alloc: Global,
     bytes: &'a [u8],
@@ -156,9 +161,9 @@ fn read_item<'a>(
     turns: &mut Turns,
 ) -> Result<(DataItem, &'a [u8])>
     requires level { level ≤ deepest + 1 }
-    requires room { turns.old + 2 * length bytes.now < 2 ^ 126 }
+    requires bounded { turns.old + 2 * length bytes.now < 2 ^ 126 }
     ensures gives { Runs (λ x. (view x.0, x.1.now)) turns.old turns.new result
-        (counted_item (deepest + 1 - level) bytes.now) }
+        (counted_item (levels_left level) bytes.now) }
     ensures few { turns.new ≤ turns.old + 2 * length bytes.now + 1 }
     ensures rises { turns.old < turns.new }
     ensures memory { result ≡ Err Error.Memory → MayWantMemory bytes.now }
@@ -166,7 +171,7 @@ fn read_item<'a>(
     let mut stack = Stack::new(alloc);
     let mut rest = bytes;
     'turns: loop {
-        let (whole, after) = turn(alloc, &mut stack, rest, level, turns)?;
+        let (whole, after) = turn(&mut stack, rest, level, turns)?;
         rest = after;
         if let Some(item) = whole {
             if let Some(outermost) = stack.put(item)? {
@@ -176,8 +181,8 @@ fn read_item<'a>(
     }
 }
 
-/// What stands at the front of the bytes, read from `level`: an item and how many bytes it takes, or
-/// `None` where the bytes end before the item does.
+/// What the bytes begin with, read from `level`: an item and its length, or `None` if the bytes end
+/// before the item does.
 fn read_counted_front(
     alloc: Global,
     bytes: &[u8],
@@ -186,10 +191,10 @@ fn read_counted_front(
 ) -> Result<Option<(DataItem, usize)>>
     requires from { 1 ≤ level }
     requires to { level ≤ deepest + 1 }
-    requires room { turns.old ≤ 2 ^ 64 }
+    requires bounded { turns.old ≤ 2 ^ 64 }
     ensures outcome { HasOutcome level bytes.now result }
     ensures counted { HasTurns level bytes.now turns.old turns.new result }
-    ensures within { turns.new ≤ turns.old + (counted_item (deepest + 1 - level) bytes.now).0 }
+    ensures within { turns.new ≤ turns.old + (counted_item (levels_left level) bytes.now).0 }
     ensures few { turns.new ≤ turns.old + 2 * length bytes.now + 1 }
     ensures rises { turns.old < turns.new }
     ensures memory { result ≡ Err Error.Memory → MayWantMemory bytes.now }
@@ -203,8 +208,12 @@ fn read_counted_front(
     }
 }
 
-/// The same, with turns that nobody asks for.
-pub(crate) fn read_front(alloc: Global, bytes: &[u8], level: u8) -> Result<Option<(DataItem, usize)>>
+/// The same, without counting turns.
+pub(crate) fn read_front(
+    alloc: Global,
+    bytes: &[u8],
+    level: u8,
+) -> Result<Option<(DataItem, usize)>>
     requires from { 1 ≤ level }
     requires to { level ≤ deepest + 1 }
     ensures outcome { HasOutcome level bytes.now result }
@@ -230,9 +239,9 @@ pub(crate) fn read_whole(alloc: Global, bytes: &[u8], level: u8) -> Result<DataI
 /// Reads one item from all of the bytes (RFC 7049 section 2), keeping how it was encoded.
 ///
 /// Refuses with `CutShort` where the bytes end before the item does, `Remaining` where bytes follow
-/// it, and the first fault from the left otherwise: `Head`, `Utf8` or `TooDeep`. A claimed length takes
-/// no memory, and a claimed count room for a few members at most, where as many bytes follow; an input that
-/// is empty, or whose first byte has major type 0, 1 or 7, takes none at all.
+/// it, and the first fault from the left otherwise: `Head`, `Utf8` or `TooDeep`. A claimed length
+/// takes no memory, and a claimed count room for a few members at most, where as many bytes follow;
+/// an input that is empty, or whose first byte has major type 0, 1 or 7, takes none at all.
 pub fn parse_bytes(alloc: Global, bytes: &[u8]) -> Result<DataItem>
     // The item that the bytes are, exactly where they are one.
     ensures ok { IfOk result (λ i. IsItem bytes.now (view i)) }
@@ -285,12 +294,12 @@ pub fn parse_bytes_partial(alloc: Global, bytes: &[u8]) -> Result<Option<(DataIt
     parse_bytes_counted(alloc, bytes, &mut Turns::new())
 }
 
-/// Reads as `parse_bytes_partial` does, with the same answers, and adds its turns to those that were
-/// counted before, which may be up to 2^64.
+/// Reads as `parse_bytes_partial` does, with the same answers, and adds its turns to those that
+/// were counted before, which may be up to 2^64.
 ///
-/// A turn reads a head, with the content of a string, reads a chunk or a break, or closes a container that
-/// is full; the one that meets the end of the bytes or a fault counts, too. So work is bounded by the length
-/// of the input, whatever it claims.
+/// A turn reads a head, with the content of a string, reads a chunk or a break, or closes a
+/// container that is full; the one that meets the end of the bytes or a fault counts, too. So work
+/// is bounded by the length of the input, whatever it claims.
 pub fn parse_bytes_counted(
     alloc: Global,
     bytes: &[u8],

@@ -1,6 +1,7 @@
 //! Reads an item from hex with comments.
 //!
-//! The lines are gone through once: comments are skipped, and what is kept is gathered and then decoded.
+//! The lines are gone through once: comments are skipped, and what is kept is gathered and then
+//! decoded.
 ghost use Rattle.std.specs.Prelude.{◌≡◌, ◌≢◌, ◌<◌, ◌≤◌, ◌++◌, ◌%◌, ◌⊎◌, ◌==◌, length, take, drop, slice_index, IfOk, IfErr, OnOk, Ok};
 ghost use Rattle.std.specs.List.{AllPass, after_first};
 ghost use Rattle.std.specs.Str.Lines.{strip_carriage_return};
@@ -78,8 +79,8 @@ fn after_eights(line: &[u8]) -> &[u8]
     rest
 }
 
-/// Where the first space stands, or the end of the line. It looks at byte after byte, since most digits
-/// stand in short runs.
+/// Where the first space stands, or the end of the line. It looks at byte after byte, since most
+/// digits stand in short runs.
 #[tactic(auto, using(crate::proofs::HexLines::front_kept))]
 fn first_space(line: &[u8]) -> usize
     ensures within { result ≤ length line.now }
@@ -106,8 +107,8 @@ fn push_unspaced(out: &mut Vec<u8>, line: &[u8]) -> Result<(), AllocError>
     Ok(())
 }
 
-/// What is kept of all lines. Whether those bytes are hex digits is seen when they are decoded. Room is made at
-/// first for a fourth of the text: most dumps keep less.
+/// What is kept of all lines. Whether those bytes are hex digits is seen when they are decoded.
+/// Room is made at first for a fourth of the text: most dumps keep less.
 fn strip(alloc: Global, text: &str) -> Result<Vec<u8>, AllocError>
     ensures { IfOk result (λ digits. digits.items ≡ strip text.now) }
 {
@@ -121,8 +122,8 @@ fn strip(alloc: Global, text: &str) -> Result<Vec<u8>, AllocError>
     Ok(digits)
 }
 
-/// The bytes that some hex digits are, two digits of either case for each byte. An odd number of digits
-/// is refused first, with `OddHex`, then a byte that is no digit, with `BadHex`.
+/// The bytes that some hex digits are, two digits of either case for each byte. An odd number of
+/// digits is refused first, with `OddHex`, then a byte that is no digit, with `BadHex`.
 fn decode(alloc: Global, digits: Vec<u8>) -> crate::Result<Vec<u8>>
     ensures bytes { IfOk result (λ bytes. decode_of digits.items ≡ Ok bytes.items) }
     ensures refused { IfErr result (λ e. (e ≡ Error.Memory)
@@ -141,11 +142,11 @@ fn decode(alloc: Global, digits: Vec<u8>) -> crate::Result<Vec<u8>>
 
 /// Reads one item from hex with comments, two digits of either case for each of its bytes.
 ///
-/// A line ends at a line feed, and one carriage return right before it belongs to the end. Of each line
-/// what stands before its first `#` is kept, without spaces (U+0020); a tab is kept.
+/// A line ends at a line feed, and one carriage return right before it belongs to the end. Of each
+/// line what stands before its first `#` is kept, without spaces (U+0020); a tab is kept.
 ///
-/// Refuses with `OddHex` where an odd number of bytes is kept, else with `BadHex` where one of them is no
-/// hex digit, else as `parse_bytes` does, and with `Memory` where a growth was refused.
+/// Refuses with `OddHex` where an odd number of bytes is kept, else with `BadHex` where one of them
+/// is no hex digit, else as `parse_bytes` does, and with `Memory` where a growth was refused.
 pub fn parse_hex(alloc: Global, hex: &str) -> crate::Result<DataItem>
     ensures ok { IfOk result (λ i. IsHexOf hex.now (view i)) }
     ensures every_item { (i : Item) → IsHexOf hex.now i → GaveItem result i }

@@ -1,11 +1,13 @@
-//! Reads an item from diagnostic notation (RFC 7049 section 6), by recursion over the levels of nesting.
+//! Reads an item from diagnostic notation (RFC 7049 section 6), by recursion over the levels of
+//! nesting.
 //!
-//! Each private function takes the text that is left, as bytes of UTF-8, and gives a value with the text
-//! after it, or the first refusal from the left. What stands next is told by its first byte, but for `''_`
-//! and `""_`, and for a list's last comma, behind which whitespace and the close are looked for. The text is
-//! read once, and a string's first piece once more where the short way of `strings` doesn't serve. What
-//! stands between `read_core` and the list that keeps its item is inlined, and a map's loop reads key and value
-//! itself, so that an item isn't handed from one to the other.
+//! Each private function takes the remaining text, as bytes of UTF-8, and returns a value with the
+//! text after it, or the first error from the left. The first byte decides what comes next, except
+//! for `''_` and `""_`, and for a list's last comma, after which whitespace and the closing byte
+//! are looked for. The text is read once, and a string's first piece once more if the fast path of
+//! `strings` does not apply. What is between `read_core` and the list that keeps its item is
+//! inlined, and a map's loop reads key and value itself, so that an item is not moved from one to
+//! the other.
 mod content;
 mod number;
 mod scan;
@@ -15,18 +17,17 @@ mod word;
 
 ghost use Rattle.std.specs.Prelude.{◌≡◌, ◌-◌, ◌≤◌, ℕ, length, map, IfOk};
 ghost use Rattle.cbor_diag.specs.Answer.{GaveItem, RefusedSo};
-ghost use Rattle.cbor_diag.specs.Head.{FitsWidth};
 ghost use Rattle.cbor_diag.specs.View.{view, items_view, pairs_view};
-ghost use Rattle.cbor_diag.specs.WellFormed.{deepest, WellFormed, WellFormedItems, WellFormedPairs};
+ghost use Rattle.cbor_diag.specs.WellFormed.{deepest, levels_left, WellFormed, WellFormedItems, WellFormedPairs};
 ghost use Rattle.cbor_diag.specs.Facts.{IsWellFormed};
 ghost use Rattle.cbor_diag.specs.Item.{Item};
 ghost use Rattle.cbor_diag.specs.Notation.{IsNotation, ReadsUnder};
 ghost use Rattle.cbor_diag.specs.NotationRefused.{IsNoNotation, GaveOrTooDeep};
 ghost use Rattle.cbor_diag.specs.Reading.{Gives};
-ghost use Rattle.cbor_diag.specs.NotationReading.{after_byte, read_core, integer_or_tag, read_item, read_members, notation_of, read_pair};
+ghost use Rattle.cbor_diag.specs.NotationReading.{read_core, read_integer, read_item, read_members, notation_of, read_pair};
 
 use crate::error::{Error, Result};
-use crate::syntax::{DEEPEST, DataItem, IntegerWidth, Tag};
+use crate::syntax::{DEEPEST, DataItem, Tag};
 use number::{read_negative_number, read_unsigned_number};
 use scan::{after_blank, after_byte, after_end, expect_byte, read_length};
 use start::Start;
@@ -34,13 +35,14 @@ use std::alloc::Global;
 use strings::{read_byte_item, read_chunks, read_text_item};
 use word::read_word;
 
-/// The item at the front, which stands at `level`, from 1 to 129, with the blanks round it. At level 129
-/// no item can stand.
+/// The item at the front, which is at `level`, from 1 to 129, with the blanks around it. No item is
+/// allowed at level 129.
 #[cycle(diag)]
 #[inline(always)]
 fn read_item(alloc: Global, text: &[u8], level: u8) -> Result<(DataItem, &[u8])>
     requires { level ≤ 129 }
-    ensures gives { Gives (λ x. (view x.0, x.1.now)) result (read_item (129 - level) text.now) }
+    ensures gives { Gives (λ x. (view x.0, x.1.now)) result
+        (read_item (levels_left level) text.now) }
     ensures well { IfOk result (λ x. WellFormed level (view x.0)) }
     ensures shorter { IfOk result (λ x. length x.1.now ≤ length text.now) }
 {
@@ -51,22 +53,21 @@ fn read_item(alloc: Global, text: &[u8], level: u8) -> Result<(DataItem, &[u8])>
     Ok((item, after_blank(rest)))
 }
 
-/// The item at the front, without the blanks round it; the items in it stand at `inner`, from 2 to 129.
+/// The item at the front, without the blanks around it; the items in it are at `inner`, from 2 to
+/// 129.
 #[cycle(diag)]
 #[inline(never)]
 fn read_core(alloc: Global, text: &[u8], inner: u8) -> Result<(DataItem, &[u8])>
     requires low { 1 ≤ inner }
     requires high { inner ≤ 129 }
-    ensures gives { Gives (λ x. (view x.0, x.1.now)) result (read_core (read_item (129 - inner)) text.now) }
+    ensures gives { Gives (λ x. (view x.0, x.1.now)) result
+        (read_core (read_item (levels_left inner)) text.now) }
     ensures well { IfOk result (λ x. WellFormed (inner - 1) (view x.0)) }
     ensures shorter { IfOk result (λ x. length x.1.now ≤ length text.now) }
 {
     let (start, rest) = Start::split(text);
     match start {
-        Start::Digit => {
-            let ((number, bitwidth), rest) = read_unsigned_number(text)?;
-            integer_or_tag(alloc, number, bitwidth, rest, inner)
-        }
+        Start::Digit => integer_or_tag(alloc, text, inner),
         Start::Minus => {
             let ((value, bitwidth), rest) = read_negative_number(rest)?;
             Ok((DataItem::Negative { value, bitwidth }, rest))
@@ -90,26 +91,20 @@ fn read_core(alloc: Global, text: &[u8], inner: u8) -> Result<(DataItem, &[u8])>
     }
 }
 
-/// An integer, or a tag where a parenthesis follows its number.
+/// An integer, or a tag if a parenthesis follows its number.
 #[cycle(diag)]
-fn integer_or_tag(
-    alloc: Global,
-    number: u64,
-    bitwidth: IntegerWidth,
-    text: &[u8],
-    inner: u8,
-) -> Result<(DataItem, &[u8])>
+fn integer_or_tag(alloc: Global, text: &[u8], inner: u8) -> Result<(DataItem, &[u8])>
     requires low { 1 ≤ inner }
     requires high { inner ≤ 129 }
-    requires fits { FitsWidth bitwidth number }
     ensures gives { Gives (λ x. (view x.0, x.1.now)) result
-        (integer_or_tag (read_item (129 - inner)) number bitwidth text.now (after_byte 40 text.now)) }
+        (read_integer (read_item (levels_left inner)) text.now) }
     ensures well { IfOk result (λ x. WellFormed (inner - 1) (view x.0)) }
     ensures shorter { IfOk result (λ x. length x.1.now ≤ length text.now) }
 {
-    let Some(rest) = after_byte(text, b'(') else {
+    let ((number, bitwidth), after) = read_unsigned_number(text)?;
+    let Some(rest) = after_byte(after, b'(') else {
         let value = number;
-        return Ok((DataItem::Integer { value, bitwidth }, text));
+        return Ok((DataItem::Integer { value, bitwidth }, after));
     };
     let (value, rest) = read_item(alloc, rest, inner)?;
     let rest = expect_byte(rest, b')')?;
@@ -124,13 +119,13 @@ fn integer_or_tag(
     ))
 }
 
-/// The items of a list behind its opening, up to its close. Room is made for two at first, since many lists
-/// are no longer.
+/// The items of a list after its opening byte, up to its closing byte. Memory is reserved for two
+/// at first, since many lists are no longer.
 #[cycle(diag)]
 fn read_items(alloc: Global, close: u8, text: &[u8], level: u8) -> Result<(Vec<DataItem>, &[u8])>
     requires { level ≤ 129 }
     ensures gives { Gives (λ x. (map view x.0.items, x.1.now)) result
-        (read_members (read_item (129 - level)) close text.now) }
+        (read_members (read_item (levels_left level)) close text.now) }
     ensures well { IfOk result (λ x. WellFormedItems level (items_view x.0.items)) }
     ensures shorter { IfOk result (λ x. length x.1.now ≤ length text.now) }
 {
@@ -149,12 +144,13 @@ fn read_items(alloc: Global, close: u8, text: &[u8], level: u8) -> Result<(Vec<D
     }
 }
 
-/// The pairs of a map behind its opening, up to its close. Room is made for one at first.
+/// The pairs of a map after its opening byte, up to its closing byte. Memory is reserved for one at
+/// first.
 #[cycle(diag)]
 fn read_pairs(alloc: Global, text: &[u8], level: u8) -> Result<(Vec<(DataItem, DataItem)>, &[u8])>
     requires { level ≤ 129 }
     ensures gives { Gives (λ x. (map (λ p. (view p.0, view p.1)) x.0.items, x.1.now)) result
-        (read_members (read_pair (read_item (129 - level))) 125 text.now) }
+        (read_members (read_pair (read_item (levels_left level))) 125 text.now) }
     ensures well { IfOk result (λ x. WellFormedPairs level (pairs_view x.0.items)) }
     ensures shorter { IfOk result (λ x. length x.1.now ≤ length text.now) }
 {
@@ -187,14 +183,14 @@ fn whole_text(alloc: Global, text: &str) -> Result<DataItem>
     Ok(item)
 }
 
-/// Reads one item from diagnostic notation (RFC 7049 section 6; docs/NOTATION.md has the rules), all of
-/// the text.
+/// Reads one item from diagnostic notation (RFC 7049 section 6; docs/NOTATION.md has the rules),
+/// all of the text.
 ///
-/// Refuses with `TooDeep` where the text is an item but for its levels, of which there may be 128, and
-/// with `Notation` where it is none. Of a text that is no item however many levels there may be, the
-/// refusal may also be `TooDeep`, where 128 of `[`, `{`, `(` and `<` stand in it; `PastWidth`, where a
-/// number does not fit the width that its indicator states; and `Utf8`, where a text string is not UTF-8.
-/// `Memory` where a growth was refused.
+/// Refuses with `TooDeep` where the text is an item but for its levels, of which there may be 128,
+/// and with `Notation` where it is none. Of a text that is no item however many levels there may
+/// be, the refusal may also be `TooDeep`, where 128 of `[`, `{`, `(` and `<` stand in it;
+/// `PastWidth`, where a number does not fit the width that its indicator states; and `Utf8`, where
+/// a text string is not UTF-8. `Memory` where a growth was refused.
 pub fn parse_diag(alloc: Global, text: &str) -> Result<DataItem>
     // The item that the text is, exactly where it is one with no item below level 128.
     ensures ok { IfOk result (λ i. IsNotation text.now (view i)) }

@@ -3,8 +3,8 @@ ghost use Rattle.std.specs.Prelude.{◌≡◌, ℕ, ◌+◌, ◌<◌, ◌^◌};
 
 use std::marker::Model;
 
-/// How many turns readers took that it was lent to. A turn reads a head, with the content of a string,
-/// reads a chunk or a break, or closes a container that is full.
+/// How many turns readers took that it was lent to. A turn reads a head, with the content of a
+/// string, reads a chunk or a break, or closes a container that is full.
 #[derive(Drop)]
 pub struct Turns {
     count: u128,

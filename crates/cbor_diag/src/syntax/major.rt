@@ -61,15 +61,15 @@ impl Major {
     pub(crate) fn of(first: u8) -> Major
         ensures { major_number result ≡ first / 32 }
     {
-        match first {
-            0..=0x1f => Major::Unsigned,
-            0x20..=0x3f => Major::Negative,
-            0x40..=0x5f => Major::Bytes,
-            0x60..=0x7f => Major::Text,
-            0x80..=0x9f => Major::Array,
-            0xa0..=0xbf => Major::Map,
-            0xc0..=0xdf => Major::Tag,
-            0xe0..=0xff => Major::Special,
+        match first / 32 {
+            0 => Major::Unsigned,
+            1 => Major::Negative,
+            2 => Major::Bytes,
+            3 => Major::Text,
+            4 => Major::Array,
+            5 => Major::Map,
+            6 => Major::Tag,
+            _ => Major::Special,
         }
     }
 }

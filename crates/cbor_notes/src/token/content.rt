@@ -1,18 +1,19 @@
-//! What stands between quotes in diagnostic notation: text with escapes, and digits with blanks.
+//! What is between quotes in diagnostic notation: text with escapes, and digits with blanks.
 
-ghost use Rattle.std.specs.Prelude.{◌≡◌, ◌≢◌, ◌⊎◌, ◌++◌, ◌∷◌, ◌+◌, ◌<◌, ◌≤◌, List, ℕ, drop, length, IfNone, IfOk, IfSome, IsSomeAnd, not, ◌-◌};
+ghost use Rattle.std.specs.Prelude.{◌≡◌, ◌≢◌, ◌⊎◌, ◌++◌, ◌∷◌, ◌+◌, ◌<◌, ◌≤◌, List, ℕ, drop, length};
+ghost use Rattle.std.specs.Prelude.{IfNone, IfOk, IfSome, IsSomeAnd, not, ◌-◌};
 ghost use Rattle.std.specs.List.{position_or_len};
 ghost use Rattle.cbor_notes.specs.Token.{DigitsBetween, in_quotes, is_digit, is_special};
 
 use super::{end_of_blank, is_whitespace};
 use std::alloc::{AllocError, Global};
 
-/// The content from `at` up to the closing `quote`, which is `'` or `"`, and the place after that quote;
-/// `None` where no such content stands there.
+/// The content from `at` up to the closing `quote`, which is `'` or `"`, and the place after that
+/// quote; `None` if there is no such content.
 ///
-/// In the content the quote and `\` stand after a `\`, and any other byte for itself, line ends too. So
-/// there is none where the text ends before a closing quote or has a `\` before any other byte. The only
-/// refusal is want of memory.
+/// In the content the quote and `\` come after a `\`, and any other byte is itself, line ends too.
+/// So there is none where the text ends before a closing quote or has a `\` before any other byte.
+/// The only error is out of memory.
 pub fn quoted_at(
     alloc: Global,
     text: &[u8],
@@ -26,7 +27,8 @@ pub fn quoted_at(
     ensures none { IfOk result (λ found. IfNone found ((content rest : List ℕ)
         → drop at text.now ≢ in_quotes quote content ++ quote ∷ rest)) }
     // The content and its end are determined.
-    ensures only { (content rest : List ℕ) → drop at text.now ≡ in_quotes quote content ++ quote ∷ rest
+    ensures only { (content rest : List ℕ)
+        → drop at text.now ≡ in_quotes quote content ++ quote ∷ rest
         → IfOk result (λ found. IsSomeAnd found (λ answer.
         (answer.0.items ≡ content) × (drop answer.1 text.now ≡ rest))) }
 {
@@ -46,13 +48,13 @@ pub fn quoted_at(
     Ok(None)
 }
 
-/// The digits from `at` up to the closing `'`, without the blanks before, between and after them, and the
-/// place after that quote; `None` where no such content stands there.
+/// The digits from `at` up to the closing `'`, without the blanks before, between and after them,
+/// and the place after that quote; `None` if there is no such content.
 ///
-/// Blanks are those of `blank_end` if `comments` are allowed, and whitespace alone if not. A `'` in a
-/// comment closes nothing. Content of blanks alone is none, unless it is empty. Any byte but whitespace
-/// and `'` counts as a digit, and with comments any but `/` too, which always opens one; which digits a
-/// notation has is for the caller. The only refusal is want of memory.
+/// Blanks are those of `blank_end` if `comments` are allowed, and whitespace alone if not. A `'` in
+/// a comment closes nothing. Content of blanks alone is none, unless it is empty. Any byte but
+/// whitespace and `'` counts as a digit, and with comments any but `/` too, which always opens one;
+/// which digits a notation has is for the caller. The only error is out of memory.
 pub fn digits_at(
     alloc: Global,
     text: &[u8],
@@ -116,7 +118,8 @@ fn is_special(quote: u8, byte: u8) -> bool
 fn digits_end(text: &[u8], at: usize, comments: bool) -> usize
     requires { at ≤ length text.now }
     ensures within { (at ≤ result) × (result ≤ length text.now) }
-    ensures first { result ≡ at + position_or_len (λ b. not (is_digit comments b)) (drop at text.now) }
+    ensures first { result ≡ at + position_or_len (λ b. not (is_digit comments b))
+        (drop at text.now) }
 {
     match text[at..]
         .iter()

@@ -1,6 +1,7 @@
 //! Numbers of diagnostic notation, in four bases, with an indicator of their width or without.
 
-ghost use Rattle.std.specs.Prelude.{◌≡◌, ◌++◌, ◌+◌, ◌<◌, ◌≤◌, List, ℕ, Option, drop, length, slice_range, IfNone, IfSome, Some};
+ghost use Rattle.std.specs.Prelude.{◌≡◌, ◌++◌, ◌+◌, ◌<◌, ◌≤◌, List, ℕ, Option, drop, length};
+ghost use Rattle.std.specs.Prelude.{slice_range, IfNone, IfSome, Some};
 ghost use Rattle.cbor_notes.specs.Token.{capped, prefix, radix, IsLongest, IsNumber, IsSomeNumber};
 ghost use Rattle.cbor_notes.specs.TokenReading.{base_of, digit_run, indicator_of, small_run};
 
@@ -22,12 +23,12 @@ enum Base {
     Binary,
 }
 
-/// The longest number that begins at `at`, or `None` where none does: its value, its indicator if it has
-/// one, and where it ends.
+/// The longest number that begins at `at`, or `None` where none does: its value, its indicator if
+/// it has one, and where it ends.
 ///
-/// A number is decimal digits, or `0x`, `0o` or `0b` and digits of that base, hex digits of either case.
-/// Then `_` and decimal digits whose value is 0 to 3 may follow, the indicator. Leading zeros are allowed
-/// in both. A value past 2^64 is answered as 2^64 + 1, however many digits it has.
+/// A number is decimal digits, or `0x`, `0o` or `0b` and digits of that base, hex digits of either
+/// case. Then `_` and decimal digits whose value is 0 to 3 may follow, the indicator. Leading zeros
+/// are allowed in both. A value past 2^64 is answered as 2^64 + 1, however many digits it has.
 ///
 /// What follows the number is not looked at, so of `1_4` the number is `1`, and of `0x` it is `0`.
 pub fn number_at(text: &[u8], at: usize) -> Option<(u128, Option<u8>, usize)>
@@ -57,7 +58,8 @@ pub fn number_at(text: &[u8], at: usize) -> Option<(u128, Option<u8>, usize)>
 }
 
 impl Base {
-    /// The base of a number at `at`: that of its prefix if a digit of that base follows, else decimal.
+    /// The base of a number at `at`: that of its prefix if a digit of that base follows, else
+    /// decimal.
     fn at(text: &[u8], at: usize) -> Base
         requires { at ≤ length text.now }
         ensures { result ≡ base_of (drop at text.now) }
@@ -78,7 +80,7 @@ impl Base {
         }
     }
 
-    /// How many bytes stand before the digits.
+    /// How many bytes come before the digits.
     fn prefix_len(self) -> usize
         ensures { result ≡ length (prefix self) }
     {
@@ -117,8 +119,8 @@ fn digits_from(text: &[u8], start: usize, radix: u32) -> (u128, usize)
     }
 }
 
-/// The same, inlined for the radix that is given. As far as a further digit is sure to fit 64 bits, the
-/// number is computed in these.
+/// The same, inlined for the radix that is given. As far as a further digit is sure to fit 64 bits,
+/// the number is computed in these.
 #[inline(always)]
 fn digits_of_radix(text: &[u8], start: usize, radix: u32) -> (u128, usize)
     requires start { start ≤ length text.now }
@@ -139,8 +141,8 @@ fn digits_of_radix(text: &[u8], start: usize, radix: u32) -> (u128, usize)
     (value, end)
 }
 
-/// The number that the digits from `start` on write as far as a further digit fits 64 bits, and where
-/// these digits end.
+/// The number that the digits from `start` on write as far as a further digit fits 64 bits, and
+/// where these digits end.
 #[inline(always)]
 fn short_digits_from(text: &[u8], start: usize, radix: u32) -> (u64, usize)
     requires start { start ≤ length text.now }
@@ -181,8 +183,8 @@ fn indicator_at(text: &[u8], at: usize) -> Option<(u8, usize)>
     }
 }
 
-/// The number that the decimal digits from `start` on write as far as it is at most 3, and where these
-/// digits end.
+/// The number that the decimal digits from `start` on write as far as it is at most 3, and where
+/// these digits end.
 fn small_digits_from(text: &[u8], start: usize) -> (u8, usize)
     requires { start ≤ length text.now }
     ensures within { (start ≤ result.1) × (result.1 ≤ length text.now) }

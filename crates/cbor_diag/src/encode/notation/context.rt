@@ -1,10 +1,14 @@
-//! Where in a text an item stands: what decides how it is written, beside the item itself.
-ghost use Rattle.std.specs.Prelude.{◌≡◌, ◌<◌, ◌^◌};
+//! Where in a text an item is: what decides how it is written, beside the item itself.
+ghost use Rattle.std.specs.Prelude.{◌≡◌, ◌+◌, ◌<◌, ◌≤◌, ◌^◌};
 ghost use Rattle.cbor_diag.specs.declared.encode.encoding.Encoding.TheVariants.{Base16};
-ghost use Rattle.cbor_diag.specs.NotationText.{in_encoding, below, inside, members_layout, listing_indent};
+ghost use Rattle.cbor_diag.specs.WellFormed.{deepest};
+ghost use Rattle.cbor_diag.specs.LayoutView.{layout_view, style_view, context_view};
+ghost use Rattle.cbor_diag.specs.NotationText.{in_encoding, below, inside, members_layout};
+ghost use Rattle.cbor_diag.specs.NotationText.{style_indent};
 
 use crate::encode::encoding::Encoding;
 use crate::syntax::Tag;
+use std::alloc::Global;
 
 /// What the bytes of a byte string are shown as, where they can be.
 #[derive(Clone, Copy)]
@@ -31,38 +35,42 @@ pub(crate) enum Layout {
 
 /// How the members of one container are laid out.
 #[derive(Clone, Copy)]
-pub(crate) enum Listing {
+pub(crate) enum ContainerStyle {
     /// On one line, without blanks.
-    Joined,
-    /// On one line, with a blank behind each comma and colon.
-    Row {
+    Compact,
+    /// On one line, with a blank after each comma and colon.
+    OneLine {
         /// The indent of the container.
         indent: usize,
     },
     /// Each on a line of its own, with four blanks more than the container.
-    Lines {
+    MultiLine {
         /// The indent of the container.
         indent: usize,
     },
 }
 
-impl Listing {
-    /// The layout of what stands in the members. The indent has room for four more.
+impl ContainerStyle {
+    /// The layout of the members. The indent has room for four more.
     pub(crate) fn members_layout(self) -> Layout
-        requires { listing_indent self < 2 ^ 32 }
-        ensures { result ≡ members_layout self }
+        requires { style_indent (style_view self) < 2 ^ 32 }
+        ensures { layout_view result ≡ members_layout (style_view self) }
     {
         match self {
-            Listing::Joined => Layout::Compact,
-            Listing::Row { indent } => Layout::Pretty { indent },
-            Listing::Lines { indent } => Layout::Pretty { indent: indent + 4 },
+            ContainerStyle::Compact => Layout::Compact,
+            ContainerStyle::OneLine { indent } => Layout::Pretty { indent },
+            ContainerStyle::MultiLine { indent } => Layout::Pretty { indent: indent + 4 },
         }
     }
 }
 
-/// Where in a text an item stands.
+/// Where in a text an item is, and what memory is taken from.
 #[derive(Clone, Copy)]
-pub(crate) struct Context {
+pub(crate) struct NotationContext {
+    /// What memory is taken from.
+    pub(crate) alloc: Global,
+    /// The level of the item; the outermost is at level 1.
+    pub(crate) level: u8,
     /// How containers are laid out.
     pub(crate) layout: Layout,
     /// How byte strings are written.
@@ -71,22 +79,27 @@ pub(crate) struct Context {
     pub(crate) content: Content,
 }
 
-impl Context {
-    /// At the beginning of a text: bytes are hex digits.
-    pub(crate) fn new(layout: Layout) -> Context
-        ensures { result ≡ in_encoding layout Base16 }
+impl NotationContext {
+    /// The beginning of a text: bytes are hex digits.
+    pub(crate) fn new(alloc: Global, layout: Layout) -> NotationContext
+        ensures level { result.level ≡ 1 }
+        ensures context { context_view result ≡ in_encoding (layout_view layout) Base16 }
     {
-        Context {
+        NotationContext {
+            alloc,
+            level: 1,
             layout,
             encoding: Encoding::Base16,
             content: Content::Bytes,
         }
     }
 
-    /// Right below this tag. Tags 21, 22 and 23 state an encoding for all that is nested below (RFC 7049
-    /// section 2.4.4.2).
-    pub(crate) fn below(self, tag: Tag) -> Context
-        ensures { result ≡ below tag.0 self }
+    /// Right below this tag. Tags 21, 22 and 23 state an encoding for all that is nested
+    /// below (RFC 7049 section 2.4.4.2).
+    pub(crate) fn below(self, tag: Tag) -> NotationContext
+        requires { self.level ≤ deepest }
+        ensures level { result.level ≡ self.level + 1 }
+        ensures context { context_view result ≡ below tag.0 (context_view self) }
     {
         let encoding = match tag {
             Tag::ENCODED_BASE64URL => Encoding::Base64Url,
@@ -99,7 +112,9 @@ impl Context {
             Tag::ENCODED_CBOR_SEQ => Content::Sequence,
             _ => Content::Bytes,
         };
-        Context {
+        NotationContext {
+            alloc: self.alloc,
+            level: self.level + 1,
             layout: self.layout,
             encoding,
             content,
@@ -107,10 +122,14 @@ impl Context {
     }
 
     /// In a container, or embedded in a byte string.
-    pub(crate) fn inside(self, layout: Layout) -> Context
-        ensures { result ≡ inside layout self }
+    pub(crate) fn inside(self, layout: Layout) -> NotationContext
+        requires { self.level ≤ deepest }
+        ensures level { result.level ≡ self.level + 1 }
+        ensures context { context_view result ≡ inside (layout_view layout) (context_view self) }
     {
-        Context {
+        NotationContext {
+            alloc: self.alloc,
+            level: self.level + 1,
             layout,
             encoding: self.encoding,
             content: Content::Bytes,

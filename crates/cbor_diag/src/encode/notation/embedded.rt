@@ -1,8 +1,8 @@
-//! Items that are embedded in the bytes of a byte string, read when they are printed. That they can't be
-//! read is no refusal: they are shown as bytes. Want of memory is.
-ghost use Rattle.std.specs.Prelude.{◌≡◌, ◌≤◌, ◌-◌, IfOk, IfSome, option_map};
+//! Items that are embedded in the bytes of a byte string, read when they are printed. Bytes
+//! that can't be read are shown as bytes; the only error is that memory is out.
+ghost use Rattle.std.specs.Prelude.{◌≡◌, ◌≤◌, IfOk, IfSome, option_map};
 ghost use Rattle.cbor_diag.specs.View.{view, items_view};
-ghost use Rattle.cbor_diag.specs.WellFormed.{WellFormed, WellFormedItems};
+ghost use Rattle.cbor_diag.specs.WellFormed.{levels_left, WellFormed, WellFormedItems};
 ghost use Rattle.cbor_diag.specs.Embedded.{embedded_at, sequence_at};
 
 use crate::error::Error;
@@ -18,7 +18,8 @@ pub(crate) fn embedded(
 ) -> Result<Option<DataItem>, AllocError>
     requires from { 1 ≤ level }
     requires to { level ≤ 129 }
-    ensures item { IfOk result (λ o. option_map view o ≡ embedded_at (129 - level) bytes.now) }
+    ensures item { IfOk result (λ o.
+        option_map view o ≡ embedded_at (levels_left level) bytes.now) }
     ensures well_formed { IfOk result (λ o. IfSome o (λ i. WellFormed level (view i))) }
 {
     match read_whole(alloc, bytes, level) {
@@ -39,7 +40,7 @@ pub(crate) fn sequence(
     requires from { 1 ≤ level }
     requires to { level ≤ 129 }
     ensures items { IfOk result (λ x.
-        (items_view x.0.items, x.1.now) ≡ sequence_at (129 - level) bytes.now) }
+        (items_view x.0.items, x.1.now) ≡ sequence_at (levels_left level) bytes.now) }
     ensures well_formed { IfOk result (λ x. WellFormedItems level (items_view x.0.items)) }
 {
     let mut items = Vec::new(alloc);

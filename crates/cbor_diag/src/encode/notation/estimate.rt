@@ -1,46 +1,95 @@
-//! How long a container would be on one line, roughly: pretty text gives each member of a long one a line
-//! of its own.
+//! How long a container would be on one line, roughly: pretty text gives each member of a long
+//! one a line of its own.
 //!
-//! Each function takes how much room is left and gives what is left of it behind its part: none, where the
-//! part fills it or is longer. Nothing is looked for behind that, so an item is looked at in steps that the
-//! room bounds, however large it is.
-ghost use Rattle.std.specs.Prelude.{◌≡◌, ◌+◌, ◌-◌, ◌*◌, ◌^◌, ◌≤◌, map, sum_by};
+//! Each function takes a budget of characters and returns what its part leaves of it: 0 where
+//! the part takes all of it or more. Nothing after that is looked at, so an item is looked at
+//! in steps that the budget bounds, however large it is.
+ghost use Rattle.std.specs.Prelude.{◌≡◌, ◌+◌, ◌-◌, ◌*◌, ◌^◌, ◌≤◌, nat_lt, map, sum_by};
+ghost use Rattle.std.specs.Prelude.{if◌then◌else◌};
 ghost use Rattle.cbor_diag.specs.View.{view, items_view, pairs_view, byte_chunk, text_chunk};
-ghost use Rattle.cbor_diag.specs.NotationText.{listing};
-ghost use Rattle.cbor_diag.specs.Estimate.{digit_count, full_bytes, full_text, full_float, full, full_items, full_pairs};
+ghost use Rattle.cbor_diag.specs.ContainerStyle as style;
+ghost use Rattle.cbor_diag.specs.LayoutView.{layout_view, style_view};
+ghost use Rattle.cbor_diag.specs.NotationText.{container_style};
+ghost use Rattle.cbor_diag.specs.Item as spec;
+ghost use Rattle.cbor_diag.specs.Estimate.{digit_count, estimated_bytes, estimated_text};
+ghost use Rattle.cbor_diag.specs.Estimate.{estimated_float, estimated_atom, estimated_length};
+ghost use Rattle.cbor_diag.specs.Estimate.{estimated_items, estimated_pairs};
 
-use super::context::{Layout, Listing};
+use super::context::{ContainerStyle, Layout};
 use crate::syntax::{ByteString, DataItem, FloatWidth, TextString};
 
-/// The room that a container fills which is long.
-const ROOM: usize = 60;
+/// The budget for the members of a container, which is long where they take all of it: 60 less
+/// the 4 that are for its brackets.
+const BUDGET: usize = 56;
 
 impl Layout {
-    /// How the members of this item are laid out.
-    pub(crate) fn listing(self, item: &DataItem) -> Listing
-        ensures { result ≡ listing self (full (view item.now)) }
+    /// The style of an array of these items, or of a sequence of them.
+    pub(crate) fn array_style(self, items: &Vec<DataItem>) -> ContainerStyle
+        ensures { style_view result
+            ≡ container_style (layout_view self)
+            (4 + estimated_items (items_view items.now.items)) }
     {
         match self {
-            Layout::Compact => Listing::Joined,
-            Layout::Pretty { indent } if item_room(item, ROOM) > 0 => Listing::Row { indent },
-            Layout::Pretty { indent } => Listing::Lines { indent },
+            Layout::Compact => ContainerStyle::Compact,
+            Layout::Pretty { indent } => pretty_style(indent, left_after_items(items, BUDGET)),
         }
     }
 
-    /// How the items of a sequence are laid out, as the members of an array are.
-    pub(crate) fn sequence_listing(self, items: &Vec<DataItem>) -> Listing
-        ensures { result ≡ listing self (4 + full_items (items_view items.now.items)) }
+    /// The style of a map of these pairs.
+    pub(crate) fn map_style(self, pairs: &Vec<(DataItem, DataItem)>) -> ContainerStyle
+        ensures { style_view result
+            ≡ container_style (layout_view self)
+            (4 + estimated_pairs (pairs_view pairs.now.items)) }
     {
         match self {
-            Layout::Compact => Listing::Joined,
-            Layout::Pretty { indent } if items_room(items, ROOM - 4) > 0 => Listing::Row { indent },
-            Layout::Pretty { indent } => Listing::Lines { indent },
+            Layout::Compact => ContainerStyle::Compact,
+            Layout::Pretty { indent } => pretty_style(indent, left_after_pairs(pairs, BUDGET)),
+        }
+    }
+
+    /// The style of an indefinite byte string of these chunks.
+    pub(crate) fn byte_chunks_style(self, chunks: &[ByteString]) -> ContainerStyle
+        ensures { style_view result ≡ container_style (layout_view self)
+            (estimated_atom (spec.byte_chunks (map byte_chunk chunks.now))) }
+    {
+        match self {
+            Layout::Compact => ContainerStyle::Compact,
+            Layout::Pretty { indent } => pretty_style(
+                indent,
+                left_after_byte_chunks(chunks, BUDGET),
+            ),
+        }
+    }
+
+    /// The style of an indefinite text string of these chunks.
+    pub(crate) fn text_chunks_style(self, chunks: &[TextString]) -> ContainerStyle
+        ensures { style_view result ≡ container_style (layout_view self)
+            (estimated_atom (spec.text_chunks (map text_chunk chunks.now))) }
+    {
+        match self {
+            Layout::Compact => ContainerStyle::Compact,
+            Layout::Pretty { indent } => pretty_style(
+                indent,
+                left_after_text_chunks(chunks, BUDGET),
+            ),
         }
     }
 }
 
+/// The style of a container with blanks, by what its members leave of the budget.
+fn pretty_style(indent: usize, left: usize) -> ContainerStyle
+    ensures { style_view result
+        ≡ (if nat_lt 0 left then style.OneLine indent else style.MultiLine indent) }
+{
+    if left > 0 {
+        ContainerStyle::OneLine { indent }
+    } else {
+        ContainerStyle::MultiLine { indent }
+    }
+}
+
 /// How many decimal digits a number has.
-#[tactic(auto, using(std::proofs::lemmas::Fmt::decimal_digit, crate::proofs::Rooms::power_below))]
+#[tactic(auto, using(std::proofs::lemmas::Fmt::decimal_digit, crate::proofs::DigitCounts::power_below))]
 fn digit_count(number: u64) -> usize
     ensures count { result ≡ digit_count number }
     ensures small { result ≤ 2 ^ 32 }
@@ -50,55 +99,56 @@ fn digit_count(number: u64) -> usize
         .map_or(1, |power| power as usize + 1)
 }
 
-/// Room behind a byte string.
-fn bytes_room(string: &ByteString, room: usize) -> usize
-    ensures { result ≡ room - full_bytes (byte_chunk string.now) }
+/// What a byte string leaves of the budget.
+fn left_after_bytes(string: &ByteString, budget: usize) -> usize
+    ensures { result ≡ budget - estimated_bytes (byte_chunk string.now) }
 {
     let len = string.content.as_slice().len();
-    room.saturating_sub(4)
+    budget
+        .saturating_sub(4)
         .saturating_sub(len)
         .saturating_sub(len)
 }
 
-/// Room behind a text.
-fn text_room(string: &TextString, room: usize) -> usize
-    ensures { result ≡ room - full_text (text_chunk string.now) }
+/// What a text leaves of the budget.
+fn left_after_text(string: &TextString, budget: usize) -> usize
+    ensures { result ≡ budget - estimated_text (text_chunk string.now) }
 {
     let len = string.content.as_str().len();
-    room.saturating_sub(2).saturating_sub(len)
+    budget.saturating_sub(2).saturating_sub(len)
 }
 
-/// Room behind the chunks of a byte string.
-fn byte_chunks_room(chunks: &[ByteString], room: usize) -> usize
-    ensures { result ≡ room - sum_by (λ c. full_bytes c + 2) (map byte_chunk chunks.now) }
+/// What the chunks of a byte string leave of the budget, two characters more for each.
+fn left_after_byte_chunks(chunks: &[ByteString], budget: usize) -> usize
+    ensures { result ≡ budget - sum_by (λ c. estimated_bytes c + 2) (map byte_chunk chunks.now) }
 {
-    let mut left = room;
+    let mut left = budget;
     'chunks: for chunk in chunks {
         if left == 0 {
             return 0;
         }
-        left = bytes_room(chunk, left).saturating_sub(2);
+        left = left_after_bytes(chunk, left).saturating_sub(2);
     }
     left
 }
 
-/// Room behind the chunks of a text string.
-fn text_chunks_room(chunks: &[TextString], room: usize) -> usize
-    ensures { result ≡ room - sum_by (λ c. full_text c + 2) (map text_chunk chunks.now) }
+/// What the chunks of a text string leave of the budget, two characters more for each.
+fn left_after_text_chunks(chunks: &[TextString], budget: usize) -> usize
+    ensures { result ≡ budget - sum_by (λ c. estimated_text c + 2) (map text_chunk chunks.now) }
 {
-    let mut left = room;
+    let mut left = budget;
     'chunks: for chunk in chunks {
         if left == 0 {
             return 0;
         }
-        left = text_room(chunk, left).saturating_sub(2);
+        left = left_after_text(chunk, left).saturating_sub(2);
     }
     left
 }
 
 /// How long a float is.
 fn float_len(width: FloatWidth) -> usize
-    ensures { result ≡ full_float width }
+    ensures { result ≡ estimated_float width }
 {
     match width {
         FloatWidth::Sixteen => 11,
@@ -107,57 +157,63 @@ fn float_len(width: FloatWidth) -> usize
     }
 }
 
-/// Room behind an item.
-#[cycle(room)]
-fn item_room(item: &DataItem, room: usize) -> usize
-    ensures { result ≡ room - full (view item.now) }
+/// What an item leaves of the budget.
+#[cycle(estimate)]
+fn left_after_item(item: &DataItem, budget: usize) -> usize
+    ensures { result ≡ budget - estimated_length (view item.now) }
 {
     match item {
-        DataItem::Integer { value, .. } => room.saturating_sub(digit_count(*value) + 2),
-        DataItem::Negative { value, .. } => room.saturating_sub(digit_count(*value) + 3),
-        DataItem::ByteString(string) => bytes_room(string, room),
-        DataItem::TextString(string) => text_room(string, room),
-        DataItem::IndefiniteByteString(chunks) => byte_chunks_room(chunks, room.saturating_sub(4)),
-        DataItem::IndefiniteTextString(chunks) => text_chunks_room(chunks, room.saturating_sub(4)),
-        DataItem::Array { content, .. } => items_room(content, room.saturating_sub(4)),
-        DataItem::Map { content, .. } => pairs_room(content, room.saturating_sub(4)),
-        DataItem::Tag { tag, value, .. } => match room.saturating_sub(digit_count(tag.0) + 2) {
+        DataItem::Integer { value, .. } => budget.saturating_sub(digit_count(*value) + 2),
+        DataItem::Negative { value, .. } => budget.saturating_sub(digit_count(*value) + 3),
+        DataItem::ByteString(string) => left_after_bytes(string, budget),
+        DataItem::TextString(string) => left_after_text(string, budget),
+        DataItem::IndefiniteByteString(chunks) => left_after_byte_chunks(
+            chunks,
+            budget.saturating_sub(4),
+        ),
+        DataItem::IndefiniteTextString(chunks) => left_after_text_chunks(
+            chunks,
+            budget.saturating_sub(4),
+        ),
+        DataItem::Array { content, .. } => left_after_items(content, budget.saturating_sub(4)),
+        DataItem::Map { content, .. } => left_after_pairs(content, budget.saturating_sub(4)),
+        DataItem::Tag { tag, value, .. } => match budget.saturating_sub(digit_count(tag.0) + 2) {
             0 => 0,
-            left => item_room(value, left),
+            left => left_after_item(value, left),
         },
-        DataItem::Float { bitwidth, .. } => room.saturating_sub(float_len(*bitwidth)),
-        DataItem::Simple(simple) => room.saturating_sub(digit_count(simple.0 as u64) + 8),
+        DataItem::Float { bitwidth, .. } => budget.saturating_sub(float_len(*bitwidth)),
+        DataItem::Simple(simple) => budget.saturating_sub(digit_count(simple.0 as u64) + 8),
     }
 }
 
-/// Room behind the members of an array, two more for each.
-#[cycle(room)]
+/// What the items of an array leave of the budget, two characters more for each.
+#[cycle(estimate)]
 #[inline(never)]
-fn items_room(items: &Vec<DataItem>, room: usize) -> usize
-    ensures { result ≡ room - full_items (items_view items.now.items) }
+fn left_after_items(items: &Vec<DataItem>, budget: usize) -> usize
+    ensures { result ≡ budget - estimated_items (items_view items.now.items) }
 {
-    let mut left = room;
+    let mut left = budget;
     'items: for item in items {
         if left == 0 {
             return 0;
         }
-        left = item_room(item, left).saturating_sub(2);
+        left = left_after_item(item, left).saturating_sub(2);
     }
     left
 }
 
-/// Room behind the keys and values of a map, two more for each pair.
-#[cycle(room)]
+/// What the keys and values of a map leave of the budget, two characters more for each pair.
+#[cycle(estimate)]
 #[inline(never)]
-fn pairs_room(pairs: &Vec<(DataItem, DataItem)>, room: usize) -> usize
-    ensures { result ≡ room - full_pairs (pairs_view pairs.now.items) }
+fn left_after_pairs(pairs: &Vec<(DataItem, DataItem)>, budget: usize) -> usize
+    ensures { result ≡ budget - estimated_pairs (pairs_view pairs.now.items) }
 {
-    let mut left = room;
+    let mut left = budget;
     'pairs: for (key, value) in pairs {
         if left == 0 {
             return 0;
         }
-        left = item_room(value, item_room(key, left)).saturating_sub(2);
+        left = left_after_item(value, left_after_item(key, left)).saturating_sub(2);
     }
     left
 }

@@ -1,23 +1,28 @@
-//! What stands round the members of containers and the chunks of strings, as their `Listing` has it. What is
-//! short and called at each member is inlined.
+//! What is written round the members of containers and the chunks of strings, as their style
+//! has it. What is short and called at each member is inlined.
 #![tactic(auto, using(crate::proofs::Appending::appending_steps))]
 
-ghost use Rattle.std.specs.Prelude.{◌∷◌, [], ◌++◌, ◌<◌, ◌^◌, map, codes};
+ghost use Rattle.std.specs.Prelude.{◌∷◌, [], ◌++◌, ◌<◌, ◌≤◌, ◌^◌, map, codes};
 ghost use Rattle.cbor_diag.specs.Appends.{AppendsText};
 ghost use Rattle.cbor_diag.specs.View.{byte_chunk, text_chunk};
-ghost use Rattle.cbor_diag.specs.NotationText.{line, start, end, last_line, opened, colon, listing_indent, quoted, text, chunks_text, rest_text};
+ghost use Rattle.cbor_diag.specs.Item as spec;
+ghost use Rattle.cbor_diag.specs.WellFormed.{deepest};
+ghost use Rattle.cbor_diag.specs.LayoutView.{style_view, context_view, chunks_style, IsIndented};
+ghost use Rattle.cbor_diag.specs.LayoutView.{before_member, after_member};
+ghost use Rattle.cbor_diag.specs.NotationText.{line, last_line, opened, colon};
+ghost use Rattle.cbor_diag.specs.NotationText.{style_indent};
+ghost use Rattle.cbor_diag.specs.NotationText.{byte_chunks_text, text_chunks_text, rest_text};
 
-use super::context::{Context, Layout, Listing};
+use super::context::{ContainerStyle, Layout, NotationContext};
 use super::scalars::{push_quoted, push_text};
-use crate::encode::encoding::Encoding;
 use crate::syntax::{ByteString, IntegerWidth, TextString};
 use std::alloc::AllocError;
 
 /// A line feed, and as many blanks as are written with it at once.
 const LINE: &str = "\n                                                                ";
 
-/// Begins a new line with so many blanks. Lines near the left are most of them, and a text whose length is
-/// known here is written in less time.
+/// Begins a new line with this many blanks. Lines near the left are most of them, and a text
+/// whose length is known here is written in less time.
 fn push_line(out: &mut String, indent: usize) -> Result<(), AllocError>
     ensures { AppendsText result out.old out.new (line indent) }
 {
@@ -44,57 +49,61 @@ fn push_far_line(out: &mut String, indent: usize) -> Result<(), AllocError>
     Ok(())
 }
 
-/// Writes an opening bracket, and what tells that a length is indefinite.
+/// Writes an opening bracket, and an underscore where the length is indefinite.
 #[inline(always)]
 pub(crate) fn push_opening(
     out: &mut String,
     bracket: char,
     width: Option<IntegerWidth>,
-    listing: Listing,
+    style: ContainerStyle,
 ) -> Result<(), AllocError>
     requires { bracket < 128 }
-    ensures { AppendsText result out.old out.new (opened listing (bracket ∷ []) width) }
+    ensures { AppendsText result out.old out.new (opened (style_view style) (bracket ∷ []) width) }
 {
     out.push(bracket)?;
-    match (width, listing) {
+    match (width, style) {
         (Some(_), _) => Ok(()),
-        (None, Listing::Row { .. }) => out.push_str("_ "),
+        (None, ContainerStyle::OneLine { .. }) => out.push_str("_ "),
         (None, _) => out.push('_'),
     }
 }
 
-/// Writes what stands before a member.
+/// Writes what is before a member.
 #[inline(always)]
-pub(crate) fn push_start(out: &mut String, listing: Listing, first: bool) -> Result<(), AllocError>
-    requires { listing_indent listing < 2 ^ 32 }
-    ensures { AppendsText result out.old out.new (start listing first) }
+pub(crate) fn push_start(
+    out: &mut String,
+    style: ContainerStyle,
+    first: bool,
+) -> Result<(), AllocError>
+    requires { style_indent (style_view style) < 2 ^ 32 }
+    ensures { AppendsText result out.old out.new (before_member (style_view style) first) }
 {
-    match listing {
-        Listing::Lines { indent } => push_line(out, indent + 4),
+    match style {
+        ContainerStyle::MultiLine { indent } => push_line(out, indent + 4),
         _ if first => Ok(()),
-        Listing::Joined => out.push(','),
-        Listing::Row { .. } => out.push_str(", "),
+        ContainerStyle::Compact => out.push(','),
+        ContainerStyle::OneLine { .. } => out.push_str(", "),
     }
 }
 
-/// Writes what stands behind a member.
+/// Writes what is after a member.
 #[inline(always)]
-pub(crate) fn push_end(out: &mut String, listing: Listing) -> Result<(), AllocError>
-    ensures { AppendsText result out.old out.new (end listing) }
+pub(crate) fn push_end(out: &mut String, style: ContainerStyle) -> Result<(), AllocError>
+    ensures { AppendsText result out.old out.new (after_member (style_view style)) }
 {
-    match listing {
-        Listing::Lines { .. } => out.push(','),
+    match style {
+        ContainerStyle::MultiLine { .. } => out.push(','),
         _ => Ok(()),
     }
 }
 
-/// Writes what stands between a key and its value.
+/// Writes what is between a key and its value.
 #[inline(always)]
-pub(crate) fn push_colon(out: &mut String, listing: Listing) -> Result<(), AllocError>
-    ensures { AppendsText result out.old out.new (colon listing) }
+pub(crate) fn push_colon(out: &mut String, style: ContainerStyle) -> Result<(), AllocError>
+    ensures { AppendsText result out.old out.new (colon (style_view style)) }
 {
-    match listing {
-        Listing::Joined => out.push(':'),
+    match style {
+        ContainerStyle::Compact => out.push(':'),
         _ => out.push_str(": "),
     }
 }
@@ -103,72 +112,81 @@ pub(crate) fn push_colon(out: &mut String, listing: Listing) -> Result<(), Alloc
 #[inline(always)]
 pub(crate) fn push_closing(
     out: &mut String,
-    listing: Listing,
+    style: ContainerStyle,
     bracket: char,
 ) -> Result<(), AllocError>
     requires { bracket < 128 }
-    ensures { AppendsText result out.old out.new (last_line listing ++ (bracket ∷ [])) }
+    ensures { AppendsText result out.old out.new (last_line (style_view style) ++ (bracket ∷ [])) }
 {
-    if let Listing::Lines { indent } = listing {
+    if let ContainerStyle::MultiLine { indent } = style {
         push_line(out, indent)?;
     }
     out.push(bracket)
 }
 
 /// Writes the chunks of an indefinite byte string; one of no chunks keeps its kind.
+#[inline(never)]
 pub(crate) fn push_byte_chunks(
     out: &mut String,
     chunks: &[ByteString],
-    encoding: Encoding,
-    listing: Listing,
+    context: &NotationContext,
 ) -> Result<(), AllocError>
-    requires { listing_indent listing < 2 ^ 32 }
+    requires level { context.now.level ≤ deepest }
+    requires indent { IsIndented context.now }
     ensures { AppendsText result out.old out.new
-        (chunks_text listing (codes "''_")
-        (map (λ s. quoted encoding s.bytes) (map byte_chunk chunks.now))) }
+        (byte_chunks_text context.now.encoding (chunks_style context.now
+        (spec.byte_chunks (map byte_chunk chunks.now))) (map byte_chunk chunks.now)) }
 {
     if chunks.is_empty() {
         return out.push_str("''_");
     }
-    push_opening(out, '(', None, listing)?;
+    let style = context.layout.byte_chunks_style(chunks);
+    push_opening(out, '(', None, style)?;
     let mut first = true;
     'chunks: for chunk in chunks {
-        push_start(out, listing, first)?;
-        push_quoted(out, &chunk.content, encoding)?;
-        push_end(out, listing)?;
+        push_start(out, style, first)?;
+        push_quoted(out, &chunk.content, context.encoding)?;
+        push_end(out, style)?;
         first = false;
     }
-    push_closing(out, listing, ')')
+    push_closing(out, style, ')')
 }
 
 /// Writes the chunks of an indefinite text string; one of no chunks keeps its kind.
+#[inline(never)]
 pub(crate) fn push_text_chunks(
     out: &mut String,
     chunks: &[TextString],
-    listing: Listing,
+    context: &NotationContext,
 ) -> Result<(), AllocError>
-    requires { listing_indent listing < 2 ^ 32 }
+    requires level { context.now.level ≤ deepest }
+    requires indent { IsIndented context.now }
     ensures { AppendsText result out.old out.new
-        (chunks_text listing (codes "\"\"_")
-        (map (λ s. text s.bytes) (map text_chunk chunks.now))) }
+        (text_chunks_text (chunks_style context.now
+        (spec.text_chunks (map text_chunk chunks.now))) (map text_chunk chunks.now)) }
 {
     if chunks.is_empty() {
         return out.push_str("\"\"_");
     }
-    push_opening(out, '(', None, listing)?;
+    let style = context.layout.text_chunks_style(chunks);
+    push_opening(out, '(', None, style)?;
     let mut first = true;
     'chunks: for chunk in chunks {
-        push_start(out, listing, first)?;
+        push_start(out, style, first)?;
         push_text(out, chunk.content.as_str())?;
-        push_end(out, listing)?;
+        push_end(out, style)?;
         first = false;
     }
-    push_closing(out, listing, ')')
+    push_closing(out, style, ')')
 }
 
-/// Writes what of a sequence can't be read as an item.
-pub(crate) fn push_rest(out: &mut String, rest: &[u8], context: &Context) -> Result<(), AllocError>
-    ensures { AppendsText result out.old out.new (rest_text context.now rest.now) }
+/// Writes the rest of a sequence, which can't be read as an item.
+pub(crate) fn push_rest(
+    out: &mut String,
+    rest: &[u8],
+    context: &NotationContext,
+) -> Result<(), AllocError>
+    ensures { AppendsText result out.old out.new (rest_text (context_view context.now) rest.now) }
 {
     if rest.is_empty() {
         return Ok(());

@@ -1,5 +1,5 @@
-//! What holds no item: numbers, strings, floats and simple values (RFC 7049 section 6). Each is written by
-//! a function of its own, which isn't inlined where an item is told by its kind.
+//! What holds no item: numbers, strings, floats and simple values (RFC 7049 section 6). Each is
+//! written by a function of its own, which isn't inlined where an item is told by its kind.
 #![tactic(auto, using(crate::proofs::Appending::appending_steps))]
 
 ghost use Rattle.std.specs.Prelude.{◌≡◌, ◌+◌, ◌++◌, codes};
@@ -8,7 +8,8 @@ ghost use Rattle.std.specs.List.{flat_map, list_any};
 ghost use Rattle.cbor_diag.specs.Appends.{AppendsText};
 ghost use Rattle.cbor_notes.specs.Base64.{standard, url_safe};
 ghost use Rattle.cbor_diag.specs.WellFormed.{FitsFloat};
-ghost use Rattle.cbor_diag.specs.NotationText.{indicator, number, prefix, encoded_bytes, quoted, is_escaped, escaped, text, float_text, simple_text};
+ghost use Rattle.cbor_diag.specs.NotationText.{indicator, number, prefix, encoded_bytes, quoted};
+ghost use Rattle.cbor_diag.specs.NotationText.{is_escaped, escaped, text, float_text, simple_text};
 
 use crate::encode::encoding::Encoding;
 use crate::syntax::{FloatWidth, IntegerWidth, Simple};
@@ -76,7 +77,7 @@ pub(crate) fn push_negative(
     }
 }
 
-/// Writes what stands before the quotes of bytes.
+/// Writes the prefix of quoted bytes.
 fn push_prefix(out: &mut String, encoding: Encoding) -> Result<(), AllocError>
     ensures { AppendsText result out.old out.new (prefix encoding) }
 {
@@ -100,7 +101,7 @@ pub(crate) fn push_quoted(
     out.push('\'')
 }
 
-/// Writes bytes as what stands between the quotes.
+/// Writes bytes as they are between quotes.
 fn push_encoded(out: &mut String, bytes: &[u8], encoding: Encoding) -> Result<(), AllocError>
     ensures { AppendsText result out.old out.new (encoded_bytes encoding bytes.now) }
 {
@@ -111,8 +112,8 @@ fn push_encoded(out: &mut String, bytes: &[u8], encoding: Encoding) -> Result<()
     }
 }
 
-/// Writes bytes in base 64. It stands apart since it has a large buffer, which whatever it is inlined
-/// into would clear at each call.
+/// Writes bytes in base 64. It is a function of its own since it has a large buffer, which
+/// whatever it is inlined into would clear at each call.
 #[inline(never)]
 fn push_base64(out: &mut String, bytes: &[u8]) -> Result<(), AllocError>
     ensures { AppendsText result out.old out.new (standard bytes.now) }
@@ -137,8 +138,8 @@ pub(crate) fn push_text(out: &mut String, content: &str) -> Result<(), AllocErro
     out.push('"')
 }
 
-/// Whether the text has a byte that stands behind a backslash. It is looked at to its end, whatever is
-/// found: so the loop has one way out, and many bytes are looked at together.
+/// Whether the text has a byte that is escaped by a backslash. It is looked at to its end,
+/// whatever is found: so the loop has one way out, and many bytes are looked at together.
 fn has_escaped(content: &str) -> bool
     ensures { result ≡ list_any is_escaped content.now }
 {
@@ -149,14 +150,15 @@ fn has_escaped(content: &str) -> bool
     found > 0
 }
 
-/// Whether the byte stands behind a backslash in a text.
+/// Whether the byte is escaped by a backslash in a text.
 fn is_escaped(byte: u8) -> bool
     ensures { result ≡ is_escaped byte }
 {
     byte == b'"' || byte == b'\\'
 }
 
-/// Writes a text with a backslash before each quote and each backslash. Most texts have none of these.
+/// Writes a text with a backslash before each quote and each backslash. Most texts have none of
+/// these.
 #[tactic(auto, using(crate::proofs::NotationTexts::plain_text, crate::proofs::Appending::appending_steps))]
 fn push_escaped(out: &mut String, content: &str) -> Result<(), AllocError>
     ensures { AppendsText result out.old out.new (flat_map escaped content.now) }
@@ -175,7 +177,7 @@ fn push_escaped(out: &mut String, content: &str) -> Result<(), AllocError>
     out.push_str(&content[done..])
 }
 
-/// Writes a float by its bits, as hex digits of its width; an open width has 64 bits.
+/// Writes a float by its bits, as hex digits of its width; an unstated width has 64 bits.
 #[inline(never)]
 pub(crate) fn push_float(out: &mut String, bits: u64, width: FloatWidth) -> Result<(), AllocError>
     requires { FitsFloat width bits }

@@ -1,11 +1,35 @@
 //! Heads (RFC 7049 section 2): the first byte of an item, and the number that goes with it.
-ghost use Rattle.std.specs.Prelude.{◌≡◌, ◌≢◌, ◌<◌, ◌≤◌, length, IfOk};
+ghost use Rattle.std.specs.Prelude.{◌≡◌, ◌<◌, ◌≤◌, length, IfOk};
 ghost use Rattle.std.specs.Int.{w8, w16, w32, w64};
-ghost use Rattle.cbor_diag.specs.Head.{FitsStated};
-ghost use Rattle.cbor_diag.specs.Reading.{Gives, FitsInfo, read_number, read_info, numbered, unnumbered, simple_or_float, head_of, read_head};
+ghost use Rattle.cbor_diag.specs.Head.{FitsStated, major_number};
+ghost use Rattle.cbor_diag.specs.HeadErrors.{Finds, head_error};
+ghost use Rattle.cbor_diag.specs.Reading.{FitsInfo, read_number, read_info, numbered, unnumbered, simple_or_float, head_of, read_head};
 
-use crate::error::{Error, Result};
+use crate::error::Error;
+use crate::syntax::major::Major;
 use crate::syntax::{FloatWidth, IntegerWidth};
+
+/// Why a head is not read.
+#[derive(Clone, Copy)]
+pub(super) enum HeadError {
+    /// The bytes end before the head does.
+    CutShort,
+    /// No item has this head.
+    Head,
+}
+
+type Result<T> = std::result::Result<T, HeadError>;
+
+impl From<HeadError> for Error {
+    ghost from_gives = { λ why e. e ≡ head_error why };
+
+    fn from(why: HeadError) -> Error {
+        match why {
+            HeadError::CutShort => Error::CutShort,
+            HeadError::Head => Error::Head,
+        }
+    }
+}
 
 /// What the five bits of info in a head's first byte say.
 #[derive(Clone, Copy)]
@@ -40,32 +64,29 @@ pub(super) enum ItemHead {
 }
 
 fn read_u8(bytes: &[u8]) -> Result<(u8, &[u8])>
-    ensures gives { Gives (λ x. (x.0, x.1.now)) result (read_number w8 bytes.now) }
-    ensures memory { result ≢ Err Error.Memory }
+    ensures gives { Finds (λ x. (x.0, x.1.now)) result (read_number w8 bytes.now) }
 {
     match bytes {
-        [] => Err(Error::CutShort),
+        [] => Err(HeadError::CutShort),
         [byte, rest @ ..] => Ok((*byte, rest)),
     }
 }
 
 fn read_u16(bytes: &[u8]) -> Result<(u16, &[u8])>
-    ensures gives { Gives (λ x. (x.0, x.1.now)) result (read_number w16 bytes.now) }
-    ensures memory { result ≢ Err Error.Memory }
+    ensures gives { Finds (λ x. (x.0, x.1.now)) result (read_number w16 bytes.now) }
 {
     if bytes.len() < 2 {
-        return Err(Error::CutShort);
+        return Err(HeadError::CutShort);
     }
     let (front, rest) = bytes.split_at(2);
     Ok((u16::from_be_bytes([front[0], front[1]]), rest))
 }
 
 fn read_u32(bytes: &[u8]) -> Result<(u32, &[u8])>
-    ensures gives { Gives (λ x. (x.0, x.1.now)) result (read_number w32 bytes.now) }
-    ensures memory { result ≢ Err Error.Memory }
+    ensures gives { Finds (λ x. (x.0, x.1.now)) result (read_number w32 bytes.now) }
 {
     if bytes.len() < 4 {
-        return Err(Error::CutShort);
+        return Err(HeadError::CutShort);
     }
     let (front, rest) = bytes.split_at(4);
     let number = u32::from_be_bytes([front[0], front[1], front[2], front[3]]);
@@ -73,11 +94,10 @@ fn read_u32(bytes: &[u8]) -> Result<(u32, &[u8])>
 }
 
 fn read_u64(bytes: &[u8]) -> Result<(u64, &[u8])>
-    ensures gives { Gives (λ x. (x.0, x.1.now)) result (read_number w64 bytes.now) }
-    ensures memory { result ≢ Err Error.Memory }
+    ensures gives { Finds (λ x. (x.0, x.1.now)) result (read_number w64 bytes.now) }
 {
     if bytes.len() < 8 {
-        return Err(Error::CutShort);
+        return Err(HeadError::CutShort);
     }
     let (front, rest) = bytes.split_at(8);
     let number = u64::from_be_bytes([
@@ -90,9 +110,8 @@ fn read_u64(bytes: &[u8]) -> Result<(u64, &[u8])>
 #[tactic(auto, unfolding(crate::specs::Reading::read_info, crate::specs::Reading::read_wide))]
 pub(super) fn read_info(bits: u8, bytes: &[u8]) -> Result<(Info, &[u8])>
     requires { bits < 32 }
-    ensures gives { Gives (λ x. (x.0, x.1.now)) result (read_info bits bytes.now) }
+    ensures gives { Finds (λ x. (x.0, x.1.now)) result (read_info bits bytes.now) }
     ensures fits { IfOk result (λ x. FitsInfo x.0) }
-    ensures memory { result ≢ Err Error.Memory }
     ensures shorter { IfOk result (λ x. length x.1.now ≤ length bytes.now) }
 {
     match bits {
@@ -116,7 +135,7 @@ pub(super) fn read_info(bits: u8, bytes: &[u8]) -> Result<(Info, &[u8])>
             let (number, rest) = read_u64(bytes)?;
             Ok((Info::Number(number, IntegerWidth::SixtyFour), rest))
         }
-        28..=30 => Err(Error::Head),
+        28..=30 => Err(HeadError::Head),
         31 => Ok((Info::Indefinite, bytes)),
         _ => unreachable!(),
     }
@@ -125,25 +144,23 @@ pub(super) fn read_info(bits: u8, bytes: &[u8]) -> Result<(Info, &[u8])>
 impl ItemHead {
     /// What a head of that major type with that number opens.
     #[tactic(auto, unfolding(crate::specs::Reading::numbered))]
-    fn numbered(major: u8, number: u64, width: IntegerWidth) -> ItemHead
-        requires major { major < 8 }
-        requires fits { FitsStated width number }
-        ensures { result ≡ numbered major number width }
+    fn numbered(major: Major, number: u64, width: IntegerWidth) -> ItemHead
+        requires { FitsStated width number }
+        ensures { result ≡ numbered (major_number major) number width }
     {
         match major {
-            0 => ItemHead::Integer(number, width),
-            1 => ItemHead::Negative(number, width),
-            2 => ItemHead::Bytes(number, width),
-            3 => ItemHead::Text(number, width),
-            4 => ItemHead::Array(number, width),
-            5 => ItemHead::Map(number, width),
-            6 => ItemHead::Tag(number, width),
-            7 => ItemHead::simple_or_float(number, width),
-            _ => unreachable!(),
+            Major::Unsigned => ItemHead::Integer(number, width),
+            Major::Negative => ItemHead::Negative(number, width),
+            Major::Bytes => ItemHead::Bytes(number, width),
+            Major::Text => ItemHead::Text(number, width),
+            Major::Array => ItemHead::Array(number, width),
+            Major::Map => ItemHead::Map(number, width),
+            Major::Tag => ItemHead::Tag(number, width),
+            Major::Special => ItemHead::simple_or_float(number, width),
         }
     }
 
-    /// In major type 7 a number of up to 8 bits is a simple value, and a wider one the bits of a float.
+    /// In major type 7 a number of up to 8 bits is a simple value; a wider one is a float.
     fn simple_or_float(number: u64, width: IntegerWidth) -> ItemHead
         requires { FitsStated width number }
         ensures { result ≡ simple_or_float number width }
@@ -160,28 +177,23 @@ impl ItemHead {
 
     /// What a head of that major type without a number opens.
     #[tactic(auto, unfolding(crate::specs::Reading::unnumbered))]
-    fn unnumbered(major: u8) -> Result<ItemHead>
-        requires { major < 8 }
-        ensures gives { result ≡ unnumbered major }
-        ensures memory { result ≢ Err Error.Memory }
+    fn unnumbered(major: Major) -> Result<ItemHead>
+        ensures { Finds (λ h. h) result (unnumbered (major_number major)) }
     {
         match major {
-            0 | 1 | 6 => Err(Error::Head),
-            2 => Ok(ItemHead::OpenBytes),
-            3 => Ok(ItemHead::OpenText),
-            4 => Ok(ItemHead::OpenArray),
-            5 => Ok(ItemHead::OpenMap),
-            7 => Ok(ItemHead::Break),
-            _ => unreachable!(),
+            Major::Unsigned | Major::Negative | Major::Tag => Err(HeadError::Head),
+            Major::Bytes => Ok(ItemHead::OpenBytes),
+            Major::Text => Ok(ItemHead::OpenText),
+            Major::Array => Ok(ItemHead::OpenArray),
+            Major::Map => Ok(ItemHead::OpenMap),
+            Major::Special => Ok(ItemHead::Break),
         }
     }
 
     /// What a head of that major type and info opens.
-    pub(super) fn new(major: u8, info: Info) -> Result<ItemHead>
-        requires major { major < 8 }
-        requires fits { FitsInfo info }
-        ensures gives { result ≡ head_of major info }
-        ensures memory { result ≢ Err Error.Memory }
+    pub(super) fn new(major: Major, info: Info) -> Result<ItemHead>
+        requires { FitsInfo info }
+        ensures { Finds (λ h. h) result (head_of (major_number major) info) }
     {
         match info {
             Info::Number(number, width) => Ok(ItemHead::numbered(major, number, width)),
@@ -193,15 +205,14 @@ impl ItemHead {
 /// The head at the front.
 #[tactic(auto, unfolding(crate::specs::Reading::read_head))]
 pub(super) fn read_head(bytes: &[u8]) -> Result<(ItemHead, &[u8])>
-    ensures gives { Gives (λ x. (x.0, x.1.now)) result (read_head bytes.now) }
+    ensures gives { Finds (λ x. (x.0, x.1.now)) result (read_head bytes.now) }
     ensures shorter { IfOk result (λ x. length x.1.now < length bytes.now) }
-    ensures memory { result ≢ Err Error.Memory }
 {
     match bytes {
-        [] => Err(Error::CutShort),
+        [] => Err(HeadError::CutShort),
         [first, rest @ ..] => {
             let (info, rest) = read_info(*first % 32, rest)?;
-            Ok((ItemHead::new(*first / 32, info)?, rest))
+            Ok((ItemHead::new(Major::of(*first), info)?, rest))
         }
     }
 }

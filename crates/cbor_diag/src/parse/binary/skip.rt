@@ -1,7 +1,8 @@
-//! How some bytes begin, told without an item: a loop over heads and a stack of the containers that are
-//! open. Of each container it keeps how many parts are still to come, and strings are skipped.
+//! How some bytes begin, without building an item: a loop over heads with a stack of the open
+//! containers. Of each container it keeps how many parts are still to come; strings are skipped.
 //!
-//! Each private function takes the bytes that are left and gives those after what it skips, or why it stops.
+//! Each private function takes the remaining bytes and returns those after what it skips, or why it
+//! stops.
 mod answer;
 mod outer;
 mod to_come;
@@ -12,13 +13,16 @@ ghost use Rattle.cbor_diag.specs.declared.syntax.IntegerWidth.{IntegerWidth};
 ghost use Rattle.cbor_diag.specs.Item.{Item};
 ghost use Rattle.cbor_diag.specs.WellFormed.{deepest};
 ghost use Rattle.cbor_diag.specs.Bytes.{IsContent, major_of};
+ghost use Rattle.cbor_diag.specs.Head.{major_number};
 ghost use Rattle.cbor_diag.specs.Facts.{BeginsWithItem, IsCut, HasFault};
 ghost use Rattle.cbor_diag.specs.Extent.{IfItem, IfFault, FaultEnds, IsExtent};
+ghost use Rattle.cbor_diag.specs.HeadErrors.{head_error};
 ghost use Rattle.cbor_diag.specs.Skipping.{here, Goes, StopsSo, stop_of, kind_of, skip_content, skip_chunks, after_chunk, skip_item, skip_body, opened, begun};
 
-use super::head::{Info, ItemHead, read_head, read_info};
+use super::head::{HeadError, Info, ItemHead, read_head, read_info};
 use crate::error::Error;
 use crate::syntax::DEEPEST;
+use crate::syntax::major::Major;
 pub use answer::Extent;
 use outer::Outer;
 use to_come::{Count, ToCome};
@@ -36,13 +40,16 @@ enum Stop {
 }
 
 impl Stop {
-    /// Where reading refuses so, and so many bytes follow those that show it.
-    fn new(error: Error, after: usize) -> Stop
-        ensures { result ≡ stop_of error after }
+    /// The reason for this error, with `after` bytes after those that show it.
+    fn new(why: HeadError, after: usize) -> Stop
+        ensures { result ≡ stop_of (head_error why) after }
     {
-        match error {
-            Error::CutShort => Stop::Cut,
-            _ => Stop::Fault { error, after },
+        match why {
+            HeadError::CutShort => Stop::Cut,
+            HeadError::Head => {
+                let error = Error::Head;
+                Stop::Fault { error, after }
+            }
         }
     }
 }
@@ -56,12 +63,12 @@ enum Kind {
 
 impl Kind {
     /// The major type of its strings.
-    fn major(self) -> u8
-        ensures { result ≡ major_of (kind_of self) }
+    fn major(self) -> Major
+        ensures { major_number result ≡ major_of (kind_of self) }
     {
         match self {
-            Kind::Bytes => 2,
-            Kind::Text => 3,
+            Kind::Bytes => Major::Bytes,
+            Kind::Text => Major::Text,
         }
     }
 
@@ -86,7 +93,7 @@ enum Chunk {
     Break,
 }
 
-/// The bytes after a string of that length, whose head stands before.
+/// The bytes after a string of that length; its head is read already.
 fn after_content(kind: Kind, count: u64, bytes: &[u8]) -> Result<&[u8], Stop>
     ensures goes { (w : IntegerWidth) → IfOk result (λ rest.
         Goes (skip_content (kind_of kind) count w) here bytes.now rest.now) }
@@ -119,7 +126,7 @@ fn read_chunk(kind: Kind, bytes: &[u8]) -> Result<(Chunk, &[u8]), Stop>
         [first, rest @ ..] => {
             let after = rest.len();
             let error = Error::Head;
-            if *first / 32 != kind.major() {
+            if *first / 32 != kind.major().number() {
                 return Err(Stop::Fault { error, after });
             }
             match read_info(*first % 32, rest) {
@@ -134,7 +141,7 @@ fn read_chunk(kind: Kind, bytes: &[u8]) -> Result<(Chunk, &[u8]), Stop>
     }
 }
 
-/// The bytes after the break of an indefinite string, whose opening byte stands before.
+/// The bytes after the break of an indefinite string; its opening byte is read already.
 fn after_chunks(kind: Kind, bytes: &[u8]) -> Result<&[u8], Stop>
     ensures goes { IfOk result (λ rest. Goes (skip_chunks (kind_of kind)) here bytes.now rest.now) }
     ensures stops { IfErr result (λ stop. StopsSo (skip_chunks (kind_of kind)) bytes.now stop) }
@@ -150,7 +157,8 @@ fn after_chunks(kind: Kind, bytes: &[u8]) -> Result<&[u8], Stop>
     }
 }
 
-/// The head of an item, with so many levels left for it, and the bytes after it. No item begins with a break.
+/// The head of an item with `levels` left for it, and the bytes after it. No item begins with a
+/// break.
 fn read_item_head(bytes: &[u8], levels: usize) -> Result<(ItemHead, &[u8]), Stop>
     ensures goes { IfOk result (λ x.
         Goes (skip_item levels) (skip_body (levels - 1) x.0) bytes.now x.1.now) }
@@ -179,12 +187,14 @@ fn read_item_head(bytes: &[u8], levels: usize) -> Result<(ItemHead, &[u8]), Stop
     }
 }
 
-/// The bytes after an item that has no parts, whose head stands before.
+/// The bytes after an item without parts; its head is read already.
 fn after_atom(head: ItemHead, bytes: &[u8]) -> Result<&[u8], Stop>
     requires parts { opened head ≡ None }
     requires no_break { head ≢ ItemHead.Break }
-    ensures goes { (left : ℕ) → IfOk result (λ rest. Goes (skip_body left head) here bytes.now rest.now) }
-    ensures stops { (left : ℕ) → IfErr result (λ stop. StopsSo (skip_body left head) bytes.now stop) }
+    ensures goes { (left : ℕ) → IfOk result
+        (λ rest. Goes (skip_body left head) here bytes.now rest.now) }
+    ensures stops { (left : ℕ) → IfErr result
+        (λ stop. StopsSo (skip_body left head) bytes.now stop) }
     ensures shorter { IfOk result (λ rest. length rest.now ≤ length bytes.now) }
 {
     match head {
@@ -196,10 +206,11 @@ fn after_atom(head: ItemHead, bytes: &[u8]) -> Result<&[u8], Stop>
     }
 }
 
-/// What an item has still to come, with so many levels left for it, and the bytes of that: where its head
-/// opens a container, all of that; else nothing.
+/// What is still to come of an item with `levels` left for it, and the bytes after its head: all of
+/// a container if the head opens one, and else nothing.
 fn read_part(bytes: &[u8], levels: usize) -> Result<(Option<ToCome>, &[u8]), Stop>
-    ensures goes { IfOk result (λ x. Goes (skip_item levels) (begun (levels - 1) x.0) bytes.now x.1.now) }
+    ensures goes { IfOk result
+        (λ x. Goes (skip_item levels) (begun (levels - 1) x.0) bytes.now x.1.now) }
     ensures stops { IfErr result (λ stop. StopsSo (skip_item levels) bytes.now stop) }
     ensures shorter { IfOk result (λ x. length x.1.now < length bytes.now) }
     ensures level { IfOk result (λ x. 0 < levels) }
@@ -254,10 +265,11 @@ fn begins(bytes: &[u8]) -> Extent
     }
 }
 
-/// Tells how the bytes begin, by the rules of `parse_bytes_partial`, and takes no memory: with an item of so
-/// many bytes; cut, where they end before the item does and before any error; or with the first error from
-/// the left, which the first `end` bytes show and fewer do not. Of `Head` and `TooDeep` the last of these is
-/// the byte at fault; of `Utf8` they end with the text that is not UTF-8.
+/// Reports how the bytes begin, by the rules of `parse_bytes_partial`, and takes no memory: with an
+/// item and its length; cut, if they end before the item does and before any error; or with the
+/// first error from the left, which the first `end` bytes show and fewer do not. Of `Head` and
+/// `TooDeep` the last of these is the byte at fault; of `Utf8` they end with the text that is not
+/// UTF-8.
 pub fn extent(bytes: &[u8]) -> Extent
     // An item of so many bytes, exactly where they spell one.
     ensures item { IfItem result (λ n. (i : Item) × BeginsWithItem bytes.now i n) }
@@ -274,7 +286,8 @@ pub fn extent(bytes: &[u8]) -> Extent
 
     // The first `end` bytes have the fault, and fewer are cut.
     ensures shown { IfFault result (λ error end. FaultEnds bytes.now error end) }
-    ensures fronts_cut { IfFault result (λ error end. (n : ℕ) → n < end → IsCut (take n bytes.now)) }
+    ensures fronts_cut { IfFault result
+        (λ error end. (n : ℕ) → n < end → IsCut (take n bytes.now)) }
 
     // Bytes that come later change no item, and no fault nor where it ends.
     ensures item_stays { IfItem result (λ n.

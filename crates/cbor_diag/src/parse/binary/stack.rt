@@ -4,7 +4,7 @@ ghost use Rattle.cbor_diag.specs.View.{view};
 ghost use Rattle.cbor_diag.specs.Counting.{after_end, closed, pushed, IsStack};
 ghost use Rattle.cbor_diag.specs.Stack.{frame, outer_of, top_of, depth, IsPutIn};
 
-use super::open::Open;
+use super::frame::Frame;
 use crate::error::{Error, Result};
 use crate::syntax::DataItem;
 use std::alloc::Global;
@@ -12,7 +12,8 @@ use std::alloc::Global;
 /// The containers that are open, the outermost first.
 #[derive(Drop)]
 pub(super) struct Stack {
-    open: Vec<Open>,
+    alloc: Global,
+    open: Vec<Frame>,
 }
 
 impl Stack {
@@ -22,8 +23,14 @@ impl Stack {
         ensures top { top_of result ≡ None }
     {
         Stack {
+            alloc,
             open: Vec::new(alloc),
         }
+    }
+
+    /// The allocator of the containers.
+    pub(super) fn alloc(&self) -> Global {
+        self.alloc
     }
 
     /// How many containers are open.
@@ -33,7 +40,7 @@ impl Stack {
         self.open.len()
     }
 
-    /// The bytes behind the innermost container, where it ends here.
+    /// The bytes after the innermost container, if it ends here.
     pub(super) fn after_end<'a>(&self, bytes: &'a [u8]) -> Option<&'a [u8]>
         ensures { option_map (λ x. x.now) result
             ≡ option_and_then (λ f. after_end f bytes.now) (top_of self.now) }
@@ -44,9 +51,10 @@ impl Stack {
         }
     }
 
-    /// Opens a container in the innermost one.
-    pub(super) fn open(&mut self, container: Open) -> Result<()>
-        ensures outer { OnOk result (outer_of self.new ≡ pushed (outer_of self.old) (top_of self.old)) }
+    /// Opens a container within the innermost one.
+    pub(super) fn open(&mut self, container: Frame) -> Result<()>
+        ensures outer { OnOk result
+            (outer_of self.new ≡ pushed (outer_of self.old) (top_of self.old)) }
         ensures top { OnOk result (top_of self.new ≡ Some (frame container)) }
         ensures memory { IfErr result (λ e. e ≡ Error.Memory) }
     {
@@ -54,8 +62,8 @@ impl Stack {
         Ok(())
     }
 
-    /// Closes the innermost container, which ends, and gives the item that it is.
-    pub(super) fn close(&mut self, alloc: Global) -> Result<DataItem>
+    /// Closes the innermost container, which is complete, and returns its item.
+    pub(super) fn close(&mut self) -> Result<DataItem>
         requires { IsSome (option_and_then closed (top_of self.old)) }
         ensures item { IfOk result (λ i. option_and_then closed (top_of self.old) ≡ Some (view i)) }
         ensures outer { outer_of self.old ≡ outer_of self.new ++ option_to_list (top_of self.new) }
@@ -63,12 +71,12 @@ impl Stack {
         ensures memory { IfErr result (λ e. e ≡ Error.Memory) }
     {
         match self.open.pop() {
-            Some(top) => top.close(alloc),
+            Some(top) => top.close(self.alloc),
             None => unreachable!(),
         }
     }
 
-    /// Puts an item that is whole into the innermost container, or gives it back where none is open.
+    /// Adds an item to the innermost container, or returns it if none is open.
     pub(super) fn put(&mut self, item: DataItem) -> Result<Option<DataItem>>
         ensures put { IfOk result (λ whole.
             IsPutIn (top_of self.old) (top_of self.new) (view item) (option_map view whole)) }

@@ -1,13 +1,16 @@
 //! Strings of definite length, and the chunks of indefinite ones (RFC 7049 sections 2.1 and 2.2.2).
-ghost use Rattle.std.specs.Prelude.{◌+◌, ◌*◌, ◌^◌, ◌<◌, ◌≤◌, length, IfOk, map, option_map};
+ghost use Rattle.std.specs.Prelude.{◌≡◌, ◌+◌, ◌*◌, ◌^◌, ◌<◌, ◌≤◌, length, IfOk, map, option_map};
 ghost use Rattle.cbor_diag.specs.View.{byte_chunk, text_chunk};
-ghost use Rattle.cbor_diag.specs.Bytes.{bytes_kind, text_kind};
+ghost use Rattle.cbor_diag.specs.Item.{Chunk};
+ghost use Rattle.cbor_diag.specs.Bytes.{StringKind, bytes_kind, text_kind, major_of};
+ghost use Rattle.cbor_diag.specs.Head.{major_number};
 ghost use Rattle.cbor_diag.specs.Reading.{Gives, split_at, read_content, read_chunk_length, read_chunk};
 ghost use Rattle.cbor_diag.specs.Counting.{Runs, counted_chunks};
 
 use super::head::{Info, read_info};
 use crate::error::{Error, Result};
 use crate::parse::turns::Turns;
+use crate::syntax::major::Major;
 use crate::syntax::{ByteString, IntegerWidth, TextString};
 use std::alloc::Global;
 
@@ -22,55 +25,88 @@ fn split_at(bytes: &[u8], count: u64) -> Result<(&[u8], &[u8])>
     Ok(bytes.split_at(count as usize))
 }
 
-/// A byte string behind its head.
-#[tactic(auto, unfolding(crate::specs::Reading::read_content))]
-pub(super) fn read_byte_string(
-    alloc: Global,
-    count: u64,
-    bitwidth: IntegerWidth,
-    bytes: &[u8],
-) -> Result<(ByteString, &[u8])>
-    ensures gives { Gives (λ x. (byte_chunk x.0, x.1.now)) result
-        (read_content bytes_kind count bitwidth bytes.now) }
-    ensures shorter { IfOk result (λ x. length x.1.now ≤ length bytes.now) }
-{
-    let (content, rest) = split_at(bytes, count)?;
-    let content = Vec::from_slice(alloc, content)?;
-    Ok((ByteString { content, bitwidth }, rest))
+/// A string of definite length, which may be a chunk of an indefinite one.
+pub(super) trait DefiniteString: Drop {
+    ghost chunk: { Self → Chunk };
+
+    ghost kind: { StringKind };
+
+    /// The major type of its head.
+    fn major() -> Major
+        ensures { major_number result ≡ major_of kind };
+
+    /// Reads the string after a head with this length.
+    fn read(
+        alloc: Global,
+        count: u64,
+        bitwidth: IntegerWidth,
+        bytes: &[u8],
+    ) -> Result<(Self, &[u8])>
+        ensures gives { Gives (λ x. (chunk x.0, x.1.now)) result
+            (read_content kind count bitwidth bytes.now) }
+        ensures shorter { IfOk result (λ x. length x.1.now ≤ length bytes.now) };
 }
 
-/// A text string behind its head.
-#[tactic(auto, unfolding(crate::specs::Reading::read_content), using(crate::proofs::Utf8::utf8_fails, crate::proofs::Utf8::utf8_passes))]
-pub(super) fn read_text_string(
-    alloc: Global,
-    count: u64,
-    bitwidth: IntegerWidth,
-    bytes: &[u8],
-) -> Result<(TextString, &[u8])>
-    ensures gives { Gives (λ x. (text_chunk x.0, x.1.now)) result
-        (read_content text_kind count bitwidth bytes.now) }
-    ensures shorter { IfOk result (λ x. length x.1.now ≤ length bytes.now) }
-{
-    let (content, rest) = split_at(bytes, count)?;
-    let Ok(text) = std::str::from_utf8(content) else {
-        return Err(Error::Utf8);
-    };
-    let content = String::from_str(alloc, text)?;
-    Ok((TextString { content, bitwidth }, rest))
+impl DefiniteString for ByteString {
+    ghost chunk = { byte_chunk };
+
+    ghost kind = { bytes_kind };
+
+    fn major() -> Major {
+        Major::Bytes
+    }
+
+    #[tactic(auto, unfolding(crate::specs::Reading::read_content))]
+    fn read(
+        alloc: Global,
+        count: u64,
+        bitwidth: IntegerWidth,
+        bytes: &[u8],
+    ) -> Result<(ByteString, &[u8])> {
+        let (content, rest) = split_at(bytes, count)?;
+        let content = Vec::from_slice(alloc, content)?;
+        Ok((ByteString { content, bitwidth }, rest))
+    }
 }
 
-/// The length in the head of the next chunk of an indefinite string of that major type, or `None` at
-/// its break. The first byte decides whether a chunk can stand here, before more of its head is read.
+impl DefiniteString for TextString {
+    ghost chunk = { text_chunk };
+
+    ghost kind = { text_kind };
+
+    fn major() -> Major {
+        Major::Text
+    }
+
+    #[tactic(auto, unfolding(crate::specs::Reading::read_content), using(crate::proofs::Utf8::utf8_fails, crate::proofs::Utf8::utf8_passes))]
+    fn read(
+        alloc: Global,
+        count: u64,
+        bitwidth: IntegerWidth,
+        bytes: &[u8],
+    ) -> Result<(TextString, &[u8])> {
+        let (content, rest) = split_at(bytes, count)?;
+        let Ok(text) = std::str::from_utf8(content) else {
+            return Err(Error::Utf8);
+        };
+        let content = String::from_str(alloc, text)?;
+        Ok((TextString { content, bitwidth }, rest))
+    }
+}
+
+/// The length of the next chunk of an indefinite string of that major type, or `None` at its break.
+/// The first byte decides whether a chunk begins here, before more of its head is read.
 #[tactic(auto, unfolding(crate::specs::Reading::read_chunk_length))]
-fn read_chunk_length(major: u8, bytes: &[u8]) -> Result<(Option<(u64, IntegerWidth)>, &[u8])>
-    ensures gives { Gives (λ x. (x.0, x.1.now)) result (read_chunk_length major bytes.now) }
+fn read_chunk_length(major: Major, bytes: &[u8]) -> Result<(Option<(u64, IntegerWidth)>, &[u8])>
+    ensures gives { Gives (λ x. (x.0, x.1.now)) result
+        (read_chunk_length (major_number major) bytes.now) }
     ensures shorter { IfOk result (λ x. length x.1.now < length bytes.now) }
 {
     match bytes {
         [] => Err(Error::CutShort),
         [0xff, rest @ ..] => Ok((None, rest)),
         [first, rest @ ..] => {
-            if *first / 32 != major {
+            if *first / 32 != major.number() {
                 return Err(Error::Head);
             }
             match read_info(*first % 32, rest)? {
@@ -81,45 +117,30 @@ fn read_chunk_length(major: u8, bytes: &[u8]) -> Result<(Option<(u64, IntegerWid
     }
 }
 
-/// The next chunk of an indefinite byte string, or `None` at its break.
+/// The next chunk of an indefinite string, or `None` at its break.
 #[tactic(auto, unfolding(crate::specs::Reading::read_chunk_length, crate::specs::Reading::read_chunk))]
-fn read_byte_chunk(alloc: Global, bytes: &[u8]) -> Result<(Option<ByteString>, &[u8])>
-    ensures gives { Gives (λ x. (option_map byte_chunk x.0, x.1.now)) result
-        (read_chunk bytes_kind bytes.now) }
+fn read_chunk<S: DefiniteString>(alloc: Global, bytes: &[u8]) -> Result<(Option<S>, &[u8])>
+    ensures gives { Gives (λ x. (option_map S.chunk x.0, x.1.now)) result
+        (read_chunk S.kind bytes.now) }
     ensures shorter { IfOk result (λ x. length x.1.now < length bytes.now) }
 {
-    let (length, rest) = read_chunk_length(2, bytes)?;
+    let (length, rest) = read_chunk_length(S::major(), bytes)?;
     let Some((length, bitwidth)) = length else {
         return Ok((None, rest));
     };
-    let (chunk, rest) = read_byte_string(alloc, length, bitwidth, rest)?;
+    let (chunk, rest) = S::read(alloc, length, bitwidth, rest)?;
     Ok((Some(chunk), rest))
 }
 
-/// The next chunk of an indefinite text string, or `None` at its break.
-#[tactic(auto, unfolding(crate::specs::Reading::read_chunk_length, crate::specs::Reading::read_chunk))]
-fn read_text_chunk(alloc: Global, bytes: &[u8]) -> Result<(Option<TextString>, &[u8])>
-    ensures gives { Gives (λ x. (option_map text_chunk x.0, x.1.now)) result
-        (read_chunk text_kind bytes.now) }
-    ensures shorter { IfOk result (λ x. length x.1.now < length bytes.now) }
-{
-    let (length, rest) = read_chunk_length(3, bytes)?;
-    let Some((length, bitwidth)) = length else {
-        return Ok((None, rest));
-    };
-    let (chunk, rest) = read_text_string(alloc, length, bitwidth, rest)?;
-    Ok((Some(chunk), rest))
-}
-
-/// The chunks of an indefinite byte string up to its break, with a turn for each of them and for the break.
-pub(super) fn read_byte_chunks<'a>(
+/// The chunks of an indefinite string up to its break. Each of them takes a turn, and so does the break.
+pub(super) fn read_chunks<'a, S: DefiniteString>(
     alloc: Global,
     bytes: &'a [u8],
     turns: &mut Turns,
-) -> Result<(Vec<ByteString>, &'a [u8])>
+) -> Result<(Vec<S>, &'a [u8])>
     requires { turns.old + 2 * length bytes.now < 2 ^ 126 }
-    ensures gives { Runs (λ x. (map byte_chunk x.0.items, x.1.now)) turns.old turns.new result
-        (counted_chunks (length bytes.now) bytes_kind bytes.now) }
+    ensures gives { Runs (λ x. (map S.chunk x.0.items, x.1.now)) turns.old turns.new result
+        (counted_chunks (length bytes.now) S.kind bytes.now) }
     ensures falls { IfOk result (λ x.
         turns.new + 2 * length x.1.now ≤ turns.old + 2 * length bytes.now) }
     ensures few { turns.new ≤ turns.old + 2 * length bytes.now + 1 }
@@ -129,34 +150,7 @@ pub(super) fn read_byte_chunks<'a>(
     let mut rest = bytes;
     'chunks: loop {
         turns.rise();
-        let (chunk, after) = read_byte_chunk(alloc, rest)?;
-        let Some(chunk) = chunk else {
-            return Ok((chunks, after));
-        };
-        chunks.push(chunk)?;
-        rest = after;
-    }
-}
-
-/// The chunks of an indefinite text string up to its break, with a turn for each of them and for the break.
-pub(super) fn read_text_chunks<'a>(
-    alloc: Global,
-    bytes: &'a [u8],
-    turns: &mut Turns,
-) -> Result<(Vec<TextString>, &'a [u8])>
-    requires { turns.old + 2 * length bytes.now < 2 ^ 126 }
-    ensures gives { Runs (λ x. (map text_chunk x.0.items, x.1.now)) turns.old turns.new result
-        (counted_chunks (length bytes.now) text_kind bytes.now) }
-    ensures falls { IfOk result (λ x.
-        turns.new + 2 * length x.1.now ≤ turns.old + 2 * length bytes.now) }
-    ensures few { turns.new ≤ turns.old + 2 * length bytes.now + 1 }
-    ensures rises { turns.old ≤ turns.new }
-{
-    let mut chunks = Vec::new(alloc);
-    let mut rest = bytes;
-    'chunks: loop {
-        turns.rise();
-        let (chunk, after) = read_text_chunk(alloc, rest)?;
+        let (chunk, after) = read_chunk(alloc, rest)?;
         let Some(chunk) = chunk else {
             return Ok((chunks, after));
         };

@@ -1,4 +1,4 @@
-//! What stands between quotes: text with escapes, and digits with blanks.
+//! What is between quotes: text with escapes, and digits with blanks.
 ghost use Rattle.std.specs.Prelude.{◌≡◌, ◌⊎◌, ◌<◌, length, true, false, option_map, IfOk, IfErr, IfSome, Some, None, Err};
 ghost use Rattle.cbor_diag.specs.Reading.{Gives};
 ghost use Rattle.cbor_notes.specs.TokenReading.{unquoted, digits_of};
@@ -13,7 +13,8 @@ use std::alloc::Global;
 /// The content up to the closing quote, without its escapes.
 pub(super) fn read_quoted(alloc: Global, text: &[u8], quote: u8) -> Result<(Vec<u8>, &[u8])>
     requires { (quote ≡ 34) ⊎ (quote ≡ 39) }
-    ensures gives { Gives (λ x. (x.0.items, x.1.now)) result (or_refused (unquoted quote false text.now)) }
+    ensures gives { Gives (λ x. (x.0.items, x.1.now)) result
+        (or_refused (unquoted quote false text.now)) }
     ensures shorter { IfOk result (λ x. length x.1.now < length text.now) }
 {
     match cbor_notes::quoted_at(alloc, text, 0, quote)? {
@@ -22,8 +23,8 @@ pub(super) fn read_quoted(alloc: Global, text: &[u8], quote: u8) -> Result<(Vec<
     }
 }
 
-/// The content of a text without escapes behind its opening quote, and the text behind its closing one.
-/// `None` where a backslash stands before that, or there is none.
+/// The content of a text without escapes after its opening quote, and the text after its closing
+/// one. `None` if a backslash comes first, or there is no closing quote.
 pub(super) fn read_plain(text: &[u8]) -> Option<(&[u8], &[u8])>
     ensures gives { IfSome result (λ x. unquoted 34 false text.now ≡ Some (x.0.now, x.1.now)) }
     ensures shorter { IfSome result (λ x. length x.1.now < length text.now) }
@@ -36,7 +37,8 @@ pub(super) fn read_plain(text: &[u8]) -> Option<(&[u8], &[u8])>
 
 /// The digits up to the closing apostrophe, without the blanks between them.
 fn read_digits(alloc: Global, text: &[u8], comments: bool) -> Result<(Vec<u8>, &[u8])>
-    ensures gives { Gives (λ x. (x.0.items, x.1.now)) result (or_refused (digits_of comments text.now)) }
+    ensures gives { Gives (λ x. (x.0.items, x.1.now)) result
+        (or_refused (digits_of comments text.now)) }
     ensures shorter { IfOk result (λ x. length x.1.now < length text.now) }
 {
     match cbor_notes::digits_at(alloc, text, 0, comments)? {
@@ -45,8 +47,8 @@ fn read_digits(alloc: Global, text: &[u8], comments: bool) -> Result<(Vec<u8>, &
     }
 }
 
-/// The bytes of hex digits, two for each, of either case, or `None` where they aren't such digits. The only
-/// refusal is want of memory.
+/// The bytes of hex digits of either case, two digits for each byte, or `None` if they are not such
+/// digits. The only error is `Memory`.
 pub(super) fn base16(alloc: Global, digits: &[u8]) -> Result<Option<Vec<u8>>>
     ensures gives { IfOk result (λ bytes. option_map (λ x. x.items) bytes ≡ base16_of digits.now) }
     ensures refused { IfErr result (λ e. e ≡ Error.Memory) }
@@ -58,10 +60,11 @@ pub(super) fn base16(alloc: Global, digits: &[u8]) -> Result<Option<Vec<u8>>>
     }
 }
 
-/// The bytes of hex digits up to the closing apostrophe. Digits with no blanks between them, as they mostly
-/// are, are decoded where they stand; others are gathered first.
+/// The bytes of hex digits up to the closing apostrophe. Digits without blanks between them, the
+/// usual case, are decoded in place; others are gathered first.
 fn read_base16(alloc: Global, text: &[u8]) -> Result<(Vec<u8>, &[u8])>
-    ensures gives { Gives (λ x. (x.0.items, x.1.now)) result (read_decoded true base16_of text.now) }
+    ensures gives { Gives (λ x. (x.0.items, x.1.now)) result
+        (read_decoded true base16_of text.now) }
     ensures shorter { IfOk result (λ x. length x.1.now < length text.now) }
 {
     if let Some(end) = memchr(b'\'', text) {
@@ -97,8 +100,8 @@ fn base32hex(alloc: Global, digits: &[u8]) -> Result<Vec<u8>>
     }
 }
 
-/// The bytes that base 64 digits encode, in the alphabet for URLs without padding or in the standard one
-/// with it.
+/// The bytes that base 64 digits encode, in the alphabet for URLs without padding or in the
+/// standard one with it.
 fn base64(alloc: Global, digits: &[u8]) -> Result<Vec<u8>>
     ensures { Gives (λ x. x.items) result (or_refused (base64_of digits.now)) }
 {
@@ -108,7 +111,7 @@ fn base64(alloc: Global, digits: &[u8]) -> Result<Vec<u8>>
     }
 }
 
-/// The bytes of `h'..'` or `h32'..'` behind the `h`.
+/// The bytes of `h'..'` or `h32'..'` after the `h`.
 pub(super) fn h_notation(alloc: Global, text: &[u8]) -> Result<(Vec<u8>, &[u8])>
     ensures gives { Gives (λ x. (x.0.items, x.1.now)) result (h_notation text.now) }
     ensures shorter { IfOk result (λ x. length x.1.now < length text.now) }
@@ -123,8 +126,8 @@ pub(super) fn h_notation(alloc: Global, text: &[u8]) -> Result<(Vec<u8>, &[u8])>
     }
 }
 
-/// The bytes of `b32'..'` or `b64'..'` behind the `b`. In base 64 a `/` is a digit, so no comment stands
-/// there.
+/// The bytes of `b32'..'` or `b64'..'` after the `b`. In base 64 a `/` is a digit, so there are no
+/// comments.
 pub(super) fn b_notation(alloc: Global, text: &[u8]) -> Result<(Vec<u8>, &[u8])>
     ensures gives { Gives (λ x. (x.0.items, x.1.now)) result (b_notation text.now) }
     ensures shorter { IfOk result (λ x. length x.1.now < length text.now) }

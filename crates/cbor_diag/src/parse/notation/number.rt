@@ -11,7 +11,8 @@ use crate::syntax::IntegerWidth;
 /// The value and the indicator of the longest number at the front; a value past 2^64 is 2^64 + 1.
 pub(super) fn read_number(text: &[u8]) -> Result<((u128, Option<u8>), &[u8])>
     ensures gives { MatchResult result
-        (λ x. (value : ℕ) × (read_number text.now ≡ Ok ((value, x.0.1), x.1.now)) × (x.0.0 ≡ capped value))
+        (λ x. (value : ℕ) × (read_number text.now ≡ Ok ((value, x.0.1), x.1.now))
+        × (x.0.0 ≡ capped value))
         (λ e. (e ≡ Error.Notation) × (read_number text.now ≡ Err Error.Notation)) }
     ensures shorter { IfOk result (λ x. length x.1.now < length text.now) }
 {
@@ -21,8 +22,8 @@ pub(super) fn read_number(text: &[u8]) -> Result<((u128, Option<u8>), &[u8])>
     }
 }
 
-/// A number and its width: the stated one, or without an indicator that of the first byte up to 23 and an
-/// open one for any other. It has to fit.
+/// A number with its width: the stated one; without an indicator `Zero` up to 23, and else unstated.
+/// It has to fit.
 fn with_width(number: u128, indicator: Option<u8>) -> Result<(u64, IntegerWidth)>
     ensures gives { Gives (λ x. (x.0, x.1)) result (with_width number indicator) }
     ensures fits { IfOk result (λ x. FitsWidth x.1 x.0) }
@@ -45,7 +46,7 @@ fn with_width(number: u128, indicator: Option<u8>) -> Result<(u64, IntegerWidth)
     }
 }
 
-/// An integer or a tag's number at the front.
+/// The number of an unsigned integer or a tag at the front, with its width.
 pub(super) fn read_unsigned_number(text: &[u8]) -> Result<((u64, IntegerWidth), &[u8])>
     ensures gives { Gives (λ x. ((x.0.0, x.0.1), x.1.now)) result
         (read_unsigned_number text.now) }
@@ -56,7 +57,7 @@ pub(super) fn read_unsigned_number(text: &[u8]) -> Result<((u64, IntegerWidth), 
     Ok((with_width(number, indicator)?, rest))
 }
 
-/// The number that is encoded for a negative one, which is one less than what stands behind the `-`.
+/// The number that is encoded for a negative integer: one less than the number after its `-`.
 pub(super) fn read_negative_number(text: &[u8]) -> Result<((u64, IntegerWidth), &[u8])>
     ensures gives { Gives (λ x. ((x.0.0, x.0.1), x.1.now)) result
         (read_negative_number text.now) }

@@ -1,4 +1,4 @@
-//! What stands between the items of a text: blanks, commas, and what closes a list.
+//! What separates the items of a text: blanks, commas, and what closes a list.
 ghost use Rattle.std.specs.Prelude.{◌≡◌, ◌⊎◌, ◌<◌, ◌≤◌, length, IfOk, IfSome, option_map};
 ghost use Rattle.cbor_notes.specs.Token.{is_whitespace};
 ghost use Rattle.cbor_diag.specs.Reading.{Gives};
@@ -7,15 +7,15 @@ ghost use Rattle.cbor_diag.specs.NotationReading.{or_refused, skip_blank, after_
 use crate::error::{Error, Result};
 use crate::syntax::IntegerWidth;
 
-/// Whether a byte is a space, a tab, a line feed or a carriage return. Most bytes of a text are above all of
-/// these, which one comparison tells.
+/// Whether a byte is a space, a tab, a line feed or a carriage return. Most bytes of a text are
+/// above all of these, so one comparison excludes them.
 fn is_whitespace(byte: u8) -> bool
     ensures { result ≡ is_whitespace byte }
 {
     byte <= b' ' && matches!(byte, b' ' | b'\t' | b'\n' | b'\r')
 }
 
-/// The text behind the longest blank at its front.
+/// The text after the longest blank at its front.
 pub(super) fn after_blank(text: &[u8]) -> &[u8]
     ensures gives { result.now ≡ skip_blank text.now }
     ensures shorter { length result.now ≤ length text.now }
@@ -23,7 +23,7 @@ pub(super) fn after_blank(text: &[u8]) -> &[u8]
     &text[cbor_notes::blank_end(text, 0)..]
 }
 
-/// The text behind this byte, where it begins with it.
+/// The text after this byte, if it begins with it.
 pub(super) fn after_byte(text: &[u8], byte: u8) -> Option<&[u8]>
     ensures gives { option_map (λ x. x.now) result ≡ after_byte byte text.now }
     ensures shorter { IfSome result (λ x. length x.now < length text.now) }
@@ -34,7 +34,7 @@ pub(super) fn after_byte(text: &[u8], byte: u8) -> Option<&[u8]>
     }
 }
 
-/// The text behind this byte, which is wanted here.
+/// The text after this byte; returns an error if it does not begin with it.
 pub(super) fn expect_byte(text: &[u8], byte: u8) -> Result<&[u8]>
     ensures gives { Gives (λ x. x.now) result (or_refused (after_byte byte text.now)) }
     ensures shorter { IfOk result (λ x. length x.now < length text.now) }
@@ -45,7 +45,7 @@ pub(super) fn expect_byte(text: &[u8], byte: u8) -> Result<&[u8]>
     }
 }
 
-/// The text behind this word, where it begins with it.
+/// The text after this word, if it begins with it.
 pub(super) fn after_word<'a>(text: &'a [u8], word: &[u8]) -> Option<&'a [u8]>
     ensures gives { option_map (λ x. x.now) result ≡ after_word word.now text.now }
     ensures shorter { IfSome result (λ x. length x.now ≤ length text.now) }
@@ -57,7 +57,7 @@ pub(super) fn after_word<'a>(text: &'a [u8], word: &[u8]) -> Option<&'a [u8]>
     }
 }
 
-/// The text behind whitespace, which is wanted here, and the close of a list after it.
+/// The text after whitespace and the closing byte of a list, if it begins with both.
 fn after_space(text: &[u8], close: u8) -> Option<&[u8]>
     ensures gives { option_map (λ x. x.now) result ≡ after_space close text.now }
     ensures shorter { IfSome result (λ x. length x.now < length text.now) }
@@ -69,8 +69,8 @@ fn after_space(text: &[u8], close: u8) -> Option<&[u8]>
     after_byte(&text[spaces..], close)
 }
 
-/// The text behind what closes a list, where that stands here: its close, or a last comma, whitespace and
-/// the close.
+/// The text after the end of a list, if the list ends here: its closing byte, or a last comma,
+/// whitespace and the closing byte.
 pub(super) fn after_end(text: &[u8], close: u8) -> Option<&[u8]>
     ensures gives { option_map (λ x. x.now) result ≡ after_end close text.now }
     ensures shorter { IfSome result (λ x. length x.now < length text.now) }
@@ -81,10 +81,11 @@ pub(super) fn after_end(text: &[u8], close: u8) -> Option<&[u8]>
     }
 }
 
-/// The width of a container's count, open or, after `_`, none, and the text behind that.
+/// The width of a container's count, which is unstated, or none after `_`, and the text after that.
 pub(super) fn read_length(text: &[u8]) -> (Option<IntegerWidth>, &[u8])
-    ensures gives { let answer = read_length text.now in (result.0 ≡ answer.0) × (result.1.now ≡ answer.1) }
-    ensures open { (result.0 ≡ None) ⊎ (result.0 ≡ Some IntegerWidth.Unknown) }
+    ensures gives { let answer = read_length text.now in
+        (result.0 ≡ answer.0) × (result.1.now ≡ answer.1) }
+    ensures unstated { (result.0 ≡ None) ⊎ (result.0 ≡ Some IntegerWidth.Unknown) }
     ensures shorter { length result.1.now ≤ length text.now }
 {
     match after_byte(text, b'_') {

@@ -51,7 +51,7 @@ impl Start {
         }
     }
 
-    /// What the text begins with, and the text behind that byte.
+    /// What the text begins with, and the text after that byte.
     #[inline(always)]
     pub(super) fn split(text: &[u8]) -> (Start, &[u8])
         ensures start { result.0 ≡ first_start text.now }

@@ -1,12 +1,13 @@
 //! Strings in pieces, and the chunks of indefinite ones.
 //!
-//! Most strings are one piece, a text without escapes or hex digits without blanks, right behind which a list
-//! goes on or closes. These are read by a short way, straight into the item; all others piece by piece.
+//! Most strings are one piece, a text without escapes or hex digits without blanks, and right after
+//! it a list goes on or closes. A fast path reads these straight into the item; all others are read
+//! piece by piece.
 ghost use Rattle.std.specs.Prelude.{◌≡◌, ◌-◌, ◌++◌, ◌<◌, ◌≤◌, ℕ, List, Some, suc, length, map, IfOk, IfSome, Ok, OnOk, true, false};
 ghost use Rattle.std.specs.List.{AllByRecursion};
 ghost use Rattle.cbor_diag.specs.declared.syntax.IntegerWidth.TheVariants.{Unknown};
 ghost use Rattle.cbor_diag.specs.View.{view, items_view, byte_chunk, text_chunk};
-ghost use Rattle.cbor_diag.specs.WellFormed.{WellFormed, WellFormedItems, IsByteChunk, IsTextChunk};
+ghost use Rattle.cbor_diag.specs.WellFormed.{levels_left, WellFormed, WellFormedItems, IsByteChunk, IsTextChunk};
 ghost use Rattle.cbor_diag.specs.Bytes.{bytes_kind, text_kind};
 ghost use Rattle.cbor_diag.specs.Written.{encoded_items};
 ghost use Rattle.cbor_diag.specs.Item.{Item};
@@ -15,7 +16,7 @@ ghost use Rattle.cbor_diag.specs.NotationReading.{base16_of, read_byte_string, r
 
 use super::content::{b_notation, base16, h_notation, read_plain, read_quoted};
 use super::read_items;
-use super::scan::{after_blank, after_byte, after_word, after_end, expect_byte};
+use super::scan::{after_blank, after_byte, after_end, after_word, expect_byte};
 use super::start::Start;
 use crate::encode::push_items;
 use crate::error::Error;
@@ -23,12 +24,12 @@ use crate::syntax::{ByteString, DataItem, IntegerWidth, TextString};
 use memchr::memchr;
 use std::alloc::{AllocError, Global};
 
-/// A byte string of an open width.
+/// A byte string of unstated width.
 fn byte_string(content: Vec<u8>) -> ByteString
     ensures gives { Ok (byte_chunk result) ≡ checked bytes_kind content.items }
     ensures well { IsByteChunk (byte_chunk result) }
 {
-    // A slice is no longer than a length of 64 bits tells, which `well` asks for.
+    // A slice's length fits in 64 bits, which `well` needs.
     let _content = content.as_slice();
     ByteString {
         content,
@@ -36,7 +37,7 @@ fn byte_string(content: Vec<u8>) -> ByteString
     }
 }
 
-/// A text string of an open width, where the content is UTF-8.
+/// A text string of unstated width, if the content is UTF-8.
 #[tactic(auto, using(crate::proofs::Utf8::utf8_fails, crate::proofs::Utf8::utf8_passes))]
 fn text_string(content: Vec<u8>) -> crate::Result<TextString>
     ensures gives { Gives (λ x. text_chunk x) result (checked text_kind content.items) }
@@ -75,11 +76,12 @@ fn encoded(alloc: Global, items: &Vec<DataItem>) -> Result<Vec<u8>, AllocError>
     Ok(bytes)
 }
 
-/// Items behind the first `<` of `<<`, up to their `>>`, in bytes.
+/// The items after the first `<` of `<<`, up to their `>>`, in bytes.
 #[cycle(diag)]
 fn read_embedded(alloc: Global, text: &[u8], inner: u8) -> crate::Result<(Vec<u8>, &[u8])>
     requires { inner ≤ 129 }
-    ensures gives { Gives (λ x. (x.0.items, x.1.now)) result (read_embedded (read_item (129 - inner)) text.now) }
+    ensures gives { Gives (λ x. (x.0.items, x.1.now)) result
+        (read_embedded (read_item (levels_left inner)) text.now) }
     ensures shorter { IfOk result (λ x. length x.1.now < length text.now) }
 {
     let rest = expect_byte(text, b'<')?;
@@ -88,11 +90,12 @@ fn read_embedded(alloc: Global, text: &[u8], inner: u8) -> crate::Result<(Vec<u8
     Ok((encoded(alloc, &items)?, rest))
 }
 
-/// A piece of a string: a text, or a notation of bytes, whose items stand at `inner`.
+/// A piece of a string: a text, or a notation of bytes, whose items are at `inner`.
 #[cycle(diag)]
 fn read_piece(alloc: Global, text: &[u8], inner: u8) -> crate::Result<(Vec<u8>, &[u8])>
     requires { inner ≤ 129 }
-    ensures gives { Gives (λ x. (x.0.items, x.1.now)) result (read_piece (read_item (129 - inner)) text.now) }
+    ensures gives { Gives (λ x. (x.0.items, x.1.now)) result
+        (read_piece (read_item (levels_left inner)) text.now) }
     ensures shorter { IfOk result (λ x. length x.1.now < length text.now) }
 {
     let (start, rest) = Start::split(text);
@@ -106,13 +109,18 @@ fn read_piece(alloc: Global, text: &[u8], inner: u8) -> crate::Result<(Vec<u8>, 
     }
 }
 
-/// The pieces from here on, with blanks between them and after them; `texts` is whether texts may be
-/// pieces.
+/// The pieces from here on, with blanks between them and after them; `texts` is whether texts may
+/// be pieces.
 #[cycle(diag)]
-fn read_pieces(alloc: Global, texts: bool, text: &[u8], inner: u8) -> crate::Result<(Vec<u8>, &[u8])>
+fn read_pieces(
+    alloc: Global,
+    texts: bool,
+    text: &[u8],
+    inner: u8,
+) -> crate::Result<(Vec<u8>, &[u8])>
     requires { inner ≤ 129 }
     ensures gives { Gives (λ x. (x.0.items, x.1.now)) result
-        (read_pieces (read_item (129 - inner)) texts (suc (length text.now)) text.now) }
+        (read_pieces (read_item (levels_left inner)) texts (suc (length text.now)) text.now) }
     ensures shorter { IfOk result (λ x. length x.1.now ≤ length text.now) }
 {
     let mut content = Vec::new(alloc);
@@ -130,7 +138,7 @@ fn read_pieces(alloc: Global, texts: bool, text: &[u8], inner: u8) -> crate::Res
 fn read_byte_string(alloc: Global, text: &[u8], inner: u8) -> crate::Result<(ByteString, &[u8])>
     requires { inner ≤ 129 }
     ensures gives { Gives (λ x. (byte_chunk x.0, x.1.now)) result
-        (read_string (read_item (129 - inner)) bytes_kind text.now) }
+        (read_string (read_item (levels_left inner)) bytes_kind text.now) }
     ensures well { IfOk result (λ x. IsByteChunk (byte_chunk x.0)) }
     ensures shorter { IfOk result (λ x. length x.1.now ≤ length text.now) }
 {
@@ -146,7 +154,7 @@ fn read_byte_string(alloc: Global, text: &[u8], inner: u8) -> crate::Result<(Byt
 fn read_text_string(alloc: Global, text: &[u8], inner: u8) -> crate::Result<(TextString, &[u8])>
     requires { inner ≤ 129 }
     ensures gives { Gives (λ x. (text_chunk x.0, x.1.now)) result
-        (read_string (read_item (129 - inner)) text_kind text.now) }
+        (read_string (read_item (levels_left inner)) text_kind text.now) }
     ensures well { IfOk result (λ x. IsTextChunk (text_chunk x.0)) }
     ensures shorter { IfOk result (λ x. length x.1.now ≤ length text.now) }
 {
@@ -157,16 +165,16 @@ fn read_text_string(alloc: Global, text: &[u8], inner: u8) -> crate::Result<(Tex
     Ok((text_string(content)?, rest))
 }
 
-/// Whether a string ends before this text: a list goes on or closes here. Neither a blank nor a piece of a
-/// string begins so.
+/// Whether a string ends before this text: a list goes on or closes here. Neither a blank nor a
+/// piece of a string begins so.
 fn ends_string(text: &[u8]) -> bool
     ensures { result ≡ ends_string text.now }
 {
     matches!(text, [b',' | b':' | b']' | b'}', ..])
 }
 
-/// What stands between the quotes of an `h'..'`, up to its first apostrophe, and the text behind it, where a
-/// string ends there. If that is hex digits, it is the whole string. `None` anywhere else.
+/// What is between the quotes of an `h'..'`, up to its first apostrophe, and the text after it, if
+/// a string ends there. If that is hex digits, it is the whole string. `None` otherwise.
 fn read_plain_hex(text: &[u8]) -> Option<(&[u8], &[u8])>
     ensures gives { IfSome result (λ x. (read : List ℕ → Read Item) (bytes : List ℕ)
         → base16_of x.0.now ≡ Some bytes
@@ -193,11 +201,11 @@ pub(super) fn read_byte_item(
     requires low { 1 ≤ inner }
     requires high { inner ≤ 129 }
     ensures gives { Gives (λ x. (view x.0, x.1.now)) result
-        (read_byte_string (read_item (129 - inner)) text.now) }
+        (read_byte_string (read_item (levels_left inner)) text.now) }
     ensures well { IfOk result (λ x. WellFormed (inner - 1) (view x.0)) }
     ensures shorter { IfOk result (λ x. length x.1.now ≤ length text.now) }
 {
-    // Most byte strings are so, and their digits are then decoded where they stand.
+    // The digits of most byte strings are decoded in place.
     if let Some((digits, rest)) = read_plain_hex(text) {
         if let Some(content) = base16(alloc, digits)? {
             return Ok((DataItem::ByteString(byte_string(content)), rest));
@@ -210,8 +218,8 @@ pub(super) fn read_byte_item(
     Ok((DataItem::ByteString(string), rest))
 }
 
-/// The content of a text of one piece without escapes, and the text behind it, where a string ends there.
-/// `None` anywhere else.
+/// The content of a text of one piece without escapes, and the text after it, if a string ends
+/// there. `None` otherwise.
 fn read_plain_text(text: &[u8]) -> Option<(&[u8], &[u8])>
     ensures gives { IfSome result (λ x. (read : List ℕ → Read Item)
         → read_text_string read text.now ≡ one_string text_kind x.0.now x.1.now) }
@@ -236,11 +244,11 @@ pub(super) fn read_text_item(
     requires low { 1 ≤ inner }
     requires high { inner ≤ 129 }
     ensures gives { Gives (λ x. (view x.0, x.1.now)) result
-        (read_text_string (read_item (129 - inner)) text.now) }
+        (read_text_string (read_item (levels_left inner)) text.now) }
     ensures well { IfOk result (λ x. WellFormed (inner - 1) (view x.0)) }
     ensures shorter { IfOk result (λ x. length x.1.now ≤ length text.now) }
 {
-    // Most texts are so, and their content is then copied from where it stands.
+    // The content of most texts is copied from where it is.
     if let Some((content, rest)) = read_plain_text(text) {
         let string = text_string(content.to_vec(alloc)?)?;
         return Ok((DataItem::TextString(string), rest));
@@ -252,12 +260,16 @@ pub(super) fn read_text_item(
     Ok((DataItem::TextString(string), rest))
 }
 
-/// The chunks of an indefinite byte string behind its opening, up to its close.
+/// The chunks of an indefinite byte string after its opening, up to its closing byte.
 #[cycle(diag)]
-fn read_byte_chunks(alloc: Global, text: &[u8], inner: u8) -> crate::Result<(Vec<ByteString>, &[u8])>
+fn read_byte_chunks(
+    alloc: Global,
+    text: &[u8],
+    inner: u8,
+) -> crate::Result<(Vec<ByteString>, &[u8])>
     requires { inner ≤ 129 }
     ensures gives { Gives (λ x. (map byte_chunk x.0.items, x.1.now)) result
-        (read_members (read_chunk (read_item (129 - inner)) bytes_kind) 41 text.now) }
+        (read_members (read_chunk (read_item (levels_left inner)) bytes_kind) 41 text.now) }
     ensures well { IfOk result (λ x. AllByRecursion IsByteChunk (map byte_chunk x.0.items)) }
     ensures shorter { IfOk result (λ x. length x.1.now ≤ length text.now) }
 {
@@ -276,12 +288,16 @@ fn read_byte_chunks(alloc: Global, text: &[u8], inner: u8) -> crate::Result<(Vec
     }
 }
 
-/// The chunks of an indefinite text string behind its opening, up to its close.
+/// The chunks of an indefinite text string after its opening, up to its closing byte.
 #[cycle(diag)]
-fn read_text_chunks(alloc: Global, text: &[u8], inner: u8) -> crate::Result<(Vec<TextString>, &[u8])>
+fn read_text_chunks(
+    alloc: Global,
+    text: &[u8],
+    inner: u8,
+) -> crate::Result<(Vec<TextString>, &[u8])>
     requires { inner ≤ 129 }
     ensures gives { Gives (λ x. (map text_chunk x.0.items, x.1.now)) result
-        (read_members (read_chunk (read_item (129 - inner)) text_kind) 41 text.now) }
+        (read_members (read_chunk (read_item (levels_left inner)) text_kind) 41 text.now) }
     ensures well { IfOk result (λ x. AllByRecursion IsTextChunk (map text_chunk x.0.items)) }
     ensures shorter { IfOk result (λ x. length x.1.now ≤ length text.now) }
 {
@@ -300,13 +316,14 @@ fn read_text_chunks(alloc: Global, text: &[u8], inner: u8) -> crate::Result<(Vec
     }
 }
 
-/// An indefinite string behind its `(`. Its first chunk tells its kind, and without chunks it is one of
-/// bytes.
+/// An indefinite string after its `(`. Its first chunk decides its kind; without chunks it is one
+/// of bytes.
 #[cycle(diag)]
 pub(super) fn read_chunks(alloc: Global, text: &[u8], inner: u8) -> crate::Result<(DataItem, &[u8])>
     requires low { 1 ≤ inner }
     requires high { inner ≤ 129 }
-    ensures gives { Gives (λ x. (view x.0, x.1.now)) result (read_chunks (read_item (129 - inner)) text.now) }
+    ensures gives { Gives (λ x. (view x.0, x.1.now)) result
+        (read_chunks (read_item (levels_left inner)) text.now) }
     ensures well { IfOk result (λ x. WellFormed (inner - 1) (view x.0)) }
     ensures shorter { IfOk result (λ x. length x.1.now ≤ length text.now) }
 {

@@ -19,7 +19,7 @@ fn are_decimal(digits: &[u8]) -> bool
     digits.iter().all(|digit| char::from(*digit).is_digit(10))
 }
 
-/// A simple value behind `simple(`: decimal digits of a value below 256, and `)`.
+/// A simple value after `simple(`: decimal digits of a value below 256, and `)`.
 fn read_simple(text: &[u8]) -> Result<(DataItem, &[u8])>
     ensures gives { Gives (λ x. (view x.0, x.1.now)) result (read_simple text.now) }
     ensures well { IfOk result (λ x. (level : ℕ) → level ≤ deepest → WellFormed level (view x.0)) }
@@ -34,7 +34,7 @@ fn read_simple(text: &[u8]) -> Result<(DataItem, &[u8])>
 }
 
 impl FloatWidth {
-    /// The width of a float of so many hex digits.
+    /// The width of a float of `count` hex digits.
     fn of_digits(count: usize) -> Result<FloatWidth>
         ensures gives { Gives (λ w. w) result (or_refused (float_of count)) }
         ensures fits { IfOk result (λ w. (bits : ℕ) → bits < 16 ^ count → FitsFloat w bits) }
@@ -68,7 +68,7 @@ fn hex_number(digits: &[u8]) -> Result<u64>
     Ok(number)
 }
 
-/// Where the first apostrophe stands.
+/// The index of the first apostrophe.
 fn find_apostrophe(text: &[u8]) -> Result<usize>
     ensures gives { Gives (λ n. n) result (or_refused (position (λ b. b == 39) text.now)) }
     ensures within { IfOk result (λ n. n < length text.now) }
@@ -79,7 +79,7 @@ fn find_apostrophe(text: &[u8]) -> Result<usize>
     }
 }
 
-/// A float behind `float'`: 4, 8 or 16 hex digits and `'`.
+/// A float after `float'`: 4, 8 or 16 hex digits and `'`.
 fn read_float(text: &[u8]) -> Result<(DataItem, &[u8])>
     ensures gives { Gives (λ x. (view x.0, x.1.now)) result (read_float text.now) }
     ensures well { IfOk result (λ x. (level : ℕ) → level ≤ deepest → WellFormed level (view x.0)) }

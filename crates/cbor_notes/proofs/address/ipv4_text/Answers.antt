@@ -1,4 +1,4 @@
-use Rattle.cbor_notes.proofs.AddressLemmas.{ipv4_text-std}
+use Rattle.cbor_notes.proofs.texts.AddressLemmas.{ipv4_text-std}
 use Rattle.cbor_notes.proofs.address.ipv4_text.Goals as goal
 
 pub returns : goal.returns

@@ -1,6 +1,6 @@
 use Rattle.std.specs.String.{string_bytes}
 use Rattle.std.proofs.lemmas.Result.{IfOk-weaker}
-use Rattle.cbor_notes.proofs.AddressLemmas.{ipv6_text-std, ShortensFirstLongestRun-ipv6_text}
+use Rattle.cbor_notes.proofs.texts.AddressLemmas.{ipv6_text-std, ShortensFirstLongestRun-ipv6_text}
 use Rattle.cbor_notes.proofs.address.ipv6_text.Goals as goal
 
 text : goal.returns-clause-text

@@ -1,4 +1,4 @@
-use Rattle.cbor_notes.proofs.Base32Encode.{IsDecoded}
+use Rattle.cbor_notes.proofs.bases.Base32Encode.{IsDecoded}
 use Rattle.cbor_notes.proofs.base32.decode.Given as goal
 
 abbrev pub invariant-loop-i : goal.invariant-loop-i

@@ -1,7 +1,7 @@
 use Rattle.std.proofs.Common.{◌≡◌, ◌<◌, ◌%◌, get_or, arith}
 use Rattle.std.proofs.lemmas.Grind.{common_steps}
 use Rattle.cbor_notes.specs.Base58.{characters}
-use Rattle.cbor_notes.proofs.Base58Lemmas.{base58_step, characters_ascii}
+use Rattle.cbor_notes.proofs.bases.Base58Lemmas.{base58_step, characters_ascii}
 use Rattle.cbor_notes.proofs.base58_text.+push_digits.Goals as goal
 
 pub returns : goal.returns

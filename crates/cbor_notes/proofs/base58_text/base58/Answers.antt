@@ -1,5 +1,5 @@
 use Rattle.std.proofs.Common.{◌∙◌, refl}
-use Rattle.cbor_notes.proofs.Base58Digits.{base58_by_digits}
+use Rattle.cbor_notes.proofs.bases.Base58Digits.{base58_by_digits}
 use Rattle.cbor_notes.proofs.base58_text.base58.Goals as goal
 
 pub returns-clause-only : goal.returns-clause-only

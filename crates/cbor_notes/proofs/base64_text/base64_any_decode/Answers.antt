@@ -1,6 +1,6 @@
 use Rattle.std.proofs.Common.{◌≡◌}
 use Rattle.cbor_notes.specs.Base64.{standard, url_safe}
-use Rattle.cbor_notes.proofs.Base64Digits.{found_either, none_from, url_safe_chosen, standard_chosen}
+use Rattle.cbor_notes.proofs.bases.Base64Digits.{found_either, none_from, url_safe_chosen, standard_chosen}
 use Rattle.cbor_notes.proofs.base64_text.base64_any_decode.Goals as goal
 
 pub returns-clause-found : goal.returns-clause-found

@@ -18,7 +18,8 @@ returns-in_ok-decoded_lines-in-Some-clause-only c = λ bytes all is.
     c.in_ok-decoded_lines-in-Some.ensures ∙ ap decoded_lines (c.deref.ensures.value ∙ same)
 
 pub returns-in-None-clause-none : goal.returns-in-None-clause-none
-returns-in-None-clause-none c = λ bytes all is. rw c.in-None.is at (c.in_ok-bytes.ensures.only bytes all (c.as_bytes.ensures.value ∙ is))
+returns-in-None-clause-none c = λ bytes all is. rw c.in-None.is at
+    (c.in_ok-bytes.ensures.only bytes all (c.as_bytes.ensures.value ∙ is))
 
 pub returns-in-None-clause-only : goal.returns-in-None-clause-only
 returns-in-None-clause-only c = returns-in-None-clause-none c

@@ -3,13 +3,15 @@ use Rattle.cbor_notes.specs.Base64.{decoded}
 use Rattle.cbor_notes.proofs.base64_text.decode.Goals as goal
 
 pub returns-then-url-clause-only : goal.returns-then-url-clause-only
-returns-then-url-clause-only c = λ bytes all is. let safe = rw c.if-url.true at is in c.decode_with.ensures.only bytes all safe
+returns-then-url-clause-only c = λ bytes all is. let safe =
+    rw c.if-url.true at is in c.decode_with.ensures.only bytes all safe
 
 pub returns-else-url-clause-found : goal.returns-else-url-clause-found
 returns-else-url-clause-found c = rw c.if-url.false c.decode_with-else-url.ensures.found
 
 pub returns-else-url-clause-only : goal.returns-else-url-clause-only
-returns-else-url-clause-only c = λ bytes all is. let standard = rw c.if-url.false at is in c.decode_with-else-url.ensures.only bytes all standard
+returns-else-url-clause-only c = λ bytes all is. let standard =
+    rw c.if-url.false at is in c.decode_with-else-url.ensures.only bytes all standard
 
 pub returns-then-url-clause-value : goal.returns-then-url-clause-value
 unfolding decoded decoded_of

@@ -1,7 +1,7 @@
 use Rattle.std.proofs.Common.{◌∙◌, sym, ap}
 use Rattle.std.specs.Result.{result_ok}
 use Rattle.base64.specs.GeneralPurpose.{decoded_of}
-use Rattle.cbor_notes.proofs.Base64Digits.{bytes_at, bytes_from}
+use Rattle.cbor_notes.proofs.bases.Base64Digits.{bytes_at, bytes_from}
 use Rattle.cbor_notes.proofs.base64_text.decode_with.Goals as goal
 
 pub returns-in-Ok-clause-found : goal.returns-in-Ok-clause-found

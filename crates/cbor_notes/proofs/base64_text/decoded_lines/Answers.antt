@@ -5,7 +5,7 @@ use Rattle.std.specs.Slice.Iter.{chunks_rest}
 use Rattle.std.proofs.lemmas.List.{map_push}
 use Rattle.std.proofs.Math.Nat.{min_comm}
 use Rattle.cbor_notes.specs.DecodedLines.{decoded_line}
-use Rattle.cbor_notes.proofs.DecodedLineLemmas.{shown_more, shown_all}
+use Rattle.cbor_notes.proofs.bases.DecodedLineLemmas.{shown_more, shown_all}
 use Rattle.cbor_notes.proofs.base64_text.decoded_lines.Goals as goal
 
 pub loop-piece-preserved : goal.loop-piece-preserved
@@ -18,7 +18,8 @@ loop-piece-preserved c =
     let long = rw size at steps.1.1 in
     let width : c.min-width.result ≡ min 16 (length bytes) = c.min-width.ensures ∙ min_comm (length bytes) 16 in
     let line = c.in_ok-decoded_line.ensures ∙ ap (λ (n : ℕ). decoded_line (2 * n) piece) width in
-    let more = shown_more bytes (chunks_rest c.loop-piece.piece-iterator) piece (chunks_rest c.next.new.self) _ (map string_bytes c.loop-piece.lines.items)
+    let more = shown_more bytes (chunks_rest c.loop-piece.piece-iterator) piece (chunks_rest c.next.new.self) _
+        (map string_bytes c.loop-piece.lines.items)
     (vec_len c.loop-piece.lines) c.loop-piece.invariant.1 steps.1.0 long steps.1.2 line in
     (steps.0 ∙ size, rw (pushed.items, pushed.len, map_push) more)
 

@@ -1,6 +1,6 @@
 use Rattle.std.proofs.Common.{◌∙◌, w8, w16, arith}
 use Rattle.std.proofs.lemmas.Int.{to_z_pos}
-use Rattle.cbor_notes.proofs.DateTexts.{IfSome-result_ok}
+use Rattle.cbor_notes.proofs.dates.DateTexts.{IfSome-result_ok}
 use Rattle.cbor_notes.proofs.date.calendar_date.Goals as goal
 
 pub returns-clause-found : goal.returns-clause-found

@@ -5,8 +5,8 @@ use Rattle.jiff.proofs.Family.{epoch_day_range}
 use Rattle.jiff.specs.Words.{IsEpochDay, epoch_day}
 use Rattle.std.specs.String.{string_bytes}
 use Rattle.cbor_notes.specs.Date.{date_of_epoch, date_text}
-use Rattle.cbor_notes.proofs.DateTexts.{date_text_same}
-use Rattle.cbor_notes.proofs.DateNotes.{date_of_epoch-out, date_of_epoch_is, date_of_epoch_some, same_text}
+use Rattle.cbor_notes.proofs.dates.DateTexts.{date_text_same}
+use Rattle.cbor_notes.proofs.dates.DateNotes.{date_of_epoch-out, date_of_epoch_is, date_of_epoch_some, same_text}
 use Rattle.cbor_notes.proofs.date.date_of_epoch.Goals as goal
 
 pub returns-in_default-clause-only : goal.returns-in_default-clause-only
@@ -21,14 +21,16 @@ pub returns-clause-found : goal.returns-clause-found
 returns-clause-found c =
     let fits : FitsSigned w64 c.args.day = c.ranges.day in
     let day = simp to_z-of_z at c.in-Some.ensures.found in
-    let text : string_bytes c.push_date.new.text ≡ date_text c.in-Some.date = rw c.in_ok-text.ensures.bytes at c.in_ok-push_date.ensures.text in
+    let text : string_bytes c.push_date.new.text ≡ date_text c.in-Some.date =
+        rw c.in_ok-text.ensures.bytes at c.in_ok-push_date.ensures.text in
     (c.in-Some.date, day, text)
 
 pub returns-clause-only : goal.returns-clause-only
 returns-clause-only c = λ date is.
     let fits : FitsSigned w64 c.args.day = c.ranges.day in
     let day : epoch_day c.in-Some.date ≡ c.args.day = simp to_z-of_z at c.in-Some.ensures.found in
-    let text : string_bytes c.push_date.new.text ≡ date_text c.in-Some.date = rw c.in_ok-text.ensures.bytes at c.in_ok-push_date.ensures.text in
+    let text : string_bytes c.push_date.new.text ≡ date_text c.in-Some.date =
+        rw c.in_ok-text.ensures.bytes at c.in_ok-push_date.ensures.text in
     text ∙ date_text_same c.in-Some.date date (day ∙ sym is)
 
 pub returns-in_default-clause-value : goal.returns-in_default-clause-value
@@ -42,5 +44,6 @@ returns-clause-value c =
     let fits : FitsSigned w64 c.args.day = c.ranges.day in
     let day : epoch_day c.in-Some.date ≡ c.args.day = simp to_z-of_z at c.in-Some.ensures.found in
     same_text _ (date_of_epoch c.args.day)
-    (IfSome_then (date_of_epoch c.args.day) (date_of_epoch_is c.args.day) (λ text is. returns-clause-only c is.0 is.1 ∙ sym is.2))
+    (IfSome_then (date_of_epoch c.args.day) (date_of_epoch_is c.args.day)
+        (λ text is. returns-clause-only c is.0 is.1 ∙ sym is.2))
     (date_of_epoch_some c.args.day (rw (← day) (epoch_day_range c.in-Some.date)))

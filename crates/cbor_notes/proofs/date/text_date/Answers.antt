@@ -1,5 +1,5 @@
 use Rattle.std.proofs.Common.{◌∙◌, ap, length}
-use Rattle.cbor_notes.proofs.DateTexts.{date_text-ten}
+use Rattle.cbor_notes.proofs.dates.DateTexts.{date_text-ten}
 use Rattle.cbor_notes.proofs.date.text_date.Goals as goal
 
 pub returns-in_err-as_array-clause-only : goal.returns-in_err-as_array-clause-only

@@ -6,8 +6,9 @@ use Rattle.std.specs.String.{string_bytes}
 use Rattle.jiff.proofs.Family.{epoch_day_range}
 use Rattle.jiff.proofs.SpanFacts.{signed_arith}
 use Rattle.jiff.specs.Words.{IsEpochDay, epoch_day}
-use Rattle.cbor_notes.proofs.Moments.{day_and_clock, day_fits, four_pieces, moment_found, moment_only, moment_text, one_day}
-use Rattle.cbor_notes.proofs.DateNotes.{datetime_of_epoch-out, datetime_of_epoch_is, datetime_of_epoch_some, same_text}
+use Rattle.cbor_notes.proofs.dates.Moments.{day_and_clock, day_fits, four_pieces, moment_found, moment_only, moment_text}
+use Rattle.cbor_notes.proofs.dates.Moments.{one_day}
+use Rattle.cbor_notes.proofs.dates.DateNotes.{datetime_of_epoch-out, datetime_of_epoch_is, datetime_of_epoch_some, same_text}
 use Rattle.cbor_notes.specs.Date.{datetime_of_epoch}
 use Rattle.cbor_notes.proofs.datetime.datetime_of_epoch.Goals as goal
 
@@ -42,17 +43,20 @@ returns-in_default-clause-only c = λ text is.
     let h = is.hour_in in
     let m = is.minute_in in
     let e = is.second_in in
-    let same = one_day c.args.seconds c.div_euclid.result (epoch_day is.date) _ _ clock.0 is.seconds_are clock.1 (omega arith) in
+    let same = one_day c.args.seconds c.div_euclid.result (epoch_day is.date) _ _ clock.0 is.seconds_are clock.1
+        (omega arith) in
     let in_range : IsEpochDay c.div_euclid.result = rw (← same.0) (epoch_day_range is.date) in
     let range = simp to_z-of_z at c.in_default.ensures.range in
     let never = range.1 in_range in
     cc
 
 pub returns-clause-found : goal.returns-clause-found
-returns-clause-found c = let p = parts c in rw p.2 (moment_found c.args.seconds c.in-Some.date (nat_abs c.rem_euclid.result) p.0 p.1)
+returns-clause-found c = let p = parts c in rw p.2
+    (moment_found c.args.seconds c.in-Some.date (nat_abs c.rem_euclid.result) p.0 p.1)
 
 pub returns-clause-only : goal.returns-clause-only
-returns-clause-only c = λ text is. let p = parts c in p.2 ∙ moment_only c.args.seconds c.in-Some.date (nat_abs c.rem_euclid.result) text p.0 p.1 is
+returns-clause-only c = λ text is. let p = parts c in p.2
+    ∙ moment_only c.args.seconds c.in-Some.date (nat_abs c.rem_euclid.result) text p.0 p.1 is
 
 pub returns-in_default-clause-value : goal.returns-in_default-clause-value
 returns-in_default-clause-value c =
@@ -68,7 +72,9 @@ returns-clause-value c =
     let q = simp to_z-of_z at c.div_euclid.ensures in
     let fits_q = day_fits c.args.seconds c.div_euclid.result fits q in
     let day : epoch_day c.in-Some.date ≡ c.div_euclid.result = simp to_z-of_z at c.in-Some.ensures.found in
-    let in_range : IsEpochDay (int_div_euclid c.args.seconds (pos 86400)) = rw (← q, ← day) (epoch_day_range c.in-Some.date) in
+    let in_range : IsEpochDay (int_div_euclid c.args.seconds (pos 86400)) =
+        rw (← q, ← day) (epoch_day_range c.in-Some.date) in
     same_text _ (datetime_of_epoch c.args.seconds)
-    (IfSome_then (datetime_of_epoch c.args.seconds) (datetime_of_epoch_is c.args.seconds) (λ text is. returns-clause-only c text is))
+    (IfSome_then (datetime_of_epoch c.args.seconds) (datetime_of_epoch_is c.args.seconds)
+        (λ text is. returns-clause-only c text is))
     (datetime_of_epoch_some c.args.seconds in_range)

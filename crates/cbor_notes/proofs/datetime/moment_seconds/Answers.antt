@@ -8,7 +8,8 @@ pub overflow_sub-result : goal.overflow_sub-result
 overflow_sub-result c =
     let bound = c.day_of_date.ensures.bound in
     let fits : FitsSigned w32 c.day_of_date.result = omega (arith, signed_arith) in
-    let day : c.from.result ≡ epoch_day c.args.date = c.from.ensures ∙ to_z-of_z w32 c.day_of_date.result fits ∙ c.day_of_date.ensures.value in
+    let day : c.from.result ≡ epoch_day c.args.date = c.from.ensures ∙ to_z-of_z w32 c.day_of_date.result fits
+        ∙ c.day_of_date.ensures.value in
     let offset : c.from-3.result ≡ c.args.offset = c.from-3.ensures ∙ to_z-of_z w32 c.args.offset c.ranges.offset in
     omega (arith, signed_arith)
 
@@ -16,6 +17,7 @@ pub returns : goal.returns
 returns c =
     let bound = c.day_of_date.ensures.bound in
     let fits : FitsSigned w32 c.day_of_date.result = omega (arith, signed_arith) in
-    let day : c.from.result ≡ epoch_day c.args.date = c.from.ensures ∙ to_z-of_z w32 c.day_of_date.result fits ∙ c.day_of_date.ensures.value in
+    let day : c.from.result ≡ epoch_day c.args.date = c.from.ensures ∙ to_z-of_z w32 c.day_of_date.result fits
+        ∙ c.day_of_date.ensures.value in
     let offset : c.from-3.result ≡ c.args.offset = c.from-3.ensures ∙ to_z-of_z w32 c.args.offset c.ranges.offset in
     omega (arith, signed_arith)

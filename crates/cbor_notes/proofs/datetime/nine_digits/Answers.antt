@@ -1,4 +1,4 @@
-use Rattle.cbor_notes.proofs.DateTimeTexts.{nine_places}
+use Rattle.cbor_notes.proofs.dates.DateTimeTexts.{nine_places}
 use Rattle.cbor_notes.proofs.datetime.nine_digits.Goals as goal
 
 pub returns : goal.returns

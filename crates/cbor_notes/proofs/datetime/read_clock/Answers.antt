@@ -1,5 +1,5 @@
 use Rattle.std.proofs.Common.{◌∷◌, [], ◌∙◌, ap, get_or, inl, inr, arith}
-use Rattle.cbor_notes.proofs.DateTexts.{clock_of_parts, clock_text-eight}
+use Rattle.cbor_notes.proofs.dates.DateTexts.{clock_of_parts, clock_text-eight}
 use Rattle.cbor_notes.proofs.datetime.read_clock.Goals as goal
 
 pub returns-then-first-ne58-clause-only : goal.returns-then-first-ne58-clause-only
@@ -50,5 +50,7 @@ returns-clause-found c =
     let hour = c.in_ok-hour.ensures.found in
     let minute = c.in_ok-minute.ensures.found in
     let second = c.in_ok-second.ensures.found in
-    let text = clock_of_parts c.args.text.now c.in_ok-hour.hour c.in_ok-minute.minute c.in_ok-second.second c.told-text c.if-first-ne58.false c.if-last-ne58.false hour.1 minute.1 second.1 in
-    (c.in_ok-hour.hour, c.in_ok-minute.minute, c.in_ok-second.second, omega arith, omega arith, omega arith, text, omega arith)
+    let text = clock_of_parts c.args.text.now c.in_ok-hour.hour c.in_ok-minute.minute c.in_ok-second.second c.told-text
+        c.if-first-ne58.false c.if-last-ne58.false hour.1 minute.1 second.1 in
+    (c.in_ok-hour.hour, c.in_ok-minute.minute, c.in_ok-second.second, omega arith, omega arith, omega arith, text,
+        omega arith)

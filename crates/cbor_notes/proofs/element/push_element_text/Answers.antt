@@ -2,20 +2,22 @@ use Rattle.std.proofs.Common.{sym, append-nil, ◌≡◌, ◌==◌, ℕ, length,
 use Rattle.std.proofs.lemmas.Bool.Decides.{nat_tests}
 use Rattle.std.specs.String.{string_bytes}
 use Rattle.cbor_notes.specs.Element.{element_text, size}
-use Rattle.cbor_notes.proofs.ElementLemmas.{length_either, size_small}
-use Rattle.cbor_notes.proofs.Fronts.{cut_point}
+use Rattle.cbor_notes.proofs.texts.ElementLemmas.{length_either, size_small}
+use Rattle.cbor_notes.proofs.texts.Fronts.{cut_point}
 use Rattle.cbor_notes.proofs.element.push_element_text.Goals as goal
 
 pub returns-in_default : goal.returns-in_default
 unfolding element_text
-returns-in_default c = record { some = rw c.in_default.ensures.none refl; text = rw c.in_default.ensures.none (sym (append-nil (string_bytes c.args.text.now))); unchanged = tt }
+returns-in_default c = record { some = rw c.in_default.ensures.none refl; text =
+    rw c.in_default.ensures.none (sym (append-nil (string_bytes c.args.text.now))); unchanged = tt }
 
 pub returns-then-bytes-element : goal.returns-then-bytes-element
 unfolding element_text
 returns-then-bytes-element c =
     let is = c.in-Some.ensures.found in
     let other : (length c.args.bytes.now == size c.args.tag) ≡ false = grind (arith, nat_tests) in
-    record { some = rw (is.0, other) refl; text = rw (is.0, other) (sym (append-nil (string_bytes c.args.text.now))); unchanged = tt }
+    record { some = rw (is.0, other) refl; text =
+        rw (is.0, other) (sym (append-nil (string_bytes c.args.text.now))); unchanged = tt }
 
 pub ordered-ordered-requires : goal.ordered-ordered-requires
 ordered-ordered-requires c =
@@ -27,7 +29,8 @@ pub write_value_text-answer-requires : goal.write_value_text-answer-requires
 write_value_text-answer-requires c =
     let is = c.in-Some.ensures.found in
     let small = size_small c.args.tag in
-    let long = ap (length {A = ℕ}) c.ordered-ordered.ensures ∙ length_either c.in-Some.element.little_endian c.args.bytes.now in
+    let long = ap (length {A = ℕ}) c.ordered-ordered.ensures
+        ∙ length_either c.in-Some.element.little_endian c.args.bytes.now in
     (omega arith, omega arith)
 
 pub cut_after_error-requires : goal.cut_after_error-requires

@@ -1,14 +1,16 @@
 use Rattle.std.proofs.Common.{◌≡◌, ◌≢◌, ℕ, List, [], codes, refl, arith}
 use Rattle.std.specs.List.{AllByRecursion}
 use Rattle.cbor_notes.specs.Token.{nothing, whitespace, comment}
-use Rattle.cbor_notes.proofs.Blanks.{after_blank-all}
+use Rattle.cbor_notes.proofs.tokens.Blanks.{after_blank-all}
 use Rattle.cbor_notes.proofs.examples.blanks.Goals as goal
 
 words : AllByRecursion (λ byte. byte ≢ 47) (codes "x 'y")
-words = (λ e. absurd (omega (arith, e)), (λ e. absurd (omega (arith, e)), (λ e. absurd (omega (arith, e)), (λ e. absurd (omega (arith, e)), tt))))
+words = (λ e. absurd (omega (arith, e)), (λ e. absurd (omega (arith, e)),
+    (λ e. absurd (omega (arith, e)), (λ e. absurd (omega (arith, e)), tt))))
 
 pub returns-clause-pieces : goal.returns-clause-pieces
-returns-clause-pieces c = whitespace refl (comment (codes "x 'y") (codes "\n//") refl words (whitespace refl (comment [] [] refl tt nothing refl)) refl)
+returns-clause-pieces c = whitespace refl (comment (codes "x 'y") (codes "\n//") refl words
+    (whitespace refl (comment [] [] refl tt nothing refl)) refl)
 
 pub returns-clause-empty : goal.returns-clause-empty
 returns-clause-empty c = nothing

@@ -2,24 +2,28 @@ use Rattle.std.proofs.Common.{◌≡◌, ℕ, List, [], ◌∷◌, ◌++◌, cod
 use Rattle.cbor_notes.specs.declared.token.number.Base.TheVariants.{Decimal, Hexadecimal, Binary}
 use Rattle.cbor_notes.specs.Token.{IsNumber, IsSomeNumber}
 use Rattle.cbor_notes.specs.TokenReading.{number_of}
-use Rattle.cbor_notes.proofs.Numbers.{longest_number, number_of-append}
+use Rattle.cbor_notes.proofs.tokens.Numbers.{longest_number, number_of-append}
 use Rattle.cbor_notes.proofs.examples.numbers.Goals as goal
 
 -- what is read of a text that is a number leaves nothing
 abbrev Read : Type 0
 Read = Option (ℕ × Option ℕ × List ℕ)
 
-leaves_nothing : (value other : ℕ) (indicator another : Option ℕ) (byte : ℕ) (rest : List ℕ) → ◌≡◌ {A = Read} (Some (value, indicator, byte ∷ rest)) (Some (other, another, [])) → ⊥
+leaves_nothing : (value other : ℕ) (indicator another : Option ℕ) (byte : ℕ) (rest : List ℕ)
+    → ◌≡◌ {A = Read} (Some (value, indicator, byte ∷ rest)) (Some (other, another, [])) → ⊥
 leaves_nothing value other indicator another byte rest is =
     let same : ◌≡◌ {A = ℕ × Option ℕ × List ℕ} (value, indicator, byte ∷ rest) (other, another, []) = cc is in
     let never : ◌≡◌ {A = List ℕ} (byte ∷ rest) [] = ap (λ (r : ℕ × Option ℕ × List ℕ). r.2) same in
     cc never
 
-part_alone : (text : List ℕ) (value : ℕ) (indicator : Option ℕ) (byte : ℕ) (rest : List ℕ) → number_of (text ++ []) ≡ Some (value, indicator, byte ∷ rest) → IsSomeNumber text → ⊥
-part_alone text value indicator byte rest read is = leaves_nothing value is.0 indicator is.1 byte rest (sym read ∙ number_of-append text [] is.0 is.1 is.2 tt)
+part_alone : (text : List ℕ) (value : ℕ) (indicator : Option ℕ) (byte : ℕ) (rest : List ℕ)
+    → number_of (text ++ []) ≡ Some (value, indicator, byte ∷ rest) → IsSomeNumber text → ⊥
+part_alone text value indicator byte rest read is =
+    leaves_nothing value is.0 indicator is.1 byte rest (sym read ∙ number_of-append text [] is.0 is.1 is.2 tt)
 
 pub returns-clause-zeros : goal.returns-clause-zeros
-returns-clause-zeros c = record { base = Decimal; digits = codes "007"; after = []; text_is = refl; digits_are = ((omega arith, (omega arith, (omega arith, (omega arith, tt)))), refl); after_is = refl }
+returns-clause-zeros c = record { base = Decimal; digits = codes "007"; after = []; text_is = refl; digits_are =
+    ((omega arith, (omega arith, (omega arith, (omega arith, tt)))), refl); after_is = refl }
 
 pub returns-clause-hexadecimal : goal.returns-clause-hexadecimal
 returns-clause-hexadecimal c = record {

@@ -1,6 +1,6 @@
 use Rattle.std.proofs.Common.{◌≡◌, ℕ, true, false, List, [], codes, refl, arith, inl, inr}
 use Rattle.cbor_notes.specs.Token.{Blank, nothing, whitespace, comment, blank, digit}
-use Rattle.cbor_notes.proofs.Spaced.{only_digits, none_digits}
+use Rattle.cbor_notes.proofs.tokens.Spaced.{only_digits, none_digits}
 use Rattle.cbor_notes.proofs.examples.spaced.Goals as goal
 
 space : Blank true (codes " ")
@@ -10,14 +10,17 @@ quote_comment : Blank true (codes "/'/")
 quote_comment = comment (codes "'") [] refl (λ e. absurd (omega (arith, e)), tt) nothing refl
 
 pub returns-clause-around : goal.returns-clause-around
-returns-clause-around c = (digit (codes " ") (codes "/'/1 ") space refl (digit (codes "/'/") (codes " ") quote_comment refl (blank space) refl) refl, inr (omega arith))
+returns-clause-around c = (digit (codes " ") (codes "/'/1 ") space refl
+    (digit (codes "/'/") (codes " ") quote_comment refl (blank space) refl) refl, inr (omega arith))
 
 pub returns-clause-empty : goal.returns-clause-empty
 returns-clause-empty c = (blank nothing, inl refl)
 
 pub returns-clause-slashes : goal.returns-clause-slashes
 returns-clause-slashes c = (
-  digit [] (codes "x/ 0") nothing refl (digit [] (codes "/ 0") nothing refl (digit [] (codes " 0") nothing refl (digit (codes " ") [] (whitespace refl nothing) refl (blank nothing) refl) refl) refl) refl,
+  digit [] (codes "x/ 0") nothing refl (digit [] (codes "/ 0") nothing refl
+      (digit [] (codes " 0") nothing refl (digit (codes " ") [] (whitespace refl nothing) refl (blank nothing) refl)
+      refl) refl) refl,
   inr (omega arith),
 )
 
@@ -28,4 +31,5 @@ pub returns-clause-open_comment : goal.returns-clause-open_comment
 returns-clause-open_comment c = λ digits is. none_digits true (codes "0/1'") refl (codes "0/1") digits [] refl is
 
 pub returns-clause-quote : goal.returns-clause-quote
-returns-clause-quote c = λ digits is. let rest : ◌≡◌ {A = List ℕ} (codes "1'") [] = (only_digits false (codes "0'1'") (codes "0") (codes "1'") refl (codes "0'1") digits [] refl is).1 in cc rest
+returns-clause-quote c = λ digits is. let rest : ◌≡◌ {A = List ℕ} (codes "1'") [] =
+    (only_digits false (codes "0'1'") (codes "0") (codes "1'") refl (codes "0'1") digits [] refl is).1 in cc rest

@@ -1,6 +1,6 @@
 use Rattle.std.proofs.Common.{inl, inr, refl, ap, length, arith}
 use Rattle.cbor_notes.specs.DateTime.{ahead, behind}
-use Rattle.cbor_notes.proofs.DateTexts.{IsOffset-parts}
+use Rattle.cbor_notes.proofs.dates.DateTexts.{IsOffset-parts}
 use Rattle.cbor_notes.proofs.examples.zones.Goals as goal
 
 pub returns-clause-utc : goal.returns-clause-utc

@@ -1,4 +1,4 @@
-use Rattle.cbor_notes.proofs.Base64Digits.{decoded_found, decoded_every}
+use Rattle.cbor_notes.proofs.bases.Base64Digits.{decoded_found, decoded_every}
 use Rattle.cbor_notes.proofs.laws.base64_decoded.Goals as goal
 
 pub returns-clause-found : goal.returns-clause-found

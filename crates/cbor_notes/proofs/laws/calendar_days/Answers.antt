@@ -1,5 +1,5 @@
 use Rattle.jiff.specs.Words.{epoch_day}
-use Rattle.cbor_notes.proofs.CalendarDays.{date_on, place, place_of}
+use Rattle.cbor_notes.proofs.dates.CalendarDays.{date_on, place, place_of}
 use Rattle.cbor_notes.proofs.laws.calendar_days.Goals as goal
 
 pub returns-clause-days : goal.returns-clause-days

@@ -1,6 +1,6 @@
 use Rattle.jiff.proofs.Family.{epoch_day_range}
 use Rattle.jiff.specs.Words.{epoch_day}
-use Rattle.cbor_notes.proofs.DateNotes.{date_of_epoch_is, date_of_epoch_some}
+use Rattle.cbor_notes.proofs.dates.DateNotes.{date_of_epoch_is, date_of_epoch_some}
 use Rattle.cbor_notes.proofs.laws.dates_of_days.Goals as goal
 
 pub returns-clause-found : goal.returns-clause-found

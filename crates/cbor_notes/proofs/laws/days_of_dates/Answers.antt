@@ -1,4 +1,4 @@
-use Rattle.cbor_notes.proofs.DateNotes.{epoch_of_date_is, epoch_of_date_some}
+use Rattle.cbor_notes.proofs.dates.DateNotes.{epoch_of_date_is, epoch_of_date_some}
 use Rattle.cbor_notes.proofs.laws.days_of_dates.Goals as goal
 
 pub returns-clause-found : goal.returns-clause-found

@@ -1,4 +1,4 @@
-use Rattle.cbor_notes.proofs.DateTimeNotes.{epoch_of_datetime_is, epoch_of_datetime_some}
+use Rattle.cbor_notes.proofs.dates.DateTimeNotes.{epoch_of_datetime_is, epoch_of_datetime_some}
 use Rattle.cbor_notes.proofs.laws.seconds_of_moments.Goals as goal
 
 pub returns-clause-found : goal.returns-clause-found

@@ -1,5 +1,5 @@
 use Rattle.std.proofs.Common.{◌∙◌}
-use Rattle.cbor_notes.proofs.Spaces.{blanks_boundary, blanks_cut}
+use Rattle.cbor_notes.proofs.columns.Spaces.{blanks_boundary, blanks_cut}
 use Rattle.cbor_notes.proofs.line.blanks.Goals as goal
 
 pub range-requires-clause-end_boundary : goal.range-requires-clause-end_boundary

@@ -3,8 +3,8 @@ use Rattle.std.proofs.lemmas.Grind.{common_steps}
 use Rattle.cbor_notes.specs.Layout.{layout, width_of}
 use Rattle.cbor_notes.specs.Columns.{IsColumn, uncommented}
 use Rattle.cbor_notes.specs.LineTree.{tree_lines}
-use Rattle.cbor_notes.proofs.OneColumn.{one_column, digits_left}
-use Rattle.cbor_notes.proofs.Trees.{fit_width}
+use Rattle.cbor_notes.proofs.columns.OneColumn.{one_column, digits_left}
+use Rattle.cbor_notes.proofs.columns.Trees.{fit_width}
 use Rattle.cbor_notes.proofs.line.merge.Goals as goal
 
 pub put_at-requires-clause-most : goal.put_at-requires-clause-most

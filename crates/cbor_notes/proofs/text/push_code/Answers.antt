@@ -1,4 +1,4 @@
-use Rattle.std.proofs.Common.{◌≡◌, ◌∷◌, [], ◌++◌, ◌<◌, ◌/◌, ◌%◌, string_bytes, append_assoc, false, arith}
+use Rattle.std.proofs.Common.{false, arith}
 use Rattle.std.proofs.lemmas.Fmt.{hex_one_digit, hex_two_digits}
 use Rattle.std.proofs.lemmas.Grind.{common_steps}
 use Rattle.cbor_notes.proofs.text.push_code.Goals as goal

@@ -2,7 +2,7 @@ use Rattle.std.proofs.Common.{◌≡◌, arith}
 use Rattle.std.proofs.lemmas.Str.{IsUtf8-from_ascii}
 use Rattle.std.proofs.lemmas.Grind.{common_steps}
 use Rattle.hex.specs.Hex.{encode_lower}
-use Rattle.cbor_notes.proofs.HexLemmas.{IsAscii-encode_lower}
+use Rattle.cbor_notes.proofs.texts.HexLemmas.{IsAscii-encode_lower}
 use Rattle.cbor_notes.proofs.text.push_hex_piece.Goals as goal
 
 pub from_utf8_unchecked-requires : goal.from_utf8_unchecked-requires

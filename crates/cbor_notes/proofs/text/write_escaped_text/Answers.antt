@@ -4,15 +4,19 @@ use Rattle.std.proofs.lemmas.Iterator.Consumers.{YieldsList-end}
 use Rattle.std.proofs.lemmas.List.{map-id}
 use Rattle.std.specs.List.{flat_map}
 use Rattle.cbor_notes.specs.Text as spec
-use Rattle.cbor_notes.proofs.Fronts.{front_before, on_err}
+use Rattle.cbor_notes.proofs.texts.Fronts.{front_before, on_err}
 use Rattle.cbor_notes.proofs.text.write_escaped_text.Goals as goal
 
 -- the loop has gone over the characters of the text
 pub returns : goal.returns
 returns c =
-    let t = YieldsList-end (YieldsList-from_chars c.args.text.now c.utf8.text cc) c.loop-character.yielded _ c.loop-character.yielded_by _ _ c.in-None.is c.next.ensures.steps in
-    record { front = tt; text = c.loop-character.invariant ∙ ap (λ written. string_bytes c.args.escaped.now ++ flat_map spec.escaped_char written) (sym (map-id c.loop-character.yielded) ∙ t.0) }
+    let t = YieldsList-end (YieldsList-from_chars c.args.text.now c.utf8.text cc) c.loop-character.yielded _
+        c.loop-character.yielded_by _ _ c.in-None.is c.next.ensures.steps in
+    record { front = tt; text = c.loop-character.invariant
+        ∙ ap (λ written. string_bytes c.args.escaped.now ++ flat_map spec.escaped_char written)
+        (sym (map-id c.loop-character.yielded) ∙ t.0) }
 
 pub returns-in_err-push_escaped_char-clause-front : goal.returns-in_err-push_escaped_char-clause-front
 returns-in_err-push_escaped_char-clause-front c =
-    on_err c.from_residual.result (front_before _ (string_bytes c.loop-character.escaped) _ _ c.loop-character.invariant c.in_err-push_escaped_char.ensures.front)
+    on_err c.from_residual.result (front_before _ (string_bytes c.loop-character.escaped) _ _ c.loop-character.invariant
+        c.in_err-push_escaped_char.ensures.front)

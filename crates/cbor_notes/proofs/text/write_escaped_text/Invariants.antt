@@ -6,4 +6,5 @@ use Rattle.cbor_notes.proofs.text.write_escaped_text.Given as goal
 
 -- the characters so far are written after what stood there
 abbrev pub invariant-loop-character : goal.invariant-loop-character
-invariant-loop-character l = string_bytes l.escaped ≡ string_bytes l.initial.escaped ++ flat_map spec.escaped_char l.yielded
+invariant-loop-character l = string_bytes l.escaped ≡ string_bytes l.initial.escaped
+    ++ flat_map spec.escaped_char l.yielded

@@ -7,7 +7,8 @@ use Rattle.cbor_view.proofs.run.read_to_end.Given as goal
 abbrev pub invariant-loop-bytes : goal.invariant-loop-bytes
 invariant-loop-bytes g l = record {
   within : l.filled ≤ vec_len l.bytes;
-  given : Consumes (g.R.Read.remaining (inner_of l.initial.input)) (g.R.Read.remaining (inner_of l.input)) (take l.filled (vec_items l.bytes));
+  given : Consumes (g.R.Read.remaining (inner_of l.initial.input)) (g.R.Read.remaining (inner_of l.input))
+      (take l.filled (vec_items l.bytes));
   failures : failures_of l.input ≡ failures_of l.initial.input;
 }
 

@@ -11,6 +11,7 @@ loop-written-preserved g c =
     let piece = rw (take_rest c.args.bytes.now c.loop-written.written) at c.in-Ok.ensures.bytes in
     record {
       within = search rules;
-      taken = subst (Appends _ _) (sym (take-add c.loop-written.written c.in-Ok.count c.args.bytes.now)) (Appends-trans _ _ _ _ _ before.taken piece);
+      taken = subst (Appends _ _) (sym (take-add c.loop-written.written c.in-Ok.count c.args.bytes.now))
+          (Appends-trans _ _ _ _ _ before.taken piece);
       failures = search rules;
     }

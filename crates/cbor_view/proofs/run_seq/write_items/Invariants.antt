@@ -7,7 +7,8 @@ use Rattle.cbor_view.proofs.run_seq.write_items.Given as goal
 
 abbrev pub invariant-sequence : goal.invariant-sequence
 invariant-sequence g l = record {
-  before : (written : List ℕ) × IsOutputOfFirst l.to l.bytes written l.rest × Gains g.W.Write.contents l.initial.output l.output written;
+  before : (written : List ℕ) × IsOutputOfFirst l.to l.bytes written l.rest
+      × Gains g.W.Write.contents l.initial.output l.output written;
   failures : failures_of l.output ≡ failures_of l.initial.output;
 }
 

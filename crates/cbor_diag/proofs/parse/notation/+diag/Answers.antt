@@ -9,7 +9,7 @@ use Rattle.cbor_diag.specs.View.{view, items_of, pairs_of, items_view, pairs_vie
 use Rattle.cbor_diag.specs.WellFormed.{IsByteChunk, IsTextChunk}
 use Rattle.cbor_diag.specs.Bytes.{bytes_kind, text_kind}
 use Rattle.cbor_diag.specs.Reading.{◌>>=◌, Fails}
-use Rattle.cbor_diag.specs.NotationReading.{skip_blank, after_byte, after_end, integer_or_tag, read_unsigned_number, read_negative_number, read_length, read_pair, read_chunk, read_item, read_core, read_members, read_pieces, checked, begins_piece, begins_string, read_string}
+use Rattle.cbor_diag.specs.NotationReading.{skip_blank, after_end, read_negative_number, read_length, read_pair, read_chunk, read_item, read_core, read_members, read_pieces, checked, begins_piece, begins_string, read_string}
 use Rattle.cbor_diag.proofs.Loops.{Fails-bind}
 use Rattle.cbor_diag.proofs.NotationLoops.{members_closed, members_begin, member_fails, member_last, no_comma, member_more}
 use Rattle.cbor_diag.proofs.NotationCores.{core_by, bytes_core, piece_by, no_piece, no_text, string_by, item_none, item_some, pieces_begin, pieces_end, piece_fails, piece_more, items_push, no_key, no_colon, no_value, pair_read, pair_view, pairs_push, all_push, array_well, map_well}
@@ -252,21 +252,14 @@ strings::read_text_chunks-chunks-preserved t c =
     let next = member_more read close (map text_chunk held) i.0 c.chunks.rest.now total i.1 i.2 (text_chunk c.in_ok-chunk.chunk) c.in_ok-chunk.after.now c.in_ok-rest.rest.now (ap (read_string (read_item (129 - c.args.inner)) text_kind) (sym c.after_blank.ensures.gives) ∙ c.in_ok-chunk.ensures.gives) (sym c.in_default-after_end.ensures.gives) c.in_ok-rest.ensures.gives (omega (arith, c.in_ok-chunk.ensures.shorter, c.after_blank.ensures.shorter)) c.in_ok-rest.ensures.shorter in
     (next.0, next.1, rw pushed next.2, omega (arith, c.in_ok-rest.ensures.shorter, c.in_ok-chunk.ensures.shorter, c.after_blank.ensures.shorter), rw pushed (all_push IsTextChunk (map text_chunk held) (text_chunk c.in_ok-chunk.chunk) i.4 c.in_ok-chunk.ensures.well))
 
-pub read_core-returns-in_err-number-in-Digit-clause-gives : goal.read_core-returns-in_err-number-in-Digit-clause-gives
-read_core-returns-in_err-number-in-Digit-clause-gives t c =
-    let p = err_from_is_err_and c.from_residual.result c.from_residual.ensures.1 in
+pub read_core-returns-in-Digit-clause-gives : goal.read_core-returns-in-Digit-clause-gives
+read_core-returns-in-Digit-clause-gives t c =
     let read = read_item (129 - c.args.inner) in
-    rw (p.1, p.2, core_by read c.args.text.now c.split-start.result.1.now start.Digit (sym c.in-Digit.is ∙ c.split-start.ensures.start) c.split-start.ensures.rest) (Fails-bind c.in_err-number-in-Digit.field-0.0 (read_unsigned_number c.args.text.now) (λ n. integer_or_tag read n.0.0 n.0.1 n.1 (after_byte 40 n.1)) c.in_err-number-in-Digit.ensures.gives)
-
-pub read_core-returns-in_ok-number-in-Digit-clause-gives : goal.read_core-returns-in_ok-number-in-Digit-clause-gives
-read_core-returns-in_ok-number-in-Digit-clause-gives t c =
-    let read = read_item (129 - c.args.inner) in
-    let here = core_by read c.args.text.now c.split-start.result.1.now start.Digit (sym c.in-Digit.is ∙ c.split-start.ensures.start) c.split-start.ensures.rest ∙ ap (λ r. r >>= λ n. integer_or_tag read n.0.0 n.0.1 n.1 (after_byte 40 n.1)) c.in_ok-number-in-Digit.ensures.gives in
-    rw here c.integer_or_tag.ensures.gives
+    rw (core_by read c.args.text.now c.split-start.result.1.now start.Digit (sym c.in-Digit.is ∙ c.split-start.ensures.start) c.split-start.ensures.rest) c.integer_or_tag.ensures.gives
 
 pub read_core-returns-in_err-value-in-Minus-clause-gives : goal.read_core-returns-in_err-value-in-Minus-clause-gives
 read_core-returns-in_err-value-in-Minus-clause-gives t c =
-    let p = err_from_is_err_and c.from_residual-in_err-value-in-Minus.result c.from_residual-in_err-value-in-Minus.ensures.1 in
+    let p = err_from_is_err_and c.from_residual.result c.from_residual.ensures.1 in
     let read = read_item (129 - c.args.inner) in
     rw (p.1, p.2, core_by read c.args.text.now c.split-start.result.1.now start.Minus (sym c.in-Minus.is ∙ c.split-start.ensures.start) c.split-start.ensures.rest) (Fails-bind c.in_err-value-in-Minus.field-0.0 (read_negative_number c.split-start.result.1.now) (λ n. Ok (atom (negative n.0.0 n.0.1), n.1)) c.in_err-value-in-Minus.ensures.gives)
 
@@ -292,7 +285,7 @@ read_core-returns-in_ok-content-in-Bracket-clause-gives t c =
     core_by read c.args.text.now c.split-start.result.1.now start.Bracket (sym c.in-Bracket.is ∙ c.split-start.ensures.start) c.split-start.ensures.rest ∙ ap (λ r. r >>= λ is. Ok (array (items_of is.0) (read_length text).0, is.1)) found ∙ ap (λ w. Ok (array (items_view c.in_ok-content-in-Bracket.content.items) w, c.in_ok-content-in-Bracket.rest.now)) (sym length_is.0) ∙ ap (λ i. Ok (i, c.in_ok-content-in-Bracket.rest.now)) (sym (view-Array c.in_ok-content-in-Bracket.content c.read_length-bitwidth.result.0))
 
 pub read_core-returns-in_ok-content-in-Bracket-clause-well : goal.read_core-returns-in_ok-content-in-Bracket-clause-well
-read_core-returns-in_ok-content-in-Bracket-clause-well t c = array_well c.args.inner c.in_ok-content-in-Bracket.content c.read_length-bitwidth.result.0 (omega arith) (omega arith) c.read_length-bitwidth.ensures.open c.in_ok-content-in-Bracket.ensures.well
+read_core-returns-in_ok-content-in-Bracket-clause-well t c = array_well c.args.inner c.in_ok-content-in-Bracket.content c.read_length-bitwidth.result.0 (omega arith) (omega arith) c.read_length-bitwidth.ensures.unstated c.in_ok-content-in-Bracket.ensures.well
 
 pub read_core-returns-in_err-content-in-Brace-clause-gives : goal.read_core-returns-in_err-content-in-Brace-clause-gives
 read_core-returns-in_err-content-in-Brace-clause-gives t c =
@@ -311,7 +304,7 @@ read_core-returns-in_ok-content-in-Brace-clause-gives t c =
     core_by read c.args.text.now c.split-start.result.1.now start.Brace (sym c.in-Brace.is ∙ c.split-start.ensures.start) c.split-start.ensures.rest ∙ ap (λ r. r >>= λ ps. Ok (spec.map (pairs_of ps.0) (read_length text).0, ps.1)) found ∙ ap (λ w. Ok (spec.map (pairs_view c.in_ok-content-in-Brace.content.items) w, c.in_ok-content-in-Brace.rest.now)) (sym length_is.0) ∙ ap (λ i. Ok (i, c.in_ok-content-in-Brace.rest.now)) (sym (view-Map c.in_ok-content-in-Brace.content c.read_length-bitwidth-in-Brace.result.0))
 
 pub read_core-returns-in_ok-content-in-Brace-clause-well : goal.read_core-returns-in_ok-content-in-Brace-clause-well
-read_core-returns-in_ok-content-in-Brace-clause-well t c = map_well c.args.inner c.in_ok-content-in-Brace.content c.read_length-bitwidth-in-Brace.result.0 (omega arith) (omega arith) c.read_length-bitwidth-in-Brace.ensures.open c.in_ok-content-in-Brace.ensures.well
+read_core-returns-in_ok-content-in-Brace-clause-well t c = map_well c.args.inner c.in_ok-content-in-Brace.content c.read_length-bitwidth-in-Brace.result.0 (omega arith) (omega arith) c.read_length-bitwidth-in-Brace.ensures.unstated c.in_ok-content-in-Brace.ensures.well
 
 pub read_core-returns-in-Parenthesis-clause-gives : goal.read_core-returns-in-Parenthesis-clause-gives
 read_core-returns-in-Parenthesis-clause-gives t c =

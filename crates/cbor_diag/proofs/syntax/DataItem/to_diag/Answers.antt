@@ -1,8 +1,7 @@
-use Rattle.std.proofs.Common.{◌++◌, ap, sym, subst, ◌∙◌, arith}
-use Rattle.cbor_diag.specs.declared.encode.notation.context.Content.TheVariants.{Bytes}
+use Rattle.std.proofs.Common.{◌++◌, None, refl, ap, sym, subst, ◌∙◌, arith}
 use Rattle.cbor_diag.specs.declared.encode.encoding.Encoding.TheVariants.{Base16}
 use Rattle.cbor_diag.specs.View.{view}
-use Rattle.cbor_diag.specs.declared.encode.notation.context.Layout.TheVariants.{Compact}
+use Rattle.cbor_diag.specs.Layout.{Compact}
 use Rattle.cbor_diag.specs.Facts.{diag_of}
 use Rattle.cbor_diag.specs.Notation.{Reads}
 use Rattle.cbor_diag.specs.NotationText.{in_encoding}
@@ -14,22 +13,24 @@ use Rattle.cbor_diag.proofs.EmbeddedItems.{embeds_exactly}
 use Rattle.cbor_diag.proofs.syntax.DataItem.to_diag.Goals as goal
 
 pub returns-in_err-push_diag-clause-of_normal : goal.returns-in_err-push_diag-clause-of_normal
-returns-in_err-push_diag-clause-of_normal c = normal_text 1 128 (omega arith) Base16 Bytes (view c.args.self.now) c.requires
+returns-in_err-push_diag-clause-of_normal c =
+    normal_text 1 128 (omega arith) Base16 None (view c.args.self.now) c.requires
 
 pub returns-in_err-push_diag-clause-normal_once : goal.returns-in_err-push_diag-clause-normal_once
-returns-in_err-push_diag-clause-normal_once c = normal_twice 1 128 (omega arith) Bytes (view c.args.self.now) c.requires
+returns-in_err-push_diag-clause-normal_once c = normal_twice 1 128 (omega arith) None (view c.args.self.now) c.requires
 
 pub returns-clause-of_normal : goal.returns-clause-of_normal
-returns-clause-of_normal c = normal_text 1 128 (omega arith) Base16 Bytes (view c.args.self.now) c.requires
+returns-clause-of_normal c = normal_text 1 128 (omega arith) Base16 None (view c.args.self.now) c.requires
 
 pub returns-clause-normal_once : goal.returns-clause-normal_once
-returns-clause-normal_once c = normal_twice 1 128 (omega arith) Bytes (view c.args.self.now) c.requires
+returns-clause-normal_once c = normal_twice 1 128 (omega arith) None (view c.args.self.now) c.requires
 
 pub returns-clause-read_back : goal.returns-clause-read_back
 returns-clause-read_back c =
     let i = view c.args.self.now in
     let written = c.in_ok-push_diag.ensures.text ∙ ap (λ x. x ++ diag_of i) c.new-out.ensures.bytes in
-    subst (λ x. Reads 128 x (normal_at 128 Bytes i)) (sym written) (reads_back 1 128 (omega arith) (in_encoding Compact Base16) i c.requires)
+    subst (λ x. Reads 128 x (normal_at 128 None i)) (sym written)
+    (reads_back 1 128 (omega arith) (in_encoding Compact Base16) None i refl c.requires)
 
 pub returns-in_err-push_diag-clause-alike : goal.returns-in_err-push_diag-clause-alike
 returns-in_err-push_diag-clause-alike c = λ other well. texts_alike (view c.args.self.now) other c.requires well

@@ -1,7 +1,6 @@
-use Rattle.std.proofs.Common.{◌++◌, ap, sym, subst, ◌∙◌, arith}
-use Rattle.cbor_diag.specs.declared.encode.notation.context.Content.TheVariants.{Bytes}
+use Rattle.std.proofs.Common.{◌++◌, None, refl, ap, sym, subst, ◌∙◌, arith}
 use Rattle.cbor_diag.specs.declared.encode.encoding.Encoding.TheVariants.{Base16}
-use Rattle.cbor_diag.specs.declared.encode.notation.context.Layout.TheVariants.{Pretty}
+use Rattle.cbor_diag.specs.Layout.{Pretty}
 use Rattle.cbor_diag.specs.View.{view}
 use Rattle.cbor_diag.specs.Facts.{pretty_of}
 use Rattle.cbor_diag.specs.Notation.{Reads}
@@ -16,7 +15,8 @@ pub returns-clause-read_back : goal.returns-clause-read_back
 returns-clause-read_back c =
     let i = view c.args.self.now in
     let written = c.in_ok-push_diag_pretty.ensures.text ∙ ap (λ x. x ++ pretty_of i) c.new-out.ensures.bytes in
-    subst (λ x. Reads 128 x (normal_at 128 Bytes i)) (sym written) (reads_back 1 128 (omega arith) (in_encoding (Pretty 0) Base16) i c.requires)
+    subst (λ x. Reads 128 x (normal_at 128 None i)) (sym written)
+    (reads_back 1 128 (omega arith) (in_encoding (Pretty 0) Base16) None i refl c.requires)
 
 pub returns-in_err-push_diag_pretty-clause-one_line : goal.returns-in_err-push_diag_pretty-clause-one_line
 returns-in_err-push_diag_pretty-clause-one_line c = short_is

@@ -1,4 +1,4 @@
-//! The containers round the innermost one that is open, on a stack of fixed size.
+//! The open containers around the innermost one, on a stack of fixed size.
 ghost use Rattle.std.specs.Prelude.{◌≡◌, ◌<◌, ◌≤◌, [], ◌∷◌, ◌++◌, length, IfSome, Some, None};
 ghost use Rattle.cbor_diag.specs.WellFormed.{deepest};
 
@@ -6,13 +6,13 @@ use super::to_come::{Count, ToCome};
 use crate::syntax::DEEPEST;
 use std::marker::Model;
 
-/// How many containers may be open round another.
-const ROOM: usize = DEEPEST as usize;
+/// How many containers may be open around another.
+const CAPACITY: usize = DEEPEST as usize;
 
-/// The containers round the innermost one that is open, the outermost first.
+/// The open containers around the innermost one, the outermost first.
 #[derive(Drop)]
 pub(super) struct Outer {
-    open: [ToCome; ROOM],
+    open: [ToCome; CAPACITY],
     len: usize,
 }
 
@@ -33,7 +33,7 @@ impl Outer {
         ensures { result ≡ [] }
     {
         Outer {
-            open: [ToCome::Items(Count::Definite(0)); ROOM],
+            open: [ToCome::Items(Count::Definite(0)); CAPACITY],
             len: 0,
         }
     }
@@ -41,7 +41,7 @@ impl Outer {
     /// How many are open.
     pub(super) fn len(&self) -> usize
         ensures count { result ≡ length self.now }
-        ensures room { result ≤ deepest }
+        ensures most { result ≤ deepest }
     {
         self.len
     }
@@ -55,7 +55,7 @@ impl Outer {
         self.len += 1;
     }
 
-    /// Takes the innermost of them, where one is open.
+    /// Removes the innermost of them and returns it, if there is one.
     pub(super) fn pop(&mut self) -> Option<ToCome>
         ensures some { IfSome result (λ parts. self.old ≡ self.new ++ parts ∷ []) }
         ensures none { result ≡ None → self.old ≡ [] }

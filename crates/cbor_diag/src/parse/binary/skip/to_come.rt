@@ -1,4 +1,4 @@
-//! What is still to come in a container that is open.
+//! What is still to come in an open container.
 ghost use Rattle.std.specs.Prelude.{◌≡◌, option_map};
 ghost use Rattle.cbor_diag.specs.Skipping.{one_less, count_end, end_of, after_part, opened};
 
@@ -7,13 +7,13 @@ use super::super::head::ItemHead;
 /// How many parts of a kind are still to come.
 #[derive(Clone, Copy)]
 pub(super) enum Count {
-    /// So many.
+    /// This many.
     Definite(u64),
     /// All up to a break.
     ToBreak,
 }
 
-/// What is still to come in a container that is open.
+/// What is still to come in an open container.
 #[derive(Clone, Copy)]
 pub(super) enum ToCome {
     /// The members of an array, or the item of a tag.
@@ -25,7 +25,7 @@ pub(super) enum ToCome {
 }
 
 impl Count {
-    /// The bytes after the parts, where none is to come: the same bytes, or those behind the break.
+    /// The bytes after the parts, if none is to come: the same bytes, or those after the break.
     fn after_end(self, bytes: &[u8]) -> Option<&[u8]>
         ensures { option_map (λ x. x.now) result ≡ count_end self bytes.now }
     {
@@ -65,7 +65,7 @@ impl ToCome {
         }
     }
 
-    /// The bytes after the container, where it ends here.
+    /// The bytes after the container, if it ends here.
     pub(super) fn after_end(self, bytes: &[u8]) -> Option<&[u8]>
         ensures { option_map (λ x. x.now) result ≡ end_of self bytes.now }
     {

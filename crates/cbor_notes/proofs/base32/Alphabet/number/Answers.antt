@@ -1,7 +1,7 @@
 use Rattle.std.proofs.Common.{◌≡◌, ◌<◌, ◌≤◌, ◌^◌, ℕ, take, ap, Some, arith, lit<}
 use Rattle.std.proofs.lemmas.List.{take_more, take_all, length-take-le}
 use Rattle.std.proofs.Math.Nat.{pow-le-pow_right}
-use Rattle.cbor_notes.proofs.Base32Numbers.{written-lt, written_at, same_written, writes_more}
+use Rattle.cbor_notes.proofs.bases.Base32Numbers.{written-lt, written_at, same_written, writes_more}
 use Rattle.cbor_notes.proofs.base32.Alphabet.number.Goals as goal
 
 -- a number that fewer than eight digits write
@@ -28,7 +28,8 @@ overflow_add-number c =
 -- a digit that stands for no value is in no numeral
 pub returns-in_err-value-clause-only : goal.returns-in_err-value-clause-only
 returns-in_err-value-clause-only c = λ number writes.
-    let digit = written_at c.args.self c.args.digits.now number c.loop-digit.digit-index writes c.loop-digit-test.true in
+    let digit = written_at c.args.self c.args.digits.now number c.loop-digit.digit-index writes
+        c.loop-digit-test.true in
     let some = c.in_err-value.ensures.only digit.0 digit.1 digit.2 in
     cc some
 
@@ -43,4 +44,5 @@ pub returns-clause-only : goal.returns-clause-only
 returns-clause-only c = λ number writes.
     let all : take c.loop-digit.digit-index c.args.digits.now ≡ c.args.digits.now =
     take_all c.loop-digit.digit-index c.args.digits.now (omega arith) in
-    ap Some (same_written c.args.self c.args.digits.now c.loop-digit.number number (rw all at c.loop-digit.invariant) writes)
+    ap Some (same_written c.args.self c.args.digits.now c.loop-digit.number number (rw all at c.loop-digit.invariant)
+        writes)

@@ -7,7 +7,8 @@ invariant-loop-end l = record {
   from : l.at ≤ l.end;
   within : l.end ≤ length l.text;
   blank : after_blank l.comments (drop l.end l.text) ≡ drop l.end l.text;
-  read : digits_in l.comments false (drop l.at l.text) ≡ with_front l.digits.items (digits_in l.comments false (drop l.end l.text));
+  read : digits_in l.comments false (drop l.at l.text) ≡ with_front l.digits.items
+      (digits_in l.comments false (drop l.end l.text));
 }
 
 abbrev pub decreases-loop-end : goal.decreases-loop-end

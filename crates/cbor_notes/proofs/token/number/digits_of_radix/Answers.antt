@@ -1,6 +1,6 @@
 use Rattle.std.proofs.Common.{◌≡◌, ℕ, ◌+◌, ◌*◌, ◌<◌, sym, subst, ◌∙◌, arith}
 use Rattle.std.specs.Char.{digit_value}
-use Rattle.cbor_notes.proofs.NumberRuns.{run_more, capped_more}
+use Rattle.cbor_notes.proofs.tokens.NumberRuns.{run_more, capped_more}
 use Rattle.cbor_notes.proofs.token.number.digits_of_radix.Goals as goal
 
 pub loop-end-preserved : goal.loop-end-preserved
@@ -8,13 +8,16 @@ loop-end-preserved c =
     let text = c.args.text.now in
     let before = c.loop-end.invariant.read in
     let value = before.0 in
-    let digit = subst (λ (b : ℕ). (digit_value b < c.args.radix) × (c.in-Some.digit ≡ digit_value b)) c.from.ensures c.in-Some.ensures.value in
+    let digit = subst (λ (b : ℕ). (digit_value b < c.args.radix) × (c.in-Some.digit ≡ digit_value b)) c.from.ensures
+        c.in-Some.ensures.value in
     record {
       from = omega (arith, c.loop-end.invariant.from);
       within = omega (arith, c.loop-end-test.true);
       read = (
         value * c.args.radix + c.in-Some.digit,
-        rw (c.min-value.ensures, c.from-in-loop-end.ensures, c.from-in-loop-end-2.ensures, before.1) (capped_more value c.args.radix c.in-Some.digit (omega (arith, c.requires.radix.0))),
-        sym (run_more c.args.radix value c.in-Some.digit text c.loop-end.end c.loop-end-test.true digit.0 digit.1) ∙ before.2,
+        rw (c.min-value.ensures, c.from-in-loop-end.ensures, c.from-in-loop-end-2.ensures, before.1)
+            (capped_more value c.args.radix c.in-Some.digit (omega (arith, c.requires.radix.0))),
+        sym (run_more c.args.radix value c.in-Some.digit text c.loop-end.end c.loop-end-test.true digit.0 digit.1)
+            ∙ before.2,
       );
     }

@@ -7,7 +7,8 @@ abbrev pub invariant-loop-end : goal.invariant-loop-end
 invariant-loop-end l = record {
   from : l.start ≤ l.end;
   within : l.end ≤ length l.text;
-  read : (value : ℕ) × (l.value ≡ capped value) × (digit_run l.radix value (drop l.end l.text) ≡ digit_run l.radix 0 (drop l.start l.text));
+  read : (value : ℕ) × (l.value ≡ capped value)
+      × (digit_run l.radix value (drop l.end l.text) ≡ digit_run l.radix 0 (drop l.start l.text));
 }
 
 abbrev pub decreases-loop-end : goal.decreases-loop-end

@@ -2,12 +2,16 @@ use Rattle.std.proofs.Common.{◌≡◌, ◌++◌, true, map, drop}
 use Rattle.std.specs.Io.{StartsWith}
 use Rattle.std.specs.String.{string_bytes}
 use Rattle.cbor_diag.specs.View.{byte_chunk}
-use Rattle.cbor_diag.specs.NotationText.{quoted, members}
+use Rattle.cbor_diag.specs.LayoutView.{style_view}
+use Rattle.cbor_diag.specs.NotationText.{quoted}
+use Rattle.cbor_diag.proofs.NotationTexts.{members_left}
 use Rattle.cbor_diag.proofs.encode.notation.members.push_byte_chunks.Given as goal
 
 -- what is written and the chunks that are left are the whole
 abbrev pub invariant-chunks : goal.invariant-chunks
 invariant-chunks l =
-    let written = map (λ s. quoted l.encoding s.bytes) in
-    (string_bytes l.out ++ members l.listing l.first (written (map byte_chunk (drop l.chunk-index l.chunks))) ≡ string_bytes l.initial.out ++ members l.listing true (written (map byte_chunk l.chunks)))
+    let texts = map (λ s. quoted l.context.encoding s.bytes) in
+    let style = style_view l.style in
+    (string_bytes l.out ++ members_left style l.first (texts (map byte_chunk (drop l.chunk-index l.chunks)))
+    ≡ string_bytes l.initial.out ++ members_left style true (texts (map byte_chunk l.chunks)))
     × StartsWith (string_bytes l.out) (string_bytes l.fn.out)

@@ -1,11 +1,13 @@
-use Rattle.std.proofs.Common.{◌≡◌, ◌+◌, List, ℕ, [], ◌∷◌, ◌++◌, codes, drop, sym, ap, ◌∙◌}
-use Rattle.std.proofs.lemmas.List.{drop_all}
+use Rattle.std.proofs.Common.{◌≡◌, ◌+◌, List, ℕ, [], ◌∷◌, ◌++◌, codes, map, length, drop, eqb, false, sym, ap, ◌∙◌}
+use Rattle.std.proofs.lemmas.List.{drop_all, length-map}
 use Rattle.std.specs.String.{string_bytes}
 use Rattle.cbor_diag.specs.Item.{Chunk}
 use Rattle.cbor_diag.specs.View.{text_chunk}
-use Rattle.cbor_diag.specs.NotationText.{text}
+use Rattle.cbor_diag.specs.LayoutView.{style_view}
+use Rattle.cbor_diag.specs.NotationText.{text, chunks_text}
 use Rattle.cbor_diag.proofs.Appending.{begins_after_member, appends_last}
 use Rattle.cbor_diag.proofs.NotationTexts.{drop_here, member_more, members_end, chunks_written}
+use Rattle.cbor_diag.proofs.TextParts.{bracketed_written}
 use Rattle.cbor_diag.proofs.encode.notation.members.push_text_chunks.Goals as goal
 
 pub chunks-preserved : goal.chunks-preserved
@@ -17,7 +19,10 @@ chunks-preserved c =
     let begun = begins_after_member (string_bytes c.args.out.now) (string_bytes c.chunks.out) (string_bytes c.push_start.new.out)
     (string_bytes c.push_text.new.out) (string_bytes c.push_end.new.out) _ _ _ c.chunks.invariant.1
     c.in_ok-push_start.ensures c.in_ok-push_text.ensures c.in_ok-push_end.ensures in (
-      member_more c.args.listing c.chunks.first _ _ (string_bytes c.chunks.out) (string_bytes c.push_start.new.out) (string_bytes c.push_text.new.out) (string_bytes c.push_end.new.out) _ c.in_ok-push_start.ensures written c.in_ok-push_end.ensures
+      member_more (style_view c.text_chunks_style-style.result) c.chunks.first _ _ (string_bytes c.chunks.out)
+          (string_bytes c.push_start.new.out)
+          (string_bytes c.push_text.new.out) (string_bytes c.push_end.new.out) _ c.in_ok-push_start.ensures written
+          c.in_ok-push_end.ensures
           (rw here at c.chunks.invariant.0),
       begun,
     )
@@ -25,9 +30,17 @@ chunks-preserved c =
 pub returns : goal.returns
 returns c =
     let all = c.args.chunks.now in
+    let cs = map text_chunk all in
+    let out = string_bytes c.args.out.now in
+    let l = style_view c.text_chunks_style-style.result in
     let none : drop c.chunks.chunk-index all ≡ [] = drop_all c.chunks.chunk-index all c.chunks-test.false in
     let f : Chunk → List ℕ = λ s. text s.bytes in
-    let whole = members_end c.args.listing c.chunks.first (string_bytes c.chunks.out) _ (rw none at c.chunks.invariant.0) in
-    appends_last c.push_closing.result (string_bytes c.args.out.now) (string_bytes c.chunks.out)
-    (string_bytes c.push_closing.new.out) _ _ c.chunks.invariant.1 (λ e. chunks_written c.args.listing (codes "\"\"_") f text_chunk all (string_bytes c.args.out.now) (string_bytes c.push_opening.new.out) (string_bytes c.chunks.out) (string_bytes c.push_closing.new.out)
-    (sym c.is_empty.ensures ∙ c.if-is_empty.false) c.in_ok-push_opening.ensures whole e) c.push_closing.ensures
+    let whole = members_end l c.chunks.first (string_bytes c.chunks.out) _ _ (rw none at c.chunks.invariant.0) in
+    let some : eqb (length cs) 0 ≡ false = rw length-map (sym c.is_empty.ensures ∙ c.if-is_empty.false) in
+    appends_last c.push_closing.result out (string_bytes c.chunks.out) (string_bytes c.push_closing.new.out) _ _
+    c.chunks.invariant.1
+    (λ e. bracketed_written l _ _ _ out (string_bytes c.push_opening.new.out) (string_bytes c.chunks.out)
+    (string_bytes c.push_closing.new.out)
+    c.in_ok-push_opening.ensures whole e ∙ ap (λ t. out ++ t) (sym (chunks_written l (codes "\"\"_") f cs some))
+    ∙ ap (λ k. out ++ chunks_text k (codes "\"\"_") (map f cs)) c.text_chunks_style-style.ensures)
+    c.push_closing.ensures

@@ -2,12 +2,16 @@ use Rattle.std.proofs.Common.{◌≡◌, ◌++◌, true, map, drop}
 use Rattle.std.specs.Io.{StartsWith}
 use Rattle.std.specs.String.{string_bytes}
 use Rattle.cbor_diag.specs.View.{text_chunk}
-use Rattle.cbor_diag.specs.NotationText.{text, members}
+use Rattle.cbor_diag.specs.LayoutView.{style_view}
+use Rattle.cbor_diag.specs.NotationText.{text}
+use Rattle.cbor_diag.proofs.NotationTexts.{members_left}
 use Rattle.cbor_diag.proofs.encode.notation.members.push_text_chunks.Given as goal
 
 -- what is written and the chunks that are left are the whole
 abbrev pub invariant-chunks : goal.invariant-chunks
 invariant-chunks l =
-    let written = map (λ s. text s.bytes) in
-    (string_bytes l.out ++ members l.listing l.first (written (map text_chunk (drop l.chunk-index l.chunks))) ≡ string_bytes l.initial.out ++ members l.listing true (written (map text_chunk l.chunks)))
+    let texts = map (λ s. text s.bytes) in
+    let style = style_view l.style in
+    (string_bytes l.out ++ members_left style l.first (texts (map text_chunk (drop l.chunk-index l.chunks)))
+    ≡ string_bytes l.initial.out ++ members_left style true (texts (map text_chunk l.chunks)))
     × StartsWith (string_bytes l.out) (string_bytes l.fn.out)

@@ -1,7 +1,5 @@
 use Rattle.std.proofs.Common.{arith}
 use Rattle.std.proofs.lemmas.Result.{err_from_is_err_and}
-use Rattle.cbor_diag.specs.declared.parse.binary.skip.Chunk.{Chunk}
-use Rattle.cbor_diag.specs.Skipping.{Goes, kind_of, skip_chunks, after_chunk}
 use Rattle.cbor_diag.proofs.Skips.{goes_then, stops_then}
 use Rattle.cbor_diag.proofs.parse.binary.skip.after_chunks.Goals as goal
 

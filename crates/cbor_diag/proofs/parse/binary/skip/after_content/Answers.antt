@@ -1,4 +1,4 @@
-use Rattle.std.proofs.Common.{◌≡◌, List, ℕ, length, drop, take, subst, ap, sym, arith}
+use Rattle.std.proofs.Common.{List, ℕ, length, take, subst, sym, arith}
 use Rattle.cbor_diag.specs.declared.error.Error.TheVariants.{Utf8}
 use Rattle.cbor_diag.specs.Bytes.{IsContent}
 use Rattle.cbor_diag.specs.Skipping.{here, Goes, Shows, kind_of, skip_content}

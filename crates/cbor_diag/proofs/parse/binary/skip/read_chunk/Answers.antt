@@ -1,10 +1,11 @@
-use Rattle.std.proofs.Common.{◌≡◌, ◌≢◌, ℕ, List, ◌/◌, ◌%◌, ◌∷◌, get_or, length, Ok, Err, subst, ap, sym, ◌∙◌, arith}
+use Rattle.std.proofs.Common.{◌≡◌, ◌≢◌, ℕ, List, ◌/◌, ◌∷◌, get_or, length, Ok, subst, ap, sym, ◌∙◌, arith}
 use Rattle.std.proofs.lemmas.Result.{err_from_is_err_and}
 use Rattle.cbor_diag.specs.declared.error.Error.TheVariants.{Head}
 use Rattle.cbor_diag.specs.declared.parse.binary.head.Info.{Info}
 use Rattle.cbor_diag.specs.Head.{break_byte}
 use Rattle.cbor_diag.specs.Bytes.{major_of}
-use Rattle.cbor_diag.specs.Reading.{◌>>=◌, read_info}
+use Rattle.cbor_diag.specs.Reading.{◌>>=◌}
+use Rattle.cbor_diag.specs.HeadErrors.{head_error}
 use Rattle.cbor_diag.specs.Skipping.{here, Goes, Shows, StopsSo, stop_of, kind_of, skip_content, skip_chunks}
 use Rattle.cbor_diag.proofs.Heads.{IsBytes, IsBytes-rest}
 use Rattle.cbor_diag.proofs.Skips.{goes_then, goes_within, stops_then, stops_within, break_goes, chunk_goes, kind_shows, indefinite_shows, info_stops, no_chunks, more_keeps, behind_first, first_is, at_first, fits_first, empty_is}
@@ -21,8 +22,8 @@ returns-in-255-clause-goes c =
     let parts = first_is b c.in-255.len_at_least ∙ ap (λ (x : ℕ). x ∷ behind_first b) first in
     subst (λ (x : List ℕ). Goes (skip_chunks (kind_of c.args.kind)) here x (behind_first b)) (sym parts) (break_goes (kind_of c.args.kind) (behind_first b))
 
-pub returns-then-first-major-clause-stops : goal.returns-then-first-major-clause-stops
-returns-then-first-major-clause-stops c =
+pub returns-then-first-number-clause-stops : goal.returns-then-first-number-clause-stops
+returns-then-first-number-clause-stops c =
     let b = c.args.bytes.now in
     let kind = kind_of c.args.kind in
     let no_break : get_or b 0 0 ≢ break_byte = λ is. omega arith in
@@ -77,5 +78,5 @@ returns-in-Err-clause-stops c =
     let kind = kind_of c.args.kind in
     let no_break : get_or b 0 0 ≢ break_byte = λ is. omega arith in
     let major : get_or b 0 0 / 32 ≡ major_of kind = omega arith in
-    let error = c.in-Err.error in
-    rw c.new.ensures (at_first (λ (x : List ℕ). StopsSo (skip_chunks kind) x (stop_of error (length (behind_first b)))) b c.in-len1-up.len_at_least (info_stops kind (get_or b 0 0) (behind_first b) error no_break major c.in-Err.ensures.gives (λ is. c.in-Err.ensures.memory (ap Err is))))
+    let error = head_error c.in-Err.error in
+    rw c.new.ensures (at_first (λ (x : List ℕ). StopsSo (skip_chunks kind) x (stop_of error (length (behind_first b)))) b c.in-len1-up.len_at_least (info_stops kind (get_or b 0 0) (behind_first b) error no_break major c.in-Err.ensures.gives))

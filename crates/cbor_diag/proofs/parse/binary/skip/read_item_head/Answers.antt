@@ -1,9 +1,9 @@
-use Rattle.std.proofs.Common.{◌≡◌, ◌<◌, ◌-◌, ℕ, List, ◌∷◌, get_or, length, Ok, Err, subst, ap, sym, ◌∙◌, arith}
+use Rattle.std.proofs.Common.{◌-◌, ℕ, List, get_or, length, Ok, ap, sym, ◌∙◌, arith}
 use Rattle.cbor_diag.specs.declared.error.Error.TheVariants.{Head, TooDeep}
 use Rattle.cbor_diag.specs.declared.parse.binary.head.ItemHead.{ItemHead}
-use Rattle.cbor_diag.specs.Reading.{Fails, read_head}
+use Rattle.cbor_diag.specs.Reading.{read_head}
+use Rattle.cbor_diag.specs.HeadErrors.{head_error}
 use Rattle.cbor_diag.specs.Skipping.{Goes, Shows, StopsSo, stop_of, skip_item, skip_body}
-use Rattle.cbor_diag.proofs.Heads.{IsBytes}
 use Rattle.cbor_diag.proofs.Skips.{head_goes, head_stops, break_shows, deep_shows, no_item, behind_first, first_is, at_first, fits_first, empty_is}
 use Rattle.cbor_diag.proofs.parse.binary.skip.read_item_head.Goals as goal
 
@@ -36,6 +36,6 @@ returns-in-Err-clause-stops c =
     let b = c.args.bytes.now in
     let some = c.in-len1-up.len_at_least in
     let fits = fits_first b some (λ i. omega (arith, c.type_inv.bytes i)) in
-    let error = c.in-Err.error in
-    let fails = subst (λ (x : List ℕ). Fails error (read_head x)) (first_is b some) c.in-Err.ensures.gives in
-    rw c.new.ensures (at_first (λ (x : List ℕ). StopsSo (skip_item c.args.levels) x (stop_of error (length (behind_first b)))) b some (head_stops c.args.levels (get_or b 0 0) (behind_first b) error (omega arith) fits fails (λ is. c.in-Err.ensures.memory (ap Err is))))
+    let error = head_error c.in-Err.error in
+    let is = ap read_head (sym (first_is b some)) ∙ c.in-Err.ensures.gives in
+    rw c.new.ensures (at_first (λ (x : List ℕ). StopsSo (skip_item c.args.levels) x (stop_of error (length (behind_first b)))) b some (head_stops c.args.levels (get_or b 0 0) (behind_first b) error (omega arith) fits is))

@@ -1,0 +1,204 @@
+//! Open containers: what was read of them, and what they still need.
+ghost use Rattle.std.specs.Prelude.{◌≡◌, ◌≤◌, ℕ, Some, IsSome, IfSome, IfOk, IfErr, OnOk, option_map};
+ghost use Rattle.cbor_diag.specs.View.{view};
+ghost use Rattle.cbor_diag.specs.Reading.{after_break};
+ghost use Rattle.cbor_diag.specs.Counting.{put, after_end, wanted_end, width_of, closed, opened};
+ghost use Rattle.cbor_diag.specs.Stack.{wanted, frame, ReservesFew};
+
+use super::head::ItemHead;
+use crate::error::{Error, Result};
+use crate::syntax::{DataItem, IntegerWidth, Tag};
+use std::alloc::Global;
+
+/// The most members that memory is reserved for before they are read.
+const MOST_RESERVED: usize = 32;
+
+/// How a container ends.
+#[derive(Clone, Copy)]
+pub(super) enum Length {
+    /// After this many members or pairs; and the width of the count.
+    Definite(u64, IntegerWidth),
+    /// By a break.
+    Indefinite,
+}
+
+/// An array, a map or a tag that is not complete yet.
+#[derive(Drop)]
+pub(super) enum Frame {
+    Array {
+        content: Vec<DataItem>,
+        len: Length,
+    },
+    /// A map, with a key whose value is not read yet.
+    Map {
+        content: Vec<(DataItem, DataItem)>,
+        key: Option<DataItem>,
+        len: Length,
+    },
+    /// A tag, with its item once that is read.
+    Tag {
+        tag: Tag,
+        bitwidth: IntegerWidth,
+        value: Option<DataItem>,
+    },
+}
+
+/// How many members memory is reserved for: at most those claimed, those that can follow, and a
+/// few.
+fn reserved(count: u64, following: usize) -> usize
+    ensures claimed { result ≤ count }
+    ensures there { result ≤ following }
+    ensures few { result ≤ MOST_RESERVED }
+{
+    let most = MOST_RESERVED.min(following);
+    if count < most as u64 {
+        count as usize
+    } else {
+        most
+    }
+}
+
+/// The bytes after the break at the front, if there is one.
+fn after_break(bytes: &[u8]) -> Option<&[u8]>
+    ensures { option_map (λ x. x.now) result ≡ after_break bytes.now }
+{
+    match bytes {
+        [0xff, rest @ ..] => Some(rest),
+        _ => None,
+    }
+}
+
+impl Length {
+    /// The width of the count, where there is one.
+    fn width(self) -> Option<IntegerWidth>
+        ensures { (held : ℕ) → result ≡ width_of (wanted self held) }
+    {
+        match self {
+            Length::Definite(_, width) => Some(width),
+            Length::Indefinite => None,
+        }
+    }
+
+    /// The bytes after a container with `held` members, if it ends here: the same bytes if it needs
+    /// no more members, or those after the break.
+    fn after_end(self, held: usize, bytes: &[u8]) -> Option<&[u8]>
+        ensures { option_map (λ x. x.now) result ≡ wanted_end (wanted self held) bytes.now }
+    {
+        match self {
+            Length::Definite(count, _) if (held as u64) < count => None,
+            Length::Definite(..) => Some(bytes),
+            Length::Indefinite => after_break(bytes),
+        }
+    }
+}
+
+impl Frame {
+    /// The container that a head opens, still empty, with `following` bytes after the head; `None`
+    /// if the head opens no container. Memory is reserved for few members.
+    pub(super) fn new(alloc: Global, head: ItemHead, following: usize) -> Result<Option<Frame>>
+        ensures opens { IfOk result (λ o. option_map frame o ≡ opened head) }
+        ensures few { IfOk result (λ o. IfSome o (λ container. ReservesFew following container)) }
+        ensures memory { IfErr result (λ e. (e ≡ Error.Memory) × IsSome (opened head)) }
+    {
+        let (key, value) = (None, None);
+        let frame = match head {
+            ItemHead::Array(count, width) => {
+                let content = Vec::with_capacity(alloc, reserved(count, following))?;
+                let len = Length::Definite(count, width);
+                Frame::Array { content, len }
+            }
+            ItemHead::Map(count, width) => {
+                let content = Vec::with_capacity(alloc, reserved(count, following / 2))?;
+                let len = Length::Definite(count, width);
+                Frame::Map { content, key, len }
+            }
+            ItemHead::OpenArray => {
+                let content = Vec::new(alloc);
+                let len = Length::Indefinite;
+                Frame::Array { content, len }
+            }
+            ItemHead::OpenMap => {
+                let content = Vec::new(alloc);
+                let len = Length::Indefinite;
+                Frame::Map { content, key, len }
+            }
+            ItemHead::Tag(number, bitwidth) => {
+                let tag = Tag(number);
+                Frame::Tag {
+                    tag,
+                    bitwidth,
+                    value,
+                }
+            }
+            _ => return Ok(None),
+        };
+        Ok(Some(frame))
+    }
+
+    /// The bytes after the container, if it ends here.
+    pub(super) fn after_end<'a>(&self, bytes: &'a [u8]) -> Option<&'a [u8]>
+        ensures { option_map (λ x. x.now) result ≡ after_end (frame self.now) bytes.now }
+    {
+        match self {
+            Frame::Array { content, len } => len.after_end(content.len(), bytes),
+            Frame::Map {
+                content,
+                key: None,
+                len,
+            } => len.after_end(content.len(), bytes),
+            Frame::Tag { value: Some(_), .. } => Some(bytes),
+            Frame::Map { key: Some(_), .. } | Frame::Tag { value: None, .. } => None,
+        }
+    }
+
+    /// Adds one part: a member, a key, the value of the key before, or a tag's item.
+    pub(super) fn put(&mut self, part: DataItem) -> Result<()>
+        ensures put { OnOk result (frame self.new ≡ put (frame self.old) (view part)) }
+        ensures memory { IfErr result (λ e. e ≡ Error.Memory) }
+    {
+        match self {
+            Frame::Array { content, .. } => content.push(part)?,
+            Frame::Map { content, key, .. } => match key.take() {
+                None => *key = Some(part),
+                Some(key) => content.push((key, part))?,
+            },
+            Frame::Tag { value, .. } => *value = Some(part),
+        }
+        Ok(())
+    }
+
+    /// The item that the complete container is.
+    pub(super) fn close(self, alloc: Global) -> Result<DataItem>
+        requires { IsSome (closed (frame self)) }
+        ensures item { IfOk result (λ i. closed (frame self) ≡ Some (view i)) }
+        ensures memory { IfErr result (λ e. e ≡ Error.Memory) }
+    {
+        match self {
+            Frame::Array { content, len } => {
+                let bitwidth = len.width();
+                Ok(DataItem::Array { content, bitwidth })
+            }
+            Frame::Map {
+                content,
+                key: None,
+                len,
+            } => {
+                let bitwidth = len.width();
+                Ok(DataItem::Map { content, bitwidth })
+            }
+            Frame::Tag {
+                tag,
+                bitwidth,
+                value: Some(value),
+            } => {
+                let value = Box::new(alloc, value)?;
+                Ok(DataItem::Tag {
+                    tag,
+                    bitwidth,
+                    value,
+                })
+            }
+            Frame::Map { key: Some(_), .. } | Frame::Tag { value: None, .. } => unreachable!(),
+        }
+    }
+}

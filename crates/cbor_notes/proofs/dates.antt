@@ -1,0 +1,8 @@
+pub mod DateTexts
+pub mod DateTimeTexts
+pub mod Places
+pub mod Moments
+pub mod CalendarDays
+pub mod Searches
+pub mod DateNotes
+pub mod DateTimeNotes

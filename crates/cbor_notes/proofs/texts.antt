@@ -1,0 +1,5 @@
+pub mod Groups
+pub mod Fronts
+pub mod HexLemmas
+pub mod AddressLemmas
+pub mod ElementLemmas

@@ -1,0 +1,11 @@
+pub mod Blanks
+pub mod NumberRuns
+pub mod Numbers
+pub mod NumberParts
+pub mod NumberFronts
+pub mod WrittenNumbers
+pub mod Quoted
+pub mod Spaced
+pub mod Longest
+pub mod Contents
+pub mod TextPlaces

@@ -1,0 +1,28 @@
+-- What numbers begin with, and decimal digits as numbers.
+use Rattle.std.proofs.Common.{◌≡◌, ℕ, true, List, [], ◌∷◌, ◌++◌, Option, None, refl, sym, ap, ◌∙◌, arith}
+use Rattle.std.specs.Char.{digit_value}
+use Rattle.std.proofs.lemmas.List.{append-nil}
+use Rattle.std.proofs.lemmas.Bool.{lt-ltb}
+use Rattle.cbor_notes.specs.declared.token.number.Base.{Base}
+use Rattle.cbor_notes.specs.declared.token.number.Base.TheVariants.{Decimal, Hexadecimal, Octal, Binary}
+use Rattle.cbor_notes.specs.Token.{AreDigits, IsNumber, prefix, radix}
+use Rattle.cbor_notes.specs.TokenReading.{starts_with_digit}
+
+digit_first : (base : Base) (digits after : List ℕ) (value : ℕ) → AreDigits (radix base) digits value
+    → starts_with_digit 10 (prefix base ++ (digits ++ after)) ≡ true
+digit_first Decimal [] after value are = absurd (omega (arith, are.0.0))
+digit_first Decimal (d ∷ digits) after value are = lt-ltb (digit_value d) 10 are.0.1.0
+digit_first Hexadecimal digits after value are = refl
+digit_first Octal digits after value are = refl
+digit_first Binary digits after value are = refl
+
+-- a number begins with a decimal digit
+pub number_digit : (text : List ℕ) (value : ℕ) (indicator : Option ℕ) → IsNumber text value indicator
+    → starts_with_digit 10 text ≡ true
+number_digit text value indicator is = ap (starts_with_digit 10) is.text_is
+    ∙ digit_first is.base is.digits is.after value is.digits_are
+
+-- decimal digits are a number
+pub decimal_number : (digits : List ℕ) (value : ℕ) → AreDigits 10 digits value → IsNumber digits value None
+decimal_number digits value are = record { base = Decimal; digits = digits; after = []; text_is =
+    sym (append-nil digits); digits_are = are; after_is = refl }

@@ -1,0 +1,177 @@
+-- Content between quotes, with escapes.
+use Rattle.std.proofs.Common.{◌≡◌, ◌≢◌, ◌⊎◌, ℕ, ◌+◌, ◌-◌, ◌<◌, Bool, true, false, ◌==◌, List, [], ◌∷◌, ◌++◌, length}
+use Rattle.std.proofs.Common.{get_or, take, drop, slice_range, Option, Some, None, refl, sym, ap, ◌∙◌, inl, inr, eq-eqb}
+use Rattle.std.proofs.Common.{arith}
+use Rattle.std.specs.List.{position_or_len}
+use Rattle.std.proofs.lemmas.List.{append_assoc, drop-drop, drop_all, get_or-drop, length-drop}
+use Rattle.std.proofs.lemmas.List.Sums.{passes_at_first}
+use Rattle.std.proofs.lemmas.Bool.{cond-true, cond-false, or_parts, or_cases, eqb-true, ne_eqb, cases_Bool}
+use Rattle.std.proofs.Math.Numerals.{one-add}
+use Rattle.cbor_notes.specs.Token.{is_special, escaped_byte, in_quotes}
+use Rattle.cbor_notes.specs.TokenReading.{with_front, unquoted}
+use Rattle.cbor_notes.proofs.tokens.Contents.{from_front, with_front-append, with_front-nil}
+
+-- the text that is read, with the `\` before it in an escape
+abbrev opened : Bool → List ℕ → List ℕ
+opened false text = text
+opened true text = 92 ∷ text
+
+-- one more byte of content
+step : (quote byte : ℕ) (piece rest : List ℕ) (read next : List ℕ × List ℕ) → piece ≡ escaped_byte quote byte
+    → rest ≡ in_quotes quote next.0 ++ quote ∷ next.1 → read.0 ≡ (byte ∷ []) ++ next.0 → read.1 ≡ next.1
+    → piece ++ rest ≡ in_quotes quote read.0 ++ quote ∷ read.1
+step quote byte piece rest read next piece_is rest_is content after =
+    rw (content, after, piece_is, rest_is) (sym
+        (append_assoc (escaped_byte quote byte) (in_quotes quote next.0) (quote ∷ next.1)))
+
+plain : (quote byte : ℕ) → (byte == quote) ≡ false → (byte == 92) ≡ false → escaped_byte quote byte ≡ byte ∷ []
+plain quote byte not_quote not_backslash = rw (not_quote, not_backslash) refl
+
+escaped : (quote byte : ℕ) → is_special quote byte ≡ true → escaped_byte quote byte ≡ 92 ∷ byte ∷ []
+escaped quote byte is = rw is refl
+
+-- what is read is the content of quotes
+read_in : (quote : ℕ) (escape : Bool) (text : List ℕ) (read : List ℕ × List ℕ) → unquoted quote escape text ≡ Some read
+    → opened escape text ≡ in_quotes quote read.0 ++ quote ∷ read.1
+read_in quote false [] read is = cc is
+read_in quote true [] read is = cc is
+read_in quote true (byte ∷ rest) read is =
+    elim (cases_Bool (is_special quote byte)) [
+      | inl special ↦
+          let next = from_front (byte ∷ []) (unquoted quote false rest) read (rw special at is) in
+          step quote byte (92 ∷ byte ∷ []) rest read next.0 (sym (escaped quote byte special))
+              (read_in quote false rest next.0 next.1) next.2 next.3
+      | inr no_escape ↦ let never : ◌≡◌ {A = Option (List ℕ × List ℕ)} None (Some read) = rw no_escape at is in cc never
+    ]
+read_in quote false (byte ∷ rest) read is =
+    elim (cases_Bool (byte == quote)) [
+      | inl closes ↦
+          let same : ◌≡◌ {A = Option (List ℕ × List ℕ)} (Some ([], rest)) (Some read) = rw closes at is in
+          let pair : ◌≡◌ {A = List ℕ × List ℕ} ([], rest) read = cc same in
+          ap (λ (b : ℕ). b ∷ rest) (eqb-true byte quote closes)
+              ∙ ap (λ (r : List ℕ × List ℕ). in_quotes quote r.0 ++ quote ∷ r.1) pair
+      | inr goes_on ↦
+          elim (cases_Bool (byte == 92)) [
+            | inl opens ↦ ap (λ (b : ℕ). b ∷ rest) (eqb-true byte 92 opens)
+                ∙ read_in quote true rest read (rw (goes_on, opens) at is)
+            | inr plain_byte ↦
+                let next = from_front (byte ∷ []) (unquoted quote false rest) read (rw (goes_on, plain_byte) at is) in
+                step quote byte (byte ∷ []) rest read next.0 (sym (plain quote byte goes_on plain_byte))
+                    (read_in quote false rest next.0 next.1) next.2 next.3
+          ]
+    ]
+
+pub in_quotes-unquoted : (quote : ℕ) (text : List ℕ) (read : List ℕ × List ℕ) → unquoted quote false text ≡ Some read
+    → text ≡ in_quotes quote read.0 ++ quote ∷ read.1
+in_quotes-unquoted quote text read is = read_in quote false text read is
+
+-- the content of quotes is read
+unquoted-piece : (quote byte : ℕ) (rest : List ℕ) → quote ≢ 92
+    → unquoted quote false (escaped_byte quote byte ++ rest) ≡ with_front (byte ∷ []) (unquoted quote false rest)
+unquoted-piece quote byte rest apart =
+    elim (cases_Bool (is_special quote byte)) [
+      | inl special ↦ rw (escaped quote byte special, ne_eqb 92 quote (λ is. apart (sym is)), special) refl
+      | inr no_escape ↦
+          let parts = or_parts (byte == quote) (byte == 92) no_escape in
+          rw (plain quote byte parts.0 parts.1, parts.0, parts.1) refl
+    ]
+
+pub unquoted-in_quotes : (quote : ℕ) (content rest : List ℕ) → quote ≢ 92
+    → unquoted quote false (in_quotes quote content ++ quote ∷ rest) ≡ Some (content, rest)
+unquoted-in_quotes quote [] rest apart = rw (eq-eqb quote quote refl) refl
+unquoted-in_quotes quote (byte ∷ content) rest apart =
+    ap (unquoted quote false) (append_assoc (escaped_byte quote byte) (in_quotes quote content) (quote ∷ rest))
+    ∙ (unquoted-piece quote byte (in_quotes quote content ++ quote ∷ rest) apart
+    ∙ ap (with_front (byte ∷ [])) (unquoted-in_quotes quote content rest apart))
+
+-- no two contents stand between the same quotes
+pub in_quotes-one : (quote : ℕ) (content rest other after : List ℕ) → quote ≢ 92
+    → in_quotes quote content ++ quote ∷ rest ≡ in_quotes quote other ++ quote ∷ after
+    → (content ≡ other) × (rest ≡ after)
+in_quotes-one quote content rest other after apart is =
+    let same : ◌≡◌ {A = Option (List ℕ × List ℕ)} (Some (content, rest)) (Some (other, after)) =
+        sym (unquoted-in_quotes quote content rest apart)
+        ∙ (ap (unquoted quote false) is ∙ unquoted-in_quotes quote other after apart) in
+    let pair : ◌≡◌ {A = List ℕ × List ℕ} (content, rest) (other, after) = cc same in
+    (ap (λ (r : List ℕ × List ℕ). r.0) pair, ap (λ (r : List ℕ × List ℕ). r.1) pair)
+
+-- up to the first quote or `\`, each byte stands for itself
+pub unquoted-plain : (quote : ℕ) (text : List ℕ)
+    → let n = position_or_len (is_special quote) text in unquoted quote false text ≡ with_front (take n text)
+    (unquoted quote false (drop n text))
+unquoted-plain quote [] = refl
+unquoted-plain quote (byte ∷ rest) =
+    elim (cases_Bool (is_special quote byte)) [
+      | inl special ↦ rw special (sym (with_front-nil (unquoted quote false (byte ∷ rest))))
+      | inr no_escape ↦
+          let parts = or_parts (byte == quote) (byte == 92) no_escape in
+          let n = position_or_len (is_special quote) rest in
+          rw (no_escape, parts.0, parts.1, one-add n) (ap (with_front (byte ∷ [])) (unquoted-plain quote rest)
+              ∙ with_front-append (byte ∷ []) (take n rest) (unquoted quote false (drop n rest)))
+    ]
+
+-- plain bytes up to a quote or a `\`, by their places
+pub plain_to : (quote : ℕ) (text : List ℕ) (start end : ℕ)
+    → end ≡ start + position_or_len (is_special quote) (drop start text) → end < length text
+    → (unquoted quote false (drop start text) ≡ with_front (slice_range text start end)
+        (unquoted quote false (drop end text))) × (is_special quote (get_or text end 0) ≡ true)
+plain_to quote text start end is within =
+    let test = is_special quote in
+    let n = position_or_len test (drop start text) in
+    let count : n ≡ end - start = omega arith in
+    let rest : drop n (drop start text) ≡ drop end text = drop-drop n start text
+        ∙ ap (λ (m : ℕ). drop m text) (sym is) in
+    let place : get_or (drop start text) n 0 ≡ get_or text end 0 = get_or-drop start text n 0
+        ∙ ap (λ (m : ℕ). get_or text m 0) (sym is) in (
+      unquoted-plain quote (drop start text) ∙ (ap
+          (λ (m : ℕ). with_front (take m (drop start text)) (unquoted quote false (drop n (drop start text)))) count
+          ∙ ap (λ (t : List ℕ). with_front (slice_range text start end) (unquoted quote false t)) rest),
+      sym (ap test place) ∙ passes_at_first test (drop start text) 0 (omega (arith, length-drop start text)),
+    )
+
+pub plain_to_end : (quote : ℕ) (text : List ℕ) → position_or_len (is_special quote) text ≡ length text
+    → unquoted quote false text ≡ None
+plain_to_end quote text is =
+    let n = position_or_len (is_special quote) text in
+    let none : drop n text ≡ [] = drop_all n text (omega (arith, is)) in
+    unquoted-plain quote text ∙ ap (λ (t : List ℕ). with_front (take n text) (unquoted quote false t)) none
+
+-- the quote closes
+pub closes : (quote : ℕ) (rest : List ℕ) → unquoted quote false (quote ∷ rest) ≡ Some ([], rest)
+closes quote rest = rw (eq-eqb quote quote refl) refl
+
+-- an escape begins
+pub opens : (quote byte : ℕ) (rest : List ℕ) → byte ≢ quote → is_special quote byte ≡ true
+    → unquoted quote false (byte ∷ rest) ≡ unquoted quote true rest
+opens quote byte rest other special =
+    let no_quote = ne_eqb byte quote other in
+    let backslash : (byte == 92) ≡ true = elim (or_cases (byte == quote) (byte == 92) special)
+        [ inl is ↦ absurd (other (eqb-true byte quote is)) | inr is ↦ is ] in
+    rw (no_quote, backslash) refl
+
+-- of the quote or a `\`, and of nothing else
+pub escape_is : (quote byte : ℕ) (rest : List ℕ) → is_special quote byte ≡ true
+    → unquoted quote true (byte ∷ rest) ≡ with_front (byte ∷ []) (unquoted quote false rest)
+escape_is quote byte rest special = cond-true (is_special quote byte) _ None special
+
+pub no_escape : (quote byte : ℕ) (rest : List ℕ) → is_special quote byte ≡ false
+    → unquoted quote true (byte ∷ rest) ≡ None
+no_escape quote byte rest other = cond-false (is_special quote byte)
+    (with_front (byte ∷ []) (unquoted quote false rest)) None other
+
+-- what the answer says of the text: this content and this rest, or none
+pub only_quoted : (quote : ℕ) (text content rest : List ℕ) → quote ≢ 92
+    → unquoted quote false text ≡ Some (content, rest) → (other after : List ℕ)
+    → text ≡ in_quotes quote other ++ quote ∷ after → (content ≡ other) × (rest ≡ after)
+only_quoted quote text content rest apart read other after is =
+    in_quotes-one quote content rest other after apart (sym (in_quotes-unquoted quote text (content, rest) read) ∙ is)
+
+pub none_quoted : (quote : ℕ) (text : List ℕ) → quote ≢ 92 → unquoted quote false text ≡ None → (other after : List ℕ)
+    → text ≡ in_quotes quote other ++ quote ∷ after → ⊥
+none_quoted quote text apart read other after is =
+    let never : ◌≡◌ {A = Option (List ℕ × List ℕ)} None (Some (other, after)) = sym read
+        ∙ (ap (unquoted quote false) is ∙ unquoted-in_quotes quote other after apart) in cc never
+
+pub no_backslash : (quote : ℕ) → (quote ≡ 34) ⊎ (quote ≡ 39) → quote ≢ 92
+no_backslash quote is same = elim is [ inl e ↦ absurd (omega (arith, e, same)) | inr e ↦ absurd
+    (omega (arith, e, same)) ]

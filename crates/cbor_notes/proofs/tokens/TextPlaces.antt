@@ -1,0 +1,48 @@
+-- Parts of a text by their places.
+use Rattle.std.proofs.Common.{◌≡◌, ℕ, ◌+◌, ◌-◌, ◌<◌, ◌≤◌, Bool, not, nat_lt, List, ◌∷◌, ◌++◌, length, drop, slice_range}
+use Rattle.std.proofs.Common.{get_or, Option, Some, None, sym, ap, ◌∙◌, inl, inr, arith}
+use Rattle.std.specs.List.{position_or_len, position}
+use Rattle.std.proofs.lemmas.List.{take-append-drop, drop-drop, drop_more, append_cancel_right}
+use Rattle.std.proofs.lemmas.List.Sums.{prefix_len-le-length}
+use Rattle.std.proofs.lemmas.Bool.{cases_Bool, cond-true, cond-false, ltb-true, ltb-false}
+
+-- from one place on there is what stands up to another, and what stands from that one on
+pub part_and_rest : (text : List ℕ) (at end : ℕ) → at ≤ end → drop at text ≡ slice_range text at end ++ drop end text
+part_and_rest text at end in_order =
+    let rest : drop (end - at) (drop at text) ≡ drop end text = drop-drop (end - at) at text
+        ∙ ap (λ (n : ℕ). drop n text) (omega arith) in
+    sym (take-append-drop (end - at) (drop at text)) ∙ ap (λ (t : List ℕ). slice_range text at end ++ t) rest
+
+pub part_is : (text front : List ℕ) (at end : ℕ) → at ≤ end → drop at text ≡ front ++ drop end text
+    → slice_range text at end ≡ front
+part_is text front at end in_order is = append_cancel_right (slice_range text at end) front (drop end text)
+    (sym (part_and_rest text at end in_order) ∙ is)
+
+-- the first place that passes
+pub first_at : (test : ℕ → Bool) (text : List ℕ) (answer : Option ℕ) (place : ℕ) → answer ≡ position test text
+    → answer ≡ Some place → (place ≡ position_or_len test text) × (place < length text)
+first_at test text answer place is some =
+    let n = position_or_len test text in
+    elim (cases_Bool (nat_lt n (length text))) [
+      | inl within ↦
+          let same : ◌≡◌ {A = Option ℕ} (Some place) (Some n) = sym some ∙ (is ∙ cond-true _ (Some n) None within) in
+          let one : place ≡ n = cc same in
+          (one, omega (arith, ltb-true n (length text) within))
+      | inr past ↦ let never : ◌≡◌ {A = Option ℕ} (Some place) None = sym some
+          ∙ (is ∙ cond-false _ (Some n) None past) in cc never
+    ]
+
+pub first_nowhere : (test : ℕ → Bool) (text : List ℕ) (answer : Option ℕ) → answer ≡ position test text → answer ≡ None
+    → position_or_len test text ≡ length text
+first_nowhere test text answer is none =
+    let n = position_or_len test text in
+    elim (cases_Bool (nat_lt n (length text))) [
+      | inl within ↦ let never : ◌≡◌ {A = Option ℕ} None (Some n) = sym none
+          ∙ (is ∙ cond-true _ (Some n) None within) in cc never
+      | inr past ↦ omega (arith, ltb-false n (length text) past, prefix_len-le-length (λ b. not (test b)) text)
+    ]
+
+-- the byte at a place, and what follows
+pub from_byte : (text : List ℕ) (at byte : ℕ) → at < length text → get_or text at 0 ≡ byte
+    → drop at text ≡ byte ∷ drop (at + 1) text
+from_byte text at byte within is = drop_more text at 0 within ∙ ap (λ (b : ℕ). b ∷ drop (at + 1) text) is
