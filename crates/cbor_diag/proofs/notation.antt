@@ -12,3 +12,10 @@ pub mod Again
 pub mod Levels
 pub mod OneReading
 pub mod DigitsFound
+pub mod ChunkLoops
+pub mod Loops
+pub mod Tokens
+pub mod Cores
+pub mod OnePiece
+pub mod PublicReader
+pub mod sound

@@ -8,7 +8,7 @@ ghost use Rattle.cbor_diag.specs.Answer.{OneOutcome};
 ghost use Rattle.cbor_diag.specs.declared.error.Error.{Error};
 ghost use Rattle.cbor_diag.specs.Refused.{Cut, Fault};
 ghost use Rattle.cbor_diag.specs.Turns.{cut_spent, fault_spent};
-ghost use Rattle.cbor_diag.specs.NotationReading.{notation_of};
+ghost use Rattle.cbor_diag.specs.mirror.NotationReading.{notation_of};
 ghost use Rattle.cbor_diag.specs.NotationRefused.{IsAnswered};
 ghost use Rattle.cbor_diag.specs.Notation.{ReadsUnder};
 

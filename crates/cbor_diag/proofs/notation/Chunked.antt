@@ -8,7 +8,7 @@ use Rattle.cbor_diag.specs.Item.{Chunk, Atom, byte_chunks, text_chunks, Item, at
 use Rattle.cbor_diag.specs.Bytes.{StringKind, bytes_kind, text_kind}
 use Rattle.cbor_diag.specs.Reading.{Read, ◌>>=◌}
 use Rattle.cbor_diag.specs.Notation.{Blanked, Closes, Members, StringOf, ChunksOf}
-use Rattle.cbor_diag.specs.NotationReading.{skip_blank, start_of, first_start, begins_string, read_chunk, read_string, read_byte_chunks, read_text_chunks, chunks_of, read_chunks, read_members}
+use Rattle.cbor_diag.specs.mirror.NotationReading.{skip_blank, start_of, first_start, begins_string, read_chunk, read_string, read_byte_chunks, read_text_chunks, chunks_of, read_chunks, read_members}
 use Rattle.cbor_diag.proofs.notation.Ends.{holds_of, Begins, begins_append, begins_more, begins_ends, blank_passed, Starts, starts_passed}
 use Rattle.cbor_diag.proofs.notation.Lists.{ReadsAgain, blanked_parts, blanked_stripped, members_again, members_at_blank}
 use Rattle.cbor_diag.proofs.notation.Strings.{string_starts, string_begins, string_starts_core, string_again}

@@ -12,7 +12,7 @@ use Rattle.cbor_notes.specs.AreBytes.{AreBytes}
 use Rattle.cbor_notes.specs.Base32.{base32, base32hex}
 use Rattle.cbor_notes.specs.Base64.{standard, url_safe}
 use Rattle.cbor_notes.proofs.bases.Fives.{fives, padding, values_below, group_again, base32_values, base32hex_values}
-use Rattle.cbor_diag.specs.NotationReading.{if_encoded, either, value_in, from_fives, from_sixes, six_bits, unpadded, base32_of, base32hex_of, base64_of}
+use Rattle.cbor_diag.specs.mirror.NotationReading.{if_encoded, either, value_in, from_fives, from_sixes, six_bits, unpadded, base32_of, base32hex_of, base64_of}
 use Rattle.cbor_diag.proofs.notation.Lists.{position_at}
 
 -- ---- an alphabet: the digit of each value, and the value of each digit

@@ -9,7 +9,7 @@ use Rattle.cbor_notes.proofs.bases.Base32Encode.{AllBelowBase-append}
 use Rattle.cbor_notes.proofs.dates.Places.{AllBelowBase-places}
 use Rattle.cbor_notes.proofs.tokens.TextPlaces.{first_at}
 use Rattle.cbor_diag.proofs.notation.Decoded.{url_safe_again, standard_again}
-use Rattle.cbor_diag.specs.NotationReading.{if_encoded, either, value_in, bytes_of_fives, from_fives, from_sixes, six_bits, unpadded, base32_of, base32hex_of, base64_of}
+use Rattle.cbor_diag.specs.mirror.NotationReading.{if_encoded, either, value_in, bytes_of_fives, from_fives, from_sixes, six_bits, unpadded, base32_of, base32hex_of, base64_of}
 
 -- the answer whose encoding was compared
 encoded_is : (encode : List ℕ → List ℕ) (digits answer bytes : List ℕ) → if_encoded encode digits answer ≡ Some bytes → (answer ≡ bytes) × (digits ≡ encode bytes)

@@ -7,7 +7,7 @@ use Rattle.cbor_notes.specs.Token.{nothing, whitespace, comment, is_whitespace}
 use Rattle.cbor_notes.proofs.tokens.Blanks.{at_whitespace, blank_left, after_blank-append, after_blank-ends, EndsBlank}
 use Rattle.cbor_notes.proofs.tokens.Numbers.{EndsNumber}
 use Rattle.cbor_diag.specs.Notation.{IsBlank}
-use Rattle.cbor_diag.specs.NotationReading.{after_byte, skip_blank}
+use Rattle.cbor_diag.specs.mirror.NotationReading.{after_byte, skip_blank}
 
 -- ---- one of some bytes
 

@@ -9,7 +9,7 @@ use Rattle.cbor_diag.specs.declared.parse.notation.start.Start.TheVariants as st
 use Rattle.cbor_diag.specs.Item.{Item}
 use Rattle.cbor_diag.specs.Bytes.{StringKind, bytes_kind, text_kind}
 use Rattle.cbor_diag.specs.Reading.{Read, ◌>>=◌}
-use Rattle.cbor_diag.specs.NotationReading.{or_refused, after_byte, after_word, read_unsigned_number, integer_or_tag, read_integer, after_end, more_members, members_from, members_or_end, read_members, read_pair, read_length, read_array, read_map, read_embedded, piece_of, read_piece, start_of, first_start, begins_piece, read_pieces, skip_blank, begins_string, may_have_texts, string_of, read_string, read_chunk, chunks_of, read_chunks, byte_string_of, read_byte_string, text_string_of, read_text_string, core_of, read_core, read_item}
+use Rattle.cbor_diag.specs.mirror.NotationReading.{or_refused, after_byte, after_word, read_unsigned_number, integer_or_tag, read_integer, after_end, more_members, members_from, members_or_end, read_members, read_pair, read_length, read_array, read_map, read_embedded, piece_of, read_piece, start_of, first_start, begins_piece, read_pieces, skip_blank, begins_string, may_have_texts, string_of, read_string, read_chunk, chunks_of, read_chunks, byte_string_of, read_byte_string, text_string_of, read_text_string, core_of, read_core, read_item}
 use Rattle.cbor_diag.proofs.notation.Pieces.{pieces_go, pieces_stop}
 
 -- the first is TooDeep, or both are one answer

@@ -7,7 +7,7 @@ use Rattle.std.proofs.lemmas.List.{append_assoc, length-append, drop_at}
 use Rattle.cbor_notes.specs.Token.{Blank, nothing, whitespace, comment, is_whitespace}
 use Rattle.cbor_diag.specs.Notation.{IsBlank, Blanked, Closes, Further, Members, Listed}
 use Rattle.cbor_diag.specs.Reading.{Read}
-use Rattle.cbor_diag.specs.NotationReading.{after_byte, after_space, after_end, skip_blank, members_from, members_or_end, read_members}
+use Rattle.cbor_diag.specs.mirror.NotationReading.{after_byte, after_space, after_end, skip_blank, members_from, members_or_end, read_members}
 use Rattle.cbor_diag.proofs.notation.Ends.{is_one_of, holds_of, begins_append, ends_after_byte, blank_passed, item_ends, Follows, core_starts, Starts, starts_passed, passed_twice}
 
 -- a text behind a blank, which begins as cores do and is the same member

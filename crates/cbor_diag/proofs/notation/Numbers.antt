@@ -16,7 +16,7 @@ use Rattle.cbor_diag.specs.Item.{Item, atom, integer, negative, tagged}
 use Rattle.cbor_diag.specs.Head.{FitsWidth}
 use Rattle.cbor_diag.specs.Reading.{Read, ◌>>=◌}
 use Rattle.cbor_diag.specs.Notation.{HasWidth, NumberOf, NegativeOf, width_of}
-use Rattle.cbor_diag.specs.NotationReading.{or_refused, read_number, past_width, with_width, negative_number, after_byte, integer_or_tag, read_integer, start_of, read_core, core_of}
+use Rattle.cbor_diag.specs.mirror.NotationReading.{or_refused, read_number, past_width, with_width, negative_number, after_byte, integer_or_tag, read_integer, start_of, read_core, core_of}
 use Rattle.cbor_diag.proofs.notation.Ends.{is_one_of, Begins, Ends, begins_append, ends_after_byte, core_ends, digits, ends_number}
 use Rattle.cbor_diag.proofs.notation.Lists.{ReadsAgain}
 

@@ -6,7 +6,7 @@ use Rattle.cbor_diag.specs.declared.error.Error.TheVariants as refusal
 use Rattle.cbor_diag.specs.Item.{Item}
 use Rattle.cbor_diag.specs.Reading.{Read}
 use Rattle.cbor_diag.specs.Notation.{Reads}
-use Rattle.cbor_diag.specs.NotationReading.{read_item, notation_of}
+use Rattle.cbor_diag.specs.mirror.NotationReading.{read_item, notation_of}
 use Rattle.cbor_diag.proofs.notation.Again.{item_whole}
 use Rattle.cbor_diag.proofs.notation.Levels.{Grows, levels_grow}
 

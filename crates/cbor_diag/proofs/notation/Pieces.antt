@@ -12,7 +12,7 @@ use Rattle.cbor_diag.specs.Bytes.{StringKind, bytes_kind, text_kind}
 use Rattle.cbor_diag.specs.Written.{encoded_items}
 use Rattle.cbor_diag.specs.Reading.{Read, ◌>>=◌}
 use Rattle.cbor_diag.specs.Notation.{IsBlank, QuotedBy, DigitsIn, Notation, in_base16, in_base32, in_base32hex, in_base64, as_text, as_items, PieceOf, Joined, one, more, list_of, Listed}
-use Rattle.cbor_diag.specs.NotationReading.{or_refused, skip_blank, start_of, first_start, begins_piece, read_piece, read_pieces, read_decoded, base16_bytes, base16_of, base32_of, base32hex_of, base64_of, may_have_texts}
+use Rattle.cbor_diag.specs.mirror.NotationReading.{or_refused, skip_blank, start_of, first_start, begins_piece, read_piece, read_pieces, read_decoded, base16_bytes, base16_of, base32_of, base32hex_of, base64_of, may_have_texts}
 use Rattle.cbor_diag.proofs.notation.Ends.{holds_of, Begins, begins_append, begins_more, item_ends, core_starts, notation_starts, Follows, follows_passed, Starts, starts_passed}
 use Rattle.cbor_diag.proofs.notation.Lists.{ReadsAgain, listed_again}
 use Rattle.cbor_diag.proofs.notation.Decoded.{base32_again, base32hex_again, url_safe_again, standard_again}

@@ -11,9 +11,9 @@ use Rattle.hex.proofs.HexLemmas.{decode_of-ok}
 use Rattle.cbor_notes.specs.Token.{is_digit}
 use Rattle.cbor_notes.proofs.tokens.TextPlaces.{from_byte}
 use Rattle.cbor_diag.specs.Reading.{◌>>=◌}
-use Rattle.cbor_diag.specs.NotationReading.{or_refused, base16_bytes, base16_of, read_decoded}
-use Rattle.cbor_diag.proofs.NotationTokens.{digits_found}
-use Rattle.cbor_diag.proofs.ReadTokens.{between}
+use Rattle.cbor_diag.specs.mirror.NotationReading.{or_refused, base16_bytes, base16_of, read_decoded}
+use Rattle.cbor_diag.proofs.notation.Tokens.{digits_found}
+use Rattle.cbor_diag.proofs.normal.ReadTokens.{between}
 
 -- a hex digit is no blank, quote or slash
 hex_digit : (d : ℕ) → is_hex_digit d ≡ true → IsTrue (is_digit true d)

@@ -10,8 +10,8 @@ use Rattle.cbor_diag.specs.Item.{Chunk, Item}
 use Rattle.cbor_diag.specs.Bytes.{StringKind, bytes_kind, text_kind, IsContent}
 use Rattle.cbor_diag.specs.Reading.{Read}
 use Rattle.cbor_diag.specs.Notation.{IsBlank, QuotedBy, Notation, in_base16, in_base32, in_base32hex, in_base64, as_text, as_items, PieceOf, Joined, one, more, StringOf}
-use Rattle.cbor_diag.specs.NotationReading.{after_word, start_of, first_start, begins_string, checked, read_string}
-use Rattle.cbor_diag.proofs.Utf8.{utf8_passes}
+use Rattle.cbor_diag.specs.mirror.NotationReading.{after_word, start_of, first_start, begins_string, checked, read_string}
+use Rattle.cbor_diag.proofs.shared.Utf8.{utf8_passes}
 use Rattle.cbor_diag.proofs.notation.Ends.{holds_of, Begins, Ends, begins_append, begins_more, begins_ends, ends_more, blank_ends, core_ends, core_starts, notation_starts, Follows, follows_blank, Starts}
 use Rattle.cbor_diag.proofs.notation.Lists.{ReadsAgain}
 use Rattle.cbor_diag.proofs.notation.Pieces.{apostrophe, quotation_mark, quoted_parts, piece_starts, piece_begins, joined_begins, joined_again}

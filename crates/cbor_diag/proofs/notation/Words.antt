@@ -13,7 +13,7 @@ use Rattle.cbor_diag.specs.declared.syntax.FloatWidth.TheVariants as float_width
 use Rattle.cbor_diag.specs.Item.{Item, atom, float, simple}
 use Rattle.cbor_diag.specs.Reading.{Read, ◌>>=◌}
 use Rattle.cbor_diag.specs.Notation.{NamedSimple, SimpleOf, FloatDigits, FloatOf}
-use Rattle.cbor_diag.specs.NotationReading.{or_refused, numeral, read_number, simple_value, read_simple, float_of, read_float, start_of, read_core}
+use Rattle.cbor_diag.specs.mirror.NotationReading.{or_refused, numeral, read_number, simple_value, read_simple, float_of, read_float, start_of, read_core}
 use Rattle.cbor_diag.proofs.notation.Ends.{ends_number}
 use Rattle.cbor_diag.proofs.notation.Lists.{first_at}
 

@@ -2,12 +2,12 @@
 //!
 //! What writes strings and containers isn't inlined where an item is told by its kind: it keeps values over
 //! calls, and room for these would be made for each integer, too.
-#![tactic(auto, using(crate::proofs::Appending::appending_steps))]
+#![tactic(auto, using(crate::proofs::shared::Appending::appending_steps))]
 
 ghost use Rattle.std.specs.Prelude.{◌≡◌, ◌++◌, if◌then◌else◌, ℕ, List, ◌↔◌, length, map, OnOk, OnErr, IfOk, IfErr};
 ghost use Rattle.std.specs.List.{AllByRecursion};
 ghost use Rattle.cbor_diag.specs.Head.{FitsWidth, major_number};
-ghost use Rattle.cbor_diag.specs.Appends.{Appends};
+ghost use Rattle.cbor_diag.specs.mirror.Appends.{Appends};
 ghost use Rattle.cbor_diag.specs.View.{view, items_view, pairs_view, byte_chunk, text_chunk};
 ghost use Rattle.cbor_diag.specs.WellFormed.{WellFormed, WellFormedItems, WellFormedPairs, IsByteChunk, IsTextChunk};
 ghost use Rattle.cbor_diag.specs.Facts.{IsItem, IsStrictItem, IsWellFormed};

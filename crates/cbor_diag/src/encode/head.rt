@@ -1,7 +1,7 @@
 //! Heads as they are written (RFC 7049 section 2), and the opening byte and the break in their place.
-#![tactic(auto, using(crate::proofs::Appending::appending_steps))]
+#![tactic(auto, using(crate::proofs::shared::Appending::appending_steps))]
 
-ghost use Rattle.cbor_diag.specs.Appends.{Appends};
+ghost use Rattle.cbor_diag.specs.mirror.Appends.{Appends};
 ghost use Rattle.std.specs.Prelude.{◌≡◌};
 ghost use Rattle.cbor_diag.specs.Head.{FitsWidth, major_number};
 ghost use Rattle.cbor_diag.specs.WellFormed.{FitsFloat, FitsCount};

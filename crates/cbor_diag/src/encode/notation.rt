@@ -2,7 +2,7 @@
 //! one text.
 //!
 //! Compact and pretty text are written by the same functions: they differ in their `Layout` alone.
-#![tactic(auto, using(crate::proofs::Appending::appending_steps))]
+#![tactic(auto, using(crate::proofs::shared::Appending::appending_steps))]
 
 mod context;
 mod embedded;
@@ -13,7 +13,7 @@ mod scalars;
 ghost use Rattle.std.specs.Prelude.{◌≡◌, ◌↔◌, ◌+◌, ◌*◌, ◌<◌, ◌≤◌, ◌++◌, ℕ, OnOk, OnErr, IfOk};
 ghost use Rattle.std.specs.Prelude.{IfErr};
 ghost use Rattle.std.specs.String.{string_bytes};
-ghost use Rattle.cbor_diag.specs.Appends.{AppendsText};
+ghost use Rattle.cbor_diag.specs.mirror.Appends.{AppendsText};
 ghost use Rattle.cbor_diag.specs.View.{view, items_view, pairs_view};
 ghost use Rattle.cbor_diag.specs.Notation.{IsNotation};
 ghost use Rattle.cbor_diag.specs.declared.encode.encoding.Encoding.{Encoding};
@@ -27,8 +27,8 @@ ghost use Rattle.cbor_diag.specs.Pretty.{sequence_in_one_line, sequence_in_lines
 ghost use Rattle.cbor_diag.specs.Facts.{IsWellFormed, diag_of, pretty_of, normal_of};
 ghost use Rattle.cbor_diag.specs.WellFormed.{deepest, WellFormed, WellFormedItems, WellFormedPairs};
 ghost use Rattle.cbor_diag.specs.Layout as shown;
-ghost use Rattle.cbor_diag.specs.LayoutView.{layout_view, style_view, context_view, IsIndented};
-ghost use Rattle.cbor_diag.specs.LayoutView.{item_text, items_there, pairs_there, content_there};
+ghost use Rattle.cbor_diag.specs.mirror.LayoutView.{layout_view, style_view, context_view, IsIndented};
+ghost use Rattle.cbor_diag.specs.mirror.LayoutView.{item_text, items_there, pairs_there, content_there};
 ghost use Rattle.cbor_diag.specs.NotationText.{indent_of, style_indent, in_encoding};
 ghost use Rattle.cbor_diag.specs.NotationText.{text_at_level, sequence_size};
 ghost use Rattle.cbor_diag.specs.Embedded.{sequence, EmbedsExactly};

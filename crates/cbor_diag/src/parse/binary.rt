@@ -20,8 +20,8 @@ ghost use Rattle.cbor_diag.specs.Answer.{Outcome, spelled, HasOutcome, HasAnswer
 ghost use Rattle.cbor_diag.specs.Turns.{item_turns, cut_spent, fault_spent};
 ghost use Rattle.cbor_diag.specs.Facts.{IsItem, IsStrictItem, BeginsWithItem, IsCut, HasFault, IsNoItem, BeginsSo, BeginsInOneWay, IsWellFormed};
 ghost use Rattle.cbor_diag.specs.Reading.{Gives, HoldsContent, no_level_left};
-ghost use Rattle.cbor_diag.specs.Counting.{Runs, Stops, IsStack, later, read_item_head, read_atom, counted_item};
-ghost use Rattle.cbor_diag.specs.Stack.{outer_of, top_of, depth, resumed, resumed_with};
+ghost use Rattle.cbor_diag.specs.mirror.Counting.{Runs, Stops, IsStack, later, read_item_head, read_atom, counted_item};
+ghost use Rattle.cbor_diag.specs.mirror.Stack.{outer_of, top_of, depth, resumed, resumed_with};
 
 use crate::error::{Error, Result};
 use crate::parse::turns::Turns;

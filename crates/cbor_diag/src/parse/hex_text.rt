@@ -52,7 +52,7 @@ fn without_return(line: &[u8]) -> &[u8]
 }
 
 /// What follows the spaces at the front.
-#[tactic(auto, using(crate::proofs::HexLines::space_here))]
+#[tactic(auto, using(crate::proofs::hex::Lines::space_here))]
 fn after_spaces(line: &[u8]) -> &[u8]
     ensures same { unspaced result.now ≡ unspaced line.now }
     ensures no_space { 0 < length result.now → slice_index result.now 0 ≢ 32 }
@@ -67,7 +67,7 @@ fn after_spaces(line: &[u8]) -> &[u8]
 }
 
 /// What follows the spaces at the front, as many as go in eights: most lines of a dump have more.
-#[tactic(auto, using(crate::proofs::HexLines::eight_spaces))]
+#[tactic(auto, using(crate::proofs::hex::Lines::eight_spaces))]
 fn after_eights(line: &[u8]) -> &[u8]
     ensures same { unspaced result.now ≡ unspaced line.now }
     ensures longer { length result.now ≤ length line.now }
@@ -81,7 +81,7 @@ fn after_eights(line: &[u8]) -> &[u8]
 
 /// Where the first space stands, or the end of the line. It looks at byte after byte, since most
 /// digits stand in short runs.
-#[tactic(auto, using(crate::proofs::HexLines::front_kept))]
+#[tactic(auto, using(crate::proofs::hex::Lines::front_kept))]
 fn first_space(line: &[u8]) -> usize
     ensures within { result ≤ length line.now }
     ensures moves { 0 < length line.now → slice_index line.now 0 ≢ 32 → 0 < result }

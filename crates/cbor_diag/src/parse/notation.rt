@@ -24,7 +24,7 @@ ghost use Rattle.cbor_diag.specs.Item.{Item};
 ghost use Rattle.cbor_diag.specs.Notation.{IsNotation, ReadsUnder};
 ghost use Rattle.cbor_diag.specs.NotationRefused.{IsNoNotation, GaveOrTooDeep};
 ghost use Rattle.cbor_diag.specs.Reading.{Gives};
-ghost use Rattle.cbor_diag.specs.NotationReading.{read_core, read_integer, read_item, read_members, notation_of, read_pair};
+ghost use Rattle.cbor_diag.specs.mirror.NotationReading.{read_core, read_integer, read_item, read_members, notation_of, read_pair};
 
 use crate::error::{Error, Result};
 use crate::syntax::{DEEPEST, DataItem, Tag};

@@ -6,7 +6,7 @@ ghost use Rattle.cbor_diag.specs.Item.{atom, integer, negative, float, byte_stri
 ghost use Rattle.std.specs.Cmp.{on_equiv, partial_equiv_from_equiv};
 ghost use Rattle.cbor_diag.specs.View.{view, items_view, pairs_view, byte_chunk, text_chunk};
 ghost use Rattle.cbor_diag.specs.Same.{same_item};
-ghost use Rattle.cbor_diag.specs.SameDecides.{same_equivalence};
+ghost use Rattle.cbor_diag.specs.mirror.SameDecides.{same_equivalence};
 
 use super::{ByteString, DataItem, FloatWidth, IntegerWidth, Simple, Tag, TextString};
 

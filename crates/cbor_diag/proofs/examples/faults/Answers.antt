@@ -6,7 +6,7 @@ use Rattle.cbor_diag.specs.declared.syntax.IntegerWidth.TheVariants.{Zero}
 use Rattle.cbor_diag.specs.Bytes.{bytes_kind}
 use Rattle.cbor_diag.specs.Refused.{no_length, part, at_open_value, no_chunk, too_deep, bad_head, bad_text, bad_chunk_head, bad_part}
 use Rattle.cbor_diag.specs.Examples.{small}
-use Rattle.cbor_diag.proofs.Utf8.{utf8_passes}
+use Rattle.cbor_diag.proofs.shared.Utf8.{utf8_passes}
 use Rattle.cbor_diag.proofs.examples.faults.Goals as goal
 
 pub returns-clause-stray : goal.returns-clause-stray

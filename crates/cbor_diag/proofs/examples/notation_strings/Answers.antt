@@ -2,8 +2,8 @@ use Rattle.std.proofs.Common.{codes, refl}
 use Rattle.hex.specs.Hex.{decode_pairs}
 use Rattle.base64.specs.Rfc4648.{encode_symbols}
 use Rattle.cbor_notes.specs.Base32.{encode}
-use Rattle.cbor_diag.specs.NotationReading.{read_item, read_core, start_of, read_members, members_from, read_piece, read_pieces, read_string, from_fives, from_sixes, base32_of, base32hex_of, base64_of}
-use Rattle.cbor_diag.proofs.NotationReaders.{is_read}
+use Rattle.cbor_diag.specs.mirror.NotationReading.{read_item, read_core, start_of, read_members, members_from, read_piece, read_pieces, read_string, from_fives, from_sixes, base32_of, base32hex_of, base64_of}
+use Rattle.cbor_diag.proofs.notation.PublicReader.{is_read}
 use Rattle.cbor_diag.proofs.examples.notation_strings.Goals as goal
 
 pub returns-clause-spaced : goal.returns-clause-spaced

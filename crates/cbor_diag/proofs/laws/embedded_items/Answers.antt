@@ -1,4 +1,4 @@
-use Rattle.cbor_diag.proofs.EmbeddedItems.{embeds_exactly}
+use Rattle.cbor_diag.proofs.shared.EmbeddedItems.{embeds_exactly}
 use Rattle.cbor_diag.proofs.laws.embedded_items.Goals as goal
 
 pub returns : goal.returns

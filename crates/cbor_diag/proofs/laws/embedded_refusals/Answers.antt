@@ -1,4 +1,4 @@
-use Rattle.cbor_diag.proofs.EmbeddedItems.{rejects_exactly}
+use Rattle.cbor_diag.proofs.shared.EmbeddedItems.{rejects_exactly}
 use Rattle.cbor_diag.proofs.laws.embedded_refusals.Goals as goal
 
 pub returns : goal.returns

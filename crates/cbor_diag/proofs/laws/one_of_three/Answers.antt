@@ -1,5 +1,5 @@
 use Rattle.std.proofs.Common.{◌-◌, arith}
-use Rattle.cbor_diag.proofs.Three.{one_outcome}
+use Rattle.cbor_diag.proofs.bytes.ExactlyOne.{one_outcome}
 use Rattle.cbor_diag.proofs.laws.one_of_three.Goals as goal
 
 pub returns : goal.returns

@@ -3,7 +3,7 @@ ghost use Rattle.std.specs.Prelude.{◌≡◌, ◌++◌, OnOk, decimal};
 ghost use Rattle.std.specs.String.{string_bytes};
 ghost use Rattle.cbor_notes.specs.TagNames.{tag_name};
 ghost use Rattle.cbor_diag.specs.Comments as spec;
-ghost use Rattle.cbor_diag.specs.ShownLines.{comment_text, head_comment, major_word};
+ghost use Rattle.cbor_diag.specs.mirror.ShownLines.{comment_text, head_comment, major_word};
 
 use crate::encode::encoding::Encoding;
 use crate::encode::notation::push_quoted;

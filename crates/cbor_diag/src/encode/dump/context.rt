@@ -1,7 +1,7 @@
 //! Where in a dump an item is.
 ghost use Rattle.std.specs.Prelude.{◌≡◌, ◌+◌};
 ghost use Rattle.cbor_diag.specs.Dump as spec;
-ghost use Rattle.cbor_diag.specs.Passes.{at_of, IsContext};
+ghost use Rattle.cbor_diag.specs.mirror.Passes.{at_of, IsContext};
 
 use crate::encode::encoding::{Encoding, encoding_below};
 use crate::syntax::Tag;

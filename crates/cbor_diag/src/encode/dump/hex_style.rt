@@ -2,7 +2,7 @@
 ghost use Rattle.std.specs.Prelude.{◌≡◌, ◌++◌, length, OnOk};
 ghost use Rattle.std.specs.String.{string_bytes};
 ghost use Rattle.cbor_diag.specs.Dump.{head_hex};
-ghost use Rattle.cbor_diag.specs.ShownLines.{style_hex};
+ghost use Rattle.cbor_diag.specs.mirror.ShownLines.{style_hex};
 
 use cbor_notes::push_hex;
 use std::alloc::AllocError;

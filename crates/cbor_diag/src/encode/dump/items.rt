@@ -9,7 +9,7 @@ ghost use Rattle.cbor_diag.specs.WellFormed.{WellFormed, WellFormedItems, WellFo
 ghost use Rattle.cbor_diag.specs.Dump as spec;
 ghost use Rattle.cbor_diag.specs.Embedded.{sequence_at};
 ghost use Rattle.cbor_diag.specs.Reading.{read_item};
-ghost use Rattle.cbor_diag.specs.Passes.{at_of, tag_number, IsContext, CanTake, Took};
+ghost use Rattle.cbor_diag.specs.mirror.Passes.{at_of, tag_number, IsContext, CanTake, Took};
 
 use super::context::DumpContext;
 use super::lines::Lines;

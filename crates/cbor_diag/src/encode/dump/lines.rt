@@ -10,8 +10,8 @@ ghost use Rattle.cbor_diag.specs.Comments.{float_comment, text_comment, simple_c
 ghost use Rattle.cbor_diag.specs.Pieces.{text_pieces};
 ghost use Rattle.cbor_diag.specs.Pieces.{text_cut as cut_of};
 ghost use Rattle.cbor_diag.specs.Dump as spec;
-ghost use Rattle.cbor_diag.specs.ShownLines.{comment_text, head_comment, major_word};
-ghost use Rattle.cbor_diag.specs.Passes.{at_of, tag_number, IsContext, CanTake, Took};
+ghost use Rattle.cbor_diag.specs.mirror.ShownLines.{comment_text, head_comment, major_word};
+ghost use Rattle.cbor_diag.specs.mirror.Passes.{at_of, tag_number, IsContext, CanTake, Took};
 
 use super::comment::Comment;
 use super::context::DumpContext;

@@ -5,7 +5,7 @@ ghost use Rattle.std.specs.String.{string_bytes};
 ghost use Rattle.cbor_notes.specs.Columns.{IsPlain};
 ghost use Rattle.cbor_notes.specs.Layout.{DumpLine, line_text};
 ghost use Rattle.cbor_diag.specs.Dump as spec;
-ghost use Rattle.cbor_diag.specs.Passes.{Took};
+ghost use Rattle.cbor_diag.specs.mirror.Passes.{Took};
 
 use super::comment::Comment;
 use super::hex_style::HexStyle;

@@ -1,8 +1,8 @@
 //! The two passes over an item that make its dump.
 ghost use Rattle.std.specs.Prelude.{◌≡◌, ◌∷◌, [], OnOk};
 ghost use Rattle.std.specs.String.{string_bytes};
-ghost use Rattle.cbor_diag.specs.ShownLines.{shown_line};
-ghost use Rattle.cbor_diag.specs.Passes.{held, text_in, width_in, writes, CanTake, Took};
+ghost use Rattle.cbor_diag.specs.mirror.ShownLines.{shown_line};
+ghost use Rattle.cbor_diag.specs.mirror.Passes.{held, text_in, width_in, writes, CanTake, Took};
 
 use super::comment::Comment;
 use super::hex_style::HexStyle;

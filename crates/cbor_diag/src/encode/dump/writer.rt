@@ -2,7 +2,7 @@
 ghost use Rattle.std.specs.Prelude.{◌≡◌, ◌≤◌, ◌++◌, [], OnOk};
 ghost use Rattle.std.specs.String.{string_bytes};
 ghost use Rattle.cbor_notes.specs.Layout.{line_text};
-ghost use Rattle.cbor_diag.specs.ShownLines.{shown_line, Takes, most_width};
+ghost use Rattle.cbor_diag.specs.mirror.ShownLines.{shown_line, Takes, most_width};
 
 use super::comment::Comment;
 use super::hex_style::HexStyle;

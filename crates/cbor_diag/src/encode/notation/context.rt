@@ -2,7 +2,7 @@
 ghost use Rattle.std.specs.Prelude.{◌≡◌, ◌+◌, ◌<◌, ◌≤◌, ◌^◌};
 ghost use Rattle.cbor_diag.specs.declared.encode.encoding.Encoding.TheVariants.{Base16};
 ghost use Rattle.cbor_diag.specs.WellFormed.{deepest};
-ghost use Rattle.cbor_diag.specs.LayoutView.{layout_view, style_view, context_view};
+ghost use Rattle.cbor_diag.specs.mirror.LayoutView.{layout_view, style_view, context_view};
 ghost use Rattle.cbor_diag.specs.NotationText.{in_encoding, below, inside, members_layout};
 ghost use Rattle.cbor_diag.specs.NotationText.{style_indent};
 

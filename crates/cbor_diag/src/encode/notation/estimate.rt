@@ -8,7 +8,7 @@ ghost use Rattle.std.specs.Prelude.{◌≡◌, ◌+◌, ◌-◌, ◌*◌, ◌^�
 ghost use Rattle.std.specs.Prelude.{if◌then◌else◌};
 ghost use Rattle.cbor_diag.specs.View.{view, items_view, pairs_view, byte_chunk, text_chunk};
 ghost use Rattle.cbor_diag.specs.ContainerStyle as style;
-ghost use Rattle.cbor_diag.specs.LayoutView.{layout_view, style_view};
+ghost use Rattle.cbor_diag.specs.mirror.LayoutView.{layout_view, style_view};
 ghost use Rattle.cbor_diag.specs.NotationText.{container_style};
 ghost use Rattle.cbor_diag.specs.Item as spec;
 ghost use Rattle.cbor_diag.specs.Estimate.{digit_count, estimated_bytes, estimated_text};
@@ -89,7 +89,7 @@ fn pretty_style(indent: usize, left: usize) -> ContainerStyle
 }
 
 /// How many decimal digits a number has.
-#[tactic(auto, using(std::proofs::lemmas::Fmt::decimal_digit, crate::proofs::DigitCounts::power_below))]
+#[tactic(auto, using(std::proofs::lemmas::Fmt::decimal_digit, crate::proofs::text::DigitCounts::power_below))]
 fn digit_count(number: u64) -> usize
     ensures count { result ≡ digit_count number }
     ensures small { result ≤ 2 ^ 32 }

@@ -1,14 +1,14 @@
 //! What is written round the members of containers and the chunks of strings, as their style
 //! has it. What is short and called at each member is inlined.
-#![tactic(auto, using(crate::proofs::Appending::appending_steps))]
+#![tactic(auto, using(crate::proofs::shared::Appending::appending_steps))]
 
 ghost use Rattle.std.specs.Prelude.{◌∷◌, [], ◌++◌, ◌<◌, ◌≤◌, ◌^◌, map, codes};
-ghost use Rattle.cbor_diag.specs.Appends.{AppendsText};
+ghost use Rattle.cbor_diag.specs.mirror.Appends.{AppendsText};
 ghost use Rattle.cbor_diag.specs.View.{byte_chunk, text_chunk};
 ghost use Rattle.cbor_diag.specs.Item as spec;
 ghost use Rattle.cbor_diag.specs.WellFormed.{deepest};
-ghost use Rattle.cbor_diag.specs.LayoutView.{style_view, context_view, chunks_style, IsIndented};
-ghost use Rattle.cbor_diag.specs.LayoutView.{before_member, after_member};
+ghost use Rattle.cbor_diag.specs.mirror.LayoutView.{style_view, context_view, chunks_style, IsIndented};
+ghost use Rattle.cbor_diag.specs.mirror.LayoutView.{before_member, after_member};
 ghost use Rattle.cbor_diag.specs.NotationText.{line, last_line, opened, colon};
 ghost use Rattle.cbor_diag.specs.NotationText.{style_indent};
 ghost use Rattle.cbor_diag.specs.NotationText.{byte_chunks_text, text_chunks_text, rest_text};

@@ -1,11 +1,11 @@
 //! What holds no item: numbers, strings, floats and simple values (RFC 7049 section 6). Each is
 //! written by a function of its own, which isn't inlined where an item is told by its kind.
-#![tactic(auto, using(crate::proofs::Appending::appending_steps))]
+#![tactic(auto, using(crate::proofs::shared::Appending::appending_steps))]
 
 ghost use Rattle.std.specs.Prelude.{◌≡◌, ◌+◌, ◌++◌, codes};
 ghost use Rattle.std.specs.Fmt.{decimal};
 ghost use Rattle.std.specs.List.{flat_map, list_any};
-ghost use Rattle.cbor_diag.specs.Appends.{AppendsText};
+ghost use Rattle.cbor_diag.specs.mirror.Appends.{AppendsText};
 ghost use Rattle.cbor_notes.specs.Base64.{standard, url_safe};
 ghost use Rattle.cbor_diag.specs.WellFormed.{FitsFloat};
 ghost use Rattle.cbor_diag.specs.NotationText.{indicator, number, prefix, encoded_bytes, quoted};
@@ -33,7 +33,7 @@ fn push_indicator(out: &mut String, width: IntegerWidth) -> Result<(), AllocErro
 }
 
 /// Writes a number in decimal digits.
-#[tactic(auto, using(std::proofs::lemmas::Fmt::decimal_digit, crate::proofs::Appending::appending_steps))]
+#[tactic(auto, using(std::proofs::lemmas::Fmt::decimal_digit, crate::proofs::shared::Appending::appending_steps))]
 fn push_decimal(out: &mut String, value: u64) -> Result<(), AllocError>
     ensures { AppendsText result out.old out.new (decimal value) }
 {
@@ -159,7 +159,7 @@ fn is_escaped(byte: u8) -> bool
 
 /// Writes a text with a backslash before each quote and each backslash. Most texts have none of
 /// these.
-#[tactic(auto, using(crate::proofs::NotationTexts::plain_text, crate::proofs::Appending::appending_steps))]
+#[tactic(auto, using(crate::proofs::text::Scalars::plain_text, crate::proofs::shared::Appending::appending_steps))]
 fn push_escaped(out: &mut String, content: &str) -> Result<(), AllocError>
     ensures { AppendsText result out.old out.new (flat_map escaped content.now) }
 {

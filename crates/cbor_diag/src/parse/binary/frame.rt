@@ -2,8 +2,8 @@
 ghost use Rattle.std.specs.Prelude.{◌≡◌, ◌≤◌, ℕ, Some, IsSome, IfSome, IfOk, IfErr, OnOk, option_map};
 ghost use Rattle.cbor_diag.specs.View.{view};
 ghost use Rattle.cbor_diag.specs.Reading.{after_break};
-ghost use Rattle.cbor_diag.specs.Counting.{put, after_end, wanted_end, width_of, closed, opened};
-ghost use Rattle.cbor_diag.specs.Stack.{wanted, frame, ReservesFew};
+ghost use Rattle.cbor_diag.specs.mirror.Counting.{put, after_end, wanted_end, width_of, closed, opened};
+ghost use Rattle.cbor_diag.specs.mirror.Stack.{wanted, frame, ReservesFew};
 
 use super::head::ItemHead;
 use crate::error::{Error, Result};

@@ -16,8 +16,8 @@ ghost use Rattle.cbor_diag.specs.Bytes.{IsContent, major_of};
 ghost use Rattle.cbor_diag.specs.Head.{major_number};
 ghost use Rattle.cbor_diag.specs.Facts.{BeginsWithItem, IsCut, HasFault};
 ghost use Rattle.cbor_diag.specs.Extent.{IfItem, IfFault, FaultEnds, IsExtent};
-ghost use Rattle.cbor_diag.specs.HeadErrors.{head_error};
-ghost use Rattle.cbor_diag.specs.Skipping.{here, Goes, StopsSo, stop_of, kind_of, skip_content, skip_chunks, after_chunk, skip_item, skip_body, opened, begun};
+ghost use Rattle.cbor_diag.specs.mirror.HeadErrors.{head_error};
+ghost use Rattle.cbor_diag.specs.mirror.Skipping.{here, Goes, StopsSo, stop_of, kind_of, skip_content, skip_chunks, after_chunk, skip_item, skip_body, opened, begun};
 
 use super::head::{HeadError, Info, ItemHead, read_head, read_info};
 use crate::error::Error;

@@ -1,8 +1,8 @@
 //! The containers that are open while an item is read.
 ghost use Rattle.std.specs.Prelude.{◌≡◌, ◌++◌, [], Some, None, IsSome, IfOk, IfErr, OnOk, option_map, option_and_then, option_to_list};
 ghost use Rattle.cbor_diag.specs.View.{view};
-ghost use Rattle.cbor_diag.specs.Counting.{after_end, closed, pushed, IsStack};
-ghost use Rattle.cbor_diag.specs.Stack.{frame, outer_of, top_of, depth, IsPutIn};
+ghost use Rattle.cbor_diag.specs.mirror.Counting.{after_end, closed, pushed, IsStack};
+ghost use Rattle.cbor_diag.specs.mirror.Stack.{frame, outer_of, top_of, depth, IsPutIn};
 
 use super::frame::Frame;
 use crate::error::{Error, Result};

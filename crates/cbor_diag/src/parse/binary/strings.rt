@@ -5,7 +5,7 @@ ghost use Rattle.cbor_diag.specs.Item.{Chunk};
 ghost use Rattle.cbor_diag.specs.Bytes.{StringKind, bytes_kind, text_kind, major_of};
 ghost use Rattle.cbor_diag.specs.Head.{major_number};
 ghost use Rattle.cbor_diag.specs.Reading.{Gives, split_at, read_content, read_chunk_length, read_chunk};
-ghost use Rattle.cbor_diag.specs.Counting.{Runs, counted_chunks};
+ghost use Rattle.cbor_diag.specs.mirror.Counting.{Runs, counted_chunks};
 
 use super::head::{Info, read_info};
 use crate::error::{Error, Result};
@@ -78,7 +78,7 @@ impl DefiniteString for TextString {
         Major::Text
     }
 
-    #[tactic(auto, unfolding(crate::specs::Reading::read_content), using(crate::proofs::Utf8::utf8_fails, crate::proofs::Utf8::utf8_passes))]
+    #[tactic(auto, unfolding(crate::specs::Reading::read_content), using(crate::proofs::shared::Utf8::utf8_fails, crate::proofs::shared::Utf8::utf8_passes))]
     fn read(
         alloc: Global,
         count: u64,

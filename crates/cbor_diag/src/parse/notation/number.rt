@@ -3,7 +3,7 @@ ghost use Rattle.std.specs.Prelude.{◌≡◌, ◌≢◌, ◌<◌, ℕ, length, 
 ghost use Rattle.cbor_notes.specs.Token.{capped};
 ghost use Rattle.cbor_diag.specs.Head.{FitsWidth};
 ghost use Rattle.cbor_diag.specs.Reading.{Gives};
-ghost use Rattle.cbor_diag.specs.NotationReading.{read_number, with_width, read_unsigned_number, read_negative_number};
+ghost use Rattle.cbor_diag.specs.mirror.NotationReading.{read_number, with_width, read_unsigned_number, read_negative_number};
 
 use crate::error::{Error, Result};
 use crate::syntax::IntegerWidth;

@@ -1,6 +1,6 @@
 //! What begins with which byte.
 ghost use Rattle.std.specs.Prelude.{◌≡◌, ◌≤◌, length};
-ghost use Rattle.cbor_diag.specs.NotationReading.{begins_piece, first_start, rest_of, start_of};
+ghost use Rattle.cbor_diag.specs.mirror.NotationReading.{begins_piece, first_start, rest_of, start_of};
 
 /// What an item, or a piece of a string, begins with.
 #[derive(Clone, Copy)]
@@ -31,7 +31,7 @@ pub(super) enum Start {
 
 impl Start {
     /// What begins with this byte.
-    #[tactic(auto, unfolding(crate::specs::NotationReading::start_of))]
+    #[tactic(auto, unfolding(crate::specs::mirror::NotationReading::start_of))]
     #[inline(always)]
     fn of_byte(byte: u8) -> Start
         ensures { result ≡ start_of byte }

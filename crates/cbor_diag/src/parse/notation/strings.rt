@@ -12,7 +12,7 @@ ghost use Rattle.cbor_diag.specs.Bytes.{bytes_kind, text_kind};
 ghost use Rattle.cbor_diag.specs.Written.{encoded_items};
 ghost use Rattle.cbor_diag.specs.Item.{Item};
 ghost use Rattle.cbor_diag.specs.Reading.{Gives, Read};
-ghost use Rattle.cbor_diag.specs.NotationReading.{base16_of, read_byte_string, read_text_string, checked, read_chunk, read_chunks, read_embedded, ends_string, read_item, read_members, one_string, read_piece, read_pieces, read_string};
+ghost use Rattle.cbor_diag.specs.mirror.NotationReading.{base16_of, read_byte_string, read_text_string, checked, read_chunk, read_chunks, read_embedded, ends_string, read_item, read_members, one_string, read_piece, read_pieces, read_string};
 
 use super::content::{b_notation, base16, h_notation, read_plain, read_quoted};
 use super::read_items;
@@ -38,7 +38,7 @@ fn byte_string(content: Vec<u8>) -> ByteString
 }
 
 /// A text string of unstated width, if the content is UTF-8.
-#[tactic(auto, using(crate::proofs::Utf8::utf8_fails, crate::proofs::Utf8::utf8_passes))]
+#[tactic(auto, using(crate::proofs::shared::Utf8::utf8_fails, crate::proofs::shared::Utf8::utf8_passes))]
 fn text_string(content: Vec<u8>) -> crate::Result<TextString>
     ensures gives { Gives (λ x. text_chunk x) result (checked text_kind content.items) }
     ensures well { IfOk result (λ x. IsTextChunk (text_chunk x)) }

@@ -4,8 +4,8 @@ use Rattle.cbor_diag.specs.View.{items_view, pairs_view}
 use Rattle.cbor_diag.specs.WellFormed.{WellFormedPairs, FitsCount}
 use Rattle.cbor_diag.specs.Written.{encoded_items, encoded_pairs, encoded_open, encoded_close}
 use Rattle.cbor_diag.specs.declared.syntax.DataItem.{the_lemmas}
-use Rattle.cbor_diag.proofs.Appending.{begins_still, begins_through, begins_two, appends_after, appends_last}
-use Rattle.cbor_diag.proofs.Views.{item_count_view, pair_count_view}
+use Rattle.cbor_diag.proofs.shared.Appending.{begins_still, begins_through, begins_two, appends_after, appends_last}
+use Rattle.cbor_diag.proofs.shared.Views.{item_count_view, pair_count_view}
 use Rattle.cbor_diag.proofs.encode.bytes.+push.Goals as goal
 
 around : (out opening members closing all : List ℕ) → all ≡ (out ++ opening) ++ members → all ++ closing ≡ out ++ (opening ++ (members ++ closing))

@@ -1,25 +1,25 @@
 use Rattle.std.proofs.Common.{◌≡◌, ◌+◌, ℕ, List, ◌++◌, map, drop, ap, sym, subst, ◌∙◌, append_assoc, arith}
 use Rattle.std.proofs.lemmas.List.{drop_all}
 use Rattle.std.specs.String.{string_bytes}
-use Rattle.cbor_diag.specs.Appends.{Appends}
+use Rattle.cbor_diag.specs.mirror.Appends.{Appends}
 use Rattle.cbor_diag.specs.Item as spec
 use Rattle.cbor_diag.specs.Item.{Items, atom, array, integer, negative, byte_string, text_string, byte_chunks}
 use Rattle.cbor_diag.specs.Item.{text_chunks, float, simple}
 use Rattle.cbor_diag.specs.View.{view, items_view, pairs_view, byte_chunk, text_chunk}
 use Rattle.cbor_diag.specs.declared.encode.notation.context.NotationContext.{NotationContext}
 use Rattle.cbor_diag.specs.Layout.{Context}
-use Rattle.cbor_diag.specs.LayoutView.{style_view, context_view, item_text, content_there, chunks_style}
+use Rattle.cbor_diag.specs.mirror.LayoutView.{style_view, context_view, item_text, content_there, chunks_style}
 use Rattle.cbor_diag.specs.NotationText.{text, inside, members, members_layout, colon, item_texts, pair_texts}
 use Rattle.cbor_diag.specs.NotationText.{rest_text}
 use Rattle.cbor_diag.specs.NotationText.{byte_chunks_text, text_chunks_text, array_text, map_text, below, sequence_text}
 use Rattle.cbor_diag.specs.NotationText.{sequence_listed, text_at_level}
 use Rattle.cbor_diag.specs.WellFormed.{WellFormedItems, WellFormedPairs}
-use Rattle.cbor_diag.proofs.Appending.{begins_still, begins_two, begins_after_member, appends_last}
-use Rattle.cbor_diag.proofs.Views.{view-Integer, view-Negative, view-ByteString, view-TextString}
-use Rattle.cbor_diag.proofs.Views.{view-IndefiniteByteString, view-IndefiniteTextString, view-Float, view-Simple}
-use Rattle.cbor_diag.proofs.NotationTexts.{members_left, drop_here, member_more, members_end}
-use Rattle.cbor_diag.proofs.TextParts.{write_below, shown, bracketed_written, opened_again, tag_shown, sequence_shown}
-use Rattle.cbor_diag.proofs.TextParts.{items_rest, pairs_rest}
+use Rattle.cbor_diag.proofs.shared.Appending.{begins_still, begins_two, begins_after_member, appends_last}
+use Rattle.cbor_diag.proofs.shared.Views.{view-Integer, view-Negative, view-ByteString, view-TextString}
+use Rattle.cbor_diag.proofs.shared.Views.{view-IndefiniteByteString, view-IndefiniteTextString, view-Float, view-Simple}
+use Rattle.cbor_diag.proofs.text.Scalars.{members_left, drop_here, member_more, members_end}
+use Rattle.cbor_diag.proofs.text.Parts.{write_below, shown, bracketed_written, opened_again, tag_shown, sequence_shown}
+use Rattle.cbor_diag.proofs.text.Parts.{items_rest, pairs_rest}
 use Rattle.cbor_diag.proofs.encode.notation.+text.Goals as goal
 
 regroup : (out key between value : List ℕ) → ((out ++ key) ++ between) ++ value ≡ out ++ (key ++ (between ++ value))

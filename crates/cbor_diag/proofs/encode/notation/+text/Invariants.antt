@@ -3,9 +3,9 @@ use Rattle.std.specs.Io.{StartsWith}
 use Rattle.std.specs.String.{string_bytes}
 use Rattle.cbor_diag.specs.View.{items_view, pairs_view}
 use Rattle.cbor_diag.specs.WellFormed.{WellFormedItems, WellFormedPairs}
-use Rattle.cbor_diag.specs.LayoutView.{style_view, item_text}
+use Rattle.cbor_diag.specs.mirror.LayoutView.{style_view, item_text}
 use Rattle.cbor_diag.specs.NotationText.{colon, item_texts, pair_texts}
-use Rattle.cbor_diag.proofs.NotationTexts.{members_left}
+use Rattle.cbor_diag.proofs.text.Scalars.{members_left}
 use Rattle.cbor_diag.proofs.encode.notation.+text.Given as goal
 
 -- Each level is deeper than the one before; at one level an item is asked for its members or its bytes, and these

@@ -1,4 +1,4 @@
-use Rattle.cbor_diag.proofs.Appending.{cut_back}
+use Rattle.cbor_diag.proofs.shared.Appending.{cut_back}
 use Rattle.cbor_diag.proofs.encode.notation.push_outermost.Goals as goal
 
 pub truncate-requires : goal.truncate-requires

@@ -1,7 +1,7 @@
 use Rattle.std.proofs.Common.{inl, inr, sym, subst, ◌∙◌, arith}
 use Rattle.cbor_diag.specs.Answer.{MayWantMemory}
-use Rattle.cbor_diag.proofs.Turning.{some_depth}
-use Rattle.cbor_diag.specs.Stack.{top_of, outer_of}
+use Rattle.cbor_diag.proofs.turns.Turning.{some_depth}
+use Rattle.cbor_diag.specs.mirror.Stack.{top_of, outer_of}
 use Rattle.cbor_diag.proofs.parse.binary.read_item.Goals as goal
 
 pub returns-in_err-outermost-clause-memory : goal.returns-in_err-outermost-clause-memory

@@ -1,5 +1,5 @@
 use Rattle.std.proofs.lemmas.Result.{err_from_is_err_and}
-use Rattle.cbor_diag.proofs.Outcomes.{front_refusal}
+use Rattle.cbor_diag.proofs.bytes.Outcomes.{front_refusal}
 use Rattle.cbor_diag.proofs.parse.binary.read_whole.Goals as goal
 
 pub returns-in_err-read_front-clause-answer : goal.returns-in_err-read_front-clause-answer

@@ -3,12 +3,12 @@ use Rattle.std.specs.Prelude.{option_map}
 use Rattle.std.proofs.lemmas.Result.{err_from_is_err_and}
 use Rattle.cbor_diag.specs.View.{view}
 use Rattle.cbor_diag.specs.Reading.{Fails}
-use Rattle.cbor_diag.specs.Counting.{Stops, later, read_item_head, read_atom}
-use Rattle.cbor_diag.specs.Stack.{frame, outer_of, top_of, depth}
+use Rattle.cbor_diag.specs.mirror.Counting.{Stops, later, read_item_head, read_atom}
+use Rattle.cbor_diag.specs.mirror.Stack.{frame, outer_of, top_of, depth}
 use Rattle.cbor_diag.specs.declared.error.Error.TheVariants as refusal
-use Rattle.cbor_diag.proofs.HeadRefusals.{err_is}
-use Rattle.cbor_diag.proofs.Turning.{closes, turn_wants, wanted_stops, wanted_opens, opened_holds, some_holds, opens, opened_level, opened_depth, atom_stops, atom_whole}
-use Rattle.cbor_diag.proofs.Counting.{later_later}
+use Rattle.cbor_diag.proofs.bytes.HeadRefusals.{err_is}
+use Rattle.cbor_diag.proofs.turns.Turning.{closes, turn_wants, wanted_stops, wanted_opens, opened_holds, some_holds, opens, opened_level, opened_depth, atom_stops, atom_whole}
+use Rattle.cbor_diag.proofs.turns.Counting.{later_later}
 use Rattle.cbor_diag.proofs.parse.binary.turn.Goals as goal
 
 pub returns-in-Some-clause-gives : goal.returns-in-Some-clause-gives

@@ -1,7 +1,7 @@
 use Rattle.std.proofs.Common.{ℕ, ◌+◌, ◌==◌, drop, length, sym, ap, ◌∙◌, arith}
 use Rattle.std.specs.List.{position_or_len}
 use Rattle.std.proofs.lemmas.List.{drop_all, take_rest}
-use Rattle.cbor_diag.proofs.HexSearch.{found_at, found_none}
+use Rattle.cbor_diag.proofs.hex.Search.{found_at, found_none}
 use Rattle.cbor_diag.proofs.parse.hex_text.after_line.Goals as goal
 
 pub returns-in-Some : goal.returns-in-Some

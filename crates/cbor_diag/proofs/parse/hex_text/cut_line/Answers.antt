@@ -1,8 +1,8 @@
 use Rattle.std.proofs.Common.{ℕ, ◌+◌, ◌++◌, List, take, length, sym, ap, ◌∙◌, arith, append-nil}
 use Rattle.std.proofs.lemmas.List.{drop_all, take_rest}
 use Rattle.cbor_diag.specs.HexText.{strip, unspaced}
-use Rattle.cbor_diag.proofs.HexLines.{cut_whole, cut_feed, cut_comment}
-use Rattle.cbor_diag.proofs.HexSearch.{neither_at, neither_before, either_here}
+use Rattle.cbor_diag.proofs.hex.Lines.{cut_whole, cut_feed, cut_comment}
+use Rattle.cbor_diag.proofs.hex.Search.{neither_at, neither_before, either_here}
 use Rattle.cbor_diag.proofs.parse.hex_text.cut_line.Goals as goal
 
 pub returns-in-None-clause-kept : goal.returns-in-None-clause-kept

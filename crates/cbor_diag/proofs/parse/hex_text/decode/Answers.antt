@@ -1,5 +1,5 @@
 use Rattle.std.proofs.Common.{inl, inr, refl}
-use Rattle.cbor_diag.proofs.HexDigits.{odd_refused, bad_refused, sized_refused}
+use Rattle.cbor_diag.proofs.hex.Digits.{odd_refused, bad_refused, sized_refused}
 use Rattle.cbor_diag.proofs.parse.hex_text.decode.Goals as goal
 
 pub unreachable-requires : goal.unreachable-requires

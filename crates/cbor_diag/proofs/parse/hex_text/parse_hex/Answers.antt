@@ -1,6 +1,6 @@
 use Rattle.std.proofs.Common.{◌∙◌}
 use Rattle.std.proofs.lemmas.Result.{err_from_is_err_and}
-use Rattle.cbor_diag.proofs.HexDigits.{digits_want_memory, digits_refused, bytes_refused}
+use Rattle.cbor_diag.proofs.hex.Digits.{digits_want_memory, digits_refused, bytes_refused}
 use Rattle.cbor_diag.specs.HexText.{strip}
 use Rattle.cbor_diag.proofs.parse.hex_text.parse_hex.Goals as goal
 

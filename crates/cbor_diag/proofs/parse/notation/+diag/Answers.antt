@@ -9,11 +9,11 @@ use Rattle.cbor_diag.specs.View.{view, items_of, pairs_of, items_view, pairs_vie
 use Rattle.cbor_diag.specs.WellFormed.{IsByteChunk, IsTextChunk}
 use Rattle.cbor_diag.specs.Bytes.{bytes_kind, text_kind}
 use Rattle.cbor_diag.specs.Reading.{◌>>=◌, Fails}
-use Rattle.cbor_diag.specs.NotationReading.{skip_blank, after_end, read_negative_number, read_length, read_pair, read_chunk, read_item, read_core, read_members, read_pieces, checked, begins_piece, begins_string, read_string}
-use Rattle.cbor_diag.proofs.Loops.{Fails-bind}
-use Rattle.cbor_diag.proofs.NotationLoops.{members_closed, members_begin, member_fails, member_last, no_comma, member_more}
-use Rattle.cbor_diag.proofs.NotationCores.{core_by, bytes_core, piece_by, no_piece, no_text, string_by, item_none, item_some, pieces_begin, pieces_end, piece_fails, piece_more, items_push, no_key, no_colon, no_value, pair_read, pair_view, pairs_push, all_push, array_well, map_well}
-use Rattle.cbor_diag.proofs.Views.{view-Array, view-Map, view-Negative}
+use Rattle.cbor_diag.specs.mirror.NotationReading.{skip_blank, after_end, read_negative_number, read_length, read_pair, read_chunk, read_item, read_core, read_members, read_pieces, checked, begins_piece, begins_string, read_string}
+use Rattle.cbor_diag.proofs.notation.ChunkLoops.{Fails-bind}
+use Rattle.cbor_diag.proofs.notation.Loops.{members_closed, members_begin, member_fails, member_last, no_comma, member_more}
+use Rattle.cbor_diag.proofs.notation.Cores.{core_by, bytes_core, piece_by, no_piece, no_text, string_by, item_none, item_some, pieces_begin, pieces_end, piece_fails, piece_more, items_push, no_key, no_colon, no_value, pair_read, pair_view, pairs_push, all_push, array_well, map_well}
+use Rattle.cbor_diag.proofs.shared.Views.{view-Array, view-Map, view-Negative}
 use Rattle.cbor_diag.proofs.parse.notation.+diag.Goals as goal
 
 pub read_items-returns-in-Some-clause-gives : goal.read_items-returns-in-Some-clause-gives

@@ -3,8 +3,8 @@ use Rattle.std.specs.List.{AllByRecursion}
 use Rattle.cbor_diag.specs.View.{view, items_view, pairs_view, byte_chunk, text_chunk}
 use Rattle.cbor_diag.specs.WellFormed.{WellFormedItems, WellFormedPairs, IsByteChunk, IsTextChunk}
 use Rattle.cbor_diag.specs.Bytes.{bytes_kind, text_kind}
-use Rattle.cbor_diag.specs.NotationReading.{read_item, read_pair, read_chunk, read_members, members_from, read_pieces}
-use Rattle.cbor_diag.proofs.Loops.{onto}
+use Rattle.cbor_diag.specs.mirror.NotationReading.{read_item, read_pair, read_chunk, read_members, members_from, read_pieces}
+use Rattle.cbor_diag.proofs.notation.ChunkLoops.{onto}
 use Rattle.cbor_diag.proofs.parse.notation.+diag.Given as goal
 
 -- Each level is deeper than the one before. At one level a call is for less than the one that it is made by.

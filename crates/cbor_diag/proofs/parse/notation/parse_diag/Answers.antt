@@ -1,4 +1,4 @@
-use Rattle.cbor_diag.proofs.NotationReaders.{text_is, gave_text, text_refused, only_item, larger_limit}
+use Rattle.cbor_diag.proofs.notation.PublicReader.{text_is, gave_text, text_refused, only_item, larger_limit}
 use Rattle.cbor_diag.proofs.parse.notation.parse_diag.Goals as goal
 
 pub returns-clause-ok : goal.returns-clause-ok

@@ -6,10 +6,10 @@ use Rattle.cbor_diag.specs.Facts.{diag_of}
 use Rattle.cbor_diag.specs.Notation.{Reads}
 use Rattle.cbor_diag.specs.NotationText.{in_encoding}
 use Rattle.cbor_diag.specs.Normal.{normal_at}
-use Rattle.cbor_diag.proofs.ReadBack.{reads_back}
-use Rattle.cbor_diag.proofs.NormalText.{normal_text, normal_twice}
-use Rattle.cbor_diag.proofs.TextsAlike.{texts_alike}
-use Rattle.cbor_diag.proofs.EmbeddedItems.{embeds_exactly}
+use Rattle.cbor_diag.proofs.normal.ReadBack.{reads_back}
+use Rattle.cbor_diag.proofs.normal.Text.{normal_text, normal_twice}
+use Rattle.cbor_diag.proofs.normal.TextsAlike.{texts_alike}
+use Rattle.cbor_diag.proofs.shared.EmbeddedItems.{embeds_exactly}
 use Rattle.cbor_diag.proofs.syntax.DataItem.to_diag.Goals as goal
 
 pub returns-in_err-push_diag-clause-of_normal : goal.returns-in_err-push_diag-clause-of_normal

@@ -6,9 +6,9 @@ use Rattle.cbor_diag.specs.Facts.{pretty_of}
 use Rattle.cbor_diag.specs.Notation.{Reads}
 use Rattle.cbor_diag.specs.NotationText.{in_encoding}
 use Rattle.cbor_diag.specs.Normal.{normal_at}
-use Rattle.cbor_diag.proofs.ReadBack.{reads_back}
-use Rattle.cbor_diag.proofs.PrettyForms.{short_is, long_is, short_sequence, long_sequence}
-use Rattle.cbor_diag.proofs.EmbeddedItems.{embeds_exactly}
+use Rattle.cbor_diag.proofs.normal.ReadBack.{reads_back}
+use Rattle.cbor_diag.proofs.text.Forms.{short_is, long_is, short_sequence, long_sequence}
+use Rattle.cbor_diag.proofs.shared.EmbeddedItems.{embeds_exactly}
 use Rattle.cbor_diag.proofs.syntax.DataItem.to_diag_pretty.Goals as goal
 
 pub returns-clause-read_back : goal.returns-clause-read_back

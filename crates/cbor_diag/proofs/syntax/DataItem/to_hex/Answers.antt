@@ -11,12 +11,12 @@ use Rattle.cbor_diag.specs.HexText.{strip}
 use Rattle.cbor_diag.specs.Item.{Item}
 use Rattle.cbor_diag.specs.View.{view}
 use Rattle.cbor_diag.specs.Written.{encoded, resolve}
-use Rattle.cbor_diag.proofs.ByteLaws.{is_bytes, item_bytes}
-use Rattle.cbor_diag.proofs.DumpDigits.{item_are}
-use Rattle.cbor_diag.proofs.DumpFits.{one_line_of}
-use Rattle.cbor_diag.proofs.Strict.{strict_any, strict_encoded}
-use Rattle.cbor_diag.proofs.WholeDumps.{plain}
-use Rattle.cbor_diag.proofs.EmbeddedItems.{embeds_exactly, rejects_exactly}
+use Rattle.cbor_diag.proofs.bytes.Laws.{is_bytes, item_bytes}
+use Rattle.cbor_diag.proofs.dump.AllDigits.{item_are}
+use Rattle.cbor_diag.proofs.dump.Fits.{one_line_of}
+use Rattle.cbor_diag.proofs.bytes.Strict.{strict_any, strict_encoded}
+use Rattle.cbor_diag.proofs.dump.WholeDumps.{plain}
+use Rattle.cbor_diag.proofs.shared.EmbeddedItems.{embeds_exactly, rejects_exactly}
 use Rattle.cbor_diag.proofs.syntax.DataItem.to_hex.Goals as goal
 
 all_plain : (i : Item) → IsWellFormed i → AllByRecursion IsPlain (lines i)

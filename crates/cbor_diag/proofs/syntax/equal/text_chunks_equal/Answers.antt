@@ -1,6 +1,6 @@
 use Rattle.std.proofs.Common.{rules}
 use Rattle.cbor_diag.specs.View.{text_chunk}
-use Rattle.cbor_diag.proofs.Compared.{lists_compared}
+use Rattle.cbor_diag.proofs.shared.Compared.{lists_compared}
 use Rattle.cbor_diag.proofs.syntax.equal.text_chunks_equal.Goals as goal
 
 pub returns : goal.returns

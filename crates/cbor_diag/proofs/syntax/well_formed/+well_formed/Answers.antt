@@ -5,7 +5,7 @@ use Rattle.cbor_diag.specs.Item as spec
 use Rattle.cbor_diag.specs.Item.{Item, Items, Pairs, item_count, pair_count}
 use Rattle.cbor_diag.specs.View.{view, items_view, pairs_view}
 use Rattle.cbor_diag.specs.WellFormed.{deepest, WellFormed, WellFormedItems, WellFormedPairs, FitsCount}
-use Rattle.cbor_diag.proofs.Views.{view-Array, view-Map, item_count_view, pair_count_view}
+use Rattle.cbor_diag.proofs.shared.Views.{view-Array, view-Map, item_count_view, pair_count_view}
 use Rattle.cbor_diag.proofs.syntax.well_formed.+well_formed.Goals as goal
 
 -- what makes a container well formed: its level, its count, and what it holds

@@ -2,7 +2,7 @@ use Rattle.std.proofs.Common.{rules}
 use Rattle.std.proofs.lemmas.Iterator.{cases_from_all, YieldsList-from_slice}
 use Rattle.cbor_diag.specs.View.{byte_chunk}
 use Rattle.cbor_diag.specs.WellFormed.{IsByteChunk}
-use Rattle.cbor_diag.proofs.Fitting.{all_tested}
+use Rattle.cbor_diag.proofs.shared.Fitting.{all_tested}
 use Rattle.cbor_diag.proofs.syntax.well_formed.byte_chunks_fit.Goals as goal
 
 pub returns : goal.returns

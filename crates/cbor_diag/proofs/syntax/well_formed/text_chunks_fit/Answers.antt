@@ -2,7 +2,7 @@ use Rattle.std.proofs.Common.{rules}
 use Rattle.std.proofs.lemmas.Iterator.{cases_from_all, YieldsList-from_slice}
 use Rattle.cbor_diag.specs.View.{text_chunk}
 use Rattle.cbor_diag.specs.WellFormed.{IsTextChunk}
-use Rattle.cbor_diag.proofs.Fitting.{all_tested}
+use Rattle.cbor_diag.proofs.shared.Fitting.{all_tested}
 use Rattle.cbor_diag.proofs.syntax.well_formed.text_chunks_fit.Goals as goal
 
 pub returns : goal.returns

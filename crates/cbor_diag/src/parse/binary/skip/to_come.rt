@@ -1,6 +1,6 @@
 //! What is still to come in an open container.
 ghost use Rattle.std.specs.Prelude.{◌≡◌, option_map};
-ghost use Rattle.cbor_diag.specs.Skipping.{one_less, count_end, end_of, after_part, opened};
+ghost use Rattle.cbor_diag.specs.mirror.Skipping.{one_less, count_end, end_of, after_part, opened};
 
 use super::super::head::ItemHead;
 

@@ -1,4 +1,4 @@
-use Rattle.cbor_diag.proofs.Digits.{length-head_short, length-head_long}
+use Rattle.cbor_diag.proofs.dump.Digits.{length-head_short, length-head_long}
 use Rattle.cbor_diag.proofs.encode.dump.hex_style.head_len.Goals as goal
 
 pub returns-then-bytes-le1 : goal.returns-then-bytes-le1

@@ -8,18 +8,18 @@ use Rattle.cbor_diag.specs.Item.{Item, item_count, pair_count}
 use Rattle.cbor_diag.specs.View.{view, items_view, pairs_view, byte_chunk, text_chunk}
 use Rattle.cbor_diag.specs.WellFormed.{WellFormedItems, WellFormedPairs, FitsCount}
 use Rattle.cbor_diag.specs.Dump.{bytes_in, byte_chunks_lines, text_chunks_lines, close_lines, container_line, inside, items_lines, lines_at, note_line, note_lines, notes_lines, pairs_lines, parts_lines, row, top}
-use Rattle.cbor_diag.specs.ShownLines.{most_width}
-use Rattle.cbor_diag.specs.Passes.{at_of, held, room, step, tag_number, taken, writes, CanTake, Took}
-use Rattle.cbor_diag.proofs.Cuts.{some_left}
-use Rattle.cbor_diag.proofs.EmbeddedDumps.{sequence_more, sequence_empty, sequence_failed, whole_dumped, whole_failed}
-use Rattle.cbor_diag.proofs.EmbeddedItems.{cut_ends, fault_ends, fault_is, refused_is}
-use Rattle.cbor_diag.proofs.Heads.{IsBytes-take}
-use Rattle.cbor_diag.proofs.Members.{content_takes, item_took, notes_left, written_in, first_here, members_here, end_here, whole_took}
-use Rattle.cbor_diag.proofs.Members.{item_well, item_takes, item_done, pair_well, key_takes, value_takes, pair_done}
-use Rattle.cbor_diag.proofs.Readers.{whole_well_formed}
-use Rattle.cbor_diag.proofs.TextParts.{well_level}
-use Rattle.cbor_diag.proofs.Views.{view-IndefiniteByteString, view-IndefiniteTextString, item_count_view, pair_count_view}
-use Rattle.cbor_diag.proofs.WholeDumps.{found, narrow, plain, starts, wrote}
+use Rattle.cbor_diag.specs.mirror.ShownLines.{most_width}
+use Rattle.cbor_diag.specs.mirror.Passes.{at_of, held, room, step, tag_number, taken, writes, CanTake, Took}
+use Rattle.cbor_diag.proofs.dump.Pieces.{some_left}
+use Rattle.cbor_diag.proofs.dump.EmbeddedDumps.{sequence_more, sequence_empty, sequence_failed, whole_dumped, whole_failed}
+use Rattle.cbor_diag.proofs.shared.EmbeddedItems.{cut_ends, fault_ends, fault_is, refused_is}
+use Rattle.cbor_diag.proofs.bytes.Heads.{IsBytes-take}
+use Rattle.cbor_diag.proofs.dump.Members.{content_takes, item_took, notes_left, written_in, first_here, members_here, end_here, whole_took}
+use Rattle.cbor_diag.proofs.dump.Members.{item_well, item_takes, item_done, pair_well, key_takes, value_takes, pair_done}
+use Rattle.cbor_diag.proofs.bytes.PublicReaders.{whole_well_formed}
+use Rattle.cbor_diag.proofs.text.Parts.{well_level}
+use Rattle.cbor_diag.proofs.shared.Views.{view-IndefiniteByteString, view-IndefiniteTextString, item_count_view, pair_count_view}
+use Rattle.cbor_diag.proofs.dump.WholeDumps.{found, narrow, plain, starts, wrote}
 use Rattle.cbor_diag.proofs.encode.dump.items.+walk.Goals as goal
 
 -- ---- the two passes

@@ -3,9 +3,9 @@ use Rattle.std.specs.List.{flat_map}
 use Rattle.cbor_diag.specs.View.{items_view, pairs_view}
 use Rattle.cbor_diag.specs.Dump.{items_lines, lines_at, note_lines, pairs_lines, sequence_notes, shared_in_items, shared_in_pairs, top}
 use Rattle.cbor_diag.specs.Embedded.{sequence_at}
-use Rattle.cbor_diag.specs.Passes.{at_of, held, room, step, taken}
-use Rattle.cbor_diag.proofs.EmbeddedDumps.{SequenceLeft}
-use Rattle.cbor_diag.proofs.Members.{ItemsLeft, PairsLeft}
+use Rattle.cbor_diag.specs.mirror.Passes.{at_of, held, room, step, taken}
+use Rattle.cbor_diag.proofs.dump.EmbeddedDumps.{SequenceLeft}
+use Rattle.cbor_diag.proofs.dump.Members.{ItemsLeft, PairsLeft}
 use Rattle.cbor_diag.proofs.encode.dump.items.+walk.Given as goal
 
 -- Each level is deeper than the one before, and an embedded item is deeper than the value that embeds it.

@@ -1,4 +1,4 @@
-use Rattle.cbor_diag.proofs.Cuts.{floor_is}
+use Rattle.cbor_diag.proofs.dump.Pieces.{floor_is}
 use Rattle.cbor_diag.proofs.encode.dump.lines.text_cut.Goals as goal
 
 pub returns-clause-cut : goal.returns-clause-cut

@@ -1,6 +1,6 @@
 use Rattle.std.proofs.Common.{Ok, sym, arith}
-use Rattle.cbor_diag.proofs.Readers.{whole_well_formed}
-use Rattle.cbor_diag.proofs.EmbeddedItems.{whole_item, no_whole_item, refused_is}
+use Rattle.cbor_diag.proofs.bytes.PublicReaders.{whole_well_formed}
+use Rattle.cbor_diag.proofs.shared.EmbeddedItems.{whole_item, no_whole_item, refused_is}
 use Rattle.cbor_diag.proofs.encode.notation.embedded.embedded.Goals as goal
 
 pub returns-in-Ok-clause-item : goal.returns-in-Ok-clause-item

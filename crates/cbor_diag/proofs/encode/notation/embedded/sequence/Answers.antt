@@ -1,6 +1,6 @@
 use Rattle.std.proofs.Common.{◌-◌, arith}
 use Rattle.cbor_diag.specs.Embedded.{sequence_at}
-use Rattle.cbor_diag.proofs.EmbeddedItems.{at_first, one_more, no_more, cut_ends, fault_ends, fault_is}
+use Rattle.cbor_diag.proofs.shared.EmbeddedItems.{at_first, one_more, no_more, cut_ends, fault_ends, fault_is}
 use Rattle.cbor_diag.proofs.encode.notation.embedded.sequence.Goals as goal
 
 pub items-init : goal.items-init

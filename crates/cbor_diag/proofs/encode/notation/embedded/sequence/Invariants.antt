@@ -1,6 +1,6 @@
 use Rattle.std.proofs.Common.{◌-◌, length}
 use Rattle.cbor_diag.specs.Embedded.{sequence_at}
-use Rattle.cbor_diag.proofs.EmbeddedItems.{SoFar}
+use Rattle.cbor_diag.proofs.shared.EmbeddedItems.{SoFar}
 use Rattle.cbor_diag.proofs.encode.notation.embedded.sequence.Given as goal
 
 abbrev pub decreases-items : goal.decreases-items

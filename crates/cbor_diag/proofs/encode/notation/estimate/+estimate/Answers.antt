@@ -1,7 +1,7 @@
 use Rattle.std.proofs.Common.{ap, ◌∙◌, arith}
 use Rattle.cbor_diag.specs.View.{view}
 use Rattle.cbor_diag.specs.Estimate.{estimated_length}
-use Rattle.cbor_diag.proofs.Views.{view-Map}
+use Rattle.cbor_diag.proofs.shared.Views.{view-Map}
 use Rattle.cbor_diag.proofs.encode.notation.estimate.+estimate.Goals as goal
 
 pub left_after_item-returns-in-Map : goal.left_after_item-returns-in-Map

@@ -3,11 +3,11 @@ use Rattle.std.proofs.lemmas.List.{drop_all, length-map}
 use Rattle.std.specs.String.{string_bytes}
 use Rattle.cbor_diag.specs.Item.{Chunk}
 use Rattle.cbor_diag.specs.View.{byte_chunk}
-use Rattle.cbor_diag.specs.LayoutView.{style_view}
+use Rattle.cbor_diag.specs.mirror.LayoutView.{style_view}
 use Rattle.cbor_diag.specs.NotationText.{quoted, chunks_text}
-use Rattle.cbor_diag.proofs.Appending.{begins_after_member, appends_last}
-use Rattle.cbor_diag.proofs.NotationTexts.{drop_here, member_more, members_end, chunks_written}
-use Rattle.cbor_diag.proofs.TextParts.{bracketed_written}
+use Rattle.cbor_diag.proofs.shared.Appending.{begins_after_member, appends_last}
+use Rattle.cbor_diag.proofs.text.Scalars.{drop_here, member_more, members_end, chunks_written}
+use Rattle.cbor_diag.proofs.text.Parts.{bracketed_written}
 use Rattle.cbor_diag.proofs.encode.notation.members.push_byte_chunks.Goals as goal
 
 pub chunks-preserved : goal.chunks-preserved

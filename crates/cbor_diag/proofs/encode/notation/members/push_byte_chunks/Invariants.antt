@@ -2,9 +2,9 @@ use Rattle.std.proofs.Common.{◌≡◌, ◌++◌, true, map, drop}
 use Rattle.std.specs.Io.{StartsWith}
 use Rattle.std.specs.String.{string_bytes}
 use Rattle.cbor_diag.specs.View.{byte_chunk}
-use Rattle.cbor_diag.specs.LayoutView.{style_view}
+use Rattle.cbor_diag.specs.mirror.LayoutView.{style_view}
 use Rattle.cbor_diag.specs.NotationText.{quoted}
-use Rattle.cbor_diag.proofs.NotationTexts.{members_left}
+use Rattle.cbor_diag.proofs.text.Scalars.{members_left}
 use Rattle.cbor_diag.proofs.encode.notation.members.push_byte_chunks.Given as goal
 
 -- what is written and the chunks that are left are the whole

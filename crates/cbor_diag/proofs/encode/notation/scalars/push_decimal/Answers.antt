@@ -2,7 +2,7 @@ use Rattle.std.proofs.Common.{◌≡◌, ◌∷◌, [], ◌++◌, ap, sym, ◌�
 use Rattle.std.proofs.lemmas.Fmt.{decimal_digit}
 use Rattle.std.specs.Prelude.{encode_utf8}
 use Rattle.std.specs.String.{string_bytes}
-use Rattle.cbor_diag.proofs.Appending.{appends_as, appends_of}
+use Rattle.cbor_diag.proofs.shared.Appending.{appends_as, appends_of}
 use Rattle.cbor_diag.proofs.encode.notation.scalars.push_decimal.Goals as goal
 
 pub returns-then-value-lt10 : goal.returns-then-value-lt10

@@ -5,8 +5,8 @@ use Rattle.std.proofs.lemmas.Str.{IsCharBoundary-start, IsCharBoundary-before_as
 use Rattle.std.specs.String.{string_bytes}
 use Rattle.std.specs.List.{flat_map}
 use Rattle.cbor_diag.specs.NotationText.{escaped}
-use Rattle.cbor_diag.proofs.Appending.{begins_same, begins_still, appends_of, appends_as}
-use Rattle.cbor_diag.proofs.NotationTexts.{escaped_ascii, plain_text, plain_more, special_more}
+use Rattle.cbor_diag.proofs.shared.Appending.{begins_same, begins_still, appends_of, appends_as}
+use Rattle.cbor_diag.proofs.text.Scalars.{escaped_ascii, plain_text, plain_more, special_more}
 use Rattle.cbor_diag.proofs.encode.notation.scalars.push_escaped.Goals as goal
 use Rattle.cbor_diag.proofs.encode.notation.scalars.push_escaped.Goals.{then-is_escaped+in_ok-push_str+in_ok-push, else-is_escaped}
 

@@ -2,7 +2,7 @@ use Rattle.std.proofs.Common.{◌≡◌, ◌∷◌, [], ◌++◌, ◌+◌, ap, �
 use Rattle.std.specs.Fmt.{decimal}
 use Rattle.std.specs.String.{string_bytes}
 use Rattle.cbor_diag.specs.NotationText.{indicator}
-use Rattle.cbor_diag.proofs.Appending.{begins_two, appends_last}
+use Rattle.cbor_diag.proofs.shared.Appending.{begins_two, appends_last}
 use Rattle.cbor_diag.proofs.encode.notation.scalars.push_negative.Goals as goal
 
 pub returns-in_ok-push_str-in-None : goal.returns-in_ok-push_str-in-None

@@ -1,5 +1,5 @@
 use Rattle.std.proofs.Common.{◌≤◌, length}
-use Rattle.cbor_diag.specs.Skipping.{Goes, kind_of, skip_chunks}
+use Rattle.cbor_diag.specs.mirror.Skipping.{Goes, kind_of, skip_chunks}
 use Rattle.cbor_diag.proofs.parse.binary.skip.after_chunks.Given as goal
 
 abbrev pub decreases-chunks : goal.decreases-chunks

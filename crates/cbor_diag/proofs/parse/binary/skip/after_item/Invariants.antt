@@ -1,6 +1,6 @@
 use Rattle.std.proofs.Common.{◌+◌, ◌*◌, length}
 use Rattle.cbor_diag.specs.WellFormed.{deepest}
-use Rattle.cbor_diag.specs.Skipping.{Goes, skip_item, skip_open}
+use Rattle.cbor_diag.specs.mirror.Skipping.{Goes, skip_item, skip_open}
 use Rattle.cbor_diag.proofs.parse.binary.skip.after_item.Given as goal
 
 -- A part takes bytes, and opens one container at most; else one is closed.

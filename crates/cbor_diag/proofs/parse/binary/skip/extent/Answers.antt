@@ -1,6 +1,6 @@
 use Rattle.std.proofs.Common.{arith}
-use Rattle.cbor_diag.proofs.Three.{one_outcome}
-use Rattle.cbor_diag.proofs.Extents.{item_is, every_item, cut_exactly, fault_is, every_fault, fault_shown, fronts_cut, item_stays, fault_stays}
+use Rattle.cbor_diag.proofs.bytes.ExactlyOne.{one_outcome}
+use Rattle.cbor_diag.proofs.extent.Extents.{item_is, every_item, cut_exactly, fault_is, every_fault, fault_shown, fronts_cut, item_stays, fault_stays}
 use Rattle.cbor_diag.proofs.parse.binary.skip.extent.Goals as goal
 
 pub returns-clause-item : goal.returns-clause-item

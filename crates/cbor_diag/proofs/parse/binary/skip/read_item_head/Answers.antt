@@ -2,9 +2,9 @@ use Rattle.std.proofs.Common.{◌-◌, ℕ, List, get_or, length, Ok, ap, sym, �
 use Rattle.cbor_diag.specs.declared.error.Error.TheVariants.{Head, TooDeep}
 use Rattle.cbor_diag.specs.declared.parse.binary.head.ItemHead.{ItemHead}
 use Rattle.cbor_diag.specs.Reading.{read_head}
-use Rattle.cbor_diag.specs.HeadErrors.{head_error}
-use Rattle.cbor_diag.specs.Skipping.{Goes, Shows, StopsSo, stop_of, skip_item, skip_body}
-use Rattle.cbor_diag.proofs.Skips.{head_goes, head_stops, break_shows, deep_shows, no_item, behind_first, first_is, at_first, fits_first, empty_is}
+use Rattle.cbor_diag.specs.mirror.HeadErrors.{head_error}
+use Rattle.cbor_diag.specs.mirror.Skipping.{Goes, Shows, StopsSo, stop_of, skip_item, skip_body}
+use Rattle.cbor_diag.proofs.extent.Skips.{head_goes, head_stops, break_shows, deep_shows, no_item, behind_first, first_is, at_first, fits_first, empty_is}
 use Rattle.cbor_diag.proofs.parse.binary.skip.read_item_head.Goals as goal
 
 pub returns-in_default-clause-stops : goal.returns-in_default-clause-stops

@@ -1,7 +1,7 @@
 use Rattle.std.proofs.Common.{◌≡◌, ◌++◌, ◌∷◌, [], map, arith}
 use Rattle.std.proofs.lemmas.Result.{err_from_is_err_and}
 use Rattle.std.proofs.lemmas.List.{map_push}
-use Rattle.cbor_diag.proofs.ChunkLoops.{chunk_fails, more_chunk, chunk_wants, no_more_chunk}
+use Rattle.cbor_diag.proofs.turns.ChunkLoops.{chunk_fails, more_chunk, chunk_wants, no_more_chunk}
 use Rattle.cbor_diag.proofs.parse.binary.strings.read_chunks.Goals as goal
 
 pub returns-in_err-chunk-clause-gives : goal.returns-in_err-chunk-clause-gives

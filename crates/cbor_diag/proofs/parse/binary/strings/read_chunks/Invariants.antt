@@ -1,6 +1,6 @@
 use Rattle.std.proofs.Common.{◌≡◌, ℕ, ◌+◌, ◌*◌, ◌≤◌, length, map}
-use Rattle.cbor_diag.specs.Counting.{later, counted_chunks}
-use Rattle.cbor_diag.proofs.ChunkLoops.{onto}
+use Rattle.cbor_diag.specs.mirror.Counting.{later, counted_chunks}
+use Rattle.cbor_diag.proofs.turns.ChunkLoops.{onto}
 use Rattle.cbor_diag.proofs.parse.binary.strings.read_chunks.Given as goal
 
 abbrev pub decreases-chunks : goal.decreases-chunks

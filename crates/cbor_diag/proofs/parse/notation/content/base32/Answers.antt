@@ -1,5 +1,5 @@
 use Rattle.std.proofs.Common.{ap, ◌∙◌}
-use Rattle.cbor_diag.specs.NotationReading.{or_refused, base32_of}
+use Rattle.cbor_diag.specs.mirror.NotationReading.{or_refused, base32_of}
 use Rattle.cbor_diag.proofs.notation.Decoded.{base32_again}
 use Rattle.cbor_diag.proofs.notation.DigitsFound.{base32_missing}
 use Rattle.cbor_diag.proofs.parse.notation.content.base32.Goals as goal

@@ -1,5 +1,5 @@
 use Rattle.std.proofs.Common.{ap, ◌∙◌}
-use Rattle.cbor_diag.specs.NotationReading.{or_refused, base32hex_of}
+use Rattle.cbor_diag.specs.mirror.NotationReading.{or_refused, base32hex_of}
 use Rattle.cbor_diag.proofs.notation.Decoded.{base32hex_again}
 use Rattle.cbor_diag.proofs.notation.DigitsFound.{base32hex_missing}
 use Rattle.cbor_diag.proofs.parse.notation.content.base32hex.Goals as goal

@@ -1,5 +1,5 @@
 use Rattle.std.proofs.Common.{ap}
-use Rattle.cbor_diag.specs.NotationReading.{or_refused}
+use Rattle.cbor_diag.specs.mirror.NotationReading.{or_refused}
 use Rattle.cbor_diag.proofs.notation.DigitsFound.{base64_missing, base64_again}
 use Rattle.cbor_diag.proofs.parse.notation.content.base64.Goals as goal
 

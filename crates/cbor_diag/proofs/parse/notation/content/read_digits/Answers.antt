@@ -1,7 +1,7 @@
 use Rattle.std.proofs.Common.{Ok, drop, ap, ◌∙◌, sym}
 use Rattle.std.proofs.lemmas.List.{take_rest}
-use Rattle.cbor_diag.specs.NotationReading.{or_refused}
-use Rattle.cbor_diag.proofs.NotationTokens.{digits_found, digits_missing}
+use Rattle.cbor_diag.specs.mirror.NotationReading.{or_refused}
+use Rattle.cbor_diag.proofs.notation.Tokens.{digits_found, digits_missing}
 use Rattle.cbor_diag.proofs.parse.notation.content.read_digits.Goals as goal
 
 pub returns-in-Some-clause-gives : goal.returns-in-Some-clause-gives

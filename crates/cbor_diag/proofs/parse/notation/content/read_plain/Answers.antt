@@ -2,8 +2,8 @@ use Rattle.std.proofs.Common.{sym, ◌∙◌, rules, tests}
 use Rattle.std.proofs.lemmas.Iterator.{YieldsList-from_slice}
 use Rattle.std.proofs.lemmas.Iterator.Search.{position_from_yields_List}
 use Rattle.cbor_notes.specs.Token.{is_special}
-use Rattle.cbor_diag.proofs.OnePiece.{plain}
-use Rattle.cbor_diag.proofs.sound.Steps.{after_byte_is}
+use Rattle.cbor_diag.proofs.notation.OnePiece.{plain}
+use Rattle.cbor_diag.proofs.notation.sound.Steps.{after_byte_is}
 use Rattle.cbor_diag.proofs.parse.notation.content.read_plain.Goals as goal
 
 pub returns-clause-gives : goal.returns-clause-gives

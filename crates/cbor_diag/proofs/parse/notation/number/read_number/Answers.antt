@@ -1,5 +1,5 @@
 use Rattle.std.proofs.Common.{refl}
-use Rattle.cbor_diag.proofs.NotationTokens.{number_found, number_missing}
+use Rattle.cbor_diag.proofs.notation.Tokens.{number_found, number_missing}
 use Rattle.cbor_diag.proofs.parse.notation.number.read_number.Goals as goal
 
 pub returns-in-Some-clause-gives : goal.returns-in-Some-clause-gives

@@ -1,4 +1,4 @@
-use Rattle.cbor_diag.proofs.NotationTokens.{blank_left}
+use Rattle.cbor_diag.proofs.notation.Tokens.{blank_left}
 use Rattle.cbor_diag.proofs.parse.notation.scan.after_blank.Goals as goal
 
 pub returns-clause-gives : goal.returns-clause-gives

@@ -3,8 +3,8 @@ use Rattle.std.proofs.lemmas.List.{take_rest}
 use Rattle.std.proofs.lemmas.Iterator.{YieldsList-from_slice}
 use Rattle.std.proofs.lemmas.Iterator.Search.{position_from_yields_List}
 use Rattle.cbor_notes.specs.Token.{is_whitespace}
-use Rattle.cbor_diag.specs.NotationReading.{after_byte}
-use Rattle.cbor_diag.proofs.NotationTokens.{space_missing, space_found}
+use Rattle.cbor_diag.specs.mirror.NotationReading.{after_byte}
+use Rattle.cbor_diag.proofs.notation.Tokens.{space_missing, space_found}
 use Rattle.cbor_diag.proofs.parse.notation.scan.after_space.Goals as goal
 
 pub returns-in_err-spaces-clause-gives : goal.returns-in_err-spaces-clause-gives

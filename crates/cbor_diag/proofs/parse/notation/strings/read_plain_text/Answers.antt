@@ -1,6 +1,6 @@
 use Rattle.std.proofs.Common.{sym, ◌∙◌}
-use Rattle.cbor_diag.proofs.OnePiece.{plain_text}
-use Rattle.cbor_diag.proofs.sound.Steps.{after_byte_is}
+use Rattle.cbor_diag.proofs.notation.OnePiece.{plain_text}
+use Rattle.cbor_diag.proofs.notation.sound.Steps.{after_byte_is}
 use Rattle.cbor_diag.proofs.parse.notation.strings.read_plain_text.Goals as goal
 
 pub returns-then-ends_string-clause-gives : goal.returns-then-ends_string-clause-gives

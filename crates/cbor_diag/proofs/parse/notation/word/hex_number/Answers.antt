@@ -1,5 +1,5 @@
 use Rattle.std.proofs.Common.{arith}
-use Rattle.cbor_diag.proofs.NotationTokens.{numeral-hex_after, room_for_digit}
+use Rattle.cbor_diag.proofs.notation.Tokens.{numeral-hex_after, room_for_digit}
 use Rattle.cbor_diag.proofs.parse.notation.word.hex_number.Goals as goal
 
 pub digits-init : goal.digits-init

@@ -1,6 +1,6 @@
 use Rattle.std.proofs.Common.{◌≡◌, ◌^◌, ◌<◌, drop}
-use Rattle.cbor_diag.specs.NotationReading.{numeral}
-use Rattle.cbor_diag.proofs.NotationTokens.{hex_after}
+use Rattle.cbor_diag.specs.mirror.NotationReading.{numeral}
+use Rattle.cbor_diag.proofs.notation.Tokens.{hex_after}
 use Rattle.cbor_diag.proofs.parse.notation.word.hex_number.Given as goal
 
 abbrev pub invariant-digits : goal.invariant-digits

@@ -1,6 +1,6 @@
 use Rattle.std.proofs.lemmas.Bool.Decides.{same_from_decides}
 use Rattle.cbor_diag.specs.View.{view}
-use Rattle.cbor_diag.specs.SameDecides.{same_decides}
+use Rattle.cbor_diag.specs.mirror.SameDecides.{same_decides}
 use Rattle.cbor_diag.proofs.syntax.equal.DataItemPartialEq.eq.Goals as goal
 
 pub returns-clause-value : goal.returns-clause-value

@@ -1,5 +1,5 @@
 use Rattle.std.proofs.Common.{sym}
-use Rattle.cbor_diag.proofs.Digits.{length-hex}
+use Rattle.cbor_diag.proofs.dump.Digits.{length-hex}
 use Rattle.cbor_diag.proofs.encode.dump.hex_style.HexStyle.len.Goals as goal
 
 pub returns-in-Content : goal.returns-in-Content

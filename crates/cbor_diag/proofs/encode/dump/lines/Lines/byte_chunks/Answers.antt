@@ -3,8 +3,8 @@ use Rattle.std.specs.List.{flat_map}
 use Rattle.cbor_diag.specs.View.{byte_chunk}
 use Rattle.cbor_diag.specs.WellFormed.{IsByteChunk}
 use Rattle.cbor_diag.specs.Dump.{inside, byte_string_lines, byte_chunks_lines, break_line}
-use Rattle.cbor_diag.specs.Passes.{at_of, CanTake, Took}
-use Rattle.cbor_diag.proofs.Walks.{part_here, part_left, chunk_lines, chunks_after}
+use Rattle.cbor_diag.specs.mirror.Passes.{at_of, CanTake, Took}
+use Rattle.cbor_diag.proofs.dump.Walks.{part_here, part_left, chunk_lines, chunks_after}
 use Rattle.cbor_diag.proofs.encode.dump.lines.Lines.byte_chunks.Goals as goal
 
 pub byte_string-requires-clause-takes : goal.byte_string-requires-clause-takes

@@ -3,8 +3,8 @@ use Rattle.std.specs.List.{AllByRecursion, flat_map}
 use Rattle.cbor_diag.specs.View.{byte_chunk}
 use Rattle.cbor_diag.specs.WellFormed.{IsByteChunk}
 use Rattle.cbor_diag.specs.Dump.{inside, byte_string_lines, byte_chunks_lines, break_line}
-use Rattle.cbor_diag.specs.Passes.{at_of}
-use Rattle.cbor_diag.proofs.Walks.{Left}
+use Rattle.cbor_diag.specs.mirror.Passes.{at_of}
+use Rattle.cbor_diag.proofs.dump.Walks.{Left}
 use Rattle.cbor_diag.proofs.encode.dump.lines.Lines.byte_chunks.Given as goal
 
 abbrev pub invariant-chunks : goal.invariant-chunks

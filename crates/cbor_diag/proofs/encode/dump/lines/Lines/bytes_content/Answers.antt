@@ -2,9 +2,9 @@ use Rattle.std.proofs.Common.{◌∙◌, ℕ, List, length, take, drop, ap, sym,
 use Rattle.cbor_notes.specs.Layout.{DumpLine}
 use Rattle.cbor_diag.specs.Comments.{bytes_comment}
 use Rattle.cbor_diag.specs.Dump.{bytes_lines, piece_line}
-use Rattle.cbor_diag.specs.Passes.{held, step, taken, CanTake}
-use Rattle.cbor_diag.proofs.Cuts.{byte_cut, byte_cuts, some_left}
-use Rattle.cbor_diag.proofs.Walks.{content_is, piece_here, pieces_left}
+use Rattle.cbor_diag.specs.mirror.Passes.{held, step, taken, CanTake}
+use Rattle.cbor_diag.proofs.dump.Pieces.{byte_cut, byte_cuts, some_left}
+use Rattle.cbor_diag.proofs.dump.Walks.{content_is, piece_here, pieces_left}
 use Rattle.cbor_diag.proofs.encode.dump.lines.Lines.bytes_content.Goals as goal
 
 pub pieces-init : goal.pieces-init

@@ -2,8 +2,8 @@ use Rattle.std.proofs.Common.{length}
 use Rattle.cbor_diag.specs.Comments.{bytes_comment}
 use Rattle.cbor_diag.specs.Pieces.{byte_pieces}
 use Rattle.cbor_diag.specs.Dump.{content_lines, piece_line}
-use Rattle.cbor_diag.proofs.Cuts.{byte_cut}
-use Rattle.cbor_diag.proofs.Walks.{lines_of, Left}
+use Rattle.cbor_diag.proofs.dump.Pieces.{byte_cut}
+use Rattle.cbor_diag.proofs.dump.Walks.{lines_of, Left}
 use Rattle.cbor_diag.proofs.encode.dump.lines.Lines.bytes_content.Given as goal
 
 abbrev pub invariant-pieces : goal.invariant-pieces

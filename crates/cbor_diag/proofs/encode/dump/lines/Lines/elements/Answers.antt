@@ -2,9 +2,9 @@ use Rattle.std.proofs.Common.{◌∙◌, ℕ, List, [], length, take, drop, unwr
 use Rattle.cbor_notes.specs.Element.{element_text}
 use Rattle.cbor_notes.specs.Layout.{DumpLine}
 use Rattle.cbor_diag.specs.Dump.{element_lines, piece_line}
-use Rattle.cbor_diag.proofs.Cuts.{some_left}
-use Rattle.cbor_diag.proofs.Elements.{element_cut, element_cuts}
-use Rattle.cbor_diag.proofs.Walks.{piece_here, pieces_left}
+use Rattle.cbor_diag.proofs.dump.Pieces.{some_left}
+use Rattle.cbor_diag.proofs.dump.Elements.{element_cut, element_cuts}
+use Rattle.cbor_diag.proofs.dump.Walks.{piece_here, pieces_left}
 use Rattle.cbor_diag.proofs.encode.dump.lines.Lines.elements.Goals as goal
 
 abbrev line_of : ℕ → ℕ → List ℕ → DumpLine

@@ -1,8 +1,8 @@
 use Rattle.std.proofs.Common.{ℕ, List, [], length, unwrap_or}
 use Rattle.cbor_notes.specs.Element.{element_text}
 use Rattle.cbor_diag.specs.Dump.{element_lines, piece_line}
-use Rattle.cbor_diag.proofs.Elements.{element_cut}
-use Rattle.cbor_diag.proofs.Walks.{lines_of, Left}
+use Rattle.cbor_diag.proofs.dump.Elements.{element_cut}
+use Rattle.cbor_diag.proofs.dump.Walks.{lines_of, Left}
 use Rattle.cbor_diag.proofs.encode.dump.lines.Lines.elements.Given as goal
 
 abbrev pub invariant-elements : goal.invariant-elements

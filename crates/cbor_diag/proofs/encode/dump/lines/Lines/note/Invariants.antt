@@ -1,7 +1,7 @@
 use Rattle.std.proofs.Common.{◌≡◌, ◌+◌, map, drop}
 use Rattle.std.specs.String.{string_bytes}
 use Rattle.cbor_diag.specs.Dump.{note_line, note_lines}
-use Rattle.cbor_diag.specs.Passes.{taken, held, room, step}
+use Rattle.cbor_diag.specs.mirror.Passes.{taken, held, room, step}
 use Rattle.cbor_diag.proofs.encode.dump.lines.Lines.note.Given as goal
 
 -- the texts that are left, and those that were taken, are the whole

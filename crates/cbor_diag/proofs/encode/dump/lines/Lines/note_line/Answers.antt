@@ -3,9 +3,9 @@ use Rattle.hex.specs.Hex.{encode_with}
 use Rattle.cbor_diag.specs.declared.encode.dump.comment.Comment.TheVariants as comment
 use Rattle.cbor_diag.specs.declared.encode.dump.hex_style.HexStyle.TheVariants.{Content}
 use Rattle.cbor_diag.specs.Dump.{note_line}
-use Rattle.cbor_diag.specs.ShownLines.{shown_line, Takes}
-use Rattle.cbor_diag.specs.Passes.{room}
-use Rattle.cbor_diag.proofs.NoteSteps.{note_takes}
+use Rattle.cbor_diag.specs.mirror.ShownLines.{shown_line, Takes}
+use Rattle.cbor_diag.specs.mirror.Passes.{room}
+use Rattle.cbor_diag.proofs.dump.NoteSteps.{note_takes}
 use Rattle.cbor_diag.proofs.encode.dump.lines.Lines.note_line.Goals as goal
 
 -- no bytes are no digits

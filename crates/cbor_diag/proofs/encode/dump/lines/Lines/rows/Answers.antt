@@ -1,7 +1,7 @@
 use Rattle.std.proofs.Common.{◌∙◌, Some, None, arith}
 use Rattle.std.proofs.lemmas.Str.Pattern.{split_once_first, split_parts}
-use Rattle.cbor_diag.specs.Passes.{held}
-use Rattle.cbor_diag.proofs.EmbeddedDumps.{rows_end, rows_more, utf8_after}
+use Rattle.cbor_diag.specs.mirror.Passes.{held}
+use Rattle.cbor_diag.proofs.dump.EmbeddedDumps.{rows_end, rows_more, utf8_after}
 use Rattle.cbor_diag.proofs.encode.dump.lines.Lines.rows.Goals as goal
 
 pub rows-preserved : goal.rows-preserved

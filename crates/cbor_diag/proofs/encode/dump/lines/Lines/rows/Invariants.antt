@@ -5,8 +5,8 @@ use Rattle.std.specs.List.{AllByRecursion, flat_map}
 use Rattle.cbor_notes.specs.Columns.{IsPlain}
 use Rattle.cbor_notes.specs.Layout.{DumpLine, line_text}
 use Rattle.cbor_diag.specs.Dump.{note_line, row}
-use Rattle.cbor_diag.specs.Passes.{taken, held, room, step}
-use Rattle.cbor_diag.proofs.EmbeddedDumps.{RowsLeft}
+use Rattle.cbor_diag.specs.mirror.Passes.{taken, held, room, step}
+use Rattle.cbor_diag.proofs.dump.EmbeddedDumps.{RowsLeft}
 use Rattle.cbor_diag.proofs.encode.dump.lines.Lines.rows.Given as goal
 
 -- where the text is that of such lines, those that are left and those that were taken are the whole

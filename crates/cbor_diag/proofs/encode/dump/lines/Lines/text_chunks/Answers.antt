@@ -3,7 +3,7 @@ use Rattle.std.specs.List.{flat_map}
 use Rattle.cbor_diag.specs.View.{text_chunk}
 use Rattle.cbor_diag.specs.WellFormed.{IsTextChunk}
 use Rattle.cbor_diag.specs.Dump.{text_string_lines, text_chunks_lines, break_line}
-use Rattle.cbor_diag.proofs.Walks.{part_here, part_left, chunk_lines, chunks_after}
+use Rattle.cbor_diag.proofs.dump.Walks.{part_here, part_left, chunk_lines, chunks_after}
 use Rattle.cbor_diag.proofs.encode.dump.lines.Lines.text_chunks.Goals as goal
 
 pub text_string-requires-clause-takes : goal.text_string-requires-clause-takes

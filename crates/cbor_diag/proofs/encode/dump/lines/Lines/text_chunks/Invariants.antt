@@ -3,7 +3,7 @@ use Rattle.std.specs.List.{AllByRecursion, flat_map}
 use Rattle.cbor_diag.specs.View.{text_chunk}
 use Rattle.cbor_diag.specs.WellFormed.{IsTextChunk}
 use Rattle.cbor_diag.specs.Dump.{text_string_lines, text_chunks_lines, break_line}
-use Rattle.cbor_diag.proofs.Walks.{Left}
+use Rattle.cbor_diag.proofs.dump.Walks.{Left}
 use Rattle.cbor_diag.proofs.encode.dump.lines.Lines.text_chunks.Given as goal
 
 abbrev pub invariant-chunks : goal.invariant-chunks

@@ -5,9 +5,9 @@ use Rattle.cbor_notes.specs.Layout.{DumpLine}
 use Rattle.cbor_diag.specs.Comments.{text_comment}
 use Rattle.cbor_diag.specs.Dump.{content_lines, piece_line}
 use Rattle.cbor_diag.specs.Pieces.{text_cut, text_pieces}
-use Rattle.cbor_diag.specs.Passes.{CanTake, Took}
-use Rattle.cbor_diag.proofs.Cuts.{text_cuts, some_left}
-use Rattle.cbor_diag.proofs.Walks.{piece_here, pieces_left}
+use Rattle.cbor_diag.specs.mirror.Passes.{CanTake, Took}
+use Rattle.cbor_diag.proofs.dump.Pieces.{text_cuts, some_left}
+use Rattle.cbor_diag.proofs.dump.Walks.{piece_here, pieces_left}
 use Rattle.cbor_diag.proofs.encode.dump.lines.Lines.text_content.Goals as goal
 
 abbrev line_of : ℕ → List ℕ → DumpLine

@@ -4,7 +4,7 @@ use Rattle.std.proofs.Common.{ℕ, List, length}
 use Rattle.cbor_diag.specs.Comments.{text_comment}
 use Rattle.cbor_diag.specs.Pieces.{text_cut, text_pieces}
 use Rattle.cbor_diag.specs.Dump.{content_lines, piece_line}
-use Rattle.cbor_diag.proofs.Walks.{lines_of, Left}
+use Rattle.cbor_diag.proofs.dump.Walks.{lines_of, Left}
 use Rattle.cbor_diag.proofs.encode.dump.lines.Lines.text_content.Given as goal
 
 abbrev pub invariant-pieces : goal.invariant-pieces

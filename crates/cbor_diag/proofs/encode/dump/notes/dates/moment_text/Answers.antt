@@ -2,7 +2,7 @@ use Rattle.std.proofs.Common.{sym}
 use Rattle.std.specs.Int.{w128}
 use Rattle.std.proofs.lemmas.Int.{to_z-of_z}
 use Rattle.cbor_notes.proofs.dates.DateNotes.{datetime_of_epoch-out}
-use Rattle.cbor_diag.proofs.NoteTexts.{moment_fits_64}
+use Rattle.cbor_diag.proofs.dump.NoteTexts.{moment_fits_64}
 use Rattle.cbor_diag.proofs.encode.dump.notes.dates.moment_text.Goals as goal
 
 pub returns-in-Err : goal.returns-in-Err

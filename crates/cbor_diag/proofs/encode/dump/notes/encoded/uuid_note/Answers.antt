@@ -1,7 +1,7 @@
 use Rattle.std.proofs.Common.{ap, ◌∙◌}
 use Rattle.cbor_diag.specs.View.{view, byte_chunk}
-use Rattle.cbor_diag.proofs.NoteTexts.{uuid_is}
-use Rattle.cbor_diag.proofs.Views.{view-ByteString}
+use Rattle.cbor_diag.proofs.dump.NoteTexts.{uuid_is}
+use Rattle.cbor_diag.proofs.shared.Views.{view-ByteString}
 use Rattle.cbor_diag.proofs.encode.dump.notes.encoded.uuid_note.Goals as goal
 
 pub returns-in-Some : goal.returns-in-Some

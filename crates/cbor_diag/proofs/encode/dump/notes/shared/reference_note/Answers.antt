@@ -3,8 +3,8 @@ use Rattle.std.specs.String.{string_bytes}
 use Rattle.cbor_notes.specs.Text.{grouped}
 use Rattle.cbor_diag.specs.Comments.{in_brackets}
 use Rattle.cbor_diag.specs.View.{view}
-use Rattle.cbor_diag.proofs.NoteTexts.{reference_is, unknown_if, unknown_else}
-use Rattle.cbor_diag.proofs.Views.{view-Integer}
+use Rattle.cbor_diag.proofs.dump.NoteTexts.{reference_is, unknown_if, unknown_else}
+use Rattle.cbor_diag.proofs.shared.Views.{view-Integer}
 use Rattle.cbor_diag.proofs.encode.dump.notes.shared.reference_note.Goals as goal
 use Rattle.cbor_diag.proofs.encode.dump.notes.shared.reference_note.Goals.{then-number-known, else-number-known}
 

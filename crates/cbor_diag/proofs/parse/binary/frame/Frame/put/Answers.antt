@@ -1,6 +1,6 @@
 use Rattle.std.proofs.Common.{length, refl}
 use Rattle.cbor_diag.specs.declared.syntax.DataItem.{DataItem}
-use Rattle.cbor_diag.proofs.Frames.{item_joins, pair_joins, wanted_less, wanted_pushed}
+use Rattle.cbor_diag.proofs.turns.Frames.{item_joins, pair_joins, wanted_less, wanted_pushed}
 use Rattle.cbor_diag.proofs.parse.binary.frame.Frame.put.Goals as goal
 
 pub returns-in_ok-push-in-Array-clause-put : goal.returns-in_ok-push-in-Array-clause-put

@@ -1,5 +1,5 @@
 use Rattle.std.proofs.Common.{arith}
-use Rattle.cbor_diag.proofs.Tops.{depth_at}
+use Rattle.cbor_diag.proofs.turns.TopFrames.{depth_at}
 use Rattle.cbor_diag.proofs.parse.binary.stack.Stack.depth.Goals as goal
 
 pub returns : goal.returns

@@ -1,7 +1,7 @@
 use Rattle.std.proofs.Common.{ap}
 use Rattle.std.specs.Prelude.{option_map}
-use Rattle.cbor_diag.specs.Stack.{frame}
-use Rattle.cbor_diag.proofs.Tops.{last_pushed, outer_pushed}
+use Rattle.cbor_diag.specs.mirror.Stack.{frame}
+use Rattle.cbor_diag.proofs.turns.TopFrames.{last_pushed, outer_pushed}
 use Rattle.cbor_diag.proofs.parse.binary.stack.Stack.open.Goals as goal
 
 pub returns-clause-outer : goal.returns-clause-outer

@@ -3,8 +3,8 @@ use Rattle.std.specs.Prelude.{option_map}
 use Rattle.std.proofs.lemmas.Result.{err_from_is_err_and}
 use Rattle.cbor_diag.specs.declared.parse.binary.frame.Frame as code
 use Rattle.cbor_diag.specs.View.{view}
-use Rattle.cbor_diag.specs.Stack.{frame, last_of, IsPutIn}
-use Rattle.cbor_diag.proofs.Tops.{at_last, put_last}
+use Rattle.cbor_diag.specs.mirror.Stack.{frame, last_of, IsPutIn}
+use Rattle.cbor_diag.proofs.turns.TopFrames.{at_last, put_last}
 use Rattle.cbor_diag.proofs.parse.binary.stack.Stack.put.Goals as goal
 
 pub returns-clause-put : goal.returns-clause-put

@@ -1,6 +1,6 @@
 use Rattle.std.proofs.Common.{◌≤◌, ◌++◌, length, codes, decimal, sym, ap, ◌∙◌}
 use Rattle.cbor_diag.specs.Notes.{address_text, family_size}
-use Rattle.cbor_diag.proofs.NoteTexts.{filled_up, prefix_is, size_small}
+use Rattle.cbor_diag.proofs.dump.NoteTexts.{filled_up, prefix_is, size_small}
 use Rattle.cbor_diag.proofs.encode.dump.notes.addresses.Family.prefix_note.Goals as goal
 
 pub returns-in_ok-push_length-in-Some : goal.returns-in_ok-push_length-in-Some

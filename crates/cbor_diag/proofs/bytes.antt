@@ -1,0 +1,17 @@
+pub mod Heads
+pub mod Chunks
+pub mod Shorter
+pub mod Found
+pub mod HeadRefusals
+pub mod StringRefusals
+pub mod MemberRefusals
+pub mod Refusals
+pub mod CutShort
+pub mod Faults
+pub mod ExactlyOne
+pub mod Strict
+pub mod Resolved
+pub mod Sizes
+pub mod Laws
+pub mod Outcomes
+pub mod PublicReaders

@@ -1,0 +1,92 @@
+-- From what reading gives to what an input is.
+use Rattle.std.proofs.Common.{◌≡◌, ◌≢◌, ℕ, ◌+◌, ◌-◌, ◌<◌, ◌≤◌, List, length, take, Ok, Err, refl, ap, ◌∙◌, arith, inl, inr}
+use Rattle.std.proofs.lemmas.List.{length-append, take_at}
+use Rattle.cbor_diag.specs.declared.error.Error.{Error}
+use Rattle.cbor_diag.specs.declared.error.Error.TheVariants as refusal
+use Rattle.cbor_diag.specs.declared.syntax.IntegerWidth.{IntegerWidth}
+use Rattle.cbor_diag.specs.declared.syntax.IntegerWidth.TheVariants.{Unknown, Zero, Eight, Sixteen, ThirtyTwo, SixtyFour}
+use Rattle.cbor_diag.specs.declared.parse.binary.head.ItemHead.{ItemHead}
+use Rattle.cbor_diag.specs.declared.parse.binary.head.ItemHead.TheVariants as item_head
+use Rattle.cbor_diag.specs.Item.{Item}
+use Rattle.cbor_diag.specs.Head.{HeadThen}
+use Rattle.cbor_diag.specs.Refused.{Fault, too_deep, bad_head, bad_text, bad_chunk_head, bad_chunk_text, bad_part}
+use Rattle.cbor_diag.specs.Answer.{spelled, IsOutcome, HasOutcome, HasAnswer, MayWantMemory}
+use Rattle.cbor_diag.specs.Reading.{Fails, HoldsContent, read_head, read_item}
+use Rattle.cbor_diag.proofs.bytes.Heads.{IsBytes, HeadIs, head_takes}
+use Rattle.cbor_diag.proofs.bytes.Found.{item_takes}
+use Rattle.cbor_diag.proofs.bytes.Faults.{fault_takes}
+
+-- ---- where memory may be wanted
+
+number_opens : (major n : ℕ) (w : IntegerWidth) (b rest : List ℕ) → 2 ≤ major → major ≤ 6 → HeadThen major n w b (λ r. r ≡ rest) → MayWantMemory b
+number_opens major n Unknown b rest low high h = absurd h.0
+number_opens major n Zero b rest low high h =
+    let fits : n < 24 = h.0 in
+    rw h.2 (omega arith, omega arith, inl (omega arith))
+number_opens major n Eight b rest low high h = rw h.2 (omega arith, omega arith, inl (omega arith))
+number_opens major n Sixteen b rest low high h = rw h.2 (omega arith, omega arith, inl (omega arith))
+number_opens major n ThirtyTwo b rest low high h = rw h.2 (omega arith, omega arith, inl (omega arith))
+number_opens major n SixtyFour b rest low high h = rw h.2 (omega arith, omega arith, inl (omega arith))
+
+head_opens : (b rest : List ℕ) (h : ItemHead) → HeadIs h b rest → HoldsContent h → MayWantMemory b
+head_opens b rest (item_head.Integer n w) is holds = absurd holds
+head_opens b rest (item_head.Negative n w) is holds = absurd holds
+head_opens b rest (item_head.Bytes n w) is holds = number_opens 2 n w b rest (omega arith) (omega arith) is
+head_opens b rest (item_head.Text n w) is holds = number_opens 3 n w b rest (omega arith) (omega arith) is
+head_opens b rest (item_head.Array n w) is holds = number_opens 4 n w b rest (omega arith) (omega arith) is
+head_opens b rest (item_head.Map n w) is holds = number_opens 5 n w b rest (omega arith) (omega arith) is
+head_opens b rest (item_head.Tag n w) is holds = number_opens 6 n w b rest (omega arith) (omega arith) is
+head_opens b rest (item_head.Float bits w) is holds = absurd holds
+head_opens b rest (item_head.Simple n) is holds = absurd holds
+head_opens b rest item_head.OpenBytes is holds = rw is (omega arith, omega arith, inr (refl, omega arith))
+head_opens b rest item_head.OpenText is holds = rw is (omega arith, omega arith, inr (refl, omega arith))
+head_opens b rest item_head.OpenArray is holds = rw is (omega arith, omega arith, inr (refl, omega arith))
+head_opens b rest item_head.OpenMap is holds = rw is (omega arith, omega arith, inr (refl, omega arith))
+head_opens b rest item_head.Break is holds = absurd holds
+
+-- memory is wanted only behind a head that holds content
+pub memory_opens : (b rest : List ℕ) (h : ItemHead) → IsBytes b → read_head b ≡ Ok (h, rest) → HoldsContent h → MayWantMemory b
+memory_opens b rest h fits e holds = head_opens b rest h (head_takes b rest h fits e).0 holds
+
+-- ---- what the front of an input is
+
+pub found_outcome : (level left : ℕ) (b : List ℕ) (i : Item) (rest : List ℕ) → level + left ≡ 129 → IsBytes b → read_item left b ≡ Ok (i, rest) → IsOutcome level b (spelled i (length b - length rest))
+found_outcome level left b i rest levels fits e =
+    let t = item_takes level left b i rest levels fits e in
+    let counted : length b - length rest ≡ length t.front = omega (arith, length-append t.front rest, ap length t.parts) in
+    let front : take (length b - length rest) b ≡ t.front = ap (λ n. take n b) counted ∙ ap (take (length t.front)) t.parts ∙ take_at t.front rest (length t.front) refl in
+    (omega arith, rw front t.spells)
+
+pub refusal_outcome : (level left : ℕ) (b : List ℕ) (e : Error) → level + left ≡ 129 → IsBytes b → e ≢ refusal.CutShort → Fails e (read_item left b) → HasOutcome level b (Err e)
+refusal_outcome level left b refusal.Memory levels fits other h = tt
+refusal_outcome level left b e levels fits other h = fault_takes level left b e levels fits other h
+
+-- ---- what the whole of an input is
+
+-- the kinds of fault
+abbrev pub IsKind : Error → Type 0
+IsKind refusal.Head = Unit {0}
+IsKind refusal.Utf8 = Unit {0}
+IsKind refusal.TooDeep = Unit {0}
+IsKind _ = ⊥
+
+pub fault_kind : {level : ℕ} {b : List ℕ} {e : Error} → Fault level b e → IsKind e
+fault_kind (too_deep at) = tt
+fault_kind (bad_head le h) = tt
+fault_kind (bad_text le h) = tt
+fault_kind (bad_chunk_head kind rest le i h) = tt
+fault_kind (bad_chunk_text rest le i h) = tt
+fault_kind (bad_part next rest le i h f) = fault_kind f
+
+-- a refusal of the front is one of the whole
+pub front_refusal : (level : ℕ) (b : List ℕ) (e : Error) → HasOutcome level b (Err e) → HasAnswer level b (Err e)
+front_refusal level b refusal.Memory h = tt
+front_refusal level b refusal.Head h = h
+front_refusal level b refusal.Utf8 h = h
+front_refusal level b refusal.TooDeep h = h
+front_refusal level b refusal.CutShort h = absurd (fault_kind h)
+front_refusal level b refusal.Remaining h = absurd (fault_kind h)
+front_refusal level b refusal.OddHex h = absurd (fault_kind h)
+front_refusal level b refusal.BadHex h = absurd (fault_kind h)
+front_refusal level b refusal.Notation h = absurd (fault_kind h)
+front_refusal level b refusal.PastWidth h = absurd (fault_kind h)

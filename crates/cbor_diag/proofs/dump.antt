@@ -1,0 +1,12 @@
+pub mod Pieces
+pub mod Digits
+pub mod Elements
+pub mod Walks
+pub mod Members
+pub mod NoteSteps
+pub mod NoteTexts
+pub mod EmbeddedDumps
+pub mod WholeDumps
+pub mod CommentLines
+pub mod Fits
+pub mod AllDigits

@@ -1,0 +1,3 @@
+pub mod Skips
+pub mod SkippedParts
+pub mod Extents

@@ -1,0 +1,92 @@
+-- From what the reader of notation gives to what its callers read.
+use Rattle.std.proofs.Common.{◌≡◌, ℕ, List, Result, Ok, Err, IfOk, ◌⊎◌, inl, inr, refl, sym, subst, ◌∙◌}
+use Rattle.cbor_diag.specs.declared.error.Error.{Error}
+use Rattle.cbor_diag.specs.declared.error.Error.TheVariants as refusal
+use Rattle.cbor_diag.specs.declared.syntax.DataItem.{DataItem}
+use Rattle.cbor_diag.specs.Item.{Item}
+use Rattle.cbor_diag.specs.View.{view}
+use Rattle.cbor_diag.specs.WellFormed.{deepest}
+use Rattle.cbor_diag.specs.Answer.{GaveItem, RefusedSo}
+use Rattle.cbor_diag.specs.Reading.{Fails, Gives}
+use Rattle.cbor_diag.specs.Notation.{Reads}
+use Rattle.cbor_diag.specs.mirror.NotationReading.{notation_of}
+use Rattle.cbor_diag.specs.NotationRefused.{IsNoNotation, IsAnswered, GaveOrTooDeep}
+use Rattle.cbor_diag.proofs.notation.Again.{notation_again}
+use Rattle.cbor_diag.proofs.notation.OneReading.{one_reading, read_or_too_deep}
+use Rattle.cbor_diag.proofs.notation.sound.Items.{notation_sound}
+
+-- a refusal that was given is want of memory, or what reading answers
+failed : (e : Error) (read : Result Item Error) → Fails e read → (e ≡ refusal.Memory) ⊎ (read ≡ Err e)
+failed refusal.Memory read h = inl refl
+failed refusal.CutShort read h = inr h
+failed refusal.Head read h = inr h
+failed refusal.Utf8 read h = inr h
+failed refusal.TooDeep read h = inr h
+failed refusal.Remaining read h = inr h
+failed refusal.OddHex read h = inr h
+failed refusal.BadHex read h = inr h
+failed refusal.Notation read h = inr h
+failed refusal.PastWidth read h = inr h
+
+no_both : (i : Item) (e : Error) (read : Result Item Error) → read ≡ Ok i → read ≡ Err e → ⊥
+no_both i e read is other = let never : ◌≡◌ {A = Result Item Error} (Ok i) (Err e) = sym is ∙ other in cc never
+
+item_of : (i j : Item) (read : Result Item Error) → read ≡ Ok i → read ≡ Ok j → i ≡ j
+item_of i j read is other = let same : ◌≡◌ {A = Result Item Error} (Ok i) (Ok j) = sym is ∙ other in cc same
+
+error_of : (e d : Error) (read : Result Item Error) → read ≡ Err e → read ≡ Err d → e ≡ d
+error_of e d read is other = let same : ◌≡◌ {A = Result Item Error} (Err e) (Err d) = sym is ∙ other in cc same
+
+module _ (limit : ℕ) (text : List ℕ) where
+  pub text_is : (r : Result DataItem Error) → Gives view r (notation_of limit text) → IfOk r (λ x. Reads limit text (view x))
+  text_is (Ok x) h = subst (IsAnswered limit text) h (notation_sound limit text)
+  text_is (Err e) h = tt
+
+  pub gave_text : (r : Result DataItem Error) (i : Item) → Gives view r (notation_of limit text) → Reads limit text i → GaveItem r i
+  gave_text (Ok x) i h is = item_of (view x) i (notation_of limit text) h (notation_again limit text i is)
+  gave_text (Err e) i h is =
+      elim (failed e (notation_of limit text) h) [
+        | inl memory ↦ memory
+        | inr other ↦ absurd (no_both i e (notation_of limit text) (notation_again limit text i is) other)
+      ]
+
+  pub only_item : (r : Result DataItem Error) → Gives view r (notation_of limit text) → IfOk r (λ x. (other : ℕ) (j : Item) → Reads other text j → j ≡ view x)
+  only_item (Ok x) h = λ other j is. one_reading other limit text j (view x) is (subst (IsAnswered limit text) h (notation_sound limit text))
+  only_item (Err e) h = tt
+
+  pub larger_limit : (r : Result DataItem Error) (larger : ℕ) (i : Item) → Gives view r (notation_of limit text) → Reads larger text i → GaveOrTooDeep limit text r i
+  larger_limit (Ok x) larger i h is =
+      elim (read_or_too_deep limit larger text i is) [
+        | inl deep ↦ absurd (no_both (view x) refusal.TooDeep (notation_of limit text) h deep)
+        | inr found ↦ item_of (view x) i (notation_of limit text) h found
+      ]
+  larger_limit (Err e) larger i h is =
+      elim (failed e (notation_of limit text) h) [
+        | inl memory ↦ inl memory
+        | inr other ↦ elim (read_or_too_deep limit larger text i is) [
+          | inl deep ↦ inr (error_of e refusal.TooDeep (notation_of limit text) other deep, λ read. no_both i refusal.TooDeep (notation_of limit text) (notation_again limit text i read) deep)
+          | inr found ↦ absurd (no_both i e (notation_of limit text) found other)
+        ]
+      ]
+
+pub text_refused : (text : List ℕ) (r : Result DataItem Error) → Gives view r (notation_of deepest text) → RefusedSo r (IsNoNotation text)
+text_refused text (Ok x) h = tt
+text_refused text (Err e) h =
+    elim (failed e (notation_of deepest text) h) [
+      | inl memory ↦ λ ample. absurd (ample memory)
+      | inr is ↦ λ ample. record {
+        says = subst (IsAnswered deepest text) is (notation_sound deepest text);
+        none = λ i read. no_both i e (notation_of deepest text) (notation_again deepest text i read) is;
+        deeper = λ limit i read. elim (read_or_too_deep deepest limit text i read) [
+          | inl deep ↦ error_of e refusal.TooDeep (notation_of deepest text) is deep
+          | inr found ↦ absurd (no_both i e (notation_of deepest text) found is)
+        ];
+      }
+    ]
+
+-- what reading gives a text is what the text is, and a text that it refuses is nothing
+pub is_read : (limit : ℕ) (text : List ℕ) (i : Item) → notation_of limit text ≡ Ok i → Reads limit text i
+is_read limit text i e = subst (IsAnswered limit text) e (notation_sound limit text)
+
+pub not_read : (limit : ℕ) (text : List ℕ) (e : Error) → notation_of limit text ≡ Err e → (i : Item) → ¬ (Reads limit text i)
+not_read limit text e refused i is = no_both i e (notation_of limit text) (notation_again limit text i is) refused

@@ -1,0 +1,4 @@
+pub mod DigitCounts
+pub mod Parts
+pub mod Scalars
+pub mod Forms

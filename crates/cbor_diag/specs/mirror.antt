@@ -1,0 +1,11 @@
+-- Definitions that mirror the code. Only the checker reads them: no contract of a public call needs them.
+pub mod Counting
+pub mod Stack
+pub mod Skipping
+pub mod NotationReading
+pub mod Appends
+pub mod Passes
+pub mod ShownLines
+pub mod HeadErrors
+pub mod LayoutView
+pub mod SameDecides
