@@ -1,5 +1,6 @@
 -- The comments of a dump.
-use Rattle.std.specs.Prelude.{ℕ, ◌+◌, ◌==◌, ◌||◌, ◌&&◌, nat_le, List, [], ◌++◌, drop, codes, decimal, true, false, Option, Some, None, if◌then◌else◌}
+use Rattle.std.specs.Prelude.{ℕ, ◌+◌, ◌==◌, ◌||◌, ◌&&◌, nat_le, List, [], ◌++◌, drop, codes, decimal, true, false}
+use Rattle.std.specs.Prelude.{Option, Some, None, if◌then◌else◌}
 use Rattle.hex.specs.Hex.{encode_lower}
 use Rattle.cbor_notes.specs.TagNames.{tag_name}
 use Rattle.cbor_notes.specs.Text.{grouped, quoted_bytes, escaped_text}

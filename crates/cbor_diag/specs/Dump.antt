@@ -1,6 +1,7 @@
 -- The lines of the dump of an item: what its bytes are, in their order, each with a comment, and notes on what
 -- tags say of their values. How the lines are laid out is no matter of the item.
-use Rattle.std.specs.Prelude.{ℕ, zero, suc, ◌+◌, ◌%◌, ◌*◌, ◌==◌, List, [], ◌∷◌, ◌++◌, length, min, map, Option, Some, None, Ok, Err, unwrap_or, codes, nat_le, take, drop, if◌then◌else◌}
+use Rattle.std.specs.Prelude.{ℕ, zero, suc, ◌+◌, ◌%◌, ◌*◌, ◌==◌, List, [], ◌∷◌, ◌++◌, length, min, map, Option, Some}
+use Rattle.std.specs.Prelude.{None, Ok, Err, unwrap_or, codes, nat_le, take, drop, if◌then◌else◌}
 use Rattle.std.specs.List.{flat_map}
 use Rattle.hex.specs.Hex.{encode_lower}
 use Rattle.cbor_notes.specs.Element.{element_size, element_text}
@@ -16,7 +17,8 @@ use Rattle.cbor_diag.specs.Item.{pair, item_count, pair_count}
 use Rattle.cbor_diag.specs.Head.{opening, break_byte}
 use Rattle.cbor_diag.specs.Written.{encoded_head, encoded_open, encoded_float, encoded_simple}
 use Rattle.cbor_diag.specs.Comments.{unsigned_comment, negative_comment, float_comment, simple_comment, counted_comment}
-use Rattle.cbor_diag.specs.Comments.{tag_comment, bytes_comment, text_comment, empty_comment, break_comment, encoding_below}
+use Rattle.cbor_diag.specs.Comments.{tag_comment, bytes_comment, text_comment, empty_comment, break_comment}
+use Rattle.cbor_diag.specs.Comments.{encoding_below}
 use Rattle.cbor_diag.specs.Embedded.{sequence_at}
 use Rattle.cbor_diag.specs.Notes.{one, value_note}
 use Rattle.cbor_diag.specs.Pieces.{pieces_of, byte_pieces, text_pieces}
@@ -88,7 +90,8 @@ tagged_lines depth encoding (Some t) bytes = sized_lines depth encoding t (eleme
 -- a string of definite length: its head, and its content one deeper
 abbrev pub byte_string_lines : At → Chunk → List DumpLine
 byte_string_lines p c =
-    head_line p.depth (encoded_head 2 (length c.bytes) c.width) (counted_comment (codes "bytes") (Some (length c.bytes)))
+    head_line p.depth (encoded_head 2 (length c.bytes) c.width)
+    (counted_comment (codes "bytes") (Some (length c.bytes)))
     ∷ tagged_lines (p.depth + 1) p.encoding p.tag c.bytes
 
 abbrev pub text_string_lines : ℕ → Chunk → List DumpLine
@@ -130,7 +133,8 @@ count_if_definite n (Some w) = Some n
 count_if_definite n None = None
 
 abbrev pub container_line : ℕ → ℕ → List ℕ → ℕ → Option IntegerWidth → DumpLine
-container_line depth major name n w = head_line depth (encoded_open major n w) (counted_comment name (count_if_definite n w))
+container_line depth major name n w = head_line depth (encoded_open major n w)
+    (counted_comment name (count_if_definite n w))
 
 abbrev pub close_lines : ℕ → Option IntegerWidth → List DumpLine
 close_lines depth (Some w) = []

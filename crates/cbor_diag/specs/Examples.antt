@@ -2,7 +2,8 @@
 use Rattle.std.specs.Prelude.{ℕ, zero, suc, List, [], ◌∷◌, codes, Some, None}
 use Rattle.cbor_diag.specs.declared.syntax.IntegerWidth.TheVariants.{Unknown, Zero, Eight}
 use Rattle.cbor_diag.specs.Item as spec
-use Rattle.cbor_diag.specs.Item.{Chunk, Item, Items, atom, array, tagged, integer, byte_string, text_string, byte_chunks, simple}
+use Rattle.cbor_diag.specs.Item.{Chunk, Item, Items, atom, array, tagged, integer, byte_string, text_string}
+use Rattle.cbor_diag.specs.Item.{byte_chunks, simple}
 use Rattle.cbor_diag.specs.Item.{no_items, item, no_pairs, pair}
 
 abbrev pub small : ℕ → Item
@@ -45,7 +46,8 @@ nested_tag = over_bytes 24 (0xd8 ∷ 0x18 ∷ 0x58 ∷ 0x02 ∷ 0xf8 ∷ 0x14 �
 -- tag 21 over bytes, tag 24 over the same bytes as an item, and tag 23 over them
 abbrev pub encodings : Item
 encodings =
-    tagged 21 Zero (array (item (bytes (255 ∷ [])) (item (over_bytes 24 (0x41 ∷ 255 ∷ [])) (item (tagged 23 Zero (bytes (255 ∷ []))) no_items))) (Some Zero))
+    tagged 21 Zero (array (item (bytes (255 ∷ []))
+    (item (over_bytes 24 (0x41 ∷ 255 ∷ [])) (item (tagged 23 Zero (bytes (255 ∷ []))) no_items))) (Some Zero))
 
 -- an array of so many ones
 abbrev pub repeated : ℕ → Item → Items
@@ -65,7 +67,8 @@ zero_chunk content = record { bytes = content; width = Zero }
 
 -- a map whose key is shared, and its value too, which refers to the key
 abbrev pub shared_values : Item
-shared_values = spec.map (pair (tagged 28 Eight (small 1)) (tagged 28 Eight (tagged 29 Eight (small 0))) no_pairs) (Some Zero)
+shared_values = spec.map (pair (tagged 28 Eight (small 1)) (tagged 28 Eight (tagged 29 Eight (small 0))) no_pairs)
+    (Some Zero)
 
 -- so many arrays of one member, one in the other, and then 1; and as bytes
 abbrev pub nested : ℕ → Item
@@ -86,7 +89,9 @@ open_bytes content = atom (byte_string (chunk content))
 -- texts that are no item in diagnostic notation
 abbrev pub no_items_in_notation : List (List ℕ)
 no_items_in_notation =
-    codes "" ∷ codes "/x" ∷ codes "1_4" ∷ codes "1.5" ∷ codes "-0" ∷ codes "300_0" ∷ codes "18446744073709551616" ∷ codes "32 (1)"
-    ∷ codes "[1,]" ∷ codes "[1,/x/ ]" ∷ codes "[,1]" ∷ codes "{1}" ∷ codes "h' '" ∷ codes "h'0'" ∷ codes "b32'MZXW7==='" ∷ codes "'\\n'"
+    codes "" ∷ codes "/x" ∷ codes "1_4" ∷ codes "1.5" ∷ codes "-0" ∷ codes "300_0" ∷ codes "18446744073709551616"
+    ∷ codes "32 (1)"
+    ∷ codes "[1,]" ∷ codes "[1,/x/ ]" ∷ codes "[,1]" ∷ codes "{1}" ∷ codes "h' '" ∷ codes "h'0'" ∷ codes "b32'MZXW7==='"
+    ∷ codes "'\\n'"
     ∷ codes "h'61' \"b\"" ∷ codes "h''_" ∷ codes "(_''_)" ∷ codes "<<1> >"
     ∷ codes "simple(256)" ∷ codes "simple( 1)" ∷ codes "float'3c0'" ∷ codes "1 2" ∷ []

@@ -1,6 +1,7 @@
 -- The notes of a dump: what is said of a tag's value, below the lines of the value. A note is a text and
 -- texts one deeper that belong to it; where there is none, nothing is said.
-use Rattle.std.specs.Prelude.{ℕ, ◌-◌, ◌%◌, ◌==◌, nat_lt, pos, negsuc, Bool, true, Option, Some, None, List, [], ◌∷◌, ◌++◌, length, replicate, codes, decimal, false, nat_eq, if◌then◌else◌}
+use Rattle.std.specs.Prelude.{ℕ, ◌-◌, ◌%◌, ◌==◌, nat_lt, pos, negsuc, Bool, true, Option, Some, None, List, [], ◌∷◌}
+use Rattle.std.specs.Prelude.{◌++◌, length, replicate, codes, decimal, false, nat_eq, if◌then◌else◌}
 use Rattle.std.specs.List.{ends_with}
 use Rattle.cbor_notes.specs.Address.{ipv4_text, ipv6_text, mac_text}
 use Rattle.cbor_notes.specs.Date.{date_of_epoch, epoch_of_date, datetime_of_epoch}
@@ -12,7 +13,8 @@ use Rattle.cbor_notes.specs.Text.{grouped, escaped_text}
 use Rattle.cbor_notes.specs.Url.{is_url}
 use Rattle.cbor_diag.specs.declared.encode.dump.notes.addresses.Family.{Family}
 use Rattle.cbor_diag.specs.declared.encode.dump.notes.addresses.Family.TheVariants.{IPv4, IPv6}
-use Rattle.cbor_diag.specs.Item.{integer, negative, byte_string, text_string, float, simple, Item, atom, array, Items, no_items, item}
+use Rattle.cbor_diag.specs.Item.{integer, negative, byte_string, text_string, float, simple, Item, atom, array, Items}
+use Rattle.cbor_diag.specs.Item.{no_items, item}
 use Rattle.cbor_diag.specs.Comments.{in_brackets}
 
 -- a note with nothing below it
@@ -28,20 +30,25 @@ word_or word otherwise None = otherwise
 
 -- tag 0: the seconds since 1970 that a text of RFC 3339 names
 abbrev pub datetime_note : Item → List ℕ
-datetime_note (atom (text_string c)) = word_or (codes "epoch") (codes "error parsing datetime") (epoch_of_datetime c.bytes)
+datetime_note (atom (text_string c)) = word_or (codes "epoch") (codes "error parsing datetime")
+    (epoch_of_datetime c.bytes)
 datetime_note _ = codes "invalid type for datetime"
 
 -- tag 1: the moment that seconds since 1970 are; a negative integer is -1 less the number that is encoded
 abbrev pub epoch_datetime_note : Item → List ℕ
-epoch_datetime_note (atom (integer n w)) = word_or (codes "datetime") (codes "offset is too large") (datetime_of_epoch (pos n))
-epoch_datetime_note (atom (negative n w)) = word_or (codes "datetime") (codes "offset is too large") (datetime_of_epoch (negsuc n))
+epoch_datetime_note (atom (integer n w)) =
+    word_or (codes "datetime") (codes "offset is too large") (datetime_of_epoch (pos n))
+epoch_datetime_note (atom (negative n w)) =
+    word_or (codes "datetime") (codes "offset is too large") (datetime_of_epoch (negsuc n))
 epoch_datetime_note (atom (float bits w)) = codes "epoch datetime of a float is not computed"
 epoch_datetime_note _ = codes "invalid type for epoch datetime"
 
 -- tag 100: the date that days since 1970-01-01 are
 abbrev pub epoch_date_note : Item → List ℕ
-epoch_date_note (atom (integer n w)) = word_or (codes "date") (codes "date offset is too large for this tool") (date_of_epoch (pos n))
-epoch_date_note (atom (negative n w)) = word_or (codes "date") (codes "date offset is too large for this tool") (date_of_epoch (negsuc n))
+epoch_date_note (atom (integer n w)) = word_or (codes "date") (codes "date offset is too large for this tool")
+    (date_of_epoch (pos n))
+epoch_date_note (atom (negative n w)) = word_or (codes "date") (codes "date offset is too large for this tool")
+    (date_of_epoch (negsuc n))
 epoch_date_note _ = codes "invalid type for epoch date"
 
 -- tag 1004: the days since 1970-01-01 that a date names
@@ -58,7 +65,8 @@ shareable_note number = in_brackets (codes "reference") (grouped number false)
 -- tag 29: the number of a value, and whether so many are known
 abbrev pub reference_note : ℕ → Item → List ℕ
 reference_note known (atom (integer n w)) =
-    in_brackets (codes "reference-to") (grouped n false) ++ (if nat_lt n known then [] else codes ", not previously shared")
+    in_brackets (codes "reference-to") (grouped n false)
+    ++ (if nat_lt n known then [] else codes ", not previously shared")
 reference_note known _ = codes "invalid type for shared ref"
 
 -- ---- texts that encode something
@@ -139,7 +147,8 @@ zone_at _ = None
 abbrev pub with_length : Family → List ℕ → ℕ → Option (Option (List ℕ)) → List ℕ
 with_length f bytes len (Some (Some zone)) = shown f (codes "address-and-zone-and-prefix")
     (address_text f bytes ++ codes "%" ++ zone ++ codes "/" ++ decimal len)
-with_length f bytes len (Some None) = shown f (codes "address-and-prefix") (address_text f bytes ++ codes "/" ++ decimal len)
+with_length f bytes len (Some None) = shown f (codes "address-and-prefix")
+    (address_text f bytes ++ codes "/" ++ decimal len)
 with_length f bytes len None = invalid_address
 
 -- an address with a zone and no such length

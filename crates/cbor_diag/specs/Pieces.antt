@@ -1,5 +1,6 @@
 -- The pieces of a string, each of which has a line of its own.
-use Rattle.std.specs.Prelude.{ℕ, zero, suc, nat_lt, nat_le, ◌||◌, Bool, List, [], ◌∷◌, length, min, max, take, drop, slice_index, if◌then◌else◌}
+use Rattle.std.specs.Prelude.{ℕ, zero, suc, nat_lt, nat_le, ◌||◌, Bool, List, [], ◌∷◌, length, min, max, take, drop}
+use Rattle.std.specs.Prelude.{slice_index, if◌then◌else◌}
 
 -- cut off a front again and again, at most n times, where `cut` says
 abbrev pub pieces_of : (List ℕ → ℕ) → ℕ → List ℕ → List (List ℕ)

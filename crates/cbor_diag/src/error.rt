@@ -6,8 +6,9 @@ ghost use Rattle.cbor_diag.specs.declared.error.Error.TheVariants.{Memory};
 use std::alloc::{AllocError, AllocFailed};
 use std::fmt;
 
-/// Why a call refuses. A refusal changes no input and carries nothing. Of bytes it is the first that is
-/// met from the left; of hex `OddHex` comes before `BadHex`, and both before those of the bytes.
+/// Why a call refuses. A refusal changes no input and carries nothing. Of bytes it is the first
+/// that is met from the left; of hex `OddHex` comes before `BadHex`, and both before those of the
+/// bytes.
 #[derive(Clone, Copy, PartialEq, Eq, Debug)]
 pub enum Error {
     /// A growth of memory was refused.
@@ -54,7 +55,8 @@ impl Error {
         }
     }
 
-    /// The refusal's number, from 1 for `Memory` to 10 for `PastWidth`, in the order of the variants.
+    /// The refusal's number, from 1 for `Memory` to 10 for `PastWidth`, in the order of the
+    /// variants.
     pub fn number(&self) -> u8
         ensures { result ≡ number_of self.now }
     {

@@ -1,10 +1,13 @@
 //! What the definitions of `specs/` say of a few inputs: each is computed, or shown by a witness,
-//! when the crate is checked, so that a wrong definition does not pass. Nothing calls these functions.
+//! when the crate is checked, so that a wrong definition does not pass. Nothing calls these
+//! functions.
 ghost use Rattle.std.specs.Prelude.{◌≡◌, [], ◌∷◌, ◌++◌, codes, length, map, replicate, Some, None};
 ghost use Rattle.std.specs.List.{AllByRecursion};
 ghost use Rattle.cbor_diag.specs.declared.error.Error.TheVariants.{Head, Utf8, TooDeep};
-ghost use Rattle.cbor_diag.specs.declared.syntax.IntegerWidth.TheVariants.{Unknown, Zero, Eight, Sixteen};
-ghost use Rattle.cbor_diag.specs.Item.{atom, array, simple, integer, byte_chunks, item, no_items, Item, tagged, negative, float, text_chunks};
+ghost use Rattle.cbor_diag.specs.declared.syntax.IntegerWidth.TheVariants.{Unknown, Zero, Eight};
+ghost use Rattle.cbor_diag.specs.declared.syntax.IntegerWidth.TheVariants.{Sixteen};
+ghost use Rattle.cbor_diag.specs.Item.{atom, array, simple, integer, byte_chunks, item, no_items};
+ghost use Rattle.cbor_diag.specs.Item.{Item, tagged, negative, float, text_chunks};
 ghost use Rattle.cbor_diag.specs.WellFormed.{WellFormed};
 ghost use Rattle.cbor_diag.specs.Written.{encoded, encoded_open, resolve};
 ghost use Rattle.cbor_diag.specs.Bytes.{any, strict, Spells};
@@ -18,7 +21,11 @@ ghost use Rattle.cbor_diag.specs.Estimate.{estimated_length};
 ghost use Rattle.cbor_diag.specs.Normal.{normal};
 ghost use Rattle.cbor_diag.specs.Pretty.{pretty};
 ghost use Rattle.cbor_diag.specs.HexText.{strip};
-ghost use Rattle.cbor_diag.specs.Examples.{small, uri, uri_bytes, three, open_map, open_count, resolved_count, over_bytes, nested_tag, encodings, ones, two_chunks, nested, nested_bytes, bytes, no_items_in_notation, open_bytes, shared_values, zero_chunk};
+ghost use Rattle.cbor_diag.specs.Examples.{small, uri, uri_bytes, three, open_map, open_count};
+ghost use Rattle.cbor_diag.specs.Examples.{resolved_count, over_bytes, nested_tag, encodings, ones};
+ghost use Rattle.cbor_diag.specs.Examples.{two_chunks, nested, nested_bytes, bytes};
+ghost use Rattle.cbor_diag.specs.Examples.{no_items_in_notation, open_bytes, shared_values};
+ghost use Rattle.cbor_diag.specs.Examples.{zero_chunk};
 ghost use Rattle.cbor_diag.specs.Turns.{item_turns, cut_spent, fault_spent};
 ghost use Rattle.cbor_diag.specs.Notation.{ReadsUnder};
 ghost use Rattle.cbor_diag.specs.declared.syntax.FloatWidth.TheVariants as float_width;
@@ -43,15 +50,16 @@ pub(crate) fn spelled()
     ensures too_deep { ¬ (Spells any 129 (1 ∷ []) (small 1)) }
 {}
 
-/// Bytes that end before their item does: in a chunk's head, in a string, and where a value is wanted.
+/// Bytes that end before their item does: in a chunk's head, in a string, and where a value is
+/// wanted.
 pub(crate) fn cut()
     ensures head { Cut 1 (0x5f ∷ 0x58 ∷ []) }
     ensures content { Cut 1 (0x63 ∷ 0xff ∷ []) }
     ensures value { Cut 1 (0xa1 ∷ 1 ∷ []) }
 {}
 
-/// Bytes that no item begins with: a break in no container, one in a value's place, a text that is not
-/// UTF-8, a text among the chunks of a byte string, and anything below the deepest level.
+/// Bytes that no item begins with: a break in no container, one in a value's place, a text that is
+/// not UTF-8, a text among the chunks of a byte string, and anything below the deepest level.
 pub(crate) fn faults()
     ensures stray { Fault 1 (0xff ∷ []) Head }
     ensures value { Fault 1 (0xbf ∷ 1 ∷ 2 ∷ 3 ∷ 0xff ∷ []) Head }
@@ -68,11 +76,12 @@ pub(crate) fn well_formed()
     ensures deeper { ¬ (WellFormed 129 (small 1)) }
 {}
 
-/// What is kept of texts with comments, with line ends of both kinds, with carriage returns that end no
-/// line, with a tab and with spaces.
+/// What is kept of texts with comments, with line ends of both kinds, with carriage returns that
+/// end no line, with a tab and with spaces.
 pub(crate) fn hex_text()
     ensures comment { strip (codes "01 # 02 # 03") ≡ codes "01" }
-    ensures lines { strip (codes "82 # two items" ++ 10 ∷ codes "01" ++ 10 ∷ 10 ∷ codes "# the second"
+    ensures lines { strip (codes "82 # two items" ++ 10 ∷ codes "01" ++ 10 ∷ 10
+        ∷ codes "# the second"
         ++ 10 ∷ codes "02" ++ 10 ∷ []) ≡ codes "820102" }
     ensures carriage_return_and_line_feed { strip (codes "01" ++ 13 ∷ 10 ∷ codes "02" ++ 13 ∷ 10 ∷ []) ≡ codes "0102" }
     ensures one_carriage_return_of_two { strip (codes "01" ++ 13 ∷ 13 ∷ 10 ∷ codes "02") ≡ codes "01" ++ 13 ∷ codes "02" }
@@ -88,22 +97,26 @@ pub(crate) fn embedded_items()
     ensures whole { embedded 128 (1 ∷ []) ≡ Some (small 1) }
     ensures too_long { embedded 128 (1 ∷ 2 ∷ []) ≡ None }
     ensures too_deep { embedded 129 (1 ∷ []) ≡ None }
-    ensures in_sequence { sequence 3 (1 ∷ 2 ∷ 255 ∷ []) ≡ (item (small 1) (item (small 2) no_items), 255 ∷ []) }
+    ensures in_sequence { sequence 3 (1 ∷ 2 ∷ 255 ∷ [])
+        ≡ (item (small 1) (item (small 2) no_items), 255 ∷ []) }
 {}
 
-/// Embedded items in texts: one in the bytes of another, a sequence with a rest, bytes that are an item
-/// at level 128 and none at level 129, and encodings that hold through an embedded item, each up to the
-/// next tag that states one.
+/// Embedded items in texts: one in the bytes of another, a sequence with a rest, bytes that are an
+/// item at level 128 and none at level 129, and encodings that hold through an embedded item, each
+/// up to the next tag that states one.
 pub(crate) fn embedded_text()
     ensures nested { compact Base16 1 nested_tag ≡ codes "24_0(<<24_0(<<false>>)>>)" }
     ensures rest { compact Base16 1 (over_bytes 63 (1 ∷ 255 ∷ [])) ≡ codes "63_0(<<1>>h'ff')" }
-    ensures pretty_rest { pretty Base16 1 0 (over_bytes 63 (1 ∷ 255 ∷ [])) ≡ codes "63_0(<<1>> h'ff')" }
+    ensures pretty_rest { pretty Base16 1 0 (over_bytes 63 (1 ∷ 255 ∷ []))
+        ≡ codes "63_0(<<1>> h'ff')" }
     ensures nothing { compact Base16 1 (over_bytes 24 []) ≡ codes "24_0(<<>>)" }
     ensures no_items { compact Base16 1 (over_bytes 63 []) ≡ codes "63_0(<<>>)" }
     ensures deepest { compact Base16 126 (over_bytes 24 (1 ∷ [])) ≡ codes "24_0(<<1>>)" }
     ensures deeper { compact Base16 127 (over_bytes 24 (1 ∷ [])) ≡ codes "24_0(h'01')" }
-    ensures base64 { compact Base16 1 (tagged 22 Zero (bytes (255 ∷ 255 ∷ 255 ∷ []))) ≡ codes "22(b64'////')" }
-    ensures encoding { compact Base16 1 encodings ≡ codes "21([b64'_w',24_0(<<b64'_w'>>),23(h'ff')])" }
+    ensures base64 { compact Base16 1 (tagged 22 Zero (bytes (255 ∷ 255 ∷ 255 ∷ [])))
+        ≡ codes "22(b64'////')" }
+    ensures encoding { compact Base16 1 encodings
+        ≡ codes "21([b64'_w',24_0(<<b64'_w'>>),23(h'ff')])" }
 {}
 
 /// Normal forms: embedded items are encoded anew, and where they are none the bytes stay.
@@ -112,7 +125,8 @@ pub(crate) fn normal_form()
         ≡ 0xd8 ∷ 0x18 ∷ 0x44 ∷ 0xd8 ∷ 0x18 ∷ 0x41 ∷ 0xf4 ∷ [] }
     ensures rest { encoded (normal 1 (over_bytes 63 (0x81 ∷ 1 ∷ 255 ∷ [])))
         ≡ 0xd8 ∷ 0x3f ∷ 0x43 ∷ 0x81 ∷ 1 ∷ 255 ∷ [] }
-    ensures length { normal 1 three ≡ array (item (small 1) (item (small 2) (item (small 3) no_items))) (Some Unknown) }
+    ensures length { normal 1 three ≡ array
+        (item (small 1) (item (small 2) (item (small 3) no_items))) (Some Unknown) }
     ensures open { normal 1 (atom (integer 23 Unknown)) ≡ small 23 }
     ensures past { normal 1 (atom (integer 24 Unknown)) ≡ atom (integer 24 Unknown) }
 {}
@@ -122,25 +136,29 @@ pub(crate) fn pretty_text()
     ensures estimate { estimated_length (ones 11) ≡ 59 }
     ensures row { pretty Base16 1 0 (ones 11) ≡ codes "[1, 1, 1, 1, 1, 1, 1, 1, 1, 1, 1]" }
     ensures lines { pretty Base16 1 0 (array (item (ones 12) no_items) (Some Zero))
-        ≡ codes "[\n    [\n        1,\n        1,\n        1,\n        1,\n        1,\n        1,\n        1,\n        1,\n        1,\n        1,\n        1,\n        1,\n    ],\n]" }
+        ≡ codes
+        "[\n    [\n        1,\n        1,\n        1,\n        1,\n        1,\n        1,\n        1,\n        1,\n        1,\n        1,\n        1,\n        1,\n    ],\n]" }
     ensures open { pretty Base16 1 0 open_map ≡ codes "{_ 1: 2}" }
     ensures empty { pretty Base16 1 0 (atom (byte_chunks [])) ≡ codes "''_" }
 {}
 
-/// Dumps: the one column of digits, a break, strings without content, the pieces of a text, elements, a
-/// sequence with a rest, and shared values, a key before its value.
+/// Dumps: the one column of digits, a break, strings without content, the pieces of a text,
+/// elements, a sequence with a rest, and shared values, a key before its value.
 pub(crate) fn dumps()
     ensures chunks { dump (atom (byte_chunks (zero_chunk (1 ∷ []) ∷ [])))
-        ≡ codes "5f       # bytes(*)\n   41    #   bytes(1)\n      01 #     \"\\x01\"\n   ff    #   break\n" }
+        ≡ codes
+        "5f       # bytes(*)\n   41    #   bytes(1)\n      01 #     \"\\x01\"\n   ff    #   break\n" }
     ensures nothing { dump (bytes []) ≡ codes "40 # bytes(0)\n   #   \"\"\n" }
-    ensures pieces { map length (text_pieces (replicate 15 97 ++ 0xc3 ∷ 0xa9 ∷ replicate 8 98)) ≡ 15 ∷ 10 ∷ [] }
+    ensures pieces { map length (text_pieces (replicate 15 97 ++ 0xc3 ∷ 0xa9 ∷ replicate 8 98)) ≡ 15
+        ∷ 10 ∷ [] }
     ensures elements { dump (over_bytes 72 (0xff ∷ 1 ∷ [])) ≡ codes
         "d8 48    # typed array of i8, tag(72)\n   42    #   bytes(2)\n      ff #     signed(-1)\n      01 #     signed(1)\n" }
     ensures sequence { dump (over_bytes 63 (1 ∷ 255 ∷ [])) ≡ codes
         "d8 3f      # encoded cbor sequence, tag(63)\n   42      #   bytes(2)\n      01ff #     \"\\x01\\xff\"\n           #   encoded cbor data item\n           #     01 # unsigned(1)\n           #   failed to parse remaining encoded cbor sequence\n           #     no item can have this head\n" }
     ensures shared { map (λ line. line.comment) (lines shared_values) ≡ codes "map(1)"
         ∷ codes "shareable value, tag(28)" ∷ codes "unsigned(1)" ∷ codes "reference(0)"
-        ∷ codes "shareable value, tag(28)" ∷ codes "reference to shared value, tag(29)" ∷ codes "unsigned(0)"
+        ∷ codes "shareable value, tag(28)" ∷ codes "reference to shared value, tag(29)"
+        ∷ codes "unsigned(0)"
         ∷ codes "reference-to(0)" ∷ codes "reference(1)" ∷ [] }
 {}
 
@@ -156,8 +174,8 @@ pub(crate) fn turns_taken()
     ensures too_deep { (f : Fault 1 (nested_bytes 128) TooDeep) × (fault_spent f ≡ 128) }
 {}
 
-/// Texts that are an item in diagnostic notation: numbers in bases, with leading zeros and indicators, blanks
-/// round them, tags, and last commas.
+/// Texts that are an item in diagnostic notation: numbers in bases, with leading zeros and
+/// indicators, blanks round them, tags, and last commas.
 pub(crate) fn notation_items()
     ensures blanks { ReadsUnder 1 (codes "/x/ 1 //") (small 1) }
     ensures hex { ReadsUnder 1 (codes "0x18") (atom (integer 24 Unknown)) }
@@ -167,7 +185,8 @@ pub(crate) fn notation_items()
     ensures negative { ReadsUnder 1 (codes "-0x18") (atom (negative 23 Zero)) }
     ensures least { ReadsUnder 1 (codes "-256_0") (atom (negative 255 Eight)) }
     ensures tag { ReadsUnder 2 (codes "32( 1 )") (tagged 32 Unknown (small 1)) }
-    ensures last_comma { ReadsUnder 2 (codes "[1, ]") (array (item (small 1) no_items) (Some Unknown)) }
+    ensures last_comma { ReadsUnder 2 (codes "[1, ]")
+        (array (item (small 1) no_items) (Some Unknown)) }
     ensures no_member { ReadsUnder 1 (codes "[/x/, ]") (array no_items (Some Unknown)) }
     ensures open_map { ReadsUnder 2 (codes "{_ 1: 2}") open_map }
     ensures simple { ReadsUnder 1 (codes "simple(032)") (atom (simple 32)) }
@@ -187,8 +206,9 @@ pub(crate) fn notation_strings()
     ensures no_texts { ReadsUnder 1 (codes "\"\"_") (atom (text_chunks [])) }
 {}
 
-/// Texts that are no item: an indicator past 3, a value past its width, no whitespace behind a last comma, a
-/// blank before the parenthesis of a tag, digits that encode nothing, an escape too many, and others.
+/// Texts that are no item: an indicator past 3, a value past its width, no whitespace behind a last
+/// comma, a blank before the parenthesis of a tag, digits that encode nothing, an escape too many,
+/// and others.
 pub(crate) fn notation_refused()
     ensures { AllByRecursion (λ text. (i : Item) → ¬ (ReadsUnder 128 text i)) no_items_in_notation }
 {}

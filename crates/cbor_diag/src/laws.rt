@@ -12,27 +12,27 @@ ghost use Rattle.cbor_diag.specs.mirror.NotationReading.{notation_of};
 ghost use Rattle.cbor_diag.specs.NotationRefused.{IsAnswered};
 ghost use Rattle.cbor_diag.specs.Notation.{ReadsUnder};
 
-/// Of any bytes, read from any level from 1 to 129, exactly one of three holds: some first bytes spell
-/// one item, they are cut, or they have one fault.
+/// Of any bytes, read from any level from 1 to 129, exactly one of three holds: some first bytes
+/// spell one item, they are cut, or they have one fault.
 pub(crate) fn one_of_three()
     ensures { (level : ℕ) (b : List ℕ) → 1 ≤ level → level ≤ deepest + 1
         → ((i : ℕ) → slice_index b i < 256) → OneOutcome level b }
 {}
 
-/// Which items are embedded in bytes: the one that they spell, and the longest list of items that are
-/// spelled one after the other, behind which the rest begins with none.
+/// Which items are embedded in bytes: the one that they spell, and the longest list of items that
+/// are spelled one after the other, behind which the rest begins with none.
 pub(crate) fn embedded_items()
     ensures { EmbedsExactly }
 {}
 
-/// What a dump says of bytes that embed no item: that they are cut, which fault they have, or that bytes
-/// remain after an item. One of these holds of all other bytes, as `one_of_three` says.
+/// What a dump says of bytes that embed no item: that they are cut, which fault they have, or that
+/// bytes remain after an item. One of these holds of all other bytes, as `one_of_three` says.
 pub(crate) fn embedded_refusals()
     ensures { RejectsExactly }
 {}
 
-/// What is whole of bytes that are cut or have a fault is one number of turns, however it is shown that
-/// they are or have.
+/// What is whole of bytes that are cut or have a fault is one number of turns, however it is shown
+/// that they are or have.
 pub(crate) fn one_count_of_turns()
     ensures cut { (level : ℕ) (b : List ℕ) (c d : Cut level b) → cut_spent c ≡ cut_spent d }
     ensures fault { (level : ℕ) (b : List ℕ) (e : Error) (f g : Fault level b e)
@@ -44,7 +44,8 @@ pub(crate) fn notation_read()
     ensures { (limit : ℕ) (text : List ℕ) → IsAnswered limit text (notation_of limit text) }
 {}
 
-/// A text in diagnostic notation is at most one item, whatever the limits on levels that it is read under.
+/// A text in diagnostic notation is at most one item, whatever the limits on levels that it is read
+/// under.
 pub(crate) fn one_reading()
     ensures { (limit other : ℕ) (text : List ℕ) (i j : Item) → ReadsUnder limit text i
         → ReadsUnder other text j → i ≡ j }

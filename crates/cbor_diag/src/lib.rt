@@ -1,6 +1,7 @@
-//! Reads one CBOR data item (RFC 7049) from bytes, from hex with comments or from diagnostic notation, and
-//! writes it as bytes, as a dump, which is hex with comments, or in diagnostic notation. It keeps how the
-//! item was encoded: the width of each number and length, and which form a length has.
+//! Reads one CBOR data item (RFC 7049) from bytes, from hex with comments or from diagnostic
+//! notation, and writes it as bytes, as a dump, which is hex with comments, or in diagnostic
+//! notation. It keeps how the item was encoded: the width of each number and length, and which form
+//! a length has.
 //!
 //! A call that allocates takes an allocator first and answers `Error::Memory` where a growth was
 //! refused; every other answer depends on the input alone.

@@ -1,5 +1,7 @@
 -- Strings: a content, a chunk or chunks that were read are what the bytes begin with, and the other way round.
-use Rattle.std.proofs.Common.{◌≡◌, ℕ, zero, suc, ◌+◌, ◌*◌, ◌/◌, ◌%◌, ◌<◌, ◌≤◌, ◌≢◌, false, cond, ltb, List, [], ◌∷◌, ◌++◌, length, take, drop, Option, Some, None, Ok, Err, ◌⊎◌, inl, inr, refl, sym, ap, subst, ◌∙◌, append_assoc, arith}
+use Rattle.std.proofs.Common.{◌≡◌, ℕ, zero, suc, ◌+◌, ◌*◌, ◌/◌, ◌%◌, ◌<◌, ◌≤◌, ◌≢◌, false, cond, ltb, List, [], ◌∷◌}
+use Rattle.std.proofs.Common.{◌++◌, length, take, drop, Option, Some, None, Ok, Err, ◌⊎◌, inl, inr, refl, sym, ap}
+use Rattle.std.proofs.Common.{subst, ◌∙◌, append_assoc, arith}
 use Rattle.std.specs.Str.{is_utf8}
 use Rattle.std.proofs.lemmas.Bool.{cases_eq, ltb-false, le-ltb, eq-eqb, ne_eqb}
 use Rattle.std.proofs.lemmas.List.{take_at, drop_at, take-append-drop, length-append, length-take}
@@ -11,16 +13,20 @@ use Rattle.cbor_diag.specs.declared.parse.binary.head.Info.TheVariants as info
 use Rattle.cbor_diag.specs.Item.{Chunk}
 use Rattle.cbor_diag.specs.Head.{break_byte}
 use Rattle.cbor_diag.specs.Bytes.{StringKind, bytes_kind, text_kind, major_of, IsContent, ChunkThen, SpellsChunks}
-use Rattle.cbor_diag.specs.Reading.{Read, ◌>>=◌, read_info, split_at, read_content, chunk_of, read_chunk, more_chunks, read_chunks}
-use Rattle.cbor_diag.proofs.bytes.Heads.{IsBytes, IsBytes-drop, IsBytes-rest, bind_ok, guard_ok, guard_held, ok_is, head_append, head_front, head_shorter, InfoIs, info_takes, head_then, opened}
+use Rattle.cbor_diag.specs.Reading.{Read, ◌>>=◌, read_info, split_at, read_content, chunk_of, read_chunk, more_chunks}
+use Rattle.cbor_diag.specs.Reading.{read_chunks}
+use Rattle.cbor_diag.proofs.bytes.Heads.{IsBytes, IsBytes-drop, IsBytes-rest, bind_ok, guard_ok, guard_held, ok_is}
+use Rattle.cbor_diag.proofs.bytes.Heads.{head_append, head_front, head_shorter, InfoIs, info_takes, head_then, opened}
 
 -- ---- content
 
-split_takes : (n : ℕ) (b s rest : List ℕ) → IsBytes b → split_at n b ≡ Ok (s, rest) → (length s ≡ n) × (b ≡ s ++ rest) × IsBytes rest
+split_takes : (n : ℕ) (b s rest : List ℕ) → IsBytes b → split_at n b ≡ Ok (s, rest)
+    → (length s ≡ n) × (b ≡ s ++ rest) × IsBytes rest
 split_takes n b s rest fits e =
     let g = guard_ok (ltb (length b) n) refusal.CutShort (take n b, drop n b) (s, rest) e in
     let long : n ≤ length b = ltb-false _ _ g.0 in
-    subst (λ (p : List ℕ × List ℕ). (length p.0 ≡ n) × (b ≡ p.0 ++ p.1) × IsBytes p.1) g.1 (omega (arith, length-take n b), sym (take-append-drop n b), IsBytes-drop n b fits)
+    subst (λ (p : List ℕ × List ℕ). (length p.0 ≡ n) × (b ≡ p.0 ++ p.1) × IsBytes p.1) g.1
+    (omega (arith, length-take n b), sym (take-append-drop n b), IsBytes-drop n b fits)
 
 split_again : (s rest : List ℕ) → split_at (length s) (s ++ rest) ≡ Ok (s, rest)
 split_again s rest =
@@ -28,21 +34,28 @@ split_again s rest =
     rw (long, take_at s rest (length s) refl, drop_at s rest (length s) refl) refl
 
 abbrev ContentIs : StringKind → ℕ → IntegerWidth → List ℕ → Chunk → List ℕ → Type 0
-ContentIs kind n w b c rest = (c.width ≡ w) × (length c.bytes ≡ n) × IsContent kind c.bytes × (b ≡ c.bytes ++ rest) × IsBytes rest
+ContentIs kind n w b c rest = (c.width ≡ w) × (length c.bytes ≡ n) × IsContent kind c.bytes × (b ≡ c.bytes ++ rest)
+    × IsBytes rest
 
-pub content_takes : (kind : StringKind) (n : ℕ) (w : IntegerWidth) (b rest : List ℕ) (c : Chunk) → IsBytes b → read_content kind n w b ≡ Ok (c, rest) → (c.width ≡ w) × (length c.bytes ≡ n) × IsContent kind c.bytes × (b ≡ c.bytes ++ rest) × IsBytes rest
+pub content_takes : (kind : StringKind) (n : ℕ) (w : IntegerWidth) (b rest : List ℕ) (c : Chunk) → IsBytes b
+    → read_content kind n w b ≡ Ok (c, rest) → (c.width ≡ w) × (length c.bytes ≡ n) × IsContent kind c.bytes
+    × (b ≡ c.bytes ++ rest) × IsBytes rest
 unfolding read_content
 content_takes bytes_kind n w b rest c fits e =
     let a = bind_ok (split_at n b) (λ s. Ok (record { bytes = s.0; width = w }, s.1)) (c, rest) e in
     let t = split_takes n b a.0.0 a.0.1 fits a.1 in
-    subst (λ (x : Chunk × List ℕ). ContentIs bytes_kind n w b x.0 x.1) (ok_is (record { bytes = a.0.0; width = w }, a.0.1) (c, rest) a.2) (refl, t.0, tt, t.1, t.2)
+    subst (λ (x : Chunk × List ℕ). ContentIs bytes_kind n w b x.0 x.1)
+    (ok_is (record { bytes = a.0.0; width = w }, a.0.1) (c, rest) a.2) (refl, t.0, tt, t.1, t.2)
 content_takes text_kind n w b rest c fits e =
-    let a = bind_ok (split_at n b) (λ s. cond (is_utf8 s.0) (Ok (record { bytes = s.0; width = w }, s.1)) (Err refusal.Utf8)) (c, rest) e in
+    let a = bind_ok (split_at n b) (λ s. cond (is_utf8 s.0) (Ok (record { bytes = s.0; width = w }, s.1))
+    (Err refusal.Utf8)) (c, rest) e in
     let t = split_takes n b a.0.0 a.0.1 fits a.1 in
     let g = guard_held (is_utf8 a.0.0) refusal.Utf8 (record { bytes = a.0.0; width = w }, a.0.1) (c, rest) a.2 in
-    subst (λ (x : Chunk × List ℕ). ContentIs text_kind n w b x.0 x.1) g.1 (refl, t.0, IsUtf8-from_is_utf8 a.0.0 g.0, t.1, t.2)
+    subst (λ (x : Chunk × List ℕ). ContentIs text_kind n w b x.0 x.1) g.1
+    (refl, t.0, IsUtf8-from_is_utf8 a.0.0 g.0, t.1, t.2)
 
-pub content_again : (kind : StringKind) (c : Chunk) (rest : List ℕ) → IsContent kind c.bytes → read_content kind (length c.bytes) c.width (c.bytes ++ rest) ≡ Ok (c, rest)
+pub content_again : (kind : StringKind) (c : Chunk) (rest : List ℕ) → IsContent kind c.bytes
+    → read_content kind (length c.bytes) c.width (c.bytes ++ rest) ≡ Ok (c, rest)
 unfolding read_content
 content_again bytes_kind c rest is = rw (split_again c.bytes rest) refl
 content_again text_kind c rest is = rw (split_again c.bytes rest, is_utf8-from_IsUtf8 c.bytes is) refl
@@ -55,19 +68,30 @@ none_left b = Ok (None, b)
 -- the three ways of a first byte: a break, a head of that kind, and what can't stand there
 pub chunk_ways : (kind : StringKind) (first : ℕ) (b : List ℕ)
     → ((first ≡ break_byte) × (read_chunk kind (first ∷ b) ≡ none_left b))
-    ⊎ (((first ≢ break_byte) × (first / 32 ≡ major_of kind) × (read_chunk kind (first ∷ b) ≡ (read_info (first % 32) b >>= λ i. chunk_of kind i.0 i.1)))
+    ⊎ (((first ≢ break_byte) × (first / 32 ≡ major_of kind)
+    × (read_chunk kind (first ∷ b) ≡ (read_info (first % 32) b >>= λ i. chunk_of kind i.0 i.1)))
     ⊎ ((first ≢ break_byte) × (first / 32 ≢ major_of kind) × (read_chunk kind (first ∷ b) ≡ Err refusal.Head)))
 unfolding read_chunk
 chunk_ways kind first b =
     elim (cases_eq first break_byte) [
       | inl is ↦ inl (is, rw (eq-eqb first break_byte is) refl)
       | inr no_break ↦ elim (cases_eq (first / 32) (major_of kind)) [
-        | inl is ↦ inr (inl (no_break, is, rw (ne_eqb first break_byte no_break, eq-eqb (first / 32) (major_of kind) is) refl))
-        | inr other ↦ inr (inr (no_break, other, rw (ne_eqb first break_byte no_break, ne_eqb (first / 32) (major_of kind) other) refl))
+        | inl is ↦ inr (inl (
+          no_break,
+          is,
+          rw (ne_eqb first break_byte no_break, eq-eqb (first / 32) (major_of kind) is)
+              refl,
+        ))
+        | inr other ↦ inr (inr (
+          no_break,
+          other,
+          rw (ne_eqb first break_byte no_break, ne_eqb (first / 32) (major_of kind) other) refl,
+        ))
       ]
     ]
 
-chunk_of_takes : (kind : StringKind) (bits : ℕ) (i : Info) (tail b rest : List ℕ) (o : Option Chunk) → InfoIs bits i tail b → chunk_of kind i b ≡ Ok (o, rest)
+chunk_of_takes : (kind : StringKind) (bits : ℕ) (i : Info) (tail b rest : List ℕ) (o : Option Chunk)
+    → InfoIs bits i tail b → chunk_of kind i b ≡ Ok (o, rest)
     → (c : Chunk) × (o ≡ Some c) × ChunkThen kind c ((32 * major_of kind + bits) ∷ tail) (λ r. r ≡ rest) × IsBytes rest
 chunk_of_takes kind bits (info.Number n w) tail b rest o is e =
     let a = bind_ok (read_content kind n w b) (λ c. Ok (Some c.0, c.1)) (o, rest) e in
@@ -76,8 +100,20 @@ chunk_of_takes kind bits (info.Number n w) tail b rest o is e =
     let h = head_then (major_of kind) bits n w tail b is in
     let made = ok_is (Some c, a.0.1) (o, rest) a.2 in
     let o-is : Some c ≡ o = ap (λ (p : Option Chunk × List ℕ). p.0) made in
-    let rest-is : a.0.1 ≡ rest = ap (λ (p : Option Chunk × List ℕ). p.1) made in
-    (c, sym o-is, (t.2, rw (t.0, t.1) (h.0, h.1, h.2, (rest, h.3 ∙ t.3 ∙ ap (λ (r : List ℕ). c.bytes ++ r) rest-is, refl))), subst IsBytes rest-is t.4)
+    let rest-is : a.0.1 ≡ rest = ap (λ (p : Option Chunk × List ℕ). p.1) made in (
+      c,
+      sym o-is,
+      (
+        t.2,
+        rw (t.0, t.1) (
+          h.0,
+          h.1,
+          h.2,
+          (rest, h.3 ∙ t.3 ∙ ap (λ (r : List ℕ). c.bytes ++ r) rest-is, refl),
+        ),
+      ),
+      subst IsBytes rest-is t.4,
+    )
 chunk_of_takes kind bits info.Indefinite tail b rest o is e = absurd cc
 
 -- a break and none, or a chunk
@@ -85,12 +121,14 @@ abbrev pub ChunkIs : (kind : StringKind) (b rest : List ℕ) → Option Chunk �
 ChunkIs kind b rest None = b ≡ break_byte ∷ rest
 ChunkIs kind b rest (Some c) = ChunkThen kind c b (λ r. r ≡ rest) × IsBytes rest
 
-pub one_takes : (kind : StringKind) (b rest : List ℕ) (o : Option Chunk) → IsBytes b → read_chunk kind b ≡ Ok (o, rest) → ChunkIs kind b rest o
+pub one_takes : (kind : StringKind) (b rest : List ℕ) (o : Option Chunk) → IsBytes b → read_chunk kind b ≡ Ok (o, rest)
+    → ChunkIs kind b rest o
 unfolding read_chunk
 one_takes kind [] rest o fits e = absurd cc
 one_takes kind (first ∷ b) rest o fits e =
     elim (chunk_ways kind first b) [
-      | inl w ↦ subst (λ (p : Option Chunk × List ℕ). ChunkIs kind (first ∷ b) p.1 p.0) (ok_is (None, b) (o, rest) (sym w.1 ∙ e)) (rw w.0 refl)
+      | inl w ↦ subst (λ (p : Option Chunk × List ℕ). ChunkIs kind (first ∷ b) p.1 p.0)
+          (ok_is (None, b) (o, rest) (sym w.1 ∙ e)) (rw w.0 refl)
       | inr v ↦ elim v [
         | inl w ↦
             let a = bind_ok (read_info (first % 32) b) (λ i. chunk_of kind i.0 i.1) (o, rest) (sym w.2 ∙ e) in
@@ -102,10 +140,12 @@ one_takes kind (first ∷ b) rest o fits e =
       ]
     ]
 
-pub chunk_takes : (kind : StringKind) (b rest : List ℕ) (c : Chunk) → IsBytes b → read_chunk kind b ≡ Ok (Some c, rest) → ChunkThen kind c b (λ r. r ≡ rest) × IsBytes rest
+pub chunk_takes : (kind : StringKind) (b rest : List ℕ) (c : Chunk) → IsBytes b → read_chunk kind b ≡ Ok (Some c, rest)
+    → ChunkThen kind c b (λ r. r ≡ rest) × IsBytes rest
 chunk_takes kind b rest c fits e = one_takes kind b rest (Some c) fits e
 
-pub chunk_again : (kind : StringKind) (b rest : List ℕ) (c : Chunk) → ChunkThen kind c b (λ r. r ≡ rest) → read_chunk kind b ≡ Ok (Some c, rest)
+pub chunk_again : (kind : StringKind) (b rest : List ℕ) (c : Chunk) → ChunkThen kind c b (λ r. r ≡ rest)
+    → read_chunk kind b ≡ Ok (Some c, rest)
 chunk_again kind b rest c h =
     let o = opened (major_of kind) (length c.bytes) c.width b h.1.1 (h.1.0, h.1.1, h.1.2, refl) in
     let r-is : h.1.1 ≡ c.bytes ++ rest = h.1.3.1 ∙ ap (λ (r : List ℕ). c.bytes ++ r) h.1.3.2 in
@@ -119,7 +159,8 @@ chunk_again kind b rest c h =
     ]
 
 -- a chunk whose rest is known has what holds of that rest
-pub chunk_with : (kind : StringKind) (b rest : List ℕ) (c : Chunk) (Rest : List ℕ → Type 0) → ChunkThen kind c b (λ r. r ≡ rest) → Rest rest → ChunkThen kind c b Rest
+pub chunk_with : (kind : StringKind) (b rest : List ℕ) (c : Chunk) (Rest : List ℕ → Type 0)
+    → ChunkThen kind c b (λ r. r ≡ rest) → Rest rest → ChunkThen kind c b Rest
 chunk_with kind b rest c Rest h holds = (h.0, (h.1.0, h.1.1, h.1.2, (h.1.3.0, h.1.3.1, subst Rest (sym h.1.3.2) holds)))
 
 -- the rest of a chunk, which is shorter, and what holds of it
@@ -129,32 +170,49 @@ pub record ChunkParts (kind : StringKind) (b : List ℕ) (c : Chunk) (Rest : Lis
   pub shorter : length rest < length b
   pub holds : Rest rest
 
-pub chunk_parts : (kind : StringKind) (b : List ℕ) (c : Chunk) (Rest : List ℕ → Type 0) → ChunkThen kind c b Rest → ChunkParts kind b c Rest
+pub chunk_parts : (kind : StringKind) (b : List ℕ) (c : Chunk) (Rest : List ℕ → Type 0) → ChunkThen kind c b Rest
+    → ChunkParts kind b c Rest
 chunk_parts kind b c Rest h = record {
   rest = h.1.3.0;
   is = (h.0, (h.1.0, h.1.1, h.1.2, (h.1.3.0, h.1.3.1, refl)));
-  shorter = omega (arith, head_shorter (major_of kind) (length c.bytes) c.width b _ h.1, length-append c.bytes h.1.3.0, ap length h.1.3.1);
+  shorter = omega (
+    arith,
+    head_shorter (major_of kind) (length c.bytes) c.width b _ h.1,
+    length-append c.bytes h.1.3.0,
+    ap length h.1.3.1,
+  );
   holds = h.1.3.2;
 }
 
 -- a chunk with more bytes behind it
-pub chunk_append : (kind : StringKind) (b more : List ℕ) (c : Chunk) (Rest More : List ℕ → Type 0) → ChunkThen kind c b Rest → ((r : List ℕ) → Rest r → More (r ++ more)) → ChunkThen kind c (b ++ more) More
-chunk_append kind b more c Rest More h then =
-    (h.0, head_append (major_of kind) (length c.bytes) c.width b more _ _ h.1 (λ r s. (s.0 ++ more, ap (λ (x : List ℕ). x ++ more) s.1 ∙ append_assoc c.bytes s.0 more, then s.0 s.2)))
+pub chunk_append : (kind : StringKind) (b more : List ℕ) (c : Chunk) (Rest More : List ℕ → Type 0)
+    → ChunkThen kind c b Rest → ((r : List ℕ) → Rest r → More (r ++ more)) → ChunkThen kind c (b ++ more) More
+chunk_append kind b more c Rest More h then = (
+  h.0,
+  head_append (major_of kind) (length c.bytes) c.width b more _ _ h.1
+      (λ r s. (s.0 ++ more, ap (λ (x : List ℕ). x ++ more) s.1 ∙ append_assoc c.bytes s.0 more, then s.0 s.2)),
+)
 
 -- and without them
-pub chunk_front : (kind : StringKind) (b more : List ℕ) (c : Chunk) (Rest Front : List ℕ → Type 0) → ChunkThen kind c b Rest → ((r : List ℕ) → Rest r → (f : List ℕ) × (r ≡ f ++ more) × Front f)
+pub chunk_front : (kind : StringKind) (b more : List ℕ) (c : Chunk) (Rest Front : List ℕ → Type 0)
+    → ChunkThen kind c b Rest → ((r : List ℕ) → Rest r → (f : List ℕ) × (r ≡ f ++ more) × Front f)
     → (front : List ℕ) × (b ≡ front ++ more) × ChunkThen kind c front Front
 chunk_front kind b more c Rest Front h then =
-    let t = head_front (major_of kind) (length c.bytes) c.width b more _ (λ r. (rest : List ℕ) × (r ≡ c.bytes ++ rest) × Front rest) h.1 (λ r s.
-    let f = then s.0 s.2 in
-    (c.bytes ++ f.0, s.1 ∙ ap (λ (x : List ℕ). c.bytes ++ x) f.1 ∙ sym (append_assoc c.bytes f.0 more), (f.0, refl, f.2))) in
+    let t = head_front (major_of kind) (length c.bytes) c.width b more _
+    (λ r. (rest : List ℕ) × (r ≡ c.bytes ++ rest) × Front rest) h.1 (λ r s.
+    let f = then s.0 s.2 in (
+      c.bytes ++ f.0,
+      s.1 ∙ ap (λ (x : List ℕ). c.bytes ++ x) f.1 ∙ sym (append_assoc c.bytes f.0 more),
+      (f.0, refl, f.2),
+    )) in
     (t.0, t.1, (h.0, t.2))
 
 -- ---- chunks
 
-more_takes : (kind : StringKind) (read : List ℕ → Read (List Chunk)) (b r rest : List ℕ) (o : Option Chunk) (cs : List Chunk) → IsBytes b → ChunkIs kind b r o
-    → ((cs : List Chunk) → IsBytes r → read r ≡ Ok (cs, rest) → SpellsChunks kind r cs (break_byte ∷ rest) × IsBytes rest)
+more_takes : (kind : StringKind) (read : List ℕ → Read (List Chunk)) (b r rest : List ℕ) (o : Option Chunk)
+    (cs : List Chunk) → IsBytes b → ChunkIs kind b r o
+    → ((cs : List Chunk) → IsBytes r → read r ≡ Ok (cs, rest) → SpellsChunks kind r cs (break_byte ∷ rest)
+    × IsBytes rest)
     → more_chunks read o r ≡ Ok (cs, rest) → SpellsChunks kind b cs (break_byte ∷ rest) × IsBytes rest
 more_takes kind read b r rest None cs fits is others e =
     let made = ok_is ([], r) (cs, rest) e in
@@ -168,18 +226,21 @@ more_takes kind read b r rest (Some c) cs fits is others e =
     let t = others a.0.0 is.1 (a.1 ∙ ap (λ (x : List ℕ). Ok (a.0.0, x)) rest-is) in
     rw (← cs-is) (chunk_with kind b r c (λ x. SpellsChunks kind x a.0.0 (break_byte ∷ rest)) is.0 t.0, t.1)
 
-pub chunks_takes : (n : ℕ) (kind : StringKind) (b rest : List ℕ) (cs : List Chunk) → IsBytes b → read_chunks n kind b ≡ Ok (cs, rest) → SpellsChunks kind b cs (break_byte ∷ rest) × IsBytes rest
+pub chunks_takes : (n : ℕ) (kind : StringKind) (b rest : List ℕ) (cs : List Chunk) → IsBytes b
+    → read_chunks n kind b ≡ Ok (cs, rest) → SpellsChunks kind b cs (break_byte ∷ rest) × IsBytes rest
 unfolding read_chunks
 chunks_takes zero kind b rest cs fits e = absurd cc
 chunks_takes (suc n) kind b rest cs fits e =
     let a = bind_ok (read_chunk kind b) (λ c. more_chunks (read_chunks n kind) c.0 c.1) (cs, rest) e in
-    more_takes kind (read_chunks n kind) b a.0.1 rest a.0.0 cs fits (one_takes kind b a.0.1 a.0.0 fits a.1) (chunks_takes n kind a.0.1 rest) a.2
+    more_takes kind (read_chunks n kind) b a.0.1 rest a.0.0 cs fits (one_takes kind b a.0.1 a.0.0 fits a.1)
+    (chunks_takes n kind a.0.1 rest) a.2
 
 chunk_at_break : (kind : StringKind) (rest : List ℕ) → read_chunk kind (break_byte ∷ rest) ≡ Ok (None, rest)
 unfolding read_chunk
 chunk_at_break kind rest = refl
 
-pub chunks_again : (n : ℕ) (kind : StringKind) (b rest : List ℕ) (cs : List Chunk) → length b ≤ n → SpellsChunks kind b cs (break_byte ∷ rest) → read_chunks n kind b ≡ Ok (cs, rest)
+pub chunks_again : (n : ℕ) (kind : StringKind) (b rest : List ℕ) (cs : List Chunk) → length b ≤ n
+    → SpellsChunks kind b cs (break_byte ∷ rest) → read_chunks n kind b ≡ Ok (cs, rest)
 unfolding read_chunks
 chunks_again zero kind b rest [] le h = absurd (omega (arith, ap length h))
 chunks_again (suc n) kind b rest [] le h = rw (h, chunk_at_break kind rest) refl
@@ -190,11 +251,14 @@ chunks_again (suc n) kind b rest (c ∷ cs) le h =
     rw (chunk_again kind b p.rest c p.is, chunks_again n kind p.rest rest cs (omega arith) p.holds) refl
 
 -- chunks with more bytes behind their end
-pub chunks_append : (kind : StringKind) (cs : List Chunk) (b end more : List ℕ) → SpellsChunks kind b cs end → SpellsChunks kind (b ++ more) cs (end ++ more)
+pub chunks_append : (kind : StringKind) (cs : List Chunk) (b end more : List ℕ) → SpellsChunks kind b cs end
+    → SpellsChunks kind (b ++ more) cs (end ++ more)
 chunks_append kind [] b end more h = ap (λ (x : List ℕ). x ++ more) h
 chunks_append kind (c ∷ cs) b end more h = chunk_append kind b more c _ _ h (λ r s. chunks_append kind cs r end more s)
 
 -- and without them
-pub chunks_front : (kind : StringKind) (cs : List Chunk) (b end more : List ℕ) → SpellsChunks kind b cs (end ++ more) → (front : List ℕ) × (b ≡ front ++ more) × SpellsChunks kind front cs end
+pub chunks_front : (kind : StringKind) (cs : List Chunk) (b end more : List ℕ) → SpellsChunks kind b cs (end ++ more)
+    → (front : List ℕ) × (b ≡ front ++ more) × SpellsChunks kind front cs end
 chunks_front kind [] b end more h = (end, h, refl)
-chunks_front kind (c ∷ cs) b end more h = chunk_front kind b more c _ (λ r. SpellsChunks kind r cs end) h (λ r s. chunks_front kind cs r end more s)
+chunks_front kind (c ∷ cs) b end more h = chunk_front kind b more c _ (λ r. SpellsChunks kind r cs end) h
+    (λ r s. chunks_front kind cs r end more s)

@@ -1,5 +1,6 @@
 -- Where a head is refused: its bytes are cut short, or no item can have it.
-use Rattle.std.proofs.Common.{◌≡◌, ℕ, zero, suc, ◌+◌, ◌/◌, ◌%◌, ◌^◌, ◌<◌, ◌≤◌, ltb, eqb, List, [], ◌∷◌, length, Result, Ok, Err, ◌⊎◌, inl, inr, refl, subst, arith}
+use Rattle.std.proofs.Common.{◌≡◌, ℕ, zero, suc, ◌+◌, ◌/◌, ◌%◌, ◌^◌, ◌<◌, ◌≤◌, ltb, eqb, List, [], ◌∷◌, length, Result}
+use Rattle.std.proofs.Common.{Ok, Err, ◌⊎◌, inl, inr, refl, subst, arith}
 use Rattle.std.specs.Int.{Width, w8, w16, w32, w64, byte_len, from_be_bytes}
 use Rattle.std.specs.Prelude.{take, drop}
 use Rattle.std.proofs.lemmas.Bool.{cases_eq, ltb-true, ltb-false, lt-ltb, le-ltb, eqb-true, eqb-false, ne_eqb}
@@ -22,25 +23,30 @@ err_is x d e p q = cc
 
 -- the number behind the info is cut short, or the info means nothing
 pub data InfoRefusal : ℕ → List ℕ → Error → Type 0 where
-  cut_info : {bits : ℕ} {b : List ℕ} (k : ℕ) → k ≤ 3 → bits ≡ 24 + k → length b < 2 ^ k → InfoRefusal bits b refusal.CutShort
+  cut_info : {bits : ℕ} {b : List ℕ} (k : ℕ) → k ≤ 3 → bits ≡ 24 + k → length b < 2 ^ k
+      → InfoRefusal bits b refusal.CutShort
   bad_info : {bits : ℕ} {b : List ℕ} → 28 ≤ bits → bits ≤ 30 → InfoRefusal bits b refusal.Head
 
-wide_refused : (w : Width) (width : IntegerWidth) (b : List ℕ) (e : Error) → read_wide w width b ≡ Err e → (length b < byte_len w) × (refusal.CutShort ≡ e)
+wide_refused : (w : Width) (width : IntegerWidth) (b : List ℕ) (e : Error) → read_wide w width b ≡ Err e
+    → (length b < byte_len w) × (refusal.CutShort ≡ e)
 unfolding read_wide
 wide_refused w width b e h =
     elim (bind_err (read_number w b) (λ n. Ok (info.Number n.0 width, n.1)) e h) [
-      | inl short ↦ elim (branch (ltb (length b) (byte_len w)) (Err refusal.CutShort) (Ok (from_be_bytes w (take (byte_len w) b), drop (byte_len w) b)) (Err e) short) [
-        | inl t ↦ (ltb-true _ _ t.0, cc)
-        | inr t ↦ absurd cc
-      ]
+      | inl short ↦ elim (branch (ltb (length b) (byte_len w)) (Err refusal.CutShort)
+          (Ok (from_be_bytes w (take (byte_len w) b), drop (byte_len w) b)) (Err e) short) [
+            | inl t ↦ (ltb-true _ _ t.0, cc)
+            | inr t ↦ absurd cc
+          ]
       | inr read ↦ absurd cc
     ]
 
-wide_cut : (w : Width) (width : IntegerWidth) (b : List ℕ) → length b < byte_len w → read_wide w width b ≡ Err refusal.CutShort
+wide_cut : (w : Width) (width : IntegerWidth) (b : List ℕ) → length b < byte_len w
+    → read_wide w width b ≡ Err refusal.CutShort
 unfolding read_wide
 wide_cut w width b short = rw (lt-ltb (length b) (byte_len w) short) refl
 
-cut_width : (w : Width) (width : IntegerWidth) (bits k : ℕ) (b : List ℕ) (e : Error) → k ≤ 3 → bits ≡ 24 + k → byte_len w ≡ 2 ^ k → read_wide w width b ≡ Err e → InfoRefusal bits b e
+cut_width : (w : Width) (width : IntegerWidth) (bits k : ℕ) (b : List ℕ) (e : Error) → k ≤ 3 → bits ≡ 24 + k
+    → byte_len w ≡ 2 ^ k → read_wide w width b ≡ Err e → InfoRefusal bits b e
 cut_width w width bits k b e small is len h =
     let c = wide_refused w width b e h in
     subst (λ (d : Error). InfoRefusal bits b d) c.1 (cut_info k small is (rw (← len) c.0))
@@ -83,7 +89,15 @@ info_refuses bits b e (cut_info (suc zero) small is short) = rw is (wide_cut w16
 info_refuses bits b e (cut_info (suc (suc zero)) small is short) = rw is (wide_cut w32 ThirtyTwo b short)
 info_refuses bits b e (cut_info (suc (suc (suc zero))) small is short) = rw is (wide_cut w64 SixtyFour b short)
 info_refuses bits b e (cut_info (suc (suc (suc (suc k)))) small is short) = absurd (omega arith)
-info_refuses bits b e (bad_info least most) = rw (le-ltb bits 24 (omega arith), ne_eqb bits 24 (omega arith), ne_eqb bits 25 (omega arith), ne_eqb bits 26 (omega arith), ne_eqb bits 27 (omega arith), ne_eqb bits 31 (omega arith)) refl
+info_refuses bits b e (bad_info least most) =
+    rw (
+      le-ltb bits 24 (omega arith),
+      ne_eqb bits 24 (omega arith),
+      ne_eqb bits 25 (omega arith),
+      ne_eqb bits 26 (omega arith),
+      ne_eqb bits 27 (omega arith),
+      ne_eqb bits 31 (omega arith),
+    ) refl
 
 -- info 31 asks for no bytes
 pub info_opens : (bits : ℕ) (b : List ℕ) → bits ≡ 31 → read_info bits b ≡ Ok (info.Indefinite, b)
@@ -98,7 +112,8 @@ pub data HeadRefusal : List ℕ → Error → Type 0 where
   short_head : {b : List ℕ} → CutHead b → HeadRefusal b refusal.CutShort
   bad_head : {b : List ℕ} → BadHead b → HeadRefusal b refusal.Head
 
-unnumbered_refused : (major : ℕ) (e : Error) → unnumbered major ≡ Err e → ((major ≤ 1) ⊎ (6 ≤ major)) × (refusal.Head ≡ e)
+unnumbered_refused : (major : ℕ) (e : Error) → unnumbered major ≡ Err e
+    → ((major ≤ 1) ⊎ (6 ≤ major)) × (refusal.Head ≡ e)
 unfolding unnumbered
 unnumbered_refused major e h =
     elim (branch (eqb major 2) _ _ (Err e) h) [
@@ -125,14 +140,29 @@ unnumbered_refused major e h =
 
 unnumbered_refuses : (major : ℕ) → (major ≤ 1) ⊎ (6 ≤ major) → (major ≡ 7 → ⊥) → unnumbered major ≡ Err refusal.Head
 unfolding unnumbered
-unnumbered_refuses major (inl small) other = rw (ne_eqb major 2 (omega arith), ne_eqb major 3 (omega arith), ne_eqb major 4 (omega arith), ne_eqb major 5 (omega arith), ne_eqb major 7 other) refl
-unnumbered_refuses major (inr large) other = rw (ne_eqb major 2 (omega arith), ne_eqb major 3 (omega arith), ne_eqb major 4 (omega arith), ne_eqb major 5 (omega arith), ne_eqb major 7 other) refl
+unnumbered_refuses major (inl small) other =
+    rw (
+      ne_eqb major 2 (omega arith),
+      ne_eqb major 3 (omega arith),
+      ne_eqb major 4 (omega arith),
+      ne_eqb major 5 (omega arith),
+      ne_eqb major 7 other,
+    ) refl
+unnumbered_refuses major (inr large) other =
+    rw (
+      ne_eqb major 2 (omega arith),
+      ne_eqb major 3 (omega arith),
+      ne_eqb major 4 (omega arith),
+      ne_eqb major 5 (omega arith),
+      ne_eqb major 7 other,
+    ) refl
 
 info_head : (first : ℕ) (b : List ℕ) (e : Error) → InfoRefusal (first % 32) b e → HeadRefusal (first ∷ b) e
 info_head first b e (cut_info k small is short) = short_head (cut_head k small is short)
 info_head first b e (bad_info least most) = bad_head (no_info least most)
 
-unread : (first : ℕ) (b rest : List ℕ) (i : Info) (e : Error) → IsBytes b → read_info (first % 32) b ≡ Ok (i, rest) → head_of (first / 32) i ≡ Err e → HeadRefusal (first ∷ b) e
+unread : (first : ℕ) (b rest : List ℕ) (i : Info) (e : Error) → IsBytes b → read_info (first % 32) b ≡ Ok (i, rest)
+    → head_of (first / 32) i ≡ Err e → HeadRefusal (first ∷ b) e
 unread first b rest (info.Number n w) e fits read h = absurd cc
 unread first b rest info.Indefinite e fits read h =
     let u = unnumbered_refused (first / 32) e h in
@@ -153,12 +183,15 @@ head_refused (first ∷ b) e fits h =
 
 pub head_cut : (b : List ℕ) → CutHead b → read_head b ≡ Err refusal.CutShort
 unfolding read_head
-head_cut b (cut_head {first = first} {rest = rest} k small is short) = rw (info_refuses (first % 32) rest refusal.CutShort (cut_info k small is short)) refl
+head_cut b (cut_head {first = first} {rest = rest} k small is short) =
+    rw (info_refuses (first % 32) rest refusal.CutShort (cut_info k small is short)) refl
 
 -- the head is refused, or it is a break, which is refused after it
-pub head_bad : (b : List ℕ) → BadHead b → (read_head b ≡ Err refusal.Head) ⊎ ((rest : List ℕ) × (read_head b ≡ Ok (item_head.Break, rest)))
+pub head_bad : (b : List ℕ) → BadHead b → (read_head b ≡ Err refusal.Head)
+    ⊎ ((rest : List ℕ) × (read_head b ≡ Ok (item_head.Break, rest)))
 unfolding read_head unnumbered
-head_bad b (no_info {first = first} {rest = rest} least most) = inl (rw (info_refuses (first % 32) rest refusal.Head (bad_info least most)) refl)
+head_bad b (no_info {first = first} {rest = rest} least most) =
+    inl (rw (info_refuses (first % 32) rest refusal.Head (bad_info least most)) refl)
 head_bad b (no_length {first = first} {rest = rest} is major) =
     elim (cases_eq (first / 32) 7) [
       | inl seven ↦ inr (rest, rw (info_opens (first % 32) rest is, seven) refl)

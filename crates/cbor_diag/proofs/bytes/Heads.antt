@@ -1,11 +1,16 @@
 -- A head that was read is what the bytes begin with, and what begins with a head is read so.
-use Rattle.std.proofs.Common.{◌≡◌, ℕ, zero, suc, ◌+◌, ◌*◌, ◌/◌, ◌%◌, ◌^◌, ◌<◌, ◌≤◌, Bool, true, false, cond, ltb, List, [], ◌∷◌, ◌++◌, length, get_or, take, drop, Result, Ok, Err, ◌⊎◌, inl, inr, refl, sym, ap, subst, ◌∙◌, append_assoc, arith}
+use Rattle.std.proofs.Common.{◌≡◌, ℕ, zero, suc, ◌+◌, ◌*◌, ◌/◌, ◌%◌, ◌^◌, ◌<◌, ◌≤◌, Bool, true, false, cond, ltb, List}
+use Rattle.std.proofs.Common.{[], ◌∷◌, ◌++◌, length, get_or, take, drop, Result, Ok, Err, ◌⊎◌, inl, inr, refl, sym, ap}
+use Rattle.std.proofs.Common.{subst, ◌∙◌, append_assoc, arith}
 use Rattle.std.specs.Int.{Width, w8, w16, w32, w64, byte_len, from_be_bytes, to_be_bytes}
 use Rattle.std.proofs.lemmas.Bool.{cases_lt, cases_eq, ltb-false, lt-ltb, le-ltb, ne_eqb}
-use Rattle.std.proofs.lemmas.List.{take_at, drop_at, take-append-drop, length-append, length-take, get_or-drop, get_or-take, get_or_past}
-use Rattle.std.proofs.lemmas.Nat.{be_bytes_2, be_bytes_4, be_bytes_8, from_be_bytes-to_be_bytes_2, from_be_bytes-to_be_bytes_4, from_be_bytes-to_be_bytes_8}
+use Rattle.std.proofs.lemmas.List.{take_at, drop_at, take-append-drop, length-append, length-take, get_or-drop}
+use Rattle.std.proofs.lemmas.List.{get_or-take, get_or_past}
+use Rattle.std.proofs.lemmas.Nat.{be_bytes_2, be_bytes_4, be_bytes_8, from_be_bytes-to_be_bytes_2}
+use Rattle.std.proofs.lemmas.Nat.{from_be_bytes-to_be_bytes_4, from_be_bytes-to_be_bytes_8}
 use Rattle.cbor_diag.specs.declared.syntax.IntegerWidth.{IntegerWidth}
-use Rattle.cbor_diag.specs.declared.syntax.IntegerWidth.TheVariants.{Unknown, Zero, Eight, Sixteen, ThirtyTwo, SixtyFour}
+use Rattle.cbor_diag.specs.declared.syntax.IntegerWidth.TheVariants.{Unknown, Zero, Eight, Sixteen, ThirtyTwo}
+use Rattle.cbor_diag.specs.declared.syntax.IntegerWidth.TheVariants.{SixtyFour}
 use Rattle.cbor_diag.specs.declared.syntax.FloatWidth.TheVariants as float_width
 use Rattle.cbor_diag.specs.declared.error.Error.{Error}
 use Rattle.cbor_diag.specs.declared.error.Error.TheVariants as refusal
@@ -15,7 +20,8 @@ use Rattle.cbor_diag.specs.declared.parse.binary.head.ItemHead.{ItemHead}
 use Rattle.cbor_diag.specs.declared.parse.binary.head.ItemHead.TheVariants as item_head
 use Rattle.cbor_diag.specs.Head.{FitsStated, head, opening, break_byte, HeadThen}
 use Rattle.cbor_diag.specs.Bytes.{any, SpellsSimple}
-use Rattle.cbor_diag.specs.Reading.{◌>>=◌, read_number, read_wide, read_info, simple_or_float, numbered, unnumbered, head_of, read_head}
+use Rattle.cbor_diag.specs.Reading.{◌>>=◌, read_number, read_wide, read_info, simple_or_float, numbered, unnumbered}
+use Rattle.cbor_diag.specs.Reading.{head_of, read_head}
 
 -- ---- bytes
 
@@ -38,12 +44,14 @@ IsBytes-rest first b h i = h (suc i)
 -- ---- steps
 
 -- the value of a step that did not fail
-pub bind_ok : {A B : Type 0} (r : Result A Error) (f : A → Result B Error) (y : B) → (r >>= f) ≡ Ok y → (x : A) × (r ≡ Ok x) × (f x ≡ Ok y)
+pub bind_ok : {A B : Type 0} (r : Result A Error) (f : A → Result B Error) (y : B) → (r >>= f) ≡ Ok y
+    → (x : A) × (r ≡ Ok x) × (f x ≡ Ok y)
 bind_ok (Ok x) f y e = (x, refl, e)
 bind_ok (Err d) f y e = absurd cc
 
 -- the step that failed
-pub bind_err : {A B : Type 0} (r : Result A Error) (f : A → Result B Error) (e : Error) → (r >>= f) ≡ Err e → (r ≡ Err e) ⊎ ((x : A) × (r ≡ Ok x) × (f x ≡ Err e))
+pub bind_err : {A B : Type 0} (r : Result A Error) (f : A → Result B Error) (e : Error) → (r >>= f) ≡ Err e
+    → (r ≡ Err e) ⊎ ((x : A) × (r ≡ Ok x) × (f x ≡ Err e))
 bind_err (Ok x) f e h = inr (x, refl, h)
 bind_err (Err d) f e h = inl cc
 
@@ -122,20 +130,34 @@ guard_held true d x y e = (refl, cc)
 guard_held false d x y e = absurd cc
 
 -- what a number took from the front, where a number of n bytes was read
-pub number_takes : (w : Width) (limit : ℕ) (wide : IsWide w limit) (b : List ℕ) (n : ℕ) (rest : List ℕ) → IsBytes b → read_number w b ≡ Ok (n, rest) → (b ≡ to_be_bytes w n ++ rest) × (n < limit) × IsBytes rest
+pub number_takes : (w : Width) (limit : ℕ) (wide : IsWide w limit) (b : List ℕ) (n : ℕ) (rest : List ℕ) → IsBytes b
+    → read_number w b ≡ Ok (n, rest) → (b ≡ to_be_bytes w n ++ rest) × (n < limit) × IsBytes rest
 number_takes w limit wide b n rest fits e =
-    let g = guard_ok (ltb (length b) (byte_len w)) refusal.CutShort (from_be_bytes w (take (byte_len w) b), drop (byte_len w) b) (n, rest) e in
+    let g = guard_ok (ltb (length b) (byte_len w)) refusal.CutShort
+    (from_be_bytes w (take (byte_len w) b), drop (byte_len w) b) (n, rest) e in
     let long : byte_len w ≤ length b = ltb-false _ _ g.0 in
     let n-is : from_be_bytes w (take (byte_len w) b) ≡ n = ap (λ (p : ℕ × List ℕ). p.0) g.1 in
     let rest-is : drop (byte_len w) b ≡ rest = ap (λ (p : ℕ × List ℕ). p.1) g.1 in
-    let front : to_be_bytes w n ≡ take (byte_len w) b = rw (← n-is) (wide.back (take (byte_len w) b) (omega (arith, length-take (byte_len w) b)) (IsBytes-take (byte_len w) b fits)) in
-    (rw (front, ← rest-is) (sym (take-append-drop (byte_len w) b)), rw (← n-is) (wide.below (take (byte_len w) b) (IsBytes-take (byte_len w) b fits)), rw (← rest-is) (IsBytes-drop (byte_len w) b fits))
+    let front : to_be_bytes w n ≡ take (byte_len w) b =
+    rw (← n-is) (wide.back (take (byte_len w) b) (omega (arith, length-take (byte_len w) b))
+    (IsBytes-take (byte_len w) b fits)) in (
+      rw (front, ← rest-is) (sym (take-append-drop (byte_len w) b)),
+      rw (← n-is) (wide.below (take (byte_len w) b) (IsBytes-take (byte_len w) b fits)),
+      rw (← rest-is) (IsBytes-drop (byte_len w) b fits),
+    )
 
-pub number_again : (w : Width) (limit : ℕ) (wide : IsWide w limit) (n : ℕ) (rest : List ℕ) → n < limit → read_number w (to_be_bytes w n ++ rest) ≡ Ok (n, rest)
+pub number_again : (w : Width) (limit : ℕ) (wide : IsWide w limit) (n : ℕ) (rest : List ℕ) → n < limit
+    → read_number w (to_be_bytes w n ++ rest) ≡ Ok (n, rest)
 number_again w limit wide n rest lt =
     let len = wide.len n in
-    let long : ltb (length (to_be_bytes w n ++ rest)) (byte_len w) ≡ false = le-ltb _ _ (omega (arith, length-append (to_be_bytes w n) rest)) in
-    rw (long, take_at (to_be_bytes w n) rest (byte_len w) len, drop_at (to_be_bytes w n) rest (byte_len w) len, wide.again n lt) refl
+    let long : ltb (length (to_be_bytes w n ++ rest)) (byte_len w) ≡ false =
+    le-ltb _ _ (omega (arith, length-append (to_be_bytes w n) rest)) in
+    rw (
+      long,
+      take_at (to_be_bytes w n) rest (byte_len w) len,
+      drop_at (to_be_bytes w n) rest (byte_len w) len,
+      wide.again n lt,
+    ) refl
 
 -- ---- five bits of info
 
@@ -156,7 +178,8 @@ number_bytes Sixteen n = to_be_bytes w16 n
 number_bytes ThirtyTwo n = to_be_bytes w32 n
 number_bytes SixtyFour n = to_be_bytes w64 n
 
-pub head_parts : (major n : ℕ) (w : IntegerWidth) → FitsStated w n → (head major n w ≡ (32 * major + bits_of w n) ∷ number_bytes w n) × (bits_of w n < 28)
+pub head_parts : (major n : ℕ) (w : IntegerWidth) → FitsStated w n
+    → (head major n w ≡ (32 * major + bits_of w n) ∷ number_bytes w n) × (bits_of w n < 28)
 head_parts major n Unknown fits = absurd fits
 head_parts major n Zero fits = (refl, omega arith)
 head_parts major n Eight fits = (refl, omega arith)
@@ -166,50 +189,76 @@ head_parts major n SixtyFour fits = (refl, omega arith)
 
 -- what stands behind five bits of info
 abbrev pub InfoIs : ℕ → Info → List ℕ → List ℕ → Type 0
-InfoIs bits (info.Number n w) b rest = FitsStated w n × (bits ≡ bits_of w n) × (b ≡ number_bytes w n ++ rest) × IsBytes rest
+InfoIs bits (info.Number n w) b rest = FitsStated w n × (bits ≡ bits_of w n) × (b ≡ number_bytes w n ++ rest)
+    × IsBytes rest
 InfoIs bits info.Indefinite b rest = (bits ≡ 31) × (b ≡ rest) × IsBytes rest
 
-wide_takes : (wide_w : Width) (limit : ℕ) (wide : IsWide wide_w limit) (w : IntegerWidth) (b rest : List ℕ) (i : Info) → IsBytes b → read_wide wide_w w b ≡ Ok (i, rest) → (n : ℕ) × (info.Number n w ≡ i) × (n < limit) × (b ≡ to_be_bytes wide_w n ++ rest) × IsBytes rest
+wide_takes : (wide_w : Width) (limit : ℕ) (wide : IsWide wide_w limit) (w : IntegerWidth) (b rest : List ℕ) (i : Info)
+    → IsBytes b → read_wide wide_w w b ≡ Ok (i, rest) → (n : ℕ) × (info.Number n w ≡ i) × (n < limit)
+    × (b ≡ to_be_bytes wide_w n ++ rest) × IsBytes rest
 unfolding read_wide
 wide_takes wide_w limit wide w b rest i fits e =
     let a = bind_ok (read_number wide_w b) (λ n. Ok (info.Number n.0 w, n.1)) (i, rest) e in
     let n : ℕ = a.0.0 in
     let made : (info.Number n w, a.0.1) ≡ (i, rest) = ok_is (info.Number n w, a.0.1) (i, rest) a.2 in
     let rest-is : a.0.1 ≡ rest = ap (λ (p : Info × List ℕ). p.1) made in
-    let t = number_takes wide_w limit wide b n a.0.1 fits a.1 in
-    (n, ap (λ (p : Info × List ℕ). p.0) made, t.1, subst (λ (r : List ℕ). b ≡ to_be_bytes wide_w n ++ r) rest-is t.0, subst IsBytes rest-is t.2)
+    let t = number_takes wide_w limit wide b n a.0.1 fits a.1 in (
+      n,
+      ap (λ (p : Info × List ℕ). p.0) made,
+      t.1,
+      subst (λ (r : List ℕ). b ≡ to_be_bytes wide_w n ++ r) rest-is t.0,
+      subst IsBytes rest-is t.2,
+    )
 
-wide_again : (wide_w : Width) (limit : ℕ) (wide : IsWide wide_w limit) (w : IntegerWidth) (n : ℕ) (rest : List ℕ) → n < limit → read_wide wide_w w (to_be_bytes wide_w n ++ rest) ≡ Ok (info.Number n w, rest)
+wide_again : (wide_w : Width) (limit : ℕ) (wide : IsWide wide_w limit) (w : IntegerWidth) (n : ℕ) (rest : List ℕ)
+    → n < limit → read_wide wide_w w (to_be_bytes wide_w n ++ rest) ≡ Ok (info.Number n w, rest)
 unfolding read_wide
 wide_again wide_w limit wide w n rest lt = rw (number_again wide_w limit wide n rest lt) refl
 
-wide_is : (bits : ℕ) (wide_w : Width) (limit : ℕ) (wide : IsWide wide_w limit) (w : IntegerWidth) (b rest : List ℕ) (i : Info) → IsBytes b → read_wide wide_w w b ≡ Ok (i, rest)
-    → ((n : ℕ) → n < limit → b ≡ to_be_bytes wide_w n ++ rest → IsBytes rest → InfoIs bits (info.Number n w) b rest) → InfoIs bits i b rest
+wide_is : (bits : ℕ) (wide_w : Width) (limit : ℕ) (wide : IsWide wide_w limit) (w : IntegerWidth) (b rest : List ℕ)
+    (i : Info) → IsBytes b → read_wide wide_w w b ≡ Ok (i, rest)
+    → ((n : ℕ) → n < limit → b ≡ to_be_bytes wide_w n ++ rest → IsBytes rest → InfoIs bits (info.Number n w) b rest)
+    → InfoIs bits i b rest
 wide_is bits wide_w limit wide w b rest i fits e found =
     let t = wide_takes wide_w limit wide w b rest i fits e in
     subst (λ (x : Info). InfoIs bits x b rest) t.1 (found t.0 t.2 t.3 t.4)
 
-pub info_takes : (bits : ℕ) (b rest : List ℕ) (i : Info) → IsBytes b → read_info bits b ≡ Ok (i, rest) → InfoIs bits i b rest
+pub info_takes : (bits : ℕ) (b rest : List ℕ) (i : Info) → IsBytes b → read_info bits b ≡ Ok (i, rest)
+    → InfoIs bits i b rest
 unfolding read_info
 info_takes bits b rest i fits e =
     elim (cases_lt bits 24) [
       | inl lt ↦
           let read : done (info.Number bits Zero, b) ≡ Ok (i, rest) = rw (lt-ltb bits 24 lt) at e in
-          subst (λ (p : Info × List ℕ). InfoIs bits p.0 b p.1) (ok_is (info.Number bits Zero, b) (i, rest) read) (lt, refl, refl, fits)
+          subst (λ (p : Info × List ℕ). InfoIs bits p.0 b p.1) (ok_is (info.Number bits Zero, b) (i, rest) read)
+          (lt, refl, refl, fits)
       | inr le ↦ elim (cases_eq bits 24) [
-        | inl is ↦ wide_is bits w8 (2 ^ 8) wide8 Eight b rest i fits (rw is at e) (λ n lt parts others. (lt, is, parts, others))
+        | inl is ↦ wide_is bits w8 (2 ^ 8) wide8 Eight b rest i fits (rw is at e)
+            (λ n lt parts others. (lt, is, parts, others))
         | inr no24 ↦ elim (cases_eq bits 25) [
-          | inl is ↦ wide_is bits w16 (2 ^ 16) wide16 Sixteen b rest i fits (rw is at e) (λ n lt parts others. (lt, is, parts, others))
+          | inl is ↦ wide_is bits w16 (2 ^ 16) wide16 Sixteen b rest i fits (rw is at e)
+              (λ n lt parts others. (lt, is, parts, others))
           | inr no25 ↦ elim (cases_eq bits 26) [
-            | inl is ↦ wide_is bits w32 (2 ^ 32) wide32 ThirtyTwo b rest i fits (rw is at e) (λ n lt parts others. (lt, is, parts, others))
+            | inl is ↦ wide_is bits w32 (2 ^ 32) wide32 ThirtyTwo b rest i fits (rw is at e)
+                (λ n lt parts others. (lt, is, parts, others))
             | inr no26 ↦ elim (cases_eq bits 27) [
-              | inl is ↦ wide_is bits w64 (2 ^ 64) wide64 SixtyFour b rest i fits (rw is at e) (λ n lt parts others. (lt, is, parts, others))
+              | inl is ↦ wide_is bits w64 (2 ^ 64) wide64 SixtyFour b rest i fits (rw is at e)
+                  (λ n lt parts others. (lt, is, parts, others))
               | inr no27 ↦ elim (cases_eq bits 31) [
                 | inl is ↦
                     let read : done (info.Indefinite, b) ≡ Ok (i, rest) = rw is at e in
-                    subst (λ (p : Info × List ℕ). InfoIs bits p.0 b p.1) (ok_is (info.Indefinite, b) (i, rest) read) (is, refl, fits)
+                    subst (λ (p : Info × List ℕ). InfoIs bits p.0 b p.1) (ok_is (info.Indefinite, b) (i, rest) read)
+                    (is, refl, fits)
                 | inr no31 ↦
-                    let wrong : refused {A = Info × List ℕ} refusal.Head ≡ Ok (i, rest) = rw (le-ltb bits 24 le, ne_eqb bits 24 no24, ne_eqb bits 25 no25, ne_eqb bits 26 no26, ne_eqb bits 27 no27, ne_eqb bits 31 no31) at e in
+                    let wrong : refused {A = Info × List ℕ} refusal.Head ≡ Ok (i, rest) =
+                    rw (
+                      le-ltb bits 24 le,
+                      ne_eqb bits 24 no24,
+                      ne_eqb bits 25 no25,
+                      ne_eqb bits 26 no26,
+                      ne_eqb bits 27 no27,
+                      ne_eqb bits 31 no31,
+                    ) at e in
                     absurd cc
               ]
             ]
@@ -218,7 +267,8 @@ info_takes bits b rest i fits e =
       ]
     ]
 
-pub info_again : (w : IntegerWidth) (n : ℕ) (rest : List ℕ) → FitsStated w n → read_info (bits_of w n) (number_bytes w n ++ rest) ≡ Ok (info.Number n w, rest)
+pub info_again : (w : IntegerWidth) (n : ℕ) (rest : List ℕ) → FitsStated w n
+    → read_info (bits_of w n) (number_bytes w n ++ rest) ≡ Ok (info.Number n w, rest)
 unfolding read_info
 info_again Unknown n rest fits = absurd fits
 info_again Zero n rest fits = rw (lt-ltb n 24 fits) refl
@@ -240,8 +290,10 @@ HeadIs (item_head.Map n w) b rest = HeadThen 5 n w b (λ r. r ≡ rest)
 HeadIs (item_head.Tag n w) b rest = HeadThen 6 n w b (λ r. r ≡ rest)
 HeadIs (item_head.Float bits float_width.Unknown) b rest = ⊥
 HeadIs (item_head.Float bits float_width.Sixteen) b rest = (bits < 2 ^ 16) × (b ≡ (249 ∷ to_be_bytes w16 bits) ++ rest)
-HeadIs (item_head.Float bits float_width.ThirtyTwo) b rest = (bits < 2 ^ 32) × (b ≡ (250 ∷ to_be_bytes w32 bits) ++ rest)
-HeadIs (item_head.Float bits float_width.SixtyFour) b rest = (bits < 2 ^ 64) × (b ≡ (251 ∷ to_be_bytes w64 bits) ++ rest)
+HeadIs (item_head.Float bits float_width.ThirtyTwo) b rest = (bits < 2 ^ 32)
+    × (b ≡ (250 ∷ to_be_bytes w32 bits) ++ rest)
+HeadIs (item_head.Float bits float_width.SixtyFour) b rest = (bits < 2 ^ 64)
+    × (b ≡ (251 ∷ to_be_bytes w64 bits) ++ rest)
 HeadIs (item_head.Simple n) b rest = (x : List ℕ) × (b ≡ x ++ rest) × SpellsSimple any x n
 HeadIs item_head.OpenBytes b rest = b ≡ opening 2 ∷ rest
 HeadIs item_head.OpenText b rest = b ≡ opening 3 ∷ rest
@@ -250,18 +302,26 @@ HeadIs item_head.OpenMap b rest = b ≡ opening 5 ∷ rest
 HeadIs item_head.Break b rest = b ≡ break_byte ∷ rest
 
 -- a head with more bytes behind it
-pub head_append : (major n : ℕ) (w : IntegerWidth) (b more : List ℕ) (Rest More : List ℕ → Type 0) → HeadThen major n w b Rest → ((r : List ℕ) → Rest r → More (r ++ more)) → HeadThen major n w (b ++ more) More
-head_append major n w b more Rest More h then = (h.0, h.1 ++ more, ap (λ (x : List ℕ). x ++ more) h.2 ∙ append_assoc (head major n w) h.1 more, then h.1 h.3)
+pub head_append : (major n : ℕ) (w : IntegerWidth) (b more : List ℕ) (Rest More : List ℕ → Type 0)
+    → HeadThen major n w b Rest → ((r : List ℕ) → Rest r → More (r ++ more)) → HeadThen major n w (b ++ more) More
+head_append major n w b more Rest More h then =
+    (h.0, h.1 ++ more, ap (λ (x : List ℕ). x ++ more) h.2 ∙ append_assoc (head major n w) h.1 more, then h.1 h.3)
 
 -- and without them
-pub head_front : (major n : ℕ) (w : IntegerWidth) (b more : List ℕ) (Rest Front : List ℕ → Type 0) → HeadThen major n w b Rest → ((r : List ℕ) → Rest r → (f : List ℕ) × (r ≡ f ++ more) × Front f)
+pub head_front : (major n : ℕ) (w : IntegerWidth) (b more : List ℕ) (Rest Front : List ℕ → Type 0)
+    → HeadThen major n w b Rest → ((r : List ℕ) → Rest r → (f : List ℕ) × (r ≡ f ++ more) × Front f)
     → (front : List ℕ) × (b ≡ front ++ more) × HeadThen major n w front Front
 head_front major n w b more Rest Front h then =
-    let t = then h.1 h.3 in
-    (head major n w ++ t.0, h.2 ∙ ap (λ (x : List ℕ). head major n w ++ x) t.1 ∙ sym (append_assoc (head major n w) t.0 more), (h.0, t.0, refl, t.2))
+    let t = then h.1 h.3 in (
+      head major n w ++ t.0,
+      h.2 ∙ ap (λ (x : List ℕ). head major n w ++ x) t.1
+          ∙ sym (append_assoc (head major n w) t.0 more),
+      (h.0, t.0, refl, t.2),
+    )
 
 -- what follows a head is shorter
-pub head_shorter : (major n : ℕ) (w : IntegerWidth) (b : List ℕ) (Rest : List ℕ → Type 0) (h : HeadThen major n w b Rest) → length h.1 < length b
+pub head_shorter : (major n : ℕ) (w : IntegerWidth) (b : List ℕ) (Rest : List ℕ → Type 0)
+    (h : HeadThen major n w b Rest) → length h.1 < length b
 head_shorter major n w b Rest h =
     let p = head_parts major n w h.0 in
     rw (h.2, p.0) (omega (arith, length-append (number_bytes w n) h.1))
@@ -275,7 +335,8 @@ pub record Opened (major n : ℕ) (w : IntegerWidth) (b rest : List ℕ) : Type 
   pub bits_are : first % 32 < 28
   pub info_is : read_info (first % 32) tail ≡ Ok (info.Number n w, rest)
 
-pub opened : (major n : ℕ) (w : IntegerWidth) (b rest : List ℕ) → HeadThen major n w b (λ r. r ≡ rest) → Opened major n w b rest
+pub opened : (major n : ℕ) (w : IntegerWidth) (b rest : List ℕ) → HeadThen major n w b (λ r. r ≡ rest)
+    → Opened major n w b rest
 opened major n w b rest h =
     let p = head_parts major n w h.0 in
     let bits : ℕ = bits_of w n in
@@ -283,19 +344,22 @@ opened major n w b rest h =
     record {
       first = 32 * major + bits;
       tail = number_bytes w n ++ rest;
-      parts = h.2 ∙ ap (λ (x : List ℕ). x ++ h.1) p.0 ∙ ap (λ (x : List ℕ). (32 * major + bits) ∷ (number_bytes w n ++ x)) h.3;
+      parts = h.2 ∙ ap (λ (x : List ℕ). x ++ h.1) p.0
+          ∙ ap (λ (x : List ℕ). (32 * major + bits) ∷ (number_bytes w n ++ x)) h.3;
       major_is = omega (arith, p.1);
       bits_are = omega (arith, p.1);
       info_is = rw bits-is (info_again w n rest h.0);
     }
 
-pub head_again : (major n : ℕ) (w : IntegerWidth) (b rest : List ℕ) → major ≤ 7 → HeadThen major n w b (λ r. r ≡ rest) → read_head b ≡ Ok (numbered major n w, rest)
+pub head_again : (major n : ℕ) (w : IntegerWidth) (b rest : List ℕ) → major ≤ 7 → HeadThen major n w b (λ r. r ≡ rest)
+    → read_head b ≡ Ok (numbered major n w, rest)
 unfolding read_head
 head_again major n w b rest le h =
     let o = opened major n w b rest h in
     ap read_head o.parts ∙ rw (o.info_is, o.major_is) refl
 
-pub open_again : (major : ℕ) (h : ItemHead) (rest : List ℕ) → major ≤ 7 → unnumbered major ≡ Ok h → read_head (opening major ∷ rest) ≡ Ok (h, rest)
+pub open_again : (major : ℕ) (h : ItemHead) (rest : List ℕ) → major ≤ 7 → unnumbered major ≡ Ok h
+    → read_head (opening major ∷ rest) ≡ Ok (h, rest)
 unfolding read_head read_info
 open_again major h rest le e =
     let bits-are : (32 * major + 31) % 32 ≡ 31 = omega arith in
@@ -303,17 +367,23 @@ open_again major h rest le e =
     rw (bits-are, major-is, e) refl
 
 -- a number behind the first byte is a head
-pub head_then : (major bits n : ℕ) (w : IntegerWidth) (b rest : List ℕ) → InfoIs bits (info.Number n w) b rest → HeadThen major n w ((32 * major + bits) ∷ b) (λ r. r ≡ rest)
+pub head_then : (major bits n : ℕ) (w : IntegerWidth) (b rest : List ℕ) → InfoIs bits (info.Number n w) b rest
+    → HeadThen major n w ((32 * major + bits) ∷ b) (λ r. r ≡ rest)
 head_then major bits n w b rest i =
     let p = head_parts major n w i.0 in
     let is : (32 * major + bits) ∷ b ≡ head major n w ++ rest = rw (i.1, i.2, p.0) refl in
     (i.0, rest, is, refl)
 
 -- simple values and floats
-simple_takes : (bits n : ℕ) (w : IntegerWidth) (b rest : List ℕ) → InfoIs bits (info.Number n w) b rest → HeadIs (simple_or_float n w) ((224 + bits) ∷ b) rest
+simple_takes : (bits n : ℕ) (w : IntegerWidth) (b rest : List ℕ) → InfoIs bits (info.Number n w) b rest
+    → HeadIs (simple_or_float n w) ((224 + bits) ∷ b) rest
 simple_takes bits n Unknown b rest i = absurd i.0
 simple_takes bits n Zero b rest i = ((224 + n) ∷ [], rw (i.1, i.2) refl, inl (i.0, refl))
-simple_takes bits n Eight b rest i = (248 ∷ n ∷ [], rw (i.1, i.2) (ap (λ (x : List ℕ). 248 ∷ (x ++ rest)) (byte_of n i.0)), inr (i.0, refl))
+simple_takes bits n Eight b rest i = (
+  248 ∷ n ∷ [],
+  rw (i.1, i.2) (ap (λ (x : List ℕ). 248 ∷ (x ++ rest)) (byte_of n i.0)),
+  inr (i.0, refl),
+)
 simple_takes bits n Sixteen b rest i = (i.0, rw (i.1, i.2) refl)
 simple_takes bits n ThirtyTwo b rest i = (i.0, rw (i.1, i.2) refl)
 simple_takes bits n SixtyFour b rest i = (i.0, rw (i.1, i.2) refl)
@@ -330,21 +400,33 @@ at_majors P a b c d e f g h (suc (suc (suc (suc (suc (suc zero)))))) le = g
 at_majors P a b c d e f g h (suc (suc (suc (suc (suc (suc (suc zero))))))) le = h
 at_majors P a b c d e f g h (suc (suc (suc (suc (suc (suc (suc (suc m)))))))) le = absurd (omega arith)
 
-numbered_takes : (bits n : ℕ) (w : IntegerWidth) (b rest : List ℕ) → InfoIs bits (info.Number n w) b rest → (major : ℕ) → major ≤ 7 → HeadIs (numbered major n w) ((32 * major + bits) ∷ b) rest
+numbered_takes : (bits n : ℕ) (w : IntegerWidth) (b rest : List ℕ) → InfoIs bits (info.Number n w) b rest → (major : ℕ)
+    → major ≤ 7 → HeadIs (numbered major n w) ((32 * major + bits) ∷ b) rest
 unfolding numbered
 numbered_takes bits n w b rest i =
-    at_majors (λ m. HeadIs (numbered m n w) ((32 * m + bits) ∷ b) rest) (head_then 0 bits n w b rest i) (head_then 1 bits n w b rest i) (head_then 2 bits n w b rest i) (head_then 3 bits n w b rest i) (head_then 4 bits n w b rest i) (head_then 5 bits n w b rest i) (head_then 6 bits n w b rest i) (simple_takes bits n w b rest i)
+    at_majors (λ m. HeadIs (numbered m n w) ((32 * m + bits) ∷ b) rest) (head_then 0 bits n w b rest i)
+    (head_then 1 bits n w b rest i) (head_then 2 bits n w b rest i) (head_then 3 bits n w b rest i)
+    (head_then 4 bits n w b rest i) (head_then 5 bits n w b rest i) (head_then 6 bits n w b rest i)
+    (simple_takes bits n w b rest i)
 
-unnumbered_takes : (b rest : List ℕ) (h : ItemHead) → b ≡ rest → (major : ℕ) → major ≤ 7 → unnumbered major ≡ Ok h → HeadIs h ((32 * major + 31) ∷ b) rest
+unnumbered_takes : (b rest : List ℕ) (h : ItemHead) → b ≡ rest → (major : ℕ) → major ≤ 7 → unnumbered major ≡ Ok h
+    → HeadIs h ((32 * major + 31) ∷ b) rest
 unfolding unnumbered
 unnumbered_takes b rest h is =
-    let found : (o : ItemHead) (first : ℕ) → HeadIs o (first ∷ b) rest → done o ≡ Ok h → HeadIs h (first ∷ b) rest = λ o first this e. subst (λ (x : ItemHead). HeadIs x (first ∷ b) rest) (ok_is o h e) this in
+    let found : (o : ItemHead) (first : ℕ) → HeadIs o (first ∷ b) rest → done o ≡ Ok h
+    → HeadIs h (first ∷ b) rest = λ o first this e. subst (λ (x : ItemHead). HeadIs x (first ∷ b) rest)
+    (ok_is o h e) this in
     let behind : (first : ℕ) → (first ∷ b) ≡ first ∷ rest = λ first. ap (λ (r : List ℕ). first ∷ r) is in
-    at_majors (λ m. unnumbered m ≡ Ok h → HeadIs h ((32 * m + 31) ∷ b) rest) (λ e. absurd cc) (λ e. absurd cc) (found item_head.OpenBytes 95 (behind 95)) (found item_head.OpenText 127 (behind 127)) (found item_head.OpenArray 159 (behind 159)) (found item_head.OpenMap 191 (behind 191)) (λ e. absurd cc) (found item_head.Break 255 (behind 255))
+    at_majors (λ m. unnumbered m ≡ Ok h → HeadIs h ((32 * m + 31) ∷ b) rest) (λ e. absurd cc) (λ e. absurd cc)
+    (found item_head.OpenBytes 95 (behind 95)) (found item_head.OpenText 127 (behind 127))
+    (found item_head.OpenArray 159 (behind 159)) (found item_head.OpenMap 191 (behind 191)) (λ e. absurd cc)
+    (found item_head.Break 255 (behind 255))
 
-info_head_takes : (major bits : ℕ) (i : Info) (b rest : List ℕ) (h : ItemHead) → major ≤ 7 → InfoIs bits i b rest → head_of major i ≡ Ok h → HeadIs h ((32 * major + bits) ∷ b) rest
+info_head_takes : (major bits : ℕ) (i : Info) (b rest : List ℕ) (h : ItemHead) → major ≤ 7 → InfoIs bits i b rest
+    → head_of major i ≡ Ok h → HeadIs h ((32 * major + bits) ∷ b) rest
 info_head_takes major bits (info.Number n w) b rest h le is e =
-    subst (λ (x : ItemHead). HeadIs x ((32 * major + bits) ∷ b) rest) (ok_is (numbered major n w) h e) (numbered_takes bits n w b rest is major le)
+    subst (λ (x : ItemHead). HeadIs x ((32 * major + bits) ∷ b) rest) (ok_is (numbered major n w) h e)
+    (numbered_takes bits n w b rest is major le)
 info_head_takes major bits info.Indefinite b rest h le is e =
     rw is.0 (unnumbered_takes b rest h is.1 major le e)
 
@@ -352,7 +434,8 @@ pub info_rest : (bits : ℕ) (i : Info) (b rest : List ℕ) → InfoIs bits i b 
 info_rest bits (info.Number n w) b rest is = is.3
 info_rest bits info.Indefinite b rest is = is.2
 
-pub head_takes : (b rest : List ℕ) (h : ItemHead) → IsBytes b → read_head b ≡ Ok (h, rest) → HeadIs h b rest × IsBytes rest
+pub head_takes : (b rest : List ℕ) (h : ItemHead) → IsBytes b → read_head b ≡ Ok (h, rest)
+    → HeadIs h b rest × IsBytes rest
 unfolding read_head
 head_takes [] rest h fits e = absurd cc
 head_takes (first ∷ b) rest h fits e =
@@ -362,4 +445,5 @@ head_takes (first ∷ b) rest h fits e =
     let byte : first < 256 = fits 0 in
     let whole : 32 * (first / 32) + first % 32 ≡ first = omega arith in
     let found = info_head_takes (first / 32) (first % 32) a.0.0 b a.0.1 c.0 (omega arith) is c.1 in
-    subst (λ (x : ItemHead × List ℕ). HeadIs x.0 (first ∷ b) x.1 × IsBytes x.1) (ok_is (c.0, a.0.1) (h, rest) c.2) (rw whole at found, info_rest (first % 32) a.0.0 b a.0.1 is)
+    subst (λ (x : ItemHead × List ℕ). HeadIs x.0 (first ∷ b) x.1 × IsBytes x.1) (ok_is (c.0, a.0.1) (h, rest) c.2)
+    (rw whole at found, info_rest (first % 32) a.0.0 b a.0.1 is)

@@ -1,10 +1,12 @@
 -- From what reading gives to what an input is.
-use Rattle.std.proofs.Common.{◌≡◌, ◌≢◌, ℕ, ◌+◌, ◌-◌, ◌<◌, ◌≤◌, List, length, take, Ok, Err, refl, ap, ◌∙◌, arith, inl, inr}
+use Rattle.std.proofs.Common.{◌≡◌, ◌≢◌, ℕ, ◌+◌, ◌-◌, ◌<◌, ◌≤◌, List, length, take, Ok, Err, refl, ap, ◌∙◌, arith, inl}
+use Rattle.std.proofs.Common.{inr}
 use Rattle.std.proofs.lemmas.List.{length-append, take_at}
 use Rattle.cbor_diag.specs.declared.error.Error.{Error}
 use Rattle.cbor_diag.specs.declared.error.Error.TheVariants as refusal
 use Rattle.cbor_diag.specs.declared.syntax.IntegerWidth.{IntegerWidth}
-use Rattle.cbor_diag.specs.declared.syntax.IntegerWidth.TheVariants.{Unknown, Zero, Eight, Sixteen, ThirtyTwo, SixtyFour}
+use Rattle.cbor_diag.specs.declared.syntax.IntegerWidth.TheVariants.{Unknown, Zero, Eight, Sixteen, ThirtyTwo}
+use Rattle.cbor_diag.specs.declared.syntax.IntegerWidth.TheVariants.{SixtyFour}
 use Rattle.cbor_diag.specs.declared.parse.binary.head.ItemHead.{ItemHead}
 use Rattle.cbor_diag.specs.declared.parse.binary.head.ItemHead.TheVariants as item_head
 use Rattle.cbor_diag.specs.Item.{Item}
@@ -18,7 +20,8 @@ use Rattle.cbor_diag.proofs.bytes.Faults.{fault_takes}
 
 -- ---- where memory may be wanted
 
-number_opens : (major n : ℕ) (w : IntegerWidth) (b rest : List ℕ) → 2 ≤ major → major ≤ 6 → HeadThen major n w b (λ r. r ≡ rest) → MayWantMemory b
+number_opens : (major n : ℕ) (w : IntegerWidth) (b rest : List ℕ) → 2 ≤ major → major ≤ 6
+    → HeadThen major n w b (λ r. r ≡ rest) → MayWantMemory b
 number_opens major n Unknown b rest low high h = absurd h.0
 number_opens major n Zero b rest low high h =
     let fits : n < 24 = h.0 in
@@ -45,19 +48,24 @@ head_opens b rest item_head.OpenMap is holds = rw is (omega arith, omega arith, 
 head_opens b rest item_head.Break is holds = absurd holds
 
 -- memory is wanted only behind a head that holds content
-pub memory_opens : (b rest : List ℕ) (h : ItemHead) → IsBytes b → read_head b ≡ Ok (h, rest) → HoldsContent h → MayWantMemory b
+pub memory_opens : (b rest : List ℕ) (h : ItemHead) → IsBytes b → read_head b ≡ Ok (h, rest) → HoldsContent h
+    → MayWantMemory b
 memory_opens b rest h fits e holds = head_opens b rest h (head_takes b rest h fits e).0 holds
 
 -- ---- what the front of an input is
 
-pub found_outcome : (level left : ℕ) (b : List ℕ) (i : Item) (rest : List ℕ) → level + left ≡ 129 → IsBytes b → read_item left b ≡ Ok (i, rest) → IsOutcome level b (spelled i (length b - length rest))
+pub found_outcome : (level left : ℕ) (b : List ℕ) (i : Item) (rest : List ℕ) → level + left ≡ 129 → IsBytes b
+    → read_item left b ≡ Ok (i, rest) → IsOutcome level b (spelled i (length b - length rest))
 found_outcome level left b i rest levels fits e =
     let t = item_takes level left b i rest levels fits e in
-    let counted : length b - length rest ≡ length t.front = omega (arith, length-append t.front rest, ap length t.parts) in
-    let front : take (length b - length rest) b ≡ t.front = ap (λ n. take n b) counted ∙ ap (take (length t.front)) t.parts ∙ take_at t.front rest (length t.front) refl in
+    let counted : length b - length rest ≡ length t.front =
+    omega (arith, length-append t.front rest, ap length t.parts) in
+    let front : take (length b - length rest) b ≡ t.front = ap (λ n. take n b) counted
+    ∙ ap (take (length t.front)) t.parts ∙ take_at t.front rest (length t.front) refl in
     (omega arith, rw front t.spells)
 
-pub refusal_outcome : (level left : ℕ) (b : List ℕ) (e : Error) → level + left ≡ 129 → IsBytes b → e ≢ refusal.CutShort → Fails e (read_item left b) → HasOutcome level b (Err e)
+pub refusal_outcome : (level left : ℕ) (b : List ℕ) (e : Error) → level + left ≡ 129 → IsBytes b → e ≢ refusal.CutShort
+    → Fails e (read_item left b) → HasOutcome level b (Err e)
 refusal_outcome level left b refusal.Memory levels fits other h = tt
 refusal_outcome level left b e levels fits other h = fault_takes level left b e levels fits other h
 

@@ -1,5 +1,6 @@
 -- What the readers of bytes promise, from what the front or the whole of an input is.
-use Rattle.std.proofs.Common.{◌≡◌, ◌≢◌, ℕ, ◌<◌, ◌≤◌, List, [], ◌++◌, length, take, drop, Option, Some, None, Result, Ok, Err, ◌↔◌, IfOk, IfSome, OnOk, refl, sym, ap, subst, ◌∙◌, arith, ◌⊎◌, inl, inr}
+use Rattle.std.proofs.Common.{◌≡◌, ◌≢◌, ℕ, ◌<◌, ◌≤◌, List, [], ◌++◌, length, take, drop, Option, Some, None, Result, Ok}
+use Rattle.std.proofs.Common.{Err, ◌↔◌, IfOk, IfSome, OnOk, refl, sym, ap, subst, ◌∙◌, arith, ◌⊎◌, inl, inr}
 use Rattle.std.proofs.lemmas.List.{length-append, length-take, length-drop, take-append-drop, take-append-le, take_all}
 use Rattle.cbor_diag.specs.declared.error.Error.{Error}
 use Rattle.cbor_diag.specs.declared.error.Error.TheVariants as refusal
@@ -10,7 +11,8 @@ use Rattle.cbor_diag.specs.Bytes.{any, strict, Spells}
 use Rattle.cbor_diag.specs.WellFormed.{WellFormed}
 use Rattle.cbor_diag.specs.Written.{encoded}
 use Rattle.cbor_diag.specs.Refused.{Cut, Fault}
-use Rattle.cbor_diag.specs.Answer.{Outcome, spelled, cut, fault, IsOutcome, OneOutcome, HasOutcome, HasAnswer, Gave, GaveItem, GaveRefusal, IsRefused, RefusedSo, size}
+use Rattle.cbor_diag.specs.Answer.{Outcome, spelled, cut, fault, IsOutcome, OneOutcome, HasOutcome, HasAnswer, Gave}
+use Rattle.cbor_diag.specs.Answer.{GaveItem, GaveRefusal, IsRefused, RefusedSo, size}
 use Rattle.cbor_diag.proofs.bytes.Heads.{IsBytes, IsBytes-take}
 use Rattle.cbor_diag.proofs.bytes.Found.{spelled_begins}
 use Rattle.cbor_diag.proofs.bytes.Faults.{fault_append}
@@ -24,7 +26,8 @@ Front = Result (Option (DataItem × ℕ)) Error
 
 -- ---- the front of an input
 
-pub found_is : (b : List ℕ) (r : Front) → HasOutcome 1 b r → IfOk r (λ o. IfSome o (λ x. (1 ≤ x.1) × (x.1 ≤ length b) × Spells any 1 (take x.1 b) (view x.0)))
+pub found_is : (b : List ℕ) (r : Front) → HasOutcome 1 b r
+    → IfOk r (λ o. IfSome o (λ x. (1 ≤ x.1) × (x.1 ≤ length b) × Spells any 1 (take x.1 b) (view x.0)))
 found_is b (Ok (Some x)) h =
     let begins = spelled_begins 1 (take x.1 b) (view x.0) h.1 in
     (omega (arith, length-take x.1 b, ap length begins.parts), h.0, h.1)
@@ -45,7 +48,8 @@ fault_is b (Err e) h = fault_of b e h
 same : (b : List ℕ) (o p : Outcome) → OneOutcome 1 b → IsOutcome 1 b o → IsOutcome 1 b p → p ≡ o
 same b o p one h k = one.only p k ∙ sym (one.only o h)
 
-gave_refusal : (b : List ℕ) (e : Error) → HasOutcome 1 b (Err e) → OneOutcome 1 b → (o : Outcome) → IsOutcome 1 b o → Gave (Err e) o
+gave_refusal : (b : List ℕ) (e : Error) → HasOutcome 1 b (Err e) → OneOutcome 1 b → (o : Outcome) → IsOutcome 1 b o
+    → Gave (Err e) o
 gave_refusal b refusal.Memory h one o k = tt
 gave_refusal b e h one o k = same b (fault e) o one h k
 
@@ -54,11 +58,13 @@ exactly b (Ok (Some x)) h one o k = same b (spelled (view x.0) x.1) o one h k
 exactly b (Ok None) h one o k = same b cut o one h k
 exactly b (Err e) h one o k = gave_refusal b e h one o k
 
-pub fault_stays : (b : List ℕ) (r : Front) → HasOutcome 1 b r → RefusedSo r (λ e. (more : List ℕ) → Fault 1 (b ++ more) e)
+pub fault_stays : (b : List ℕ) (r : Front) → HasOutcome 1 b r
+    → RefusedSo r (λ e. (more : List ℕ) → Fault 1 (b ++ more) e)
 fault_stays b (Ok x) h = tt
 fault_stays b (Err e) h = λ no_memory more. fault_append 1 b more e (fault_of b e h no_memory)
 
-pub found_stays : (b : List ℕ) (r : Front) → HasOutcome 1 b r → IfOk r (λ o. IfSome o (λ x. (more : List ℕ) → IsOutcome 1 (b ++ more) (spelled (view x.0) x.1)))
+pub found_stays : (b : List ℕ) (r : Front) → HasOutcome 1 b r
+    → IfOk r (λ o. IfSome o (λ x. (more : List ℕ) → IsOutcome 1 (b ++ more) (spelled (view x.0) x.1)))
 found_stays b (Ok (Some x)) h = λ more.
     let within : x.1 ≤ length b = h.0 in
     (omega (arith, length-append b more), rw take-append-le h.1)
@@ -74,12 +80,19 @@ refusal_for cut = refusal.CutShort
 refusal_for (fault e) = e
 
 -- what the front of a refused input is, and that it is no whole item
-front_of : (level : ℕ) (b : List ℕ) (e : Error) → IsRefused level b e → (o : Outcome) × IsOutcome level b o × (refusal_for o ≡ e) × ((i : Item) → o ≢ spelled i (length b))
+front_of : (level : ℕ) (b : List ℕ) (e : Error) → IsRefused level b e
+    → (o : Outcome) × IsOutcome level b o × (refusal_for o ≡ e) × ((i : Item) → o ≢ spelled i (length b))
 front_of level b refusal.CutShort h = (cut, h, refl, λ i e. absurd cc)
 front_of level b refusal.Head h = (fault refusal.Head, h, refl, λ i e. absurd cc)
 front_of level b refusal.Utf8 h = (fault refusal.Utf8, h, refl, λ i e. absurd cc)
 front_of level b refusal.TooDeep h = (fault refusal.TooDeep, h, refl, λ i e. absurd cc)
-front_of level b refusal.Remaining h = (spelled h.0 h.1, (omega (arith, h.2), h.3), refl, λ i e. let same_count : h.1 ≡ length b = cc in omega (arith, h.2))
+front_of level b refusal.Remaining h = (
+  spelled h.0 h.1,
+  (omega (arith, h.2), h.3),
+  refl,
+  λ i e. let same_count : h.1
+      ≡ length b = cc in omega (arith, h.2),
+)
 front_of level b refusal.Memory h = absurd h
 front_of level b refusal.OddHex h = absurd h
 front_of level b refusal.BadHex h = absurd h
@@ -89,12 +102,14 @@ front_of level b refusal.PastWidth h = absurd h
 whole_outcome : (level : ℕ) (b : List ℕ) (i : Item) → Spells any level b i → IsOutcome level b (spelled i (length b))
 whole_outcome level b i s = (omega arith, rw (take_all (length b) b (omega arith)) s)
 
-no_refused_item : (level : ℕ) (b : List ℕ) (i : Item) (e : Error) → OneOutcome level b → Spells any level b i → IsRefused level b e → ⊥
+no_refused_item : (level : ℕ) (b : List ℕ) (i : Item) (e : Error) → OneOutcome level b → Spells any level b i
+    → IsRefused level b e → ⊥
 no_refused_item level b i e one s h =
     let f = front_of level b e h in
     f.3 i (one.only f.0 f.1 ∙ sym (one.only (spelled i (length b)) (whole_outcome level b i s)))
 
-one_refusal : (level : ℕ) (b : List ℕ) (e f : Error) → OneOutcome level b → IsRefused level b e → IsRefused level b f → e ≡ f
+one_refusal : (level : ℕ) (b : List ℕ) (e f : Error) → OneOutcome level b → IsRefused level b e → IsRefused level b f
+    → e ≡ f
 one_refusal level b e f one h k =
     let x = front_of level b e h in
     let y = front_of level b f k in
@@ -104,11 +119,13 @@ refused_of : (level : ℕ) (b : List ℕ) (e : Error) → HasAnswer level b (Err
 refused_of level b refusal.Memory h no_memory = absurd (no_memory refl)
 refused_of level b _ h no_memory = h
 
-pub item_is : (level : ℕ) (b : List ℕ) (r : Result DataItem Error) → HasAnswer level b r → IfOk r (λ i. Spells any level b (view i))
+pub item_is : (level : ℕ) (b : List ℕ) (r : Result DataItem Error) → HasAnswer level b r
+    → IfOk r (λ i. Spells any level b (view i))
 item_is level b (Ok x) h = h
 item_is level b (Err e) h = tt
 
-pub refusal_is : (level : ℕ) (b : List ℕ) (r : Result DataItem Error) → HasAnswer level b r → RefusedSo r (IsRefused level b)
+pub refusal_is : (level : ℕ) (b : List ℕ) (r : Result DataItem Error) → HasAnswer level b r
+    → RefusedSo r (IsRefused level b)
 refusal_is level b (Ok x) h = tt
 refusal_is level b (Err e) h = refused_of level b e h
 
@@ -117,9 +134,11 @@ memory_or : (e : Error) → (e ≡ refusal.Memory) ⊎ (e ≢ refusal.Memory)
 memory_or refusal.Memory = inl refl
 memory_or _ = inr (λ e. absurd cc)
 
-pub gave_item : (level : ℕ) (b : List ℕ) (r : Result DataItem Error) → OneOutcome level b → HasAnswer level b r → (i : Item) → Spells any level b i → GaveItem r i
+pub gave_item : (level : ℕ) (b : List ℕ) (r : Result DataItem Error) → OneOutcome level b → HasAnswer level b r
+    → (i : Item) → Spells any level b i → GaveItem r i
 gave_item level b (Ok x) one h i s =
-    let is : spelled (view x) (length b) ≡ spelled i (length b) = one.only _ (whole_outcome level b (view x) h) ∙ sym (one.only _ (whole_outcome level b i s)) in
+    let is : spelled (view x) (length b) ≡ spelled i (length b) = one.only _ (whole_outcome level b (view x) h)
+    ∙ sym (one.only _ (whole_outcome level b i s)) in
     cc
 gave_item level b (Err e) one h i s =
     elim (memory_or e) [
@@ -127,7 +146,8 @@ gave_item level b (Err e) one h i s =
       | inr no_memory ↦ absurd (no_refused_item level b i e one s (refused_of level b e h no_memory))
     ]
 
-pub gave_refused : (level : ℕ) (b : List ℕ) (r : Result DataItem Error) → OneOutcome level b → HasAnswer level b r → (e : Error) → IsRefused level b e → GaveRefusal r e
+pub gave_refused : (level : ℕ) (b : List ℕ) (r : Result DataItem Error) → OneOutcome level b → HasAnswer level b r
+    → (e : Error) → IsRefused level b e → GaveRefusal r e
 gave_refused level b (Ok x) one h e k = no_refused_item level b (view x) e one h k
 gave_refused level b (Err f) one h e k =
     elim (memory_or f) [
@@ -135,7 +155,8 @@ gave_refused level b (Err f) one h e k =
       | inr no_memory ↦ inl (one_refusal level b f e one (refused_of level b f h no_memory) k)
     ]
 
-pub fronts_are_cut : (level : ℕ) (b : List ℕ) (r : Result DataItem Error) → IsBytes b → HasAnswer level b r → OnOk r ((n : ℕ) → n < length b → Cut level (take n b))
+pub fronts_are_cut : (level : ℕ) (b : List ℕ) (r : Result DataItem Error) → IsBytes b → HasAnswer level b r
+    → OnOk r ((n : ℕ) → n < length b → Cut level (take n b))
 fronts_are_cut level b (Ok x) fits h = λ n lt.
     let some : drop n b ≢ [] = λ e. omega (arith, length-drop n b, ap length e) in
     front_cut level (take n b) (drop n b) (view x) (IsBytes-take n b fits) (rw take-append-drop h) some
@@ -143,19 +164,26 @@ fronts_are_cut level b (Err e) fits h = tt
 
 -- ---- what an item that was read is
 
-pub front_well_formed : (b : List ℕ) (r : Front) → IsBytes b → HasOutcome 1 b r → IfOk r (λ o. IfSome o (λ x. WellFormed 1 (view x.0)))
+pub front_well_formed : (b : List ℕ) (r : Front) → IsBytes b → HasOutcome 1 b r
+    → IfOk r (λ o. IfSome o (λ x. WellFormed 1 (view x.0)))
 front_well_formed b (Ok (Some x)) fits h = spells_well 1 (take x.1 b) (view x.0) (IsBytes-take x.1 b fits) h.1
 front_well_formed b (Ok None) fits h = tt
 front_well_formed b (Err e) fits h = tt
 
-pub whole_well_formed : (level : ℕ) (b : List ℕ) (r : Result DataItem Error) → IsBytes b → HasAnswer level b r → IfOk r (λ i. WellFormed level (view i))
+pub whole_well_formed : (level : ℕ) (b : List ℕ) (r : Result DataItem Error) → IsBytes b → HasAnswer level b r
+    → IfOk r (λ i. WellFormed level (view i))
 whole_well_formed level b (Ok x) fits h = spells_well level b (view x) fits h
 whole_well_formed level b (Err e) fits h = tt
 
-pub written_as_read : (level : ℕ) (b : List ℕ) (r : Result DataItem Error) → IsBytes b → HasAnswer level b r → IfOk r (λ i. (encoded (view i) ≡ b) ↔ Spells strict level b (view i))
-written_as_read level b (Ok x) fits h = (encoded_strict level b (view x) fits h, λ s. sym (strict_only level b (view x) s))
+pub written_as_read : (level : ℕ) (b : List ℕ) (r : Result DataItem Error) → IsBytes b → HasAnswer level b r
+    → IfOk r (λ i. (encoded (view i) ≡ b) ↔ Spells strict level b (view i))
+written_as_read level b (Ok x) fits h = (
+  encoded_strict level b (view x) fits h,
+  λ s. sym (strict_only level b (view x) s),
+)
 written_as_read level b (Err e) fits h = tt
 
-pub size_bounded : (level : ℕ) (b : List ℕ) (r : Result DataItem Error) → HasAnswer level b r → IfOk r (λ i. size (view i) ≤ length b)
+pub size_bounded : (level : ℕ) (b : List ℕ) (r : Result DataItem Error) → HasAnswer level b r
+    → IfOk r (λ i. size (view i) ≤ length b)
 size_bounded level b (Ok x) h = items_bound level b (view x) h
 size_bounded level b (Err e) h = tt

@@ -1,17 +1,24 @@
 -- An item that bytes spell has no open width and is well formed. Bytes that are the encoding of what
 -- they spell spell it strictly, and items are written alike just where they are read as one item.
-use Rattle.std.proofs.Common.{◌≡◌, ℕ, suc, ◌+◌, ◌<◌, List, [], ◌∷◌, ◌++◌, length, map, Option, Some, None, Ok, inl, inr, refl, sym, ap, subst, ◌∙◌, arith}
+use Rattle.std.proofs.Common.{◌≡◌, ℕ, suc, ◌+◌, ◌<◌, List, [], ◌∷◌, ◌++◌, length, map, Option, Some, None, Ok, inl, inr}
+use Rattle.std.proofs.Common.{refl, sym, ap, subst, ◌∙◌, arith}
 use Rattle.std.specs.List.{AllByRecursion}
 use Rattle.std.proofs.lemmas.List.{take_at, drop_at}
 use Rattle.cbor_diag.specs.declared.syntax.IntegerWidth.{IntegerWidth}
 use Rattle.cbor_diag.specs.declared.syntax.FloatWidth.{FloatWidth}
 use Rattle.cbor_diag.specs.declared.syntax.FloatWidth.TheVariants as float_width
 use Rattle.cbor_diag.specs.Item as spec
-use Rattle.cbor_diag.specs.Item.{Chunk, Atom, integer, negative, byte_string, text_string, byte_chunks, text_chunks, float, simple, Item, atom, array, tagged, Items, no_items, item, Pairs, no_pairs, pair, item_count, pair_count}
+use Rattle.cbor_diag.specs.Item.{Chunk, Atom, integer, negative, byte_string, text_string, byte_chunks, text_chunks}
+use Rattle.cbor_diag.specs.Item.{float, simple, Item, atom, array, tagged, Items, no_items, item, Pairs, no_pairs, pair}
+use Rattle.cbor_diag.specs.Item.{item_count, pair_count}
 use Rattle.cbor_diag.specs.Head.{FitsWidth, stated, head, opening, break_byte}
-use Rattle.cbor_diag.specs.WellFormed.{FitsFloat, WellFormedAtom, FitsCount, WellFormed, WellFormedItems, WellFormedPairs}
-use Rattle.cbor_diag.specs.Bytes.{StringKind, bytes_kind, text_kind, major_of, IsContent, any, strict, SpellsFloat, ChunkThen, OpenThen, SpellsChunks, SpellsAtom, MembersThen, Spells, SpellsItems, SpellsPairs}
-use Rattle.cbor_diag.specs.Written.{encoded, resolve_chunk, resolve_float, resolve_atom, resolve_count, resolve, resolve_items, resolve_pairs}
+use Rattle.cbor_diag.specs.WellFormed.{FitsFloat, WellFormedAtom, FitsCount, WellFormed, WellFormedItems}
+use Rattle.cbor_diag.specs.WellFormed.{WellFormedPairs}
+use Rattle.cbor_diag.specs.Bytes.{StringKind, bytes_kind, text_kind, major_of, IsContent, any, strict, SpellsFloat}
+use Rattle.cbor_diag.specs.Bytes.{ChunkThen, OpenThen, SpellsChunks, SpellsAtom, MembersThen, Spells, SpellsItems}
+use Rattle.cbor_diag.specs.Bytes.{SpellsPairs}
+use Rattle.cbor_diag.specs.Written.{encoded, resolve_chunk, resolve_float, resolve_atom, resolve_count, resolve}
+use Rattle.cbor_diag.specs.Written.{resolve_items, resolve_pairs}
 use Rattle.cbor_diag.specs.Reading.{read_item}
 use Rattle.cbor_diag.proofs.bytes.Heads.{IsBytes, IsBytes-take, IsBytes-drop, ok_is}
 use Rattle.cbor_diag.proofs.bytes.Chunks.{chunk_parts}
@@ -41,7 +48,8 @@ record Inner (n : ℕ) (w : Option IntegerWidth) (b : List ℕ) (Members : List 
   pub unchanged : resolve_count w n ≡ w
   pub holds : Members rest end
 
-inner : (major n : ℕ) (w : Option IntegerWidth) (b : List ℕ) (Members : List ℕ → List ℕ → Type 0) → MembersThen major n w b Members → Inner n w b Members
+inner : (major n : ℕ) (w : Option IntegerWidth) (b : List ℕ) (Members : List ℕ → List ℕ → Type 0)
+    → MembersThen major n w b Members → Inner n w b Members
 inner major n (Some w) b Members h = record {
   front = head major n w;
   rest = h.1;
@@ -51,14 +59,26 @@ inner major n (Some w) b Members h = record {
   unchanged = ap (λ (v : IntegerWidth). Some v) (stated_is w n h.0);
   holds = h.3;
 }
-inner major n None b Members h = record { front = opening major ∷ []; rest = h.0; end = break_byte ∷ []; parts = h.1; count = tt; unchanged = refl; holds = h.2 }
+inner major n None b Members h = record {
+  front = opening major ∷ [];
+  rest = h.0;
+  end = break_byte ∷ [];
+  parts =
+      h.1;
+  count = tt;
+  unchanged = refl;
+  holds = h.2;
+}
 
 -- ---- a spelled item has no open width
 
-chunk_resolved : (kind : StringKind) (c : Chunk) (b : List ℕ) (Rest : List ℕ → Type 0) → ChunkThen kind c b Rest → resolve_chunk c ≡ c
-chunk_resolved kind c b Rest h = ap {B = Chunk} (λ (w : IntegerWidth). record { bytes = c.bytes; width = w }) (stated_is c.width (length c.bytes) h.1.0)
+chunk_resolved : (kind : StringKind) (c : Chunk) (b : List ℕ) (Rest : List ℕ → Type 0) → ChunkThen kind c b Rest
+    → resolve_chunk c ≡ c
+chunk_resolved kind c b Rest h = ap {B = Chunk} (λ (w : IntegerWidth). record { bytes = c.bytes; width = w })
+    (stated_is c.width (length c.bytes) h.1.0)
 
-chunks_resolved : (kind : StringKind) (cs : List Chunk) (b end : List ℕ) → SpellsChunks kind b cs end → map resolve_chunk cs ≡ cs
+chunks_resolved : (kind : StringKind) (cs : List Chunk) (b end : List ℕ) → SpellsChunks kind b cs end
+    → map resolve_chunk cs ≡ cs
 chunks_resolved kind [] b end h = refl
 chunks_resolved kind (c ∷ cs) b end h =
     let p = chunk_parts kind b c (λ rest. SpellsChunks kind rest cs end) h in
@@ -98,14 +118,16 @@ mutual
       let width : stated w t ≡ w = stated_is w t h.1.0 in
       cc
 
-  items_resolved : (level : ℕ) (b : List ℕ) (is : Items) (end : List ℕ) → SpellsItems any level b is end → resolve_items is ≡ is
+  items_resolved : (level : ℕ) (b : List ℕ) (is : Items) (end : List ℕ) → SpellsItems any level b is end
+      → resolve_items is ≡ is
   items_resolved level b no_items end h = refl
   items_resolved level b (item i is) end h =
       let one : resolve i ≡ i = resolved level h.0 i h.3 in
       let others : resolve_items is ≡ is = items_resolved level h.1 is end h.4 in
       cc
 
-  pairs_resolved : (level : ℕ) (b : List ℕ) (ps : Pairs) (end : List ℕ) → SpellsPairs any level b ps end → resolve_pairs ps ≡ ps
+  pairs_resolved : (level : ℕ) (b : List ℕ) (ps : Pairs) (end : List ℕ) → SpellsPairs any level b ps end
+      → resolve_pairs ps ≡ ps
   pairs_resolved level b no_pairs end h = refl
   pairs_resolved level b (pair k v ps) end h =
       let key : resolve k ≡ k = resolved level h.0 k h.4 in
@@ -115,30 +137,40 @@ mutual
 
 -- ---- a spelled item is well formed
 
-chunk_made : (kind : StringKind) (c : Chunk) → FitsWidth c.width (length c.bytes) → AllByRecursion (λ x. x < 256) c.bytes → IsContent kind c.bytes → IsChunk kind c
+chunk_made : (kind : StringKind) (c : Chunk) → FitsWidth c.width (length c.bytes)
+    → AllByRecursion (λ x. x < 256) c.bytes → IsContent kind c.bytes → IsChunk kind c
 chunk_made bytes_kind c fits bytes content = record { fits = fits; bytes = bytes }
 chunk_made text_kind c fits bytes content = record { fits = fits; bytes = bytes; utf8 = content }
 
-chunk_well : (kind : StringKind) (c : Chunk) (b rest : List ℕ) → IsBytes b → ChunkThen kind c b (λ r. r ≡ rest) → IsChunk kind c × IsBytes rest
+chunk_well : (kind : StringKind) (c : Chunk) (b rest : List ℕ) → IsBytes b → ChunkThen kind c b (λ r. r ≡ rest)
+    → IsChunk kind c × IsBytes rest
 chunk_well kind c b rest bytes h =
     let front : List ℕ = head (major_of kind) (length c.bytes) c.width in
     let s = h.1.3 in
-    let is : b ≡ front ++ (c.bytes ++ rest) = h.1.2 ∙ ap (λ (x : List ℕ). front ++ x) (s.1 ∙ ap (λ (x : List ℕ). c.bytes ++ x) s.2) in
-    let inside : IsBytes (c.bytes ++ rest) = IsBytes-behind front (c.bytes ++ rest) (subst IsBytes is bytes) in
-    (chunk_made kind c (fits_stated c.width (length c.bytes) h.1.0) (all_bytes c.bytes (IsBytes-front c.bytes rest inside)) h.0, IsBytes-behind c.bytes rest inside)
+    let is : b ≡ front ++ (c.bytes ++ rest) = h.1.2
+    ∙ ap (λ (x : List ℕ). front ++ x) (s.1 ∙ ap (λ (x : List ℕ). c.bytes ++ x) s.2) in
+    let inside : IsBytes (c.bytes ++ rest) = IsBytes-behind front (c.bytes ++ rest) (subst IsBytes is bytes) in (
+      chunk_made kind c (fits_stated c.width (length c.bytes) h.1.0)
+          (all_bytes c.bytes (IsBytes-front c.bytes rest inside)) h.0,
+      IsBytes-behind c.bytes rest inside,
+    )
 
-string_well : (kind : StringKind) (c : Chunk) (b : List ℕ) → IsBytes b → ChunkThen kind c b (λ r. r ≡ []) → IsChunk kind c
+string_well : (kind : StringKind) (c : Chunk) (b : List ℕ) → IsBytes b → ChunkThen kind c b (λ r. r ≡ [])
+    → IsChunk kind c
 string_well kind c b bytes h = (chunk_well kind c b [] bytes h).0
 
-chunks_well : (kind : StringKind) (cs : List Chunk) (b end : List ℕ) → IsBytes b → SpellsChunks kind b cs end → AllByRecursion (IsChunk kind) cs
+chunks_well : (kind : StringKind) (cs : List Chunk) (b end : List ℕ) → IsBytes b → SpellsChunks kind b cs end
+    → AllByRecursion (IsChunk kind) cs
 chunks_well kind [] b end bytes h = tt
 chunks_well kind (c ∷ cs) b end bytes h =
     let p = chunk_parts kind b c (λ rest. SpellsChunks kind rest cs end) h in
     let one = chunk_well kind c b p.rest bytes p.is in
     (one.0, chunks_well kind cs p.rest end one.1 p.holds)
 
-open_well : (kind : StringKind) (major : ℕ) (cs : List Chunk) (b : List ℕ) → IsBytes b → OpenThen major b (λ rest. SpellsChunks kind rest cs (break_byte ∷ [])) → AllByRecursion (IsChunk kind) cs
-open_well kind major cs b bytes h = chunks_well kind cs h.0 (break_byte ∷ []) (IsBytes-behind (opening major ∷ []) h.0 (subst IsBytes h.1 bytes)) h.2
+open_well : (kind : StringKind) (major : ℕ) (cs : List Chunk) (b : List ℕ) → IsBytes b
+    → OpenThen major b (λ rest. SpellsChunks kind rest cs (break_byte ∷ [])) → AllByRecursion (IsChunk kind) cs
+open_well kind major cs b bytes h = chunks_well kind cs h.0 (break_byte ∷ [])
+    (IsBytes-behind (opening major ∷ []) h.0 (subst IsBytes h.1 bytes)) h.2
 
 float_well : (b : List ℕ) (bits : ℕ) (w : FloatWidth) → SpellsFloat b bits w → FitsFloat w bits
 float_well b bits float_width.Unknown h = absurd h
@@ -159,42 +191,67 @@ mutual
   pub spells_well : (level : ℕ) (b : List ℕ) (i : Item) → IsBytes b → Spells any level b i → WellFormed level i
   spells_well level b (atom a) bytes h = (h.0, atom_well b a bytes h.1)
   spells_well level b (array is w) bytes h =
-      let m = inner 4 (item_count is) w b (λ rest end. SpellsItems any (level + 1) rest is end) h.1 in
-      (h.0, m.count, items_well_formed (level + 1) m.rest is m.end (IsBytes-behind m.front m.rest (subst IsBytes m.parts bytes)) m.holds)
+      let m = inner 4 (item_count is) w b (λ rest end. SpellsItems any (level + 1) rest is end) h.1 in (
+        h.0,
+        m.count,
+        items_well_formed (level + 1) m.rest is m.end
+            (IsBytes-behind m.front m.rest (subst IsBytes m.parts bytes)) m.holds,
+      )
   spells_well level b (spec.map ps w) bytes h =
-      let m = inner 5 (pair_count ps) w b (λ rest end. SpellsPairs any (level + 1) rest ps end) h.1 in
-      (h.0, m.count, pairs_well_formed (level + 1) m.rest ps m.end (IsBytes-behind m.front m.rest (subst IsBytes m.parts bytes)) m.holds)
-  spells_well level b (tagged t w i) bytes h =
-      (h.0, fits_stated w t h.1.0, spells_well (level + 1) h.1.1 i (IsBytes-behind (head 6 t w) h.1.1 (subst IsBytes h.1.2 bytes)) h.1.3)
+      let m = inner 5 (pair_count ps) w b (λ rest end. SpellsPairs any (level + 1) rest ps end) h.1 in (
+        h.0,
+        m.count,
+        pairs_well_formed (level + 1) m.rest ps m.end
+            (IsBytes-behind m.front m.rest (subst IsBytes m.parts bytes)) m.holds,
+      )
+  spells_well level b (tagged t w i) bytes h = (
+    h.0,
+    fits_stated w t h.1.0,
+    spells_well (level + 1) h.1.1 i
+        (IsBytes-behind (head 6 t w) h.1.1 (subst IsBytes h.1.2 bytes)) h.1.3,
+  )
 
-  items_well_formed : (level : ℕ) (b : List ℕ) (is : Items) (end : List ℕ) → IsBytes b → SpellsItems any level b is end → WellFormedItems level is
+  items_well_formed : (level : ℕ) (b : List ℕ) (is : Items) (end : List ℕ) → IsBytes b → SpellsItems any level b is end
+      → WellFormedItems level is
   items_well_formed level b no_items end bytes h = tt
   items_well_formed level b (item i is) end bytes h =
-      let both : IsBytes (h.0 ++ h.1) = subst IsBytes h.2 bytes in
-      (spells_well level h.0 i (IsBytes-front h.0 h.1 both) h.3, items_well_formed level h.1 is end (IsBytes-behind h.0 h.1 both) h.4)
+      let both : IsBytes (h.0 ++ h.1) = subst IsBytes h.2 bytes in (
+        spells_well level h.0 i (IsBytes-front h.0 h.1 both) h.3,
+        items_well_formed level h.1 is end (IsBytes-behind h.0 h.1 both) h.4,
+      )
 
-  pairs_well_formed : (level : ℕ) (b : List ℕ) (ps : Pairs) (end : List ℕ) → IsBytes b → SpellsPairs any level b ps end → WellFormedPairs level ps
+  pairs_well_formed : (level : ℕ) (b : List ℕ) (ps : Pairs) (end : List ℕ) → IsBytes b → SpellsPairs any level b ps end
+      → WellFormedPairs level ps
   pairs_well_formed level b no_pairs end bytes h = tt
   pairs_well_formed level b (pair k v ps) end bytes h =
       let whole : IsBytes (h.0 ++ (h.1 ++ h.2)) = subst IsBytes h.3 bytes in
-      let both : IsBytes (h.1 ++ h.2) = IsBytes-behind h.0 (h.1 ++ h.2) whole in
-      (spells_well level h.0 k (IsBytes-front h.0 (h.1 ++ h.2) whole) h.4, spells_well level h.1 v (IsBytes-front h.1 h.2 both) h.5, pairs_well_formed level h.2 ps end (IsBytes-behind h.1 h.2 both) h.6)
+      let both : IsBytes (h.1 ++ h.2) = IsBytes-behind h.0 (h.1 ++ h.2) whole in (
+        spells_well level h.0 k (IsBytes-front h.0 (h.1 ++ h.2) whole) h.4,
+        spells_well level h.1 v (IsBytes-front h.1 h.2 both) h.5,
+        pairs_well_formed level h.2 ps end (IsBytes-behind h.1 h.2 both) h.6,
+      )
 
 -- ---- bytes that are the encoding of what they spell, and items with the same encoding
 
-pub encoded_strict : (level : ℕ) (b : List ℕ) (i : Item) → IsBytes b → Spells any level b i → encoded i ≡ b → Spells strict level b i
+pub encoded_strict : (level : ℕ) (b : List ℕ) (i : Item) → IsBytes b → Spells any level b i → encoded i ≡ b
+    → Spells strict level b i
 encoded_strict level b i bytes h is =
-    let written : Spells strict level (encoded i) (resolve i) = strict_encoded level i (spells_well level b i bytes h) in
-    subst (λ (x : List ℕ). Spells strict level x i) is (subst (λ (j : Item). Spells strict level (encoded i) j) (resolved level b i h) written)
+    let written : Spells strict level (encoded i) (resolve i) =
+    strict_encoded level i (spells_well level b i bytes h) in
+    subst (λ (x : List ℕ). Spells strict level x i) is
+    (subst (λ (j : Item). Spells strict level (encoded i) j) (resolved level b i h) written)
 
 -- what is written is read as that item
-pub written_again : (i : Item) (rest : List ℕ) → WellFormed 1 i → read_item 128 (encoded i ++ rest) ≡ Ok (resolve i, rest)
-written_again i rest h = item_again 1 128 (encoded i) (resolve i) rest refl (strict_any 1 (encoded i) (resolve i) (strict_encoded 1 i h))
+pub written_again : (i : Item) (rest : List ℕ) → WellFormed 1 i
+    → read_item 128 (encoded i ++ rest) ≡ Ok (resolve i, rest)
+written_again i rest h = item_again 1 128 (encoded i) (resolve i) rest refl
+    (strict_any 1 (encoded i) (resolve i) (strict_encoded 1 i h))
 
 -- items with the same encoding are read as one item
 pub written_alike : (i j : Item) → WellFormed 1 i → WellFormed 1 j → encoded i ≡ encoded j → resolve i ≡ resolve j
 written_alike i j i-well j-well same =
-    let read = sym (written_again i [] i-well) ∙ ap (λ (x : List ℕ). read_item 128 (x ++ [])) same ∙ written_again j [] j-well in
+    let read = sym (written_again i [] i-well) ∙ ap (λ (x : List ℕ). read_item 128 (x ++ [])) same
+    ∙ written_again j [] j-well in
     ap (λ (p : Item × List ℕ). p.0) (ok_is (resolve i, []) (resolve j, []) read)
 
 -- and items that are read as one item have the same encoding

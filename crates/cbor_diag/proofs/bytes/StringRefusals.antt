@@ -1,5 +1,7 @@
 -- Where a string is refused: in its content, or in a chunk of it.
-use Rattle.std.proofs.Common.{◌≡◌, ℕ, zero, suc, ◌+◌, ◌*◌, ◌/◌, ◌%◌, ◌<◌, ◌≤◌, ◌≢◌, false, ltb, List, [], ◌∷◌, ◌++◌, length, take, drop, Option, Some, None, Ok, Err, ◌⊎◌, inl, inr, refl, sym, ap, subst, ◌∙◌, arith}
+use Rattle.std.proofs.Common.{◌≡◌, ℕ, zero, suc, ◌+◌, ◌*◌, ◌/◌, ◌%◌, ◌<◌, ◌≤◌, ◌≢◌, false, ltb, List, [], ◌∷◌, ◌++◌}
+use Rattle.std.proofs.Common.{length, take, drop, Option, Some, None, Ok, Err, ◌⊎◌, inl, inr, refl, sym, ap, subst, ◌∙◌}
+use Rattle.std.proofs.Common.{arith}
 use Rattle.std.specs.Prelude.{IsUtf8}
 use Rattle.std.specs.Str.{is_utf8}
 use Rattle.std.proofs.lemmas.Bool.{cases_lt, cases_eq, lt-ltb, le-ltb, false_from_ne_true, false≢true}
@@ -17,26 +19,31 @@ use Rattle.cbor_diag.specs.Refused.{CutHead, cut_head, BadText, CutChunk, NoChun
 use Rattle.cbor_diag.specs.Reading.{read_info, split_at, read_content, chunk_of, read_chunk, more_chunks, read_chunks}
 use Rattle.cbor_diag.proofs.bytes.Heads.{IsBytes, IsBytes-rest, bind_err, branch, info_takes, head_then, opened}
 use Rattle.cbor_diag.proofs.bytes.Chunks.{chunk_ways, chunk_takes, chunk_again, chunk_with, chunk_parts}
-use Rattle.cbor_diag.proofs.bytes.HeadRefusals.{err_is, InfoRefusal, cut_info, bad_info, info_refused, info_refuses, info_opens}
+use Rattle.cbor_diag.proofs.bytes.HeadRefusals.{err_is, InfoRefusal, cut_info, bad_info, info_refused, info_refuses}
+use Rattle.cbor_diag.proofs.bytes.HeadRefusals.{info_opens}
 
 -- ---- content
 
 -- fewer bytes than the string claims, or a text that is no UTF-8
 pub data ContentRefusal : StringKind → ℕ → List ℕ → Error → Type 0 where
   short_content : {kind : StringKind} {n : ℕ} {b : List ℕ} → length b < n → ContentRefusal kind n b refusal.CutShort
-  bad_content : {n : ℕ} {b : List ℕ} (text after : List ℕ) → b ≡ text ++ after → length text ≡ n → ¬ (IsUtf8 text) → ContentRefusal text_kind n b refusal.Utf8
+  bad_content : {n : ℕ} {b : List ℕ} (text after : List ℕ) → b ≡ text ++ after → length text ≡ n → ¬ (IsUtf8 text)
+      → ContentRefusal text_kind n b refusal.Utf8
 
-split_ways : (n : ℕ) (b : List ℕ) → ((length b < n) × (split_at n b ≡ Err refusal.CutShort)) ⊎ ((n ≤ length b) × (split_at n b ≡ Ok (take n b, drop n b)))
+split_ways : (n : ℕ) (b : List ℕ) → ((length b < n) × (split_at n b ≡ Err refusal.CutShort))
+    ⊎ ((n ≤ length b) × (split_at n b ≡ Ok (take n b, drop n b)))
 split_ways n b =
     elim (cases_lt (length b) n) [
       | inl short ↦ inl (short, rw (lt-ltb (length b) n short) refl)
       | inr long ↦ inr (long, rw (le-ltb (length b) n long) refl)
     ]
 
-short_is : (kind : StringKind) (n : ℕ) (b : List ℕ) (e : Error) → length b < n → refusal.CutShort ≡ e → ContentRefusal kind n b e
+short_is : (kind : StringKind) (n : ℕ) (b : List ℕ) (e : Error) → length b < n → refusal.CutShort ≡ e
+    → ContentRefusal kind n b e
 short_is kind n b e short is = subst (λ (d : Error). ContentRefusal kind n b d) is (short_content short)
 
-pub content_refused : (kind : StringKind) (n : ℕ) (w : IntegerWidth) (b : List ℕ) (e : Error) → read_content kind n w b ≡ Err e → ContentRefusal kind n b e
+pub content_refused : (kind : StringKind) (n : ℕ) (w : IntegerWidth) (b : List ℕ) (e : Error)
+    → read_content kind n w b ≡ Err e → ContentRefusal kind n b e
 unfolding read_content
 content_refused bytes_kind n w b e h =
     elim (split_ways n b) [
@@ -52,12 +59,16 @@ content_refused text_kind n w b e h =
             | inl t ↦ absurd cc
             | inr t ↦
                 let is : refusal.Utf8 ≡ e = cc in
-                let no_text : ¬ (IsUtf8 (take n b)) = λ text. false≢true (sym t.0 ∙ is_utf8-from_IsUtf8 (take n b) text) in
-                subst (λ (d : Error). ContentRefusal text_kind n b d) is (bad_content (take n b) (drop n b) (sym (take-append-drop n b)) (omega (arith, length-take n b)) no_text)
+                let no_text : ¬ (IsUtf8 (take n b)) =
+                λ text. false≢true (sym t.0 ∙ is_utf8-from_IsUtf8 (take n b) text) in
+                subst (λ (d : Error). ContentRefusal text_kind n b d) is
+                (bad_content (take n b) (drop n b) (sym (take-append-drop n b)) (omega (arith, length-take n b))
+                no_text)
           ]
     ]
 
-pub content_refuses : (kind : StringKind) (n : ℕ) (w : IntegerWidth) (b : List ℕ) (e : Error) → ContentRefusal kind n b e → read_content kind n w b ≡ Err e
+pub content_refuses : (kind : StringKind) (n : ℕ) (w : IntegerWidth) (b : List ℕ) (e : Error)
+    → ContentRefusal kind n b e → read_content kind n w b ≡ Err e
 unfolding read_content
 content_refuses bytes_kind n w b e (short_content short) = rw (lt-ltb (length b) n short) refl
 content_refuses text_kind n w b e (short_content short) = rw (lt-ltb (length b) n short) refl
@@ -74,31 +85,42 @@ pub data ChunkRefusal : StringKind → List ℕ → Error → Type 0 where
   bad_chunk : {kind : StringKind} {b : List ℕ} → NoChunk kind b → ChunkRefusal kind b refusal.Head
   bad_text : {b : List ℕ} → BadText b → ChunkRefusal text_kind b refusal.Utf8
 
-info_chunk : (kind : StringKind) (first : ℕ) (b : List ℕ) (e : Error) → first ≢ break_byte → first / 32 ≡ major_of kind → InfoRefusal (first % 32) b e → ChunkRefusal kind (first ∷ b) e
-info_chunk kind first b e no_break major (cut_info k small is short) = cut_chunk (inl (major, cut_head k small is short))
+info_chunk : (kind : StringKind) (first : ℕ) (b : List ℕ) (e : Error) → first ≢ break_byte → first / 32 ≡ major_of kind
+    → InfoRefusal (first % 32) b e → ChunkRefusal kind (first ∷ b) e
+info_chunk kind first b e no_break major (cut_info k small is short) =
+    cut_chunk (inl (major, cut_head k small is short))
 info_chunk kind first b e no_break major (bad_info least most) = bad_chunk (no_chunk no_break (λ h. omega (arith, h.1)))
 
-content_chunk : (kind : StringKind) (n : ℕ) (w : IntegerWidth) (first : ℕ) (b rest : List ℕ) (e : Error) → HeadThen (major_of kind) n w (first ∷ b) (λ r. r ≡ rest) → ContentRefusal kind n rest e → ChunkRefusal kind (first ∷ b) e
+content_chunk : (kind : StringKind) (n : ℕ) (w : IntegerWidth) (first : ℕ) (b rest : List ℕ) (e : Error)
+    → HeadThen (major_of kind) n w (first ∷ b) (λ r. r ≡ rest) → ContentRefusal kind n rest e
+    → ChunkRefusal kind (first ∷ b) e
 content_chunk kind n w first b rest e h (short_content short) = cut_chunk (inr (n, w, (h.0, h.1, h.2, rw h.3 short)))
-content_chunk text_kind n w first b rest e h (bad_content text after parts len no_text) = bad_text (n, w, (h.0, h.1, h.2, (text, after, h.3 ∙ parts, len, no_text)))
+content_chunk text_kind n w first b rest e h (bad_content text after parts len no_text) =
+    bad_text (n, w, (h.0, h.1, h.2, (text, after, h.3 ∙ parts, len, no_text)))
 
-behind_chunk : (kind : StringKind) (first : ℕ) (b rest : List ℕ) (i : Info) (e : Error) → IsBytes b → first ≢ break_byte → first / 32 ≡ major_of kind → read_info (first % 32) b ≡ Ok (i, rest) → chunk_of kind i rest ≡ Err e → ChunkRefusal kind (first ∷ b) e
+behind_chunk : (kind : StringKind) (first : ℕ) (b rest : List ℕ) (i : Info) (e : Error) → IsBytes b → first ≢ break_byte
+    → first / 32 ≡ major_of kind → read_info (first % 32) b ≡ Ok (i, rest) → chunk_of kind i rest ≡ Err e
+    → ChunkRefusal kind (first ∷ b) e
 behind_chunk kind first b rest (info.Number n w) e fits no_break major read h =
     elim (bind_err (read_content kind n w rest) (λ c. Ok (Some c.0, c.1)) e h) [
       | inl refused ↦
           let whole : 32 * major_of kind + first % 32 ≡ first = rw (← major) (omega arith) in
-          let begins = head_then (major_of kind) (first % 32) n w b rest (info_takes (first % 32) b rest (info.Number n w) fits read) in
+          let begins = head_then (major_of kind) (first % 32) n w b rest
+          (info_takes (first % 32) b rest (info.Number n w) fits read) in
           content_chunk kind n w first b rest e (rw whole at begins) (content_refused kind n w rest e refused)
       | inr made ↦ absurd cc
     ]
 behind_chunk kind first b rest info.Indefinite e fits no_break major read h =
     let t = info_takes (first % 32) b rest info.Indefinite fits read in
     let is : refusal.Head ≡ e = cc in
-    subst (λ (d : Error). ChunkRefusal kind (first ∷ b) d) is (bad_chunk (no_chunk no_break (λ h. omega (arith, h.1, t.0))))
+    subst (λ (d : Error). ChunkRefusal kind (first ∷ b) d) is
+    (bad_chunk (no_chunk no_break (λ h. omega (arith, h.1, t.0))))
 
-pub chunk_refused : (kind : StringKind) (b : List ℕ) (e : Error) → IsBytes b → read_chunk kind b ≡ Err e → ChunkRefusal kind b e
+pub chunk_refused : (kind : StringKind) (b : List ℕ) (e : Error) → IsBytes b → read_chunk kind b ≡ Err e
+    → ChunkRefusal kind b e
 unfolding read_chunk
-chunk_refused kind [] e fits h = let is : refusal.CutShort ≡ e = cc in subst (λ (d : Error). ChunkRefusal kind [] d) is (cut_chunk tt)
+chunk_refused kind [] e fits h = let is : refusal.CutShort ≡ e =
+    cc in subst (λ (d : Error). ChunkRefusal kind [] d) is (cut_chunk tt)
 chunk_refused kind (first ∷ b) e fits h =
     elim (chunk_ways kind first b) [
       | inl way ↦ absurd (let wrong = sym way.1 ∙ h in cc)
@@ -113,7 +135,8 @@ chunk_refused kind (first ∷ b) e fits h =
       ]
     ]
 
-content_refuses_chunk : (kind : StringKind) (n : ℕ) (w : IntegerWidth) (b rest : List ℕ) (e : Error) → HeadThen (major_of kind) n w b (λ r. r ≡ rest) → ContentRefusal kind n rest e → read_chunk kind b ≡ Err e
+content_refuses_chunk : (kind : StringKind) (n : ℕ) (w : IntegerWidth) (b rest : List ℕ) (e : Error)
+    → HeadThen (major_of kind) n w b (λ r. r ≡ rest) → ContentRefusal kind n rest e → read_chunk kind b ≡ Err e
 content_refuses_chunk kind n w b rest e h refused =
     let o = opened (major_of kind) n w b rest h in
     let bits = o.bits_are in
@@ -125,7 +148,8 @@ content_refuses_chunk kind n w b rest e h refused =
       ]
     ]
 
-info_refuses_chunk : (kind : StringKind) (first : ℕ) (b : List ℕ) (e : Error) → first ≢ break_byte → first / 32 ≡ major_of kind → InfoRefusal (first % 32) b e → read_chunk kind (first ∷ b) ≡ Err e
+info_refuses_chunk : (kind : StringKind) (first : ℕ) (b : List ℕ) (e : Error) → first ≢ break_byte
+    → first / 32 ≡ major_of kind → InfoRefusal (first % 32) b e → read_chunk kind (first ∷ b) ≡ Err e
 info_refuses_chunk kind first b e no_break major refused =
     elim (chunk_ways kind first b) [
       | inl way ↦ absurd (no_break way.0)
@@ -160,10 +184,15 @@ no_chunk_refuses kind b (no_chunk {first = first} {rest = rest} no_break other) 
 pub chunk_refuses : (kind : StringKind) (b : List ℕ) (e : Error) → ChunkRefusal kind b e → read_chunk kind b ≡ Err e
 unfolding read_chunk
 chunk_refuses kind [] e (cut_chunk h) = refl
-chunk_refuses kind (first ∷ b) e (cut_chunk (inl h)) = info_refuses_chunk kind first b refusal.CutShort (cut_no_break first b h.1) h.0 (cut_info_of first b h.1)
-chunk_refuses kind (first ∷ b) e (cut_chunk (inr h)) = content_refuses_chunk kind h.0 h.1 (first ∷ b) h.2.1 refusal.CutShort (h.2.0, h.2.1, h.2.2, refl) (short_content h.2.3)
+chunk_refuses kind (first ∷ b) e (cut_chunk (inl h)) =
+    info_refuses_chunk kind first b refusal.CutShort (cut_no_break first b h.1) h.0 (cut_info_of first b h.1)
+chunk_refuses kind (first ∷ b) e (cut_chunk (inr h)) =
+    content_refuses_chunk kind h.0 h.1 (first ∷ b) h.2.1 refusal.CutShort (h.2.0, h.2.1, h.2.2, refl)
+    (short_content h.2.3)
 chunk_refuses kind b e (bad_chunk h) = no_chunk_refuses kind b h
-chunk_refuses text_kind b e (bad_text h) = content_refuses_chunk text_kind h.0 h.1 b h.2.1 refusal.Utf8 (h.2.0, h.2.1, h.2.2, refl) (bad_content h.2.3.0 h.2.3.1 h.2.3.2 h.2.3.3 h.2.3.4)
+chunk_refuses text_kind b e (bad_text h) =
+    content_refuses_chunk text_kind h.0 h.1 b h.2.1 refusal.Utf8 (h.2.0, h.2.1, h.2.2, refl)
+    (bad_content h.2.3.0 h.2.3.1 h.2.3.2 h.2.3.3 h.2.3.4)
 
 -- ---- chunks
 
@@ -178,10 +207,14 @@ stop_here : (kind : StringKind) (b : List ℕ) (e : Error) → ChunkRefusal kind
 stop_here kind b e refused = record { chunks = []; rest = b; spelled = refl; refused = refused }
 
 stop_empty : (kind : StringKind) (b : List ℕ) (e : Error) → length b ≤ 0 → refusal.CutShort ≡ e → ChunksStop kind b e
-stop_empty kind [] e bound is = subst (λ (d : Error). ChunksStop kind [] d) is (stop_here kind [] refusal.CutShort (cut_chunk tt))
+stop_empty kind [] e bound is = subst (λ (d : Error). ChunksStop kind [] d) is
+    (stop_here kind [] refusal.CutShort (cut_chunk tt))
 stop_empty kind (first ∷ b) e bound is = absurd (omega arith)
 
-stop_later : (n : ℕ) (kind : StringKind) (b rest : List ℕ) (o : Option Chunk) (e : Error) → IsBytes b → read_chunk kind b ≡ Ok (o, rest) → more_chunks (read_chunks n kind) o rest ≡ Err e → (IsBytes rest → length rest < length b → read_chunks n kind rest ≡ Err e → ChunksStop kind rest e) → ChunksStop kind b e
+stop_later : (n : ℕ) (kind : StringKind) (b rest : List ℕ) (o : Option Chunk) (e : Error) → IsBytes b
+    → read_chunk kind b ≡ Ok (o, rest) → more_chunks (read_chunks n kind) o rest ≡ Err e
+    → (IsBytes rest → length rest < length b → read_chunks n kind rest ≡ Err e → ChunksStop kind rest e)
+    → ChunksStop kind b e
 stop_later n kind b rest None e fits read h later = absurd cc
 stop_later n kind b rest (Some c) e fits read h later =
     elim (bind_err (read_chunks n kind rest) (λ cs. Ok (c ∷ cs.0, cs.1)) e h) [
@@ -199,23 +232,28 @@ stop_later n kind b rest (Some c) e fits read h later =
       | inr made ↦ absurd cc
     ]
 
-pub chunks_stop : (n : ℕ) (kind : StringKind) (b : List ℕ) (e : Error) → IsBytes b → length b ≤ n → read_chunks n kind b ≡ Err e → ChunksStop kind b e
+pub chunks_stop : (n : ℕ) (kind : StringKind) (b : List ℕ) (e : Error) → IsBytes b → length b ≤ n
+    → read_chunks n kind b ≡ Err e → ChunksStop kind b e
 unfolding read_chunks
 chunks_stop zero kind b e fits bound h = stop_empty kind b e bound cc
 chunks_stop (suc n) kind b e fits bound h =
     elim (bind_err (read_chunk kind b) (λ c. more_chunks (read_chunks n kind) c.0 c.1) e h) [
       | inl refused ↦ stop_here kind b e (chunk_refused kind b e fits refused)
-      | inr c ↦ stop_later n kind b c.0.1 c.0.0 e fits c.1 c.2 (λ left_fits less more. chunks_stop n kind c.0.1 e left_fits (omega arith) more)
+      | inr c ↦ stop_later n kind b c.0.1 c.0.0 e fits c.1 c.2
+          (λ left_fits less more. chunks_stop n kind c.0.1 e left_fits (omega arith) more)
     ]
 
-pub empty_refused : (kind : StringKind) (b : List ℕ) (e : Error) → length b ≤ 0 → read_chunk kind b ≡ Err e → refusal.CutShort ≡ e
+pub empty_refused : (kind : StringKind) (b : List ℕ) (e : Error) → length b ≤ 0 → read_chunk kind b ≡ Err e
+    → refusal.CutShort ≡ e
 unfolding read_chunk
 empty_refused kind [] e bound h = cc
 empty_refused kind (first ∷ b) e bound h = absurd (omega arith)
 
-pub chunks_refuse : (n : ℕ) (kind : StringKind) (cs : List Chunk) (b rest : List ℕ) (e : Error) → SpellsChunks kind b cs rest → length b ≤ n → ChunkRefusal kind rest e → read_chunks n kind b ≡ Err e
+pub chunks_refuse : (n : ℕ) (kind : StringKind) (cs : List Chunk) (b rest : List ℕ) (e : Error)
+    → SpellsChunks kind b cs rest → length b ≤ n → ChunkRefusal kind rest e → read_chunks n kind b ≡ Err e
 unfolding read_chunks
-chunks_refuse zero kind [] b rest e spelled bound refused = ap Err (empty_refused kind b e bound (rw spelled (chunk_refuses kind rest e refused)))
+chunks_refuse zero kind [] b rest e spelled bound refused =
+    ap Err (empty_refused kind b e bound (rw spelled (chunk_refuses kind rest e refused)))
 chunks_refuse (suc n) kind [] b rest e spelled bound refused = rw (spelled, chunk_refuses kind rest e refused) refl
 chunks_refuse zero kind (c ∷ cs) b rest e spelled bound refused =
     let parts = chunk_parts kind b c (λ r. SpellsChunks kind r cs rest) spelled in
@@ -224,4 +262,8 @@ chunks_refuse zero kind (c ∷ cs) b rest e spelled bound refused =
 chunks_refuse (suc n) kind (c ∷ cs) b rest e spelled bound refused =
     let parts = chunk_parts kind b c (λ r. SpellsChunks kind r cs rest) spelled in
     let shorter = parts.shorter in
-    rw (chunk_again kind b parts.rest c parts.is, chunks_refuse n kind cs parts.rest rest e parts.holds (omega arith) refused) refl
+    rw (
+      chunk_again kind b parts.rest c parts.is,
+      chunks_refuse n kind cs parts.rest rest e parts.holds (omega arith)
+          refused,
+    ) refl

@@ -1,5 +1,7 @@
 -- Without comments and blanks the lines of a dump are the encoding of the item, in hex.
-use Rattle.std.proofs.Common.{◌≡◌, ◌≢◌, ℕ, zero, suc, ◌+◌, ◌%◌, ◌==◌, ◌≤◌, true, false, cond, unwrap_or, not, List, [], ◌∷◌, ◌++◌, map, length, take, drop, codes, Option, Some, None, inl, inr, refl, sym, ap, subst, ◌∙◌, append-nil, arith}
+use Rattle.std.proofs.Common.{◌≡◌, ◌≢◌, ℕ, zero, suc, ◌+◌, ◌%◌, ◌==◌, ◌≤◌, true, false, cond, unwrap_or, not, List, []}
+use Rattle.std.proofs.Common.{◌∷◌, ◌++◌, map, length, take, drop, codes, Option, Some, None, inl, inr, refl, sym, ap}
+use Rattle.std.proofs.Common.{subst, ◌∙◌, append-nil, arith}
 use Rattle.std.specs.List.{filter, flat_map}
 use Rattle.std.proofs.lemmas.Bool.{cases_lt, ne_eqb}
 use Rattle.std.proofs.lemmas.List.{take-append-drop}
@@ -15,14 +17,20 @@ use Rattle.cbor_diag.specs.declared.syntax.IntegerWidth.{IntegerWidth}
 use Rattle.cbor_diag.specs.declared.encode.encoding.Encoding.{Encoding}
 use Rattle.cbor_diag.specs.Item as spec
 use Rattle.cbor_diag.specs.Item.{Chunk, Atom, integer, negative, byte_string, text_string, byte_chunks, text_chunks}
-use Rattle.cbor_diag.specs.Item.{float, simple, Item, atom, array, tagged, Items, no_items, item, Pairs, no_pairs, pair, item_count, pair_count}
+use Rattle.cbor_diag.specs.Item.{float, simple, Item, atom, array, tagged, Items, no_items, item, Pairs, no_pairs, pair}
+use Rattle.cbor_diag.specs.Item.{item_count, pair_count}
 use Rattle.cbor_diag.specs.Head.{opening, break_byte}
-use Rattle.cbor_diag.specs.Written.{encoded_head, encoded_chunk, encoded_float, encoded_simple, encoded_atom, encoded_open, encoded_close, encoded, encoded_items, encoded_pairs}
-use Rattle.cbor_diag.specs.Comments.{unsigned_comment, negative_comment, float_comment, simple_comment, tag_comment, bytes_comment, text_comment, counted_comment}
+use Rattle.cbor_diag.specs.Written.{encoded_head, encoded_chunk, encoded_float, encoded_simple, encoded_atom}
+use Rattle.cbor_diag.specs.Written.{encoded_open, encoded_close, encoded, encoded_items, encoded_pairs}
+use Rattle.cbor_diag.specs.Comments.{unsigned_comment, negative_comment, float_comment, simple_comment, tag_comment}
+use Rattle.cbor_diag.specs.Comments.{bytes_comment, text_comment, counted_comment}
 use Rattle.cbor_diag.specs.Pieces.{pieces_of, byte_pieces, text_pieces, text_cut}
-use Rattle.cbor_diag.specs.Dump.{At, head_hex, head_line, piece_line, content_lines, byte_string_lines, text_string_lines}
-use Rattle.cbor_diag.specs.Dump.{bytes_lines, element_lines, sized_lines, tagged_lines, note_line, note_lines, notes, notes_lines}
-use Rattle.cbor_diag.specs.Dump.{count_if_definite, break_line, atom_lines, close_lines, inside, below, shared_in, shared_from, items_lines, pairs_lines, parts_lines, lines_at, top}
+use Rattle.cbor_diag.specs.Dump.{At, head_hex, head_line, piece_line, content_lines, byte_string_lines}
+use Rattle.cbor_diag.specs.Dump.{text_string_lines}
+use Rattle.cbor_diag.specs.Dump.{bytes_lines, element_lines, sized_lines, tagged_lines, note_line, note_lines, notes}
+use Rattle.cbor_diag.specs.Dump.{notes_lines}
+use Rattle.cbor_diag.specs.Dump.{count_if_definite, break_line, atom_lines, close_lines, inside, below, shared_in}
+use Rattle.cbor_diag.specs.Dump.{shared_from, items_lines, pairs_lines, parts_lines, lines_at, top}
 use Rattle.cbor_diag.specs.WellFormed.{WellFormed, WellFormedItems, WellFormedPairs}
 use Rattle.cbor_diag.proofs.dump.Digits.{head_short, head_long}
 use Rattle.cbor_diag.proofs.dump.Elements.{Small, element_small, element_cut, element_cuts}
@@ -51,9 +59,13 @@ shown_head : (bytes : List ℕ) → shown (head_hex bytes) ≡ encode_lower byte
 shown_head bytes =
     elim (cases_lt 1 (length bytes)) [
       | inl long ↦
-          ap shown (head_long bytes long) ∙ filter-append (λ b. not (b == 32)) (encode_lower (take 1 bytes) ++ codes " ") (encode_lower (drop 1 bytes))
-          ∙ ap (λ x. x ++ shown (encode_lower (drop 1 bytes))) (filter-append (λ b. not (b == 32)) (encode_lower (take 1 bytes)) (codes " ") ∙ append-nil (shown (encode_lower (take 1 bytes))) ∙ shown_hex (take 1 bytes))
-          ∙ ap (λ x. encode_lower (take 1 bytes) ++ x) (shown_hex (drop 1 bytes)) ∙ sym (hex_both (take 1 bytes) (drop 1 bytes)) ∙ ap encode_lower (take-append-drop 1 bytes)
+          ap shown (head_long bytes long) ∙ filter-append (λ b. not (b == 32))
+          (encode_lower (take 1 bytes) ++ codes " ") (encode_lower (drop 1 bytes))
+          ∙ ap (λ x. x ++ shown (encode_lower (drop 1 bytes)))
+          (filter-append (λ b. not (b == 32)) (encode_lower (take 1 bytes)) (codes " ")
+          ∙ append-nil (shown (encode_lower (take 1 bytes))) ∙ shown_hex (take 1 bytes))
+          ∙ ap (λ x. encode_lower (take 1 bytes) ++ x) (shown_hex (drop 1 bytes))
+          ∙ sym (hex_both (take 1 bytes) (drop 1 bytes)) ∙ ap encode_lower (take-append-drop 1 bytes)
       | inr short ↦ ap shown (head_short bytes short) ∙ shown_hex bytes
     ]
 
@@ -63,9 +75,11 @@ Are lines bytes = digits_of lines ≡ encode_lower bytes
 
 both : (xs ys : List DumpLine) (a b : List ℕ) → Are xs a → Are ys b → Are (xs ++ ys) (a ++ b)
 both xs ys a b h k =
-    flat_map-append (λ line. shown line.hex) xs ys ∙ ap (λ x. x ++ digits_of ys) h ∙ ap (λ x. encode_lower a ++ x) k ∙ sym (hex_both a b)
+    flat_map-append (λ line. shown line.hex) xs ys ∙ ap (λ x. x ++ digits_of ys) h ∙ ap (λ x. encode_lower a ++ x) k
+    ∙ sym (hex_both a b)
 
-headed : (depth : ℕ) (bytes comment : List ℕ) (lines : List DumpLine) (rest : List ℕ) → Are lines rest → Are (head_line depth bytes comment ∷ lines) (bytes ++ rest)
+headed : (depth : ℕ) (bytes comment : List ℕ) (lines : List DumpLine) (rest : List ℕ) → Are lines rest
+    → Are (head_line depth bytes comment ∷ lines) (bytes ++ rest)
 headed depth bytes comment lines rest h =
     ap (λ x. x ++ digits_of lines) (shown_head bytes) ∙ ap (λ x. encode_lower bytes ++ x) h ∙ sym (hex_both bytes rest)
 
@@ -74,60 +88,73 @@ unfolding encode_with
 none = refl
 
 alone : (depth : ℕ) (bytes comment : List ℕ) → Are (head_line depth bytes comment ∷ []) bytes
-alone depth bytes comment = subst (Are (head_line depth bytes comment ∷ [])) (append-nil bytes) (headed depth bytes comment [] [] none)
+alone depth bytes comment = subst (Are (head_line depth bytes comment ∷ [])) (append-nil bytes)
+    (headed depth bytes comment [] [] none)
 
 -- the pieces of a string
 abbrev joined : List (List ℕ) → List ℕ
 joined pieces = flat_map (λ (p : List ℕ). p) pieces
 
-pieces_joined : (cut : List ℕ → ℕ) → Cuts cut → (n : ℕ) (bytes : List ℕ) → length bytes ≤ n → joined (pieces_of cut n bytes) ≡ bytes
+pieces_joined : (cut : List ℕ → ℕ) → Cuts cut → (n : ℕ) (bytes : List ℕ) → length bytes ≤ n
+    → joined (pieces_of cut n bytes) ≡ bytes
 pieces_joined cut cuts zero [] fits = refl
 pieces_joined cut cuts (suc n) [] fits = refl
 pieces_joined cut cuts zero (x ∷ xs) fits = absurd (omega arith)
 pieces_joined cut cuts (suc n) (x ∷ xs) fits =
-    ap (λ rest. take (cut (x ∷ xs)) (x ∷ xs) ++ rest) (pieces_joined cut cuts n (drop (cut (x ∷ xs)) (x ∷ xs)) (shorter x xs (cut (x ∷ xs)) n (cuts (x ∷ xs) (omega arith)) fits))
+    ap (λ rest. take (cut (x ∷ xs)) (x ∷ xs) ++ rest)
+    (pieces_joined cut cuts n (drop (cut (x ∷ xs)) (x ∷ xs))
+    (shorter x xs (cut (x ∷ xs)) n (cuts (x ∷ xs) (omega arith)) fits))
     ∙ take-append-drop (cut (x ∷ xs)) (x ∷ xs)
 
 text_joined : (text : List ℕ) → joined (text_pieces text) ≡ text
 text_joined [] = refl
 text_joined (x ∷ xs) =
     elim (cases_lt 24 (length (x ∷ xs))) [
-      | inl long ↦ ap joined (text_long (x ∷ xs) long) ∙ pieces_joined text_cut text_cuts (length (x ∷ xs)) (x ∷ xs) (omega arith)
+      | inl long ↦ ap joined (text_long (x ∷ xs) long)
+          ∙ pieces_joined text_cut text_cuts (length (x ∷ xs)) (x ∷ xs) (omega arith)
       | inr short ↦ ap joined (text_short (x ∷ xs) (omega arith) short) ∙ append-nil (x ∷ xs)
     ]
 
-pieces_are : (depth : ℕ) (comment : List ℕ → List ℕ) (pieces : List (List ℕ)) → Are (map (λ p. piece_line depth p (comment p)) pieces) (joined pieces)
+pieces_are : (depth : ℕ) (comment : List ℕ → List ℕ) (pieces : List (List ℕ))
+    → Are (map (λ p. piece_line depth p (comment p)) pieces) (joined pieces)
 pieces_are depth comment [] = none
 pieces_are depth comment (p ∷ ps) =
-    ap (λ x. x ++ digits_of (map (λ q. piece_line depth q (comment q)) ps)) (shown_hex p) ∙ ap (λ x. encode_lower p ++ x) (pieces_are depth comment ps) ∙ sym (hex_both p (joined ps))
+    ap (λ x. x ++ digits_of (map (λ q. piece_line depth q (comment q)) ps)) (shown_hex p)
+    ∙ ap (λ x. encode_lower p ++ x) (pieces_are depth comment ps) ∙ sym (hex_both p (joined ps))
 
 nothing_shown : (depth : ℕ) (comment : List ℕ) → Are (piece_line depth [] comment ∷ []) []
 unfolding encode_with
 nothing_shown depth comment = refl
 
-content_are : (depth : ℕ) (comment : List ℕ → List ℕ) (pieces : List (List ℕ)) → Are (content_lines depth comment pieces) (joined pieces)
+content_are : (depth : ℕ) (comment : List ℕ → List ℕ) (pieces : List (List ℕ))
+    → Are (content_lines depth comment pieces) (joined pieces)
 content_are depth comment [] = nothing_shown depth (codes "\"\"")
 content_are depth comment (p ∷ ps) = pieces_are depth comment (p ∷ ps)
 
 -- the content of a byte string, in pieces or elements
 plain_are : (depth : ℕ) (encoding : Option Encoding) (bytes : List ℕ) → Are (bytes_lines depth encoding bytes) bytes
 plain_are depth encoding bytes =
-    subst (Are (bytes_lines depth encoding bytes)) (pieces_joined byte_cut byte_cuts (length bytes) bytes (omega arith)) (content_are depth (bytes_comment encoding bytes) (byte_pieces bytes))
+    subst (Are (bytes_lines depth encoding bytes)) (pieces_joined byte_cut byte_cuts (length bytes) bytes (omega arith))
+    (content_are depth (bytes_comment encoding bytes) (byte_pieces bytes))
 
 elements_are : (depth t size : ℕ) (bytes : List ℕ) → 1 ≤ size → Are (element_lines depth t size bytes) bytes
 elements_are depth t size bytes some =
-    subst (Are (element_lines depth t size bytes)) (pieces_joined (element_cut size) (element_cuts size some) (length bytes) bytes (omega arith))
+    subst (Are (element_lines depth t size bytes))
+    (pieces_joined (element_cut size) (element_cuts size some) (length bytes) bytes (omega arith))
     (pieces_are depth (λ e. unwrap_or (element_text t e) []) (pieces_of (element_cut size) (length bytes) bytes))
 
-sized_are : (depth : ℕ) (encoding : Option Encoding) (t : ℕ) (size : Option ℕ) (bytes : List ℕ) → Small size → Are (sized_lines depth encoding t size bytes) bytes
+sized_are : (depth : ℕ) (encoding : Option Encoding) (t : ℕ) (size : Option ℕ) (bytes : List ℕ) → Small size
+    → Are (sized_lines depth encoding t size bytes) bytes
 sized_are depth encoding t None bytes small = plain_are depth encoding bytes
 sized_are depth encoding t (Some size) bytes small =
-    elim (length bytes % size == 0) as (λ v. Are (cond v (element_lines depth t size bytes) (bytes_lines depth encoding bytes)) bytes) [
+    elim (length bytes % size == 0) as (λ v. Are
+    (cond v (element_lines depth t size bytes) (bytes_lines depth encoding bytes)) bytes) [
       | true ↦ elements_are depth t size bytes small.0
       | false ↦ plain_are depth encoding bytes
     ]
 
-tagged_are : (depth : ℕ) (encoding : Option Encoding) (tag : Option ℕ) (bytes : List ℕ) → Are (tagged_lines depth encoding tag bytes) bytes
+tagged_are : (depth : ℕ) (encoding : Option Encoding) (tag : Option ℕ) (bytes : List ℕ)
+    → Are (tagged_lines depth encoding tag bytes) bytes
 tagged_are depth encoding None bytes = plain_are depth encoding bytes
 tagged_are depth encoding (Some t) bytes = sized_are depth encoding t (element_size t) bytes (element_small t)
 
@@ -138,18 +165,23 @@ bytes_are p c =
 
 text_are : (depth : ℕ) (c : Chunk) → Are (text_string_lines depth c) (encoded_chunk 3 c)
 text_are depth c =
-    headed depth (encoded_head 3 (length c.bytes) c.width) (counted_comment (codes "text") (Some (length c.bytes))) (content_lines (depth + 1) text_comment (text_pieces c.bytes)) c.bytes
-    (subst (Are (content_lines (depth + 1) text_comment (text_pieces c.bytes))) (text_joined c.bytes) (content_are (depth + 1) text_comment (text_pieces c.bytes)))
+    headed depth (encoded_head 3 (length c.bytes) c.width) (counted_comment (codes "text") (Some (length c.bytes)))
+    (content_lines (depth + 1) text_comment (text_pieces c.bytes)) c.bytes
+    (subst (Are (content_lines (depth + 1) text_comment (text_pieces c.bytes))) (text_joined c.bytes)
+    (content_are (depth + 1) text_comment (text_pieces c.bytes)))
 
 byte_chunks_are : (p : At) (cs : List Chunk) → Are (flat_map (byte_string_lines p) cs) (flat_map (encoded_chunk 2) cs)
 byte_chunks_are p [] = none
 byte_chunks_are p (c ∷ cs) =
-    both (byte_string_lines p c) (flat_map (byte_string_lines p) cs) (encoded_chunk 2 c) (flat_map (encoded_chunk 2) cs) (bytes_are p c) (byte_chunks_are p cs)
+    both (byte_string_lines p c) (flat_map (byte_string_lines p) cs) (encoded_chunk 2 c) (flat_map (encoded_chunk 2) cs)
+    (bytes_are p c) (byte_chunks_are p cs)
 
-text_chunks_are : (depth : ℕ) (cs : List Chunk) → Are (flat_map (text_string_lines depth) cs) (flat_map (encoded_chunk 3) cs)
+text_chunks_are : (depth : ℕ) (cs : List Chunk)
+    → Are (flat_map (text_string_lines depth) cs) (flat_map (encoded_chunk 3) cs)
 text_chunks_are depth [] = none
 text_chunks_are depth (c ∷ cs) =
-    both (text_string_lines depth c) (flat_map (text_string_lines depth) cs) (encoded_chunk 3 c) (flat_map (encoded_chunk 3) cs) (text_are depth c) (text_chunks_are depth cs)
+    both (text_string_lines depth c) (flat_map (text_string_lines depth) cs) (encoded_chunk 3 c)
+    (flat_map (encoded_chunk 3) cs) (text_are depth c) (text_chunks_are depth cs)
 
 close_are : (depth : ℕ) (w : Option IntegerWidth) → Are (close_lines depth w) (encoded_close w)
 close_are depth (Some w) = none
@@ -162,12 +194,18 @@ atom_are p (byte_string c) = bytes_are p c
 atom_are p (text_string c) = text_are p.depth c
 atom_are p (byte_chunks cs) =
     headed p.depth (opening 2 ∷ []) (counted_comment (codes "bytes") None)
-    (flat_map (byte_string_lines (inside p)) cs ++ break_line (p.depth + 1) ∷ []) (flat_map (encoded_chunk 2) cs ++ break_byte ∷ [])
-    (both (flat_map (byte_string_lines (inside p)) cs) (break_line (p.depth + 1) ∷ []) (flat_map (encoded_chunk 2) cs) (break_byte ∷ [])
+    (flat_map (byte_string_lines (inside p)) cs ++ break_line (p.depth + 1) ∷ [])
+    (flat_map (encoded_chunk 2) cs ++ break_byte ∷ [])
+    (both (flat_map (byte_string_lines (inside p)) cs) (break_line (p.depth + 1) ∷ []) (flat_map (encoded_chunk 2) cs)
+    (break_byte ∷ [])
     (byte_chunks_are (inside p) cs) (alone (p.depth + 1) (break_byte ∷ []) (codes "break")))
 atom_are p (text_chunks cs) =
-    headed p.depth (opening 3 ∷ []) (counted_comment (codes "text") None) (flat_map (text_string_lines (p.depth + 1)) cs ++ break_line (p.depth + 1) ∷ []) (flat_map (encoded_chunk 3) cs ++ break_byte ∷ [])
-    (both (flat_map (text_string_lines (p.depth + 1)) cs) (break_line (p.depth + 1) ∷ []) (flat_map (encoded_chunk 3) cs) (break_byte ∷ []) (text_chunks_are (p.depth + 1) cs) (alone (p.depth + 1) (break_byte ∷ []) (codes "break")))
+    headed p.depth (opening 3 ∷ []) (counted_comment (codes "text") None)
+    (flat_map (text_string_lines (p.depth + 1)) cs ++ break_line (p.depth + 1) ∷ [])
+    (flat_map (encoded_chunk 3) cs ++ break_byte ∷ [])
+    (both (flat_map (text_string_lines (p.depth + 1)) cs) (break_line (p.depth + 1) ∷ [])
+    (flat_map (encoded_chunk 3) cs) (break_byte ∷ []) (text_chunks_are (p.depth + 1) cs)
+    (alone (p.depth + 1) (break_byte ∷ []) (codes "break")))
 atom_are p (float bits w) = alone p.depth (encoded_float bits w) (float_comment (encoded_float bits w))
 atom_are p (simple n) = alone p.depth (encoded_simple n) (simple_comment n)
 
@@ -182,44 +220,60 @@ note_are depth (text ∷ texts) = texts_are (depth + 1) texts
 
 all_notes_are : (depth : ℕ) (all : List (List (List ℕ))) → Are (flat_map (note_lines depth) all) []
 all_notes_are depth [] = none
-all_notes_are depth (n ∷ ns) = both (note_lines depth n) (flat_map (note_lines depth) ns) [] [] (note_are depth n) (all_notes_are depth ns)
+all_notes_are depth (n ∷ ns) = both (note_lines depth n) (flat_map (note_lines depth) ns) [] [] (note_are depth n)
+    (all_notes_are depth ns)
 
-notes_are : (depth left : ℕ) (dump : Item → List DumpLine) (known : ℕ) (tag : Option ℕ) (i : Item) → Are (notes_lines depth left dump known tag i) []
+notes_are : (depth left : ℕ) (dump : Item → List DumpLine) (known : ℕ) (tag : Option ℕ) (i : Item)
+    → Are (notes_lines depth left dump known tag i) []
 notes_are depth left dump known None i = none
 notes_are depth left dump known (Some t) i = all_notes_are depth (notes left dump known t i)
 
 -- items at a level, each of which is written as its bytes
-module _ (write : ℕ → Item → List DumpLine) (level : ℕ) (each : (known : ℕ) (i : Item) → WellFormed level i → Are (write known i) (encoded i)) where
+module _ (write : ℕ → Item → List DumpLine) (level : ℕ) (each : (known : ℕ) (i : Item) → WellFormed level i
+    → Are (write known i) (encoded i)) where
   items_are : (known : ℕ) (is : Items) → WellFormedItems level is → Are (items_lines write known is) (encoded_items is)
   items_are known no_items well = none
   items_are known (item i is) well =
-      both (write known i) (items_lines write (known + shared_in i) is) (encoded i) (encoded_items is) (each known i well.0) (items_are (known + shared_in i) is well.1)
+      both (write known i) (items_lines write (known + shared_in i) is) (encoded i) (encoded_items is)
+      (each known i well.0) (items_are (known + shared_in i) is well.1)
 
   pairs_are : (known : ℕ) (ps : Pairs) → WellFormedPairs level ps → Are (pairs_lines write known ps) (encoded_pairs ps)
   pairs_are known no_pairs well = none
   pairs_are known (pair k v ps) well =
       let after = known + shared_in k in
-      both (write known k) (write after v ++ pairs_lines write (after + shared_in v) ps) (encoded k) (encoded v ++ encoded_pairs ps) (each known k well.0)
-      (both (write after v) (pairs_lines write (after + shared_in v) ps) (encoded v) (encoded_pairs ps) (each after v well.1) (pairs_are (after + shared_in v) ps well.2))
+      both (write known k) (write after v ++ pairs_lines write (after + shared_in v) ps) (encoded k)
+      (encoded v ++ encoded_pairs ps) (each known k well.0)
+      (both (write after v) (pairs_lines write (after + shared_in v) ps) (encoded v) (encoded_pairs ps)
+      (each after v well.1) (pairs_are (after + shared_in v) ps well.2))
 
-module _ (write : At → ℕ → Item → List DumpLine) (level : ℕ) (each : (p : At) (known : ℕ) (i : Item) → WellFormed (level + 1) i → Are (write p known i) (encoded i)) where
+module _ (write : At → ℕ → Item → List DumpLine) (level : ℕ) (each : (p : At) (known : ℕ) (i : Item)
+    → WellFormed (level + 1) i → Are (write p known i) (encoded i)) where
   parts_are : (p : At) (known : ℕ) (i : Item) → WellFormed level i → Are (parts_lines write p known i) (encoded i)
   parts_are p known (atom a) well = atom_are p a
   parts_are p known (array is w) well =
-      headed p.depth (encoded_open 4 (item_count is) w) (counted_comment (codes "array") (count_if_definite (item_count is) w)) (items_lines (write (inside p)) known is ++ close_lines (p.depth + 1) w) (encoded_items is ++ encoded_close w)
-      (both (items_lines (write (inside p)) known is) (close_lines (p.depth + 1) w) (encoded_items is) (encoded_close w) (items_are (write (inside p)) (level + 1) (each (inside p)) known is well.2) (close_are (p.depth + 1) w))
+      headed p.depth (encoded_open 4 (item_count is) w)
+      (counted_comment (codes "array") (count_if_definite (item_count is) w))
+      (items_lines (write (inside p)) known is ++ close_lines (p.depth + 1) w) (encoded_items is ++ encoded_close w)
+      (both (items_lines (write (inside p)) known is) (close_lines (p.depth + 1) w) (encoded_items is) (encoded_close w)
+      (items_are (write (inside p)) (level + 1) (each (inside p)) known is well.2) (close_are (p.depth + 1) w))
   parts_are p known (spec.map ps w) well =
-      headed p.depth (encoded_open 5 (pair_count ps) w) (counted_comment (codes "map") (count_if_definite (pair_count ps) w)) (pairs_lines (write (inside p)) known ps ++ close_lines (p.depth + 1) w) (encoded_pairs ps ++ encoded_close w)
-      (both (pairs_lines (write (inside p)) known ps) (close_lines (p.depth + 1) w) (encoded_pairs ps) (encoded_close w) (pairs_are (write (inside p)) (level + 1) (each (inside p)) known ps well.2) (close_are (p.depth + 1) w))
+      headed p.depth (encoded_open 5 (pair_count ps) w)
+      (counted_comment (codes "map") (count_if_definite (pair_count ps) w))
+      (pairs_lines (write (inside p)) known ps ++ close_lines (p.depth + 1) w) (encoded_pairs ps ++ encoded_close w)
+      (both (pairs_lines (write (inside p)) known ps) (close_lines (p.depth + 1) w) (encoded_pairs ps) (encoded_close w)
+      (pairs_are (write (inside p)) (level + 1) (each (inside p)) known ps well.2) (close_are (p.depth + 1) w))
   parts_are p known (tagged t w i) well =
       headed p.depth (encoded_head 6 t w) (tag_comment t) (write (below t known p) (shared_from t known) i) (encoded i)
       (each (below t known p) (shared_from t known) i well.2)
 
-pub item_are : (left level : ℕ) (p : At) (known : ℕ) (i : Item) → level + left ≡ 129 → WellFormed level i → Are (lines_at left p known i) (encoded i)
+pub item_are : (left level : ℕ) (p : At) (known : ℕ) (i : Item) → level + left ≡ 129 → WellFormed level i
+    → Are (lines_at left p known i) (encoded i)
 unfolding lines_at
 item_are zero level p known i levels well = absurd (omega (arith, well_level level i well))
 item_are (suc left) level p known i levels well =
     let parts = parts_lines (lines_at left) p known i in
     let said = notes_lines p.depth left (lines_at left top 0) p.shared p.tag i in
     subst (Are (parts ++ said)) (append-nil (encoded i))
-    (both parts said (encoded i) [] (parts_are (lines_at left) level (λ q n j w. item_are left (level + 1) q n j (omega arith) w) p known i well) (notes_are p.depth left (lines_at left top 0) p.shared p.tag i))
+    (both parts said (encoded i) [] (parts_are (lines_at left) level
+    (λ q n j w. item_are left (level + 1) q n j (omega arith) w) p known i well)
+    (notes_are p.depth left (lines_at left top 0) p.shared p.tag i))

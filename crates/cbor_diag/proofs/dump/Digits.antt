@@ -1,5 +1,6 @@
 -- The digits of a head.
-use Rattle.std.proofs.Common.{◌≡◌, ℕ, ◌+◌, ◌*◌, ◌≤◌, ◌<◌, List, ◌++◌, length, take, drop, codes, sym, arith, length-append, length-drop, length-take-le}
+use Rattle.std.proofs.Common.{◌≡◌, ℕ, ◌+◌, ◌*◌, ◌≤◌, ◌<◌, List, ◌++◌, length, take, drop, codes, sym, arith}
+use Rattle.std.proofs.Common.{length-append, length-drop, length-take-le}
 use Rattle.std.proofs.lemmas.Bool.Decides.{nat_tests}
 use Rattle.hex.specs.Hex.{encode_lower, lower_digits}
 use Rattle.hex.proofs.HexLemmas.{length-encode_with}
@@ -10,7 +11,8 @@ pub head_short : (bytes : List ℕ) → length bytes ≤ 1 → head_hex bytes �
 head_short bytes short = grind (arith, nat_tests)
 
 -- a byte, a blank, and others
-pub head_long : (bytes : List ℕ) → 1 < length bytes → head_hex bytes ≡ encode_lower (take 1 bytes) ++ codes " " ++ encode_lower (drop 1 bytes)
+pub head_long : (bytes : List ℕ) → 1 < length bytes
+    → head_hex bytes ≡ encode_lower (take 1 bytes) ++ codes " " ++ encode_lower (drop 1 bytes)
 head_long bytes long = grind (arith, nat_tests)
 
 pub length-hex : (bytes : List ℕ) → length (encode_lower bytes) ≡ 2 * length bytes

@@ -9,22 +9,29 @@ use Rattle.cbor_diag.proofs.dump.Walks.{taken-append}
 
 -- any sink takes a note
 pub note_takes : (room depth : ℕ) (text : List ℕ) → depth < 140 → Takes room (note_line depth text)
-note_takes room depth text low = record { fit = record { level = low; short = omega arith; ascii = IsAscii-from_test [] refl }; reach = omega arith }
+note_takes room depth text low = record {
+  fit =
+      record { level = low; short = omega arith; ascii = IsAscii-from_test [] refl };
+  reach = omega arith;
+}
 
 -- which one that finds a width passes over
-texts_passed : (width depth : ℕ) (texts : List (List ℕ)) → taken step (widest width) (map (note_line depth) texts) ≡ widest width
+texts_passed : (width depth : ℕ) (texts : List (List ℕ))
+    → taken step (widest width) (map (note_line depth) texts) ≡ widest width
 texts_passed width depth [] = refl
 texts_passed width depth (text ∷ texts) =
     let same : max width 0 ≡ width = omega arith in
     ap (λ n. taken step (widest n) (map (note_line depth) texts)) same ∙ texts_passed width depth texts
 
-note_passed : (width depth : ℕ) (texts : List (List ℕ)) → taken step (widest width) (note_lines depth texts) ≡ widest width
+note_passed : (width depth : ℕ) (texts : List (List ℕ))
+    → taken step (widest width) (note_lines depth texts) ≡ widest width
 note_passed width depth [] = refl
 note_passed width depth (text ∷ texts) =
     let same : max width 0 ≡ width = omega arith in
     ap (λ n. taken step (widest n) (map (note_line (depth + 1)) texts)) same ∙ texts_passed width (depth + 1) texts
 
-pub notes_passed : (width depth : ℕ) (all : List (List (List ℕ))) → taken step (widest width) (flat_map (note_lines depth) all) ≡ widest width
+pub notes_passed : (width depth : ℕ) (all : List (List (List ℕ)))
+    → taken step (widest width) (flat_map (note_lines depth) all) ≡ widest width
 notes_passed width depth [] = refl
 notes_passed width depth (n ∷ ns) =
     taken-append step (widest width) (note_lines depth n) (flat_map (note_lines depth) ns)

@@ -1,5 +1,8 @@
 -- The notes of a dump: what the functions of a note meet, and that no text of a note has a line feed.
-use Rattle.std.proofs.Common.{◌≡◌, ◌<◌, ◌≤◌, ℕ, ℤ, ◌≤ℤ◌, neg_ℤ, ◌+◌, ◌/◌, ◌-◌, ◌%◌, ◌==◌, Bool, true, false, cond, nat_lt, nat_eq, pos, negsuc, List, [], ◌∷◌, ◌++◌, length, take, drop, replicate, codes, decimal, if◌then◌else◌, Option, Some, None, unwrap_or, FitsSigned, w64, refl, sym, ap, ◌∙◌, arith}
+use Rattle.std.proofs.Common.{◌≡◌, ◌<◌, ◌≤◌, ℕ, ℤ, ◌≤ℤ◌, neg_ℤ, ◌+◌, ◌/◌, ◌-◌, ◌%◌, ◌==◌, Bool, true, false, cond}
+use Rattle.std.proofs.Common.{nat_lt, nat_eq, pos, negsuc, List, [], ◌∷◌, ◌++◌, length, take, drop, replicate, codes}
+use Rattle.std.proofs.Common.{decimal, if◌then◌else◌, Option, Some, None, unwrap_or, FitsSigned, w64, refl, sym, ap}
+use Rattle.std.proofs.Common.{◌∙◌, arith}
 use Rattle.std.proofs.Math.Seq.{take-append-add}
 use Rattle.std.proofs.lemmas.Bool.{eq-eqb, lt-ltb, le-ltb}
 use Rattle.std.proofs.lemmas.List.{drop-replicate, take-replicate}
@@ -16,32 +19,45 @@ use Rattle.cbor_notes.specs.Identifier.{uuid_lines}
 use Rattle.cbor_notes.specs.Text.{grouped}
 use Rattle.cbor_notes.specs.Url.{is_url}
 use Rattle.cbor_notes.proofs.columns.CommentTexts.{ipv4_line, ipv6_line, mac_line, uuid_lines_line, base64_lines_line}
-use Rattle.cbor_notes.proofs.columns.DateLines.{date_of_epoch_line, datetime_of_epoch_line, epoch_of_date_line, epoch_of_datetime_line}
-use Rattle.cbor_notes.proofs.columns.OneLine.{Free, from_test, free_both, free_cond, decimal_line, grouped_line, escaped_line}
+use Rattle.cbor_notes.proofs.columns.DateLines.{date_of_epoch_line, datetime_of_epoch_line, epoch_of_date_line}
+use Rattle.cbor_notes.proofs.columns.DateLines.{epoch_of_datetime_line}
+use Rattle.cbor_notes.proofs.columns.OneLine.{Free, from_test, free_both, free_cond, decimal_line, grouped_line}
+use Rattle.cbor_notes.proofs.columns.OneLine.{escaped_line}
 use Rattle.cbor_diag.proofs.dump.CommentLines.{brackets_line}
 use Rattle.cbor_diag.specs.declared.encode.dump.notes.addresses.Family.{Family}
 use Rattle.cbor_diag.specs.declared.encode.dump.notes.addresses.Family.TheVariants.{IPv4, IPv6}
 use Rattle.cbor_diag.specs.declared.syntax.IntegerWidth.{IntegerWidth}
 use Rattle.cbor_diag.specs.Comments.{in_brackets}
-use Rattle.cbor_diag.specs.Item.{Chunk, Item, Items, atom, integer, negative, byte_string, text_string, float, simple, array, item}
-use Rattle.cbor_diag.specs.Notes.{one, word_or, datetime_note, epoch_datetime_note, epoch_date_note, date_note, shareable_note, reference_note, url_words, url_note, base64_name, decoded_note, base64_note, uuid_note, family_name, family_size, address_text, shown, invalid_address, invalid_length, plain_address, prefix_note, zone_at, with_length, with_zone, interface_note, members_note, address_note, network_address, network_note, typed_array_note, value_note}
+use Rattle.cbor_diag.specs.Item.{Chunk, Item, Items, atom, integer, negative, byte_string, text_string, float, simple}
+use Rattle.cbor_diag.specs.Item.{array, item}
+use Rattle.cbor_diag.specs.Notes.{one, word_or, datetime_note, epoch_datetime_note, epoch_date_note, date_note}
+use Rattle.cbor_diag.specs.Notes.{shareable_note, reference_note, url_words, url_note, base64_name, decoded_note}
+use Rattle.cbor_diag.specs.Notes.{base64_note, uuid_note, family_name, family_size, address_text, shown}
+use Rattle.cbor_diag.specs.Notes.{invalid_address, invalid_length, plain_address, prefix_note, zone_at, with_length}
+use Rattle.cbor_diag.specs.Notes.{with_zone, interface_note, members_note, address_note, network_address, network_note}
+use Rattle.cbor_diag.specs.Notes.{typed_array_note, value_note}
 
 -- ---- what the functions of a note meet
 
 -- sixteen bytes are those of a UUID
-pub uuid_is : (i : Item) (c : Chunk) (bytes octets : List ℕ) → i ≡ atom (byte_string c) → bytes ≡ c.bytes → IsWholeChunk bytes octets 16 → uuid_note i ≡ uuid_lines octets
+pub uuid_is : (i : Item) (c : Chunk) (bytes octets : List ℕ) → i ≡ atom (byte_string c) → bytes ≡ c.bytes
+    → IsWholeChunk bytes octets 16 → uuid_note i ≡ uuid_lines octets
 uuid_is i c bytes octets seen are whole =
     let long : (length c.bytes == 16) ≡ true = eq-eqb (length c.bytes) 16 (rw (sym are) whole.long) in
     rw (seen, long, whole.same, are) refl
 
-pub reference_is : (known n : ℕ) (w : IntegerWidth) (i : Item) (note unknown whole : List ℕ) → i ≡ atom (integer n w) → note ≡ in_brackets (codes "reference-to") (grouped n false)
-    → unknown ≡ (if nat_lt n known then [] else codes ", not previously shared") → whole ≡ note ++ unknown → whole ≡ reference_note known i
+pub reference_is : (known n : ℕ) (w : IntegerWidth) (i : Item) (note unknown whole : List ℕ) → i ≡ atom (integer n w)
+    → note ≡ in_brackets (codes "reference-to") (grouped n false)
+    → unknown ≡ (if nat_lt n known then [] else codes ", not previously shared") → whole ≡ note ++ unknown
+    → whole ≡ reference_note known i
 reference_is known n w i note unknown whole seen front back is = rw (seen, is, front, back) refl
 
-pub unknown_if : (n known : ℕ) (unknown : List ℕ) → n < known → unknown ≡ [] → unknown ≡ (if nat_lt n known then [] else codes ", not previously shared")
+pub unknown_if : (n known : ℕ) (unknown : List ℕ) → n < known → unknown ≡ []
+    → unknown ≡ (if nat_lt n known then [] else codes ", not previously shared")
 unknown_if n known unknown less is = rw (lt-ltb n known less) is
 
-pub unknown_else : (n known : ℕ) (unknown : List ℕ) → known ≤ n → unknown ≡ codes ", not previously shared" → unknown ≡ (if nat_lt n known then [] else codes ", not previously shared")
+pub unknown_else : (n known : ℕ) (unknown : List ℕ) → known ≤ n → unknown ≡ codes ", not previously shared"
+    → unknown ≡ (if nat_lt n known then [] else codes ", not previously shared")
 unknown_else n known unknown most is = rw (le-ltb n known most) is
 
 -- the bytes of an address, those behind them being zeros that are left away
@@ -49,15 +65,18 @@ pub filled_up : (bytes octets : List ℕ) (size n : ℕ) → octets ≡ bytes �
     → take n (octets ++ drop (length bytes) (replicate 16 0)) ≡ bytes ++ replicate (size - length bytes) 0
 filled_up bytes octets size n are is short small =
     let sum : n ≡ length bytes + (size - length bytes) = omega arith in
-    rw (are, sum, drop-replicate {X = ℕ} (length bytes) 16 0) (take-append-add bytes (replicate (16 - length bytes) 0) (size - length bytes)
+    rw (are, sum, drop-replicate {X = ℕ} (length bytes) 16 0)
+    (take-append-add bytes (replicate (16 - length bytes) 0) (size - length bytes)
     ∙ ap (λ zeros. bytes ++ zeros) (take-replicate (size - length bytes) (16 - length bytes) 0 (omega arith)))
 
 pub size_small : (f : Family) → family_size f ≤ 16
 size_small IPv4 = omega arith
 size_small IPv6 = omega arith
 
-pub prefix_is : (f : Family) (len : ℕ) (bytes : List ℕ) → ends_with nat_eq bytes (0 ∷ []) ≡ false → length bytes ≤ family_size f
-    → prefix_note f len bytes ≡ shown f (codes "prefix") (address_text f (bytes ++ replicate (family_size f - length bytes) 0) ++ codes "/" ++ decimal len)
+pub prefix_is : (f : Family) (len : ℕ) (bytes : List ℕ) → ends_with nat_eq bytes (0 ∷ []) ≡ false
+    → length bytes ≤ family_size f
+    → prefix_note f len bytes ≡ shown f (codes "prefix")
+    (address_text f (bytes ++ replicate (family_size f - length bytes) 0) ++ codes "/" ++ decimal len)
 prefix_is f len bytes other short = rw (other, le-ltb (family_size f) (length bytes) short) refl
 
 -- the days of the calendar are numbers of 64 bits
@@ -65,7 +84,8 @@ pub day_fits_64 : (day : ℤ) → neg_ℤ (pos 4_371_587) ≤ℤ day → day ≤
 day_fits_64 day low high = omega (arith, ints)
 
 -- and so are the moments
-pub moment_fits_64 : (seconds : ℤ) → neg_ℤ (pos 4_371_587) ≤ℤ int_div_euclid seconds (pos 86400) → int_div_euclid seconds (pos 86400) ≤ℤ pos 2_932_896 → FitsSigned w64 seconds
+pub moment_fits_64 : (seconds : ℤ) → neg_ℤ (pos 4_371_587) ≤ℤ int_div_euclid seconds (pos 86400)
+    → int_div_euclid seconds (pos 86400) ≤ℤ pos 2_932_896 → FitsSigned w64 seconds
 moment_fits_64 (pos a) low high = let day : a / 86400 ≤ 2932896 = omega (arith, ints) in omega (arith, ints)
 moment_fits_64 (negsuc a) low high = let day : a / 86400 ≤ 4371586 = omega (arith, ints) in omega (arith, ints)
 
@@ -81,20 +101,23 @@ all_cond : (b : Bool) (x y : List (List ℕ)) → All10 x → All10 y → All10 
 all_cond true x y h k = h
 all_cond false x y h k = k
 
-word_line : (word otherwise : List ℕ) (found : Option (List ℕ)) → Free 10 word → Free 10 otherwise → Free 10 (unwrap_or found []) → Free 10 (word_or word otherwise found)
+word_line : (word otherwise : List ℕ) (found : Option (List ℕ)) → Free 10 word → Free 10 otherwise
+    → Free 10 (unwrap_or found []) → Free 10 (word_or word otherwise found)
 word_line word otherwise (Some text) h k l = brackets_line word text h l
 word_line word otherwise None h k l = k
 
 -- dates and times
 datetime_line : (i : Item) → Free 10 (datetime_note i)
 datetime_line (atom (text_string c)) =
-    word_line (codes "epoch") (codes "error parsing datetime") (epoch_of_datetime c.bytes) (from_test 10 (codes "epoch") refl)
+    word_line (codes "epoch") (codes "error parsing datetime") (epoch_of_datetime c.bytes)
+    (from_test 10 (codes "epoch") refl)
     (from_test 10 (codes "error parsing datetime") refl) (epoch_of_datetime_line c.bytes)
 datetime_line _ = from_test 10 (codes "invalid type for datetime") refl
 
 moment_line : (n : ℤ) → Free 10 (word_or (codes "datetime") (codes "offset is too large") (datetime_of_epoch n))
 moment_line n =
-    word_line (codes "datetime") (codes "offset is too large") (datetime_of_epoch n) (from_test 10 (codes "datetime") refl)
+    word_line (codes "datetime") (codes "offset is too large") (datetime_of_epoch n)
+    (from_test 10 (codes "datetime") refl)
     (from_test 10 (codes "offset is too large") refl) (datetime_of_epoch_line n)
 
 epoch_datetime_line : (i : Item) → Free 10 (epoch_datetime_note i)
@@ -105,7 +128,8 @@ epoch_datetime_line _ = from_test 10 (codes "invalid type for epoch datetime") r
 
 day_line : (n : ℤ) → Free 10 (word_or (codes "date") (codes "date offset is too large for this tool") (date_of_epoch n))
 day_line n =
-    word_line (codes "date") (codes "date offset is too large for this tool") (date_of_epoch n) (from_test 10 (codes "date") refl)
+    word_line (codes "date") (codes "date offset is too large for this tool") (date_of_epoch n)
+    (from_test 10 (codes "date") refl)
     (from_test 10 (codes "date offset is too large for this tool") refl) (date_of_epoch_line n)
 
 epoch_date_line : (i : Item) → Free 10 (epoch_date_note i)
@@ -121,13 +145,17 @@ date_line _ = from_test 10 (codes "invalid type for date") refl
 
 -- shared values
 shareable_line : (number : ℕ) → Free 10 (shareable_note number)
-shareable_line number = brackets_line (codes "reference") (grouped number false) (from_test 10 (codes "reference") refl) (grouped_line number false)
+shareable_line number = brackets_line (codes "reference") (grouped number false) (from_test 10 (codes "reference") refl)
+    (grouped_line number false)
 
 reference_line : (known : ℕ) (i : Item) → Free 10 (reference_note known i)
 reference_line known (atom (integer n w)) =
-    free_both 10 (in_brackets (codes "reference-to") (grouped n false)) (if nat_lt n known then [] else codes ", not previously shared")
-    (brackets_line (codes "reference-to") (grouped n false) (from_test 10 (codes "reference-to") refl) (grouped_line n false))
-    (free_cond 10 (nat_lt n known) [] (codes ", not previously shared") tt (from_test 10 (codes ", not previously shared") refl))
+    free_both 10 (in_brackets (codes "reference-to") (grouped n false))
+    (if nat_lt n known then [] else codes ", not previously shared")
+    (brackets_line (codes "reference-to") (grouped n false) (from_test 10 (codes "reference-to") refl)
+    (grouped_line n false))
+    (free_cond 10 (nat_lt n known) [] (codes ", not previously shared") tt
+    (from_test 10 (codes ", not previously shared") refl))
 reference_line known _ = from_test 10 (codes "invalid type for shared ref") refl
 
 -- texts that encode something
@@ -140,19 +168,31 @@ url_line (atom (text_string c)) = words_line (is_url c.bytes)
 url_line _ = from_test 10 (codes "invalid type for uri") refl
 
 base64_name_line : (url : Bool) → Free 10 (base64_name url)
-base64_name_line url = free_cond 10 url (codes "base64url") (codes "base64") (from_test 10 (codes "base64url") refl) (from_test 10 (codes "base64") refl)
+base64_name_line url = free_cond 10 url (codes "base64url") (codes "base64") (from_test 10 (codes "base64url") refl)
+    (from_test 10 (codes "base64") refl)
 
-decoded_line : (name : List ℕ) (found : Option (List (List ℕ))) → Free 10 name → All10 (unwrap_or found []) → All10 (decoded_note name found)
+decoded_line : (name : List ℕ) (found : Option (List (List ℕ))) → Free 10 name → All10 (unwrap_or found [])
+    → All10 (decoded_note name found)
 decoded_line name (Some lines) h k = (free_both 10 name (codes " decoded") h (from_test 10 (codes " decoded") refl), k)
-decoded_line name None h k = (free_both 10 (codes "invalid data for ") name (from_test 10 (codes "invalid data for ") refl) h, tt)
+decoded_line name None h k = (
+  free_both 10 (codes "invalid data for ") name
+      (from_test 10 (codes "invalid data for ") refl) h,
+  tt,
+)
 
 base64_line : (url : Bool) (i : Item) → All10 (base64_note url i)
-base64_line url (atom (text_string c)) = decoded_line (base64_name url) (base64_lines url c.bytes) (base64_name_line url) (base64_lines_line url c.bytes)
-base64_line url _ = (free_both 10 (codes "invalid type for ") (base64_name url) (from_test 10 (codes "invalid type for ") refl) (base64_name_line url), tt)
+base64_line url (atom (text_string c)) = decoded_line (base64_name url) (base64_lines url c.bytes)
+    (base64_name_line url) (base64_lines_line url c.bytes)
+base64_line url _ = (
+  free_both 10 (codes "invalid type for ") (base64_name url)
+      (from_test 10 (codes "invalid type for ") refl) (base64_name_line url),
+  tt,
+)
 
 uuid_line : (i : Item) → All10 (uuid_note i)
 uuid_line (atom (byte_string c)) =
-    all_cond (length c.bytes == 16) (uuid_lines c.bytes) (one (codes "invalid data length for uuid")) (uuid_lines_line c.bytes)
+    all_cond (length c.bytes == 16) (uuid_lines c.bytes) (one (codes "invalid data length for uuid"))
+    (uuid_lines_line c.bytes)
     (from_test 10 (codes "invalid data length for uuid") refl, tt)
 uuid_line _ = (from_test 10 (codes "invalid type for uuid") refl, tt)
 
@@ -168,7 +208,8 @@ text_line IPv6 bytes = ipv6_line bytes
 shown_line : (f : Family) (what text : List ℕ) → Free 10 what → Free 10 text → Free 10 (shown f what text)
 shown_line f what text h k =
     brackets_line (family_name f ++ codes " " ++ what) text
-    (free_both 10 (family_name f ++ codes " ") what (free_both 10 (family_name f) (codes " ") (name_line f) (from_test 10 (codes " ") refl)) h) k
+    (free_both 10 (family_name f ++ codes " ") what
+    (free_both 10 (family_name f) (codes " ") (name_line f) (from_test 10 (codes " ") refl)) h) k
 
 invalid_line : Free 10 invalid_address
 invalid_line = from_test 10 invalid_address refl
@@ -180,21 +221,26 @@ length_line IPv6 = from_test 10 (invalid_length IPv6) refl
 plain_line : (f : Family) (bytes : List ℕ) → Free 10 (plain_address f bytes)
 plain_line f bytes =
     free_cond 10 (length bytes == family_size f) (shown f (codes "address") (address_text f bytes)) (invalid_length f)
-    (shown_line f (codes "address") (address_text f bytes) (from_test 10 (codes "address") refl) (text_line f bytes)) (length_line f)
+    (shown_line f (codes "address") (address_text f bytes) (from_test 10 (codes "address") refl) (text_line f bytes))
+    (length_line f)
 
 -- the length of a prefix behind a text
 slash_line : (text : List ℕ) (len : ℕ) → Free 10 text → Free 10 (text ++ codes "/" ++ decimal len)
-slash_line text len free = free_both 10 (text ++ codes "/") (decimal len) (free_both 10 text (codes "/") free (from_test 10 (codes "/") refl)) (decimal_line len)
+slash_line text len free = free_both 10 (text ++ codes "/") (decimal len)
+    (free_both 10 text (codes "/") free (from_test 10 (codes "/") refl)) (decimal_line len)
 
 -- a zone behind a text
 percent_line : (text zone : List ℕ) → Free 10 text → Free 10 zone → Free 10 (text ++ codes "%" ++ zone)
-percent_line text zone free h = free_both 10 (text ++ codes "%") zone (free_both 10 text (codes "%") free (from_test 10 (codes "%") refl)) h
+percent_line text zone free h = free_both 10 (text ++ codes "%") zone
+    (free_both 10 text (codes "%") free (from_test 10 (codes "%") refl)) h
 
 prefix_line : (f : Family) (len : ℕ) (bytes : List ℕ) → Free 10 (prefix_note f len bytes)
 prefix_line f len bytes =
     let filled = address_text f (bytes ++ replicate (family_size f - length bytes) 0) in
-    free_cond 10 (ends_with nat_eq bytes (0 ∷ [])) (codes "invalid prefix, ends with zero byte") _ (from_test 10 (codes "invalid prefix, ends with zero byte") refl)
-    (free_cond 10 (nat_lt (family_size f) (length bytes)) (invalid_length f) (shown f (codes "prefix") (filled ++ codes "/" ++ decimal len)) (length_line f)
+    free_cond 10 (ends_with nat_eq bytes (0 ∷ [])) (codes "invalid prefix, ends with zero byte") _
+    (from_test 10 (codes "invalid prefix, ends with zero byte") refl)
+    (free_cond 10 (nat_lt (family_size f) (length bytes)) (invalid_length f)
+    (shown f (codes "prefix") (filled ++ codes "/" ++ decimal len)) (length_line f)
     (shown_line f (codes "prefix") (filled ++ codes "/" ++ decimal len) (from_test 10 (codes "prefix") refl)
     (slash_line filled len (text_line f (bytes ++ replicate (family_size f - length bytes) 0)))))
 
@@ -207,32 +253,39 @@ zone_line (item (atom (integer n w)) is) = decimal_line n
 zone_line (item (atom (text_string c)) is) = escaped_line c.bytes
 zone_line _ = tt
 
-with_length_line : (f : Family) (bytes : List ℕ) (len : ℕ) (zone : Option (Option (List ℕ))) → FreeZone zone → Free 10 (with_length f bytes len zone)
+with_length_line : (f : Family) (bytes : List ℕ) (len : ℕ) (zone : Option (Option (List ℕ))) → FreeZone zone
+    → Free 10 (with_length f bytes len zone)
 with_length_line f bytes len (Some (Some zone)) h =
     let text = address_text f bytes ++ codes "%" ++ zone in
-    shown_line f (codes "address-and-zone-and-prefix") (text ++ codes "/" ++ decimal len) (from_test 10 (codes "address-and-zone-and-prefix") refl)
+    shown_line f (codes "address-and-zone-and-prefix") (text ++ codes "/" ++ decimal len)
+    (from_test 10 (codes "address-and-zone-and-prefix") refl)
     (slash_line text len (percent_line (address_text f bytes) zone (text_line f bytes) h))
 with_length_line f bytes len (Some None) h =
-    shown_line f (codes "address-and-prefix") (address_text f bytes ++ codes "/" ++ decimal len) (from_test 10 (codes "address-and-prefix") refl)
+    shown_line f (codes "address-and-prefix") (address_text f bytes ++ codes "/" ++ decimal len)
+    (from_test 10 (codes "address-and-prefix") refl)
     (slash_line (address_text f bytes) len (text_line f bytes))
 with_length_line f bytes len None h = invalid_line
 
-with_zone_line : (f : Family) (bytes : List ℕ) (zone : Option (Option (List ℕ))) → FreeZone zone → Free 10 (with_zone f bytes zone)
+with_zone_line : (f : Family) (bytes : List ℕ) (zone : Option (Option (List ℕ))) → FreeZone zone
+    → Free 10 (with_zone f bytes zone)
 with_zone_line f bytes (Some (Some zone)) h =
-    shown_line f (codes "address-and-zone") (address_text f bytes ++ codes "%" ++ zone) (from_test 10 (codes "address-and-zone") refl)
+    shown_line f (codes "address-and-zone") (address_text f bytes ++ codes "%" ++ zone)
+    (from_test 10 (codes "address-and-zone") refl)
     (percent_line (address_text f bytes) zone (text_line f bytes) h)
 with_zone_line f bytes _ h = invalid_line
 
 interface_line : (f : Family) (bytes : List ℕ) (is : Items) → Free 10 (interface_note f bytes is)
 interface_line f bytes (item (atom (integer len w)) is) = with_length_line f bytes len (zone_at is) (zone_line is)
 interface_line f bytes (item (atom (simple n)) is) =
-    free_cond 10 (n == 22) (with_zone f bytes (zone_at is)) invalid_address (with_zone_line f bytes (zone_at is) (zone_line is)) invalid_line
+    free_cond 10 (n == 22) (with_zone f bytes (zone_at is)) invalid_address
+    (with_zone_line f bytes (zone_at is) (zone_line is)) invalid_line
 interface_line f bytes _ = invalid_line
 
 members_line : (f : Family) (is : Items) → Free 10 (members_note f is)
 members_line f (item (atom (integer len w)) (item (atom (byte_string c)) is)) = prefix_line f len c.bytes
 members_line f (item (atom (byte_string c)) is) =
-    free_cond 10 (length c.bytes == family_size f) (interface_note f c.bytes is) (invalid_length f) (interface_line f c.bytes is) (length_line f)
+    free_cond 10 (length c.bytes == family_size f) (interface_note f c.bytes is) (invalid_length f)
+    (interface_line f c.bytes is) (length_line f)
 members_line f _ = invalid_line
 
 address_line : (f : Family) (i : Item) → Free 10 (address_note f i)
@@ -243,11 +296,14 @@ address_line f _ = invalid_line
 network_bytes_line : (bytes : List ℕ) → Free 10 (network_address bytes)
 network_bytes_line bytes =
     free_cond 10 (length bytes == 4) (in_brackets (codes "IPv4 address") (ipv4_text bytes)) _
-    (brackets_line (codes "IPv4 address") (ipv4_text bytes) (from_test 10 (codes "IPv4 address") refl) (ipv4_line bytes))
+    (brackets_line (codes "IPv4 address") (ipv4_text bytes) (from_test 10 (codes "IPv4 address") refl)
+    (ipv4_line bytes))
     (free_cond 10 (length bytes == 6) (in_brackets (codes "MAC address") (mac_text bytes)) _
     (brackets_line (codes "MAC address") (mac_text bytes) (from_test 10 (codes "MAC address") refl) (mac_line bytes))
-    (free_cond 10 (length bytes == 16) (in_brackets (codes "IPv6 address") (ipv6_text bytes)) (codes "invalid data length for network address")
-    (brackets_line (codes "IPv6 address") (ipv6_text bytes) (from_test 10 (codes "IPv6 address") refl) (ipv6_line bytes))
+    (free_cond 10 (length bytes == 16) (in_brackets (codes "IPv6 address") (ipv6_text bytes))
+    (codes "invalid data length for network address")
+    (brackets_line (codes "IPv6 address") (ipv6_text bytes) (from_test 10 (codes "IPv6 address") refl)
+    (ipv6_line bytes))
     (from_test 10 (codes "invalid data length for network address") refl)))
 
 network_line : (i : Item) → Free 10 (network_note i)
@@ -258,7 +314,8 @@ network_line _ = invalid_line
 typed_array_line : (size : Option ℕ) (i : Item) → All10 (typed_array_note size i)
 typed_array_line None _ = tt
 typed_array_line (Some size) (atom (byte_string c)) =
-    all_cond (length c.bytes % size == 0) [] (one (codes "invalid data length for typed array")) tt (from_test 10 (codes "invalid data length for typed array") refl, tt)
+    all_cond (length c.bytes % size == 0) [] (one (codes "invalid data length for typed array")) tt
+    (from_test 10 (codes "invalid data length for typed array") refl, tt)
 typed_array_line (Some size) _ = (from_test 10 (codes "invalid type for typed array") refl, tt)
 
 pub value_note_line : (known t : ℕ) (i : Item) → AllByRecursion (Free 10) (value_note known t i)
@@ -276,5 +333,6 @@ value_note_line known t i =
     (all_cond (t == 54) (one (address_note IPv6 i)) _ (one_line (address_note IPv6 i) (address_line IPv6 i))
     (all_cond (t == 100) (one (epoch_date_note i)) _ (one_line (epoch_date_note i) (epoch_date_line i))
     (all_cond (t == 260) (one (network_note i)) _ (one_line (network_note i) (network_line i))
-    (all_cond (t == 1004) (one (date_note i)) (typed_array_note (element_size t) i) (one_line (date_note i) (date_line i))
+    (all_cond (t == 1004) (one (date_note i)) (typed_array_note (element_size t) i)
+    (one_line (date_note i) (date_line i))
     (typed_array_line (element_size t) i)))))))))))))

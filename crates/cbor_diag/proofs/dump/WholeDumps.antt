@@ -46,14 +46,18 @@ module _ (level : ℕ) (i : Item) (some : 1 ≤ level) (well : WellFormed level 
     starts p wide = subst (CanTake p) (sym same) (takes_all (room p) all fit wide)
 
     -- the first pass finds the width
-    pub found : (first last : Pass) → first ≡ pass.Measure 0 → Took first last lines → width_in (held last) ≡ width_of all
+    pub found : (first last : Pass) → first ≡ pass.Measure 0 → Took first last lines
+        → width_in (held last) ≡ width_of all
     found first last is took =
         let none_yet : max 0 (width_of all) ≡ width_of all = omega arith in
-        ap width_in (took.0 ∙ ap (taken step (held first)) same ∙ ap (λ s. taken step (held s) all) is ∙ widest_is 0 all) ∙ none_yet
+        ap width_in (took.0 ∙ ap (taken step (held first)) same ∙ ap (λ s. taken step (held s) all) is
+        ∙ widest_is 0 all) ∙ none_yet
 
     -- the second one writes the lines
-    pub wrote : (w : Writer) (first last : Pass) → first ≡ pass.Write w → string_bytes w.out ≡ [] → w.width ≡ width_of all
+    pub wrote : (w : Writer) (first last : Pass) → first ≡ pass.Write w → string_bytes w.out ≡ []
+        → w.width ≡ width_of all
         → Took first last lines → text_in (held last) ≡ layout all
     wrote w first last is empty wide took =
-        ap text_in (took.0 ∙ ap (taken step (held first)) same ∙ ap (λ s. taken step (held s) all) is ∙ written_is w.width (string_bytes w.out) all)
+        ap text_in (took.0 ∙ ap (taken step (held first)) same ∙ ap (λ s. taken step (held s) all) is
+        ∙ written_is w.width (string_bytes w.out) all)
         ∙ ap (λ t. t ++ flat_map (line_text w.width) all) empty ∙ ap (λ n. flat_map (line_text n) all) wide

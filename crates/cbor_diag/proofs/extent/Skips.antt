@@ -1,5 +1,7 @@
 -- Steps of skipping, and what they skip: contents, chunks and heads.
-use Rattle.std.proofs.Common.{◌≡◌, ◌≢◌, ℕ, zero, suc, ◌-◌, ◌/◌, ◌%◌, ◌<◌, ◌≤◌, List, [], ◌∷◌, ◌++◌, length, get_or, take, drop, Option, Some, None, Ok, Err, ◌⊎◌, inl, inr, refl, sym, ap, subst, ◌∙◌, append_assoc, arith}
+use Rattle.std.proofs.Common.{◌≡◌, ◌≢◌, ℕ, zero, suc, ◌-◌, ◌/◌, ◌%◌, ◌<◌, ◌≤◌, List, [], ◌∷◌, ◌++◌, length, get_or}
+use Rattle.std.proofs.Common.{take, drop, Option, Some, None, Ok, Err, ◌⊎◌, inl, inr, refl, sym, ap, subst, ◌∙◌}
+use Rattle.std.proofs.Common.{append_assoc, arith}
 use Rattle.std.specs.Prelude.{IsUtf8}
 use Rattle.std.proofs.lemmas.List.{append-nil, length-append, length-take, take-append-drop, take_all}
 use Rattle.std.proofs.lemmas.Str.{IsUtf8-nil}
@@ -16,12 +18,16 @@ use Rattle.cbor_diag.specs.Item.{Chunk}
 use Rattle.cbor_diag.specs.Head.{break_byte}
 use Rattle.cbor_diag.specs.Bytes.{StringKind, bytes_kind, text_kind, major_of, IsContent}
 use Rattle.cbor_diag.specs.Refused.{BadHead, no_info, no_length}
-use Rattle.cbor_diag.specs.Reading.{Read, ◌>>=◌, read_info, head_of, read_head, read_content, chunk_of, read_chunk, more_chunks, read_chunks, read_body, read_item}
-use Rattle.cbor_diag.specs.mirror.Skipping.{Skip, rest_of, here, Goes, Shows, StopsSo, stop_of, skip_content, skip_chunks, skip_item, skip_body}
-use Rattle.cbor_diag.proofs.bytes.Heads.{IsBytes, IsBytes-rest, bind_ok, ok_is, cons_is, number_bytes, InfoIs, info_takes, info_again, head_takes}
+use Rattle.cbor_diag.specs.Reading.{Read, ◌>>=◌, read_info, head_of, read_head, read_content, chunk_of, read_chunk}
+use Rattle.cbor_diag.specs.Reading.{more_chunks, read_chunks, read_body, read_item}
+use Rattle.cbor_diag.specs.mirror.Skipping.{Skip, rest_of, here, Goes, Shows, StopsSo, stop_of, skip_content}
+use Rattle.cbor_diag.specs.mirror.Skipping.{skip_chunks, skip_item, skip_body}
+use Rattle.cbor_diag.proofs.bytes.Heads.{IsBytes, IsBytes-rest, bind_ok, ok_is, cons_is, number_bytes, InfoIs}
+use Rattle.cbor_diag.proofs.bytes.Heads.{info_takes, info_again, head_takes}
 use Rattle.cbor_diag.proofs.bytes.Shorter.{Leaves, chunk_leaves}
 use Rattle.cbor_diag.proofs.bytes.Chunks.{content_again, chunk_ways}
-use Rattle.cbor_diag.proofs.bytes.HeadRefusals.{InfoRefusal, cut_info, bad_info, info_refused, info_refuses, info_opens, HeadRefusal, no_head, short_head, bad_head, head_refused}
+use Rattle.cbor_diag.proofs.bytes.HeadRefusals.{InfoRefusal, cut_info, bad_info, info_refused, info_refuses, info_opens}
+use Rattle.cbor_diag.proofs.bytes.HeadRefusals.{HeadRefusal, no_head, short_head, bad_head, head_refused}
 use Rattle.cbor_diag.proofs.bytes.StringRefusals.{short_content, bad_content, content_refuses}
 use Rattle.cbor_diag.proofs.bytes.Faults.{bad_head_refuses}
 use Rattle.cbor_diag.proofs.bytes.Refusals.{item_nothing}
@@ -41,7 +47,8 @@ goes_then {f = f} {s = s} x y = record {
 }
 
 -- what was skipped before the same step
-pub goes_within : {f g : List ℕ → Skip} {b r : List ℕ} (F : Skip → Skip) → Goes f g b r → Goes (λ c. F (f c)) (λ c. F (g c)) b r
+pub goes_within : {f g : List ℕ → Skip} {b r : List ℕ} (F : Skip → Skip) → Goes f g b r
+    → Goes (λ c. F (f c)) (λ c. F (g c)) b r
 goes_within F x = record { over = x.over; parts = x.parts; along = λ c. ap F (x.along c) }
 
 -- another way to say where it goes on
@@ -52,7 +59,8 @@ goes_from same x = record { over = x.over; parts = x.parts; along = λ c. same (
 pub goes_at : {f g : List ℕ → Skip} {b r : List ℕ} → Goes f g b r → f b ≡ g r
 goes_at {f = f} {r = r} x = ap f x.parts ∙ x.along r
 
-pub shows_then : {f g : List ℕ → Skip} {b r : List ℕ} {e : Error} {after : ℕ} → Goes f g b r → Shows g r e after → Shows f b e after
+pub shows_then : {f g : List ℕ → Skip} {b r : List ℕ} {e : Error} {after : ℕ} → Goes f g b r → Shows g r e after
+    → Shows f b e after
 shows_then {f = f} x s = record {
   before = x.over ++ s.before;
   last = s.last;
@@ -68,7 +76,8 @@ pub stops_then : {f g : List ℕ → Skip} {b r : List ℕ} (stop : Stop) → Go
 stops_then stops.Cut x s = goes_at x ∙ s
 stops_then (stops.Fault e after) x s = shows_then x s
 
-pub stops_within : (f : List ℕ → Skip) (b : List ℕ) (stop : Stop) (F : Skip → Skip) → ((e : Error) → F (Err e) ≡ Err e) → StopsSo f b stop → StopsSo (λ c. F (f c)) b stop
+pub stops_within : (f : List ℕ → Skip) (b : List ℕ) (stop : Stop) (F : Skip → Skip) → ((e : Error) → F (Err e) ≡ Err e)
+    → StopsSo f b stop → StopsSo (λ c. F (f c)) b stop
 stops_within f b stops.Cut F keeps s = ap F s ∙ keeps refusal.CutShort
 stops_within f b (stops.Fault e after) F keeps s = record {
   before = s.before;
@@ -81,12 +90,24 @@ stops_within f b (stops.Fault e after) F keeps s = record {
   other = s.other;
 }
 
-pub stops_from : (f g : List ℕ → Skip) (b : List ℕ) (stop : Stop) → ((c : List ℕ) → f c ≡ g c) → StopsSo g b stop → StopsSo f b stop
+pub stops_from : (f g : List ℕ → Skip) (b : List ℕ) (stop : Stop) → ((c : List ℕ) → f c ≡ g c) → StopsSo g b stop
+    → StopsSo f b stop
 stops_from f g b stop same s = stops_then stop (goes_here b same) s
 
 -- the first byte shows it
-pub shows_first : (f : List ℕ → Skip) (first : ℕ) (b : List ℕ) (e : Error) → f [] ≡ Err refusal.CutShort → f (first ∷ []) ≡ Err e → e ≢ refusal.CutShort → Shows f (first ∷ b) e (length b)
-shows_first f first b e cut fails other = record { before = []; last = first; behind = b; parts = refl; count = refl; cut = cut; fails = fails; other = other }
+pub shows_first : (f : List ℕ → Skip) (first : ℕ) (b : List ℕ) (e : Error) → f [] ≡ Err refusal.CutShort
+    → f (first ∷ []) ≡ Err e → e ≢ refusal.CutShort → Shows f (first ∷ b) e (length b)
+shows_first f first b e cut fails other = record {
+  before = [];
+  last = first;
+  behind = b;
+  parts = refl;
+  count =
+      refl;
+  cut = cut;
+  fails = fails;
+  other = other;
+}
 
 -- ---- what is forgotten
 
@@ -95,7 +116,8 @@ rest_made (Ok x) f = refl
 rest_made (Err e) f = refl
 
 -- one after the other
-pub rest_then : {X Y Z : Type 0} (r : Read X) (g : List ℕ → Read Y) (f : X → Y → Z) → rest_of (r >>= λ x. g x.1 >>= λ y. Ok (f x.0 y.0, y.1)) ≡ (rest_of r >>= λ b. rest_of (g b))
+pub rest_then : {X Y Z : Type 0} (r : Read X) (g : List ℕ → Read Y) (f : X → Y → Z)
+    → rest_of (r >>= λ x. g x.1 >>= λ y. Ok (f x.0 y.0, y.1)) ≡ (rest_of r >>= λ b. rest_of (g b))
 rest_then (Ok x) g f = rest_made (g x.1) (f x.0)
 rest_then (Err e) g f = refl
 
@@ -110,20 +132,24 @@ last_ways (first ∷ x) =
       | inr more ↦ inr (first ∷ more.0, more.1, ap (λ (z : List ℕ). first ∷ z) more.2)
     ]
 
-pub content_cut : (kind : StringKind) (n : ℕ) (w : IntegerWidth) (b : List ℕ) → length b < n → skip_content kind n w b ≡ Err refusal.CutShort
+pub content_cut : (kind : StringKind) (n : ℕ) (w : IntegerWidth) (b : List ℕ) → length b < n
+    → skip_content kind n w b ≡ Err refusal.CutShort
 content_cut kind n w b short = ap rest_of (content_refuses kind n w b refusal.CutShort (short_content short))
 
-pub content_goes : (kind : StringKind) (n : ℕ) (w : IntegerWidth) (b : List ℕ) → n ≤ length b → IsContent kind (take n b) → Goes (skip_content kind n w) here b (drop n b)
+pub content_goes : (kind : StringKind) (n : ℕ) (w : IntegerWidth) (b : List ℕ) → n ≤ length b
+    → IsContent kind (take n b) → Goes (skip_content kind n w) here b (drop n b)
 content_goes kind n w b long holds =
     let chunk : Chunk = record { bytes = take n b; width = w } in
     let count : n ≡ length (take n b) = omega (arith, length-take n b) in
     record {
       over = take n b;
       parts = sym (take-append-drop n b);
-      along = λ c. ap (λ k. skip_content kind k w (take n b ++ c)) count ∙ ap rest_of (content_again kind chunk c holds);
+      along = λ c. ap (λ k. skip_content kind k w (take n b ++ c)) count
+          ∙ ap rest_of (content_again kind chunk c holds);
     }
 
-content_bad : (n : ℕ) (w : IntegerWidth) (b : List ℕ) → n ≤ length b → ¬ (IsUtf8 (take n b)) → Shows (skip_content text_kind n w) b refusal.Utf8 (length (drop n b))
+content_bad : (n : ℕ) (w : IntegerWidth) (b : List ℕ) → n ≤ length b → ¬ (IsUtf8 (take n b))
+    → Shows (skip_content text_kind n w) b refusal.Utf8 (length (drop n b))
 content_bad n w b long bad =
     elim (last_ways (take n b)) [
       | inl none ↦ absurd (bad (rw none IsUtf8-nil))
@@ -133,22 +159,26 @@ content_bad n w b long bad =
             before = at.0;
             last = at.1;
             behind = drop n b;
-            parts = sym (take-append-drop n b) ∙ ap (λ (z : List ℕ). z ++ drop n b) at.2 ∙ append_assoc at.0 (at.1 ∷ []) (drop n b);
+            parts = sym (take-append-drop n b) ∙ ap (λ (z : List ℕ). z ++ drop n b) at.2
+                ∙ append_assoc at.0 (at.1 ∷ []) (drop n b);
             count = refl;
             cut = content_cut text_kind n w at.0 (omega (arith, length-append at.0 (at.1 ∷ [])));
-            fails = ap rest_of (content_refuses text_kind n w (at.0 ++ at.1 ∷ []) refusal.Utf8 (bad_content (at.0 ++ at.1 ∷ []) [] (sym (append-nil (at.0 ++ at.1 ∷ []))) count (rw (← at.2) bad)));
+            fails = ap rest_of (content_refuses text_kind n w (at.0 ++ at.1 ∷ []) refusal.Utf8
+                (bad_content (at.0 ++ at.1 ∷ []) [] (sym (append-nil (at.0 ++ at.1 ∷ []))) count (rw (← at.2) bad)));
             other = λ e. absurd cc;
           }
     ]
 
-pub content_shows : (kind : StringKind) (n : ℕ) (w : IntegerWidth) (b : List ℕ) → n ≤ length b → ¬ (IsContent kind (take n b)) → Shows (skip_content kind n w) b refusal.Utf8 (length (drop n b))
+pub content_shows : (kind : StringKind) (n : ℕ) (w : IntegerWidth) (b : List ℕ) → n ≤ length b
+    → ¬ (IsContent kind (take n b)) → Shows (skip_content kind n w) b refusal.Utf8 (length (drop n b))
 content_shows bytes_kind n w b long bad = absurd (bad tt)
 content_shows text_kind n w b long bad = content_bad n w b long bad
 
 -- ---- chunks
 
 -- how many chunks are looked for at most makes no difference
-chunks_same : (n m : ℕ) (kind : StringKind) (b : List ℕ) → length b ≤ n → length b ≤ m → read_chunks n kind b ≡ read_chunks m kind b
+chunks_same : (n m : ℕ) (kind : StringKind) (b : List ℕ) → length b ≤ n → length b ≤ m
+    → read_chunks n kind b ≡ read_chunks m kind b
 unfolding read_chunks read_chunk
 chunks_same zero zero kind b le_n le_m = refl
 chunks_same zero (suc m) kind [] le_n le_m = refl
@@ -160,7 +190,8 @@ chunks_same (suc n) (suc m) kind b le_n le_m =
     let lt : length c.1 < length b = subst (Leaves (length b)) e (chunk_leaves kind b) in
     more_same c.0 c.1 (chunks_same n m kind c.1 (omega arith) (omega arith)))
   where
-    more_same : (o : Option Chunk) (r : List ℕ) → read_chunks n kind r ≡ read_chunks m kind r → more_chunks (read_chunks n kind) o r ≡ more_chunks (read_chunks m kind) o r
+    more_same : (o : Option Chunk) (r : List ℕ) → read_chunks n kind r ≡ read_chunks m kind r
+        → more_chunks (read_chunks n kind) o r ≡ more_chunks (read_chunks m kind) o r
     more_same None r same = refl
     more_same (Some c) r same = ap (λ read. read >>= λ cs. Ok (c ∷ cs.0, cs.1)) same
 
@@ -173,11 +204,14 @@ abbrev chunks_after : StringKind → Read (Option Chunk) → Skip
 chunks_after kind (Ok x) = chunk_then kind x.0 x.1
 chunks_after kind (Err e) = Err e
 
-one_then : (kind : StringKind) (n : ℕ) (o : Option Chunk) (r : List ℕ) → length r ≤ n → rest_of (more_chunks (read_chunks n kind) o r) ≡ chunk_then kind o r
+one_then : (kind : StringKind) (n : ℕ) (o : Option Chunk) (r : List ℕ) → length r ≤ n
+    → rest_of (more_chunks (read_chunks n kind) o r) ≡ chunk_then kind o r
 one_then kind n None r le = refl
-one_then kind n (Some c) r le = rest_made (read_chunks n kind r) (λ cs. c ∷ cs) ∙ ap rest_of (chunks_same n (length r) kind r le (omega arith))
+one_then kind n (Some c) r le = rest_made (read_chunks n kind r) (λ cs. c ∷ cs)
+    ∙ ap rest_of (chunks_same n (length r) kind r le (omega arith))
 
-next_then : (kind : StringKind) (n : ℕ) (read : Read (Option Chunk)) → Leaves (suc n) read → rest_of (read >>= λ c. more_chunks (read_chunks n kind) c.0 c.1) ≡ chunks_after kind read
+next_then : (kind : StringKind) (n : ℕ) (read : Read (Option Chunk)) → Leaves (suc n) read
+    → rest_of (read >>= λ c. more_chunks (read_chunks n kind) c.0 c.1) ≡ chunks_after kind read
 next_then kind n (Ok x) lt = one_then kind n x.0 x.1 (omega arith)
 next_then kind n (Err e) lt = refl
 
@@ -196,20 +230,26 @@ unfolding read_chunk
 break_goes kind b = record { over = break_byte ∷ []; parts = refl; along = λ c. chunks_next kind (break_byte ∷ c) }
 
 -- the number behind five bits of info, whatever stands after it
-info_over : (bits : ℕ) (i : Info) (b rest : List ℕ) → InfoIs bits i b rest → (x : List ℕ) × (b ≡ x ++ rest) × ((c : List ℕ) → read_info bits (x ++ c) ≡ Ok (i, c))
-info_over bits (info.Number n w) b rest is = (number_bytes w n, is.2, λ c. ap (λ k. read_info k (number_bytes w n ++ c)) is.1 ∙ info_again w n c is.0)
+info_over : (bits : ℕ) (i : Info) (b rest : List ℕ) → InfoIs bits i b rest
+    → (x : List ℕ) × (b ≡ x ++ rest) × ((c : List ℕ) → read_info bits (x ++ c) ≡ Ok (i, c))
+info_over bits (info.Number n w) b rest is =
+    (number_bytes w n, is.2, λ c. ap (λ k. read_info k (number_bytes w n ++ c)) is.1 ∙ info_again w n c is.0)
 info_over bits info.Indefinite b rest is = ([], is.1, λ c. info_opens bits c is.0)
 
 -- a chunk's head, with its content and more chunks after it
-content_then : (kind : StringKind) (n : ℕ) (w : IntegerWidth) (c : List ℕ) → chunks_after kind (chunk_of kind (info.Number n w) c) ≡ (skip_content kind n w c >>= skip_chunks kind)
+content_then : (kind : StringKind) (n : ℕ) (w : IntegerWidth) (c : List ℕ)
+    → chunks_after kind (chunk_of kind (info.Number n w) c) ≡ (skip_content kind n w c >>= skip_chunks kind)
 content_then kind n w c = after (read_content kind n w c)
   where
-    after : (read : Read Chunk) → chunks_after kind (read >>= λ c. Ok (Some c.0, c.1)) ≡ (rest_of read >>= skip_chunks kind)
+    after : (read : Read Chunk) → chunks_after kind (read >>= λ c. Ok (Some c.0, c.1))
+        ≡ (rest_of read >>= skip_chunks kind)
     after (Ok x) = refl
     after (Err e) = refl
 
 -- what a chunk is where its info is read so
-chunk_reads : (kind : StringKind) (first : ℕ) (b : List ℕ) (read : Read Info) → first ≢ break_byte → first / 32 ≡ major_of kind → read_info (first % 32) b ≡ read → read_chunk kind (first ∷ b) ≡ (read >>= λ i. chunk_of kind i.0 i.1)
+chunk_reads : (kind : StringKind) (first : ℕ) (b : List ℕ) (read : Read Info) → first ≢ break_byte
+    → first / 32 ≡ major_of kind → read_info (first % 32) b ≡ read
+    → read_chunk kind (first ∷ b) ≡ (read >>= λ i. chunk_of kind i.0 i.1)
 chunk_reads kind first b read no_break major e =
     elim (chunk_ways kind first b) [
       | inl way ↦ absurd (no_break way.0)
@@ -219,22 +259,28 @@ chunk_reads kind first b read no_break major e =
       ]
     ]
 
-pub chunk_goes : (kind : StringKind) (first n : ℕ) (w : IntegerWidth) (b rest : List ℕ) → IsBytes b → first ≢ break_byte → first / 32 ≡ major_of kind → read_info (first % 32) b ≡ Ok (info.Number n w, rest)
+pub chunk_goes : (kind : StringKind) (first n : ℕ) (w : IntegerWidth) (b rest : List ℕ) → IsBytes b → first ≢ break_byte
+    → first / 32 ≡ major_of kind → read_info (first % 32) b ≡ Ok (info.Number n w, rest)
     → Goes (skip_chunks kind) (λ c. skip_content kind n w c >>= skip_chunks kind) (first ∷ b) rest
 chunk_goes kind first n w b rest fits no_break major e =
     let f = info_over (first % 32) (info.Number n w) b rest (info_takes (first % 32) b rest (info.Number n w) fits e) in
     record {
       over = first ∷ f.0;
       parts = ap (λ (z : List ℕ). first ∷ z) f.1;
-      along = λ c. chunks_next kind (first ∷ (f.0 ++ c)) ∙ ap (chunks_after kind) (chunk_reads kind first (f.0 ++ c) (Ok (info.Number n w, c)) no_break major (f.2 c)) ∙ content_then kind n w c;
+      along = λ c. chunks_next kind (first ∷ (f.0 ++ c))
+          ∙ ap (chunks_after kind) (chunk_reads kind first (f.0 ++ c) (Ok (info.Number n w, c)) no_break major (f.2 c))
+          ∙ content_then kind n w c;
     }
 
 -- no chunk begins so, which the first byte shows
-chunk_shows : (kind : StringKind) (first : ℕ) (b : List ℕ) → read_chunk kind (first ∷ []) ≡ Err refusal.Head → Shows (skip_chunks kind) (first ∷ b) refusal.Head (length b)
+chunk_shows : (kind : StringKind) (first : ℕ) (b : List ℕ) → read_chunk kind (first ∷ []) ≡ Err refusal.Head
+    → Shows (skip_chunks kind) (first ∷ b) refusal.Head (length b)
 unfolding read_chunks
-chunk_shows kind first b e = shows_first (skip_chunks kind) first b refusal.Head refl (chunks_next kind (first ∷ []) ∙ ap (chunks_after kind) e) (λ same. absurd cc)
+chunk_shows kind first b e = shows_first (skip_chunks kind) first b refusal.Head refl
+    (chunks_next kind (first ∷ []) ∙ ap (chunks_after kind) e) (λ same. absurd cc)
 
-pub kind_shows : (kind : StringKind) (first : ℕ) (b : List ℕ) → first ≢ break_byte → first / 32 ≢ major_of kind → Shows (skip_chunks kind) (first ∷ b) refusal.Head (length b)
+pub kind_shows : (kind : StringKind) (first : ℕ) (b : List ℕ) → first ≢ break_byte → first / 32 ≢ major_of kind
+    → Shows (skip_chunks kind) (first ∷ b) refusal.Head (length b)
 kind_shows kind first b no_break other =
     chunk_shows kind first b (elim (chunk_ways kind first []) [
       | inl way ↦ absurd (no_break way.0)
@@ -245,30 +291,45 @@ kind_shows kind first b no_break other =
     ])
 
 -- a stop is a cut, or an error
-stop_either : (from : List ℕ → Skip) (b : List ℕ) (e : Error) (after : ℕ) → (e ≡ refusal.CutShort → from b ≡ Err refusal.CutShort) → (e ≢ refusal.CutShort → Shows from b e after) → StopsSo from b (stop_of e after)
+stop_either : (from : List ℕ → Skip) (b : List ℕ) (e : Error) (after : ℕ)
+    → (e ≡ refusal.CutShort → from b ≡ Err refusal.CutShort) → (e ≢ refusal.CutShort → Shows from b e after)
+    → StopsSo from b (stop_of e after)
 stop_either from b refusal.CutShort after cut shows = cut refl
 stop_either from b e after cut shows = shows (λ same. absurd cc)
 
-bad_info_from : {bits : ℕ} {b : List ℕ} {e : Error} → InfoRefusal bits b e → e ≢ refusal.CutShort → InfoRefusal bits [] refusal.Head × (refusal.Head ≡ e)
+bad_info_from : {bits : ℕ} {b : List ℕ} {e : Error} → InfoRefusal bits b e → e ≢ refusal.CutShort
+    → InfoRefusal bits [] refusal.Head × (refusal.Head ≡ e)
 bad_info_from (cut_info k small is short) other = absurd (other refl)
 bad_info_from (bad_info least most) other = (bad_info least most, refl)
 
-info_shows : (kind : StringKind) (first : ℕ) (b : List ℕ) (e : Error) → first ≢ break_byte → first / 32 ≡ major_of kind → read_info (first % 32) b ≡ Err e → e ≢ refusal.CutShort → Shows (skip_chunks kind) (first ∷ b) e (length b)
+info_shows : (kind : StringKind) (first : ℕ) (b : List ℕ) (e : Error) → first ≢ break_byte → first / 32 ≡ major_of kind
+    → read_info (first % 32) b ≡ Err e → e ≢ refusal.CutShort → Shows (skip_chunks kind) (first ∷ b) e (length b)
 info_shows kind first b e no_break major h other =
     let bad = bad_info_from (info_refused (first % 32) b e (omega arith) h) other in
-    subst (λ d. Shows (skip_chunks kind) (first ∷ b) d (length b)) bad.1 (chunk_shows kind first b (chunk_reads kind first [] (Err refusal.Head) no_break major (info_refuses (first % 32) [] refusal.Head bad.0)))
+    subst (λ d. Shows (skip_chunks kind) (first ∷ b) d (length b)) bad.1
+    (chunk_shows kind first b (chunk_reads kind first [] (Err refusal.Head) no_break major
+    (info_refuses (first % 32) [] refusal.Head bad.0)))
 
-pub indefinite_shows : (kind : StringKind) (first : ℕ) (b rest : List ℕ) → IsBytes b → first ≢ break_byte → first / 32 ≡ major_of kind → read_info (first % 32) b ≡ Ok (info.Indefinite, rest) → Shows (skip_chunks kind) (first ∷ b) refusal.Head (length b)
+pub indefinite_shows : (kind : StringKind) (first : ℕ) (b rest : List ℕ) → IsBytes b → first ≢ break_byte
+    → first / 32 ≡ major_of kind → read_info (first % 32) b ≡ Ok (info.Indefinite, rest)
+    → Shows (skip_chunks kind) (first ∷ b) refusal.Head (length b)
 indefinite_shows kind first b rest fits no_break major e =
     let is = info_takes (first % 32) b rest info.Indefinite fits e in
-    chunk_shows kind first b (chunk_reads kind first [] (Ok (info.Indefinite, [])) no_break major (info_opens (first % 32) [] is.0))
+    chunk_shows kind first b (chunk_reads kind first [] (Ok (info.Indefinite, [])) no_break major
+    (info_opens (first % 32) [] is.0))
 
-info_cut : (kind : StringKind) (first : ℕ) (b : List ℕ) → first ≢ break_byte → first / 32 ≡ major_of kind → read_info (first % 32) b ≡ Err refusal.CutShort → skip_chunks kind (first ∷ b) ≡ Err refusal.CutShort
-info_cut kind first b no_break major e = chunks_next kind (first ∷ b) ∙ ap (chunks_after kind) (chunk_reads kind first b (Err refusal.CutShort) no_break major e)
+info_cut : (kind : StringKind) (first : ℕ) (b : List ℕ) → first ≢ break_byte → first / 32 ≡ major_of kind
+    → read_info (first % 32) b ≡ Err refusal.CutShort → skip_chunks kind (first ∷ b) ≡ Err refusal.CutShort
+info_cut kind first b no_break major e = chunks_next kind (first ∷ b)
+    ∙ ap (chunks_after kind) (chunk_reads kind first b (Err refusal.CutShort) no_break major e)
 
-pub info_stops : (kind : StringKind) (first : ℕ) (b : List ℕ) (e : Error) → first ≢ break_byte → first / 32 ≡ major_of kind → read_info (first % 32) b ≡ Err e → StopsSo (skip_chunks kind) (first ∷ b) (stop_of e (length b))
+pub info_stops : (kind : StringKind) (first : ℕ) (b : List ℕ) (e : Error) → first ≢ break_byte
+    → first / 32 ≡ major_of kind → read_info (first % 32) b ≡ Err e
+    → StopsSo (skip_chunks kind) (first ∷ b) (stop_of e (length b))
 info_stops kind first b e no_break major is =
-    stop_either (skip_chunks kind) (first ∷ b) e (length b) (λ cut. info_cut kind first b no_break major (is ∙ ap (λ d. Err d) cut)) (info_shows kind first b e no_break major is)
+    stop_either (skip_chunks kind) (first ∷ b) e (length b)
+    (λ cut. info_cut kind first b no_break major (is ∙ ap (λ d. Err d) cut))
+    (info_shows kind first b e no_break major is)
 
 pub no_chunks : (kind : StringKind) → skip_chunks kind [] ≡ Err refusal.CutShort
 unfolding read_chunks
@@ -281,7 +342,8 @@ more_keeps kind e = refl
 -- ---- heads
 
 -- a head that is read, whatever stands after it
-head_over : (h : ItemHead) (first : ℕ) (b rest : List ℕ) → IsBytes (first ∷ b) → read_head (first ∷ b) ≡ Ok (h, rest) → (x : List ℕ) × (b ≡ x ++ rest) × ((c : List ℕ) → read_head (first ∷ (x ++ c)) ≡ Ok (h, c))
+head_over : (h : ItemHead) (first : ℕ) (b rest : List ℕ) → IsBytes (first ∷ b) → read_head (first ∷ b) ≡ Ok (h, rest)
+    → (x : List ℕ) × (b ≡ x ++ rest) × ((c : List ℕ) → read_head (first ∷ (x ++ c)) ≡ Ok (h, c))
 unfolding read_head
 head_over h first b rest fits e =
     let a = bind_ok (read_info (first % 32) b) (λ i. head_of (first / 32) i.0 >>= λ h. Ok (h, i.1)) (h, rest) e in
@@ -289,14 +351,17 @@ head_over h first b rest fits e =
     let made = ok_is (o.0, a.0.1) (h, rest) o.2 in
     let h-is : o.0 ≡ h = ap (λ (p : ItemHead × List ℕ). p.0) made in
     let rest-is : a.0.1 ≡ rest = ap (λ (p : ItemHead × List ℕ). p.1) made in
-    let f = info_over (first % 32) a.0.0 b a.0.1 (info_takes (first % 32) b a.0.1 a.0.0 (IsBytes-rest first b fits) a.1) in (
+    let f = info_over (first % 32) a.0.0 b a.0.1
+    (info_takes (first % 32) b a.0.1 a.0.0 (IsBytes-rest first b fits) a.1) in (
       f.0,
       f.1 ∙ ap (λ (z : List ℕ). f.0 ++ z) rest-is,
       λ c.
-          ap (λ r. r >>= λ i. head_of (first / 32) i.0 >>= λ h. Ok (h, i.1)) (f.2 c) ∙ (ap (λ r. r >>= λ h. Ok (h, c)) o.1 ∙ ap (λ x. Ok (x, c)) h-is),
+          ap (λ r. r >>= λ i. head_of (first / 32) i.0 >>= λ h. Ok (h, i.1)) (f.2 c)
+          ∙ (ap (λ r. r >>= λ h. Ok (h, c)) o.1 ∙ ap (λ x. Ok (x, c)) h-is),
     )
 
-pub head_goes : (left : ℕ) (h : ItemHead) (first : ℕ) (b rest : List ℕ) → 0 < left → IsBytes (first ∷ b) → read_head (first ∷ b) ≡ Ok (h, rest) → Goes (skip_item left) (skip_body (left - 1) h) (first ∷ b) rest
+pub head_goes : (left : ℕ) (h : ItemHead) (first : ℕ) (b rest : List ℕ) → 0 < left → IsBytes (first ∷ b)
+    → read_head (first ∷ b) ≡ Ok (h, rest) → Goes (skip_item left) (skip_body (left - 1) h) (first ∷ b) rest
 unfolding read_item
 head_goes zero h first b rest some fits e = absurd (omega arith)
 head_goes (suc left) h first b rest some fits e =
@@ -305,7 +370,8 @@ head_goes (suc left) h first b rest some fits e =
     record {
       over = first ∷ f.0;
       parts = ap (λ (z : List ℕ). first ∷ z) f.1;
-      along = λ c. ap (λ r. rest_of (r >>= λ h. read_body (read_item left) h.0 h.1)) (f.2 c) ∙ ap (λ l. skip_body l h c) same;
+      along = λ c. ap (λ r. rest_of (r >>= λ h. read_body (read_item left) h.0 h.1)) (f.2 c)
+          ∙ ap (λ l. skip_body l h c) same;
     }
 
 bad_head_from : {b : List ℕ} {e : Error} → HeadRefusal b e → e ≢ refusal.CutShort → BadHead b × (refusal.Head ≡ e)
@@ -318,34 +384,43 @@ bad_alone : {first : ℕ} {b : List ℕ} → BadHead (first ∷ b) → BadHead (
 bad_alone (no_info least most) = no_info least most
 bad_alone (no_length is major) = no_length is major
 
-bad_shows : (left first : ℕ) (b : List ℕ) → 0 < left → BadHead (first ∷ b) → Shows (skip_item left) (first ∷ b) refusal.Head (length b)
+bad_shows : (left first : ℕ) (b : List ℕ) → 0 < left → BadHead (first ∷ b)
+    → Shows (skip_item left) (first ∷ b) refusal.Head (length b)
 bad_shows zero first b some bad = absurd (omega arith)
-bad_shows (suc left) first b some bad = shows_first (skip_item (suc left)) first b refusal.Head (ap rest_of (item_nothing (suc left))) (ap rest_of (bad_head_refuses left (first ∷ []) (bad_alone bad))) (λ same. absurd cc)
+bad_shows (suc left) first b some bad = shows_first (skip_item (suc left)) first b refusal.Head
+    (ap rest_of (item_nothing (suc left))) (ap rest_of (bad_head_refuses left (first ∷ []) (bad_alone bad)))
+    (λ same. absurd cc)
 
-head_shows : (left first : ℕ) (b : List ℕ) (e : Error) → 0 < left → IsBytes (first ∷ b) → read_head (first ∷ b) ≡ Err e → e ≢ refusal.CutShort → Shows (skip_item left) (first ∷ b) e (length b)
+head_shows : (left first : ℕ) (b : List ℕ) (e : Error) → 0 < left → IsBytes (first ∷ b) → read_head (first ∷ b) ≡ Err e
+    → e ≢ refusal.CutShort → Shows (skip_item left) (first ∷ b) e (length b)
 head_shows left first b e some fits h other =
     let bad = bad_head_from (head_refused (first ∷ b) e fits h) other in
     subst (λ d. Shows (skip_item left) (first ∷ b) d (length b)) bad.1 (bad_shows left first b some bad.0)
 
-pub break_shows : (left first : ℕ) (b rest : List ℕ) → 0 < left → IsBytes (first ∷ b) → read_head (first ∷ b) ≡ Ok (item_head.Break, rest) → Shows (skip_item left) (first ∷ b) refusal.Head (length b)
+pub break_shows : (left first : ℕ) (b rest : List ℕ) → 0 < left → IsBytes (first ∷ b)
+    → read_head (first ∷ b) ≡ Ok (item_head.Break, rest) → Shows (skip_item left) (first ∷ b) refusal.Head (length b)
 break_shows left first b rest some fits e =
     let is = (cons_is first break_byte b rest (head_takes (first ∷ b) rest item_head.Break fits e).0).0 in
     let info : first % 32 ≡ 31 = rw is refl in
     bad_shows left first b some (no_length info (inr (rw is (omega arith))))
 
-head_short : (left : ℕ) (b : List ℕ) → 0 < left → read_head b ≡ Err refusal.CutShort → skip_item left b ≡ Err refusal.CutShort
+head_short : (left : ℕ) (b : List ℕ) → 0 < left → read_head b ≡ Err refusal.CutShort
+    → skip_item left b ≡ Err refusal.CutShort
 unfolding read_item
 head_short zero b some e = absurd (omega arith)
 head_short (suc left) b some e = ap (λ r. rest_of (r >>= λ h. read_body (read_item left) h.0 h.1)) e
 
-pub head_stops : (left first : ℕ) (b : List ℕ) (e : Error) → 0 < left → IsBytes (first ∷ b) → read_head (first ∷ b) ≡ Err e → StopsSo (skip_item left) (first ∷ b) (stop_of e (length b))
+pub head_stops : (left first : ℕ) (b : List ℕ) (e : Error) → 0 < left → IsBytes (first ∷ b)
+    → read_head (first ∷ b) ≡ Err e → StopsSo (skip_item left) (first ∷ b) (stop_of e (length b))
 head_stops left first b e some fits is =
-    stop_either (skip_item left) (first ∷ b) e (length b) (λ cut. head_short left (first ∷ b) some (is ∙ ap (λ d. Err d) cut)) (head_shows left first b e some fits is)
+    stop_either (skip_item left) (first ∷ b) e (length b)
+    (λ cut. head_short left (first ∷ b) some (is ∙ ap (λ d. Err d) cut)) (head_shows left first b e some fits is)
 
 pub no_item : (left : ℕ) → skip_item left [] ≡ Err refusal.CutShort
 no_item left = ap rest_of (item_nothing left)
 
-pub deep_shows : (left first : ℕ) (b : List ℕ) → left ≡ 0 → Shows (skip_item left) (first ∷ b) refusal.TooDeep (length b)
+pub deep_shows : (left first : ℕ) (b : List ℕ) → left ≡ 0
+    → Shows (skip_item left) (first ∷ b) refusal.TooDeep (length b)
 unfolding read_item
 deep_shows zero first b none = shows_first (skip_item 0) first b refusal.TooDeep refl refl (λ same. absurd cc)
 deep_shows (suc left) first b none = absurd (omega arith)

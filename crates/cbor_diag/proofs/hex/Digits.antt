@@ -4,7 +4,8 @@ use Rattle.std.specs.List.{AllPass}
 use Rattle.std.proofs.lemmas.Bool.{cases_eq}
 use Rattle.hex.specs.Hex.{decode_of, is_hex_digit}
 use Rattle.hex.specs.declared.error.FromHexError.{FromHexError}
-use Rattle.hex.specs.declared.error.FromHexError.TheVariants.{InvalidHexCharacter, InvalidStringLength, OddLength, OutOfMemory}
+use Rattle.hex.specs.declared.error.FromHexError.TheVariants.{InvalidHexCharacter, InvalidStringLength, OddLength}
+use Rattle.hex.specs.declared.error.FromHexError.TheVariants.{OutOfMemory}
 use Rattle.hex.proofs.HexLemmas.{decode_of-err, decode_of-odd, decode_of-ok, decode_of-same}
 use Rattle.cbor_diag.specs.declared.error.Error.{Error}
 use Rattle.cbor_diag.specs.declared.error.Error.TheVariants as refusal
@@ -26,7 +27,8 @@ odd_refused s (inr h) =
     ]
 
 -- else for a byte that is no digit
-pub bad_refused : (s : List ℕ) (c i : ℕ) → Decoder s (InvalidHexCharacter c i) → (length s % 2 ≡ 0) × ¬ (AllPass is_hex_digit s)
+pub bad_refused : (s : List ℕ) (c i : ℕ) → Decoder s (InvalidHexCharacter c i)
+    → (length s % 2 ≡ 0) × ¬ (AllPass is_hex_digit s)
 bad_refused s c i (inl h) = cc h
 bad_refused s c i (inr h) =
     elim (decode_of-err s (InvalidHexCharacter c i) h) [
@@ -52,7 +54,8 @@ sized_refused s (inr h) =
 -- what the refusal of some digits means
 abbrev NoBytes : List ℕ → Error → Type 0
 NoBytes s f =
-    (f ≡ refusal.Memory) ⊎ (f ≡ refusal.OddHex) × (length s % 2 ≡ 1) ⊎ (f ≡ refusal.BadHex) × (length s % 2 ≡ 0) × ¬ (AllPass is_hex_digit s)
+    (f ≡ refusal.Memory) ⊎ (f ≡ refusal.OddHex) × (length s % 2 ≡ 1) ⊎ (f ≡ refusal.BadHex) × (length s % 2 ≡ 0)
+    × ¬ (AllPass is_hex_digit s)
 
 -- digits that have bytes are refused for want of memory alone
 pub digits_want_memory : (s b : List ℕ) (f : Error) → NoBytes s f → decode_of s ≡ Ok b → f ≡ refusal.Memory
@@ -61,7 +64,8 @@ digits_want_memory s b f (inr (inl w)) h = let even = (decode_of-ok s b h).0 in 
 digits_want_memory s b f (inr (inr w)) h = absurd (w.2 (decode_of-ok s b h).1)
 
 -- a refusal of the digits is the text's
-pub digits_refused : (text : List ℕ) (f e : Error) → NoBytes (strip text) f → IsHexRefused text e → (f ≡ e) ⊎ (f ≡ refusal.Memory)
+pub digits_refused : (text : List ℕ) (f e : Error) → NoBytes (strip text) f → IsHexRefused text e
+    → (f ≡ e) ⊎ (f ≡ refusal.Memory)
 digits_refused text f refusal.OddHex (inl m) odd = inr m
 digits_refused text f refusal.OddHex (inr (inl w)) odd = inl w.0
 digits_refused text f refusal.OddHex (inr (inr w)) odd = absurd (omega (arith, w.1))
@@ -71,7 +75,10 @@ digits_refused text f refusal.BadHex (inr (inr w)) bad = inl w.0
 digits_refused text f e r w = inr (digits_want_memory (strip text) w.0 f r w.1)
 
 -- of a text whose digits have bytes, each refusal is the bytes'
-pub bytes_refused : (text b : List ℕ) (result : Result DataItem Error) → decode_of (strip text) ≡ Ok b → ((e : Error) → IsRefused 1 b e → GaveRefusal result e) → (e : Error) → IsHexRefused text e → GaveRefusal result e
-bytes_refused text b result h gave refusal.OddHex odd = let even = (decode_of-ok (strip text) b h).0 in absurd (omega (arith, odd))
+pub bytes_refused : (text b : List ℕ) (result : Result DataItem Error) → decode_of (strip text) ≡ Ok b
+    → ((e : Error) → IsRefused 1 b e → GaveRefusal result e) → (e : Error) → IsHexRefused text e → GaveRefusal result e
+bytes_refused text b result h gave refusal.OddHex odd = let even =
+    (decode_of-ok (strip text) b h).0 in absurd (omega (arith, odd))
 bytes_refused text b result h gave refusal.BadHex bad = absurd (bad.1 (decode_of-ok (strip text) b h).1)
-bytes_refused text b result h gave e w = gave e (subst (λ (x : List ℕ). IsRefused 1 x e) (decode_of-same (strip text) w.0 b w.1 h) w.2)
+bytes_refused text b result h gave e w = gave e
+    (subst (λ (x : List ℕ). IsRefused 1 x e) (decode_of-same (strip text) w.0 b w.1 h) w.2)

@@ -1,5 +1,7 @@
 -- What is kept of lines: a space, another byte, a line without `#`, and one with it.
-use Rattle.std.proofs.Common.{◌≡◌, ◌≢◌, ℕ, suc, ◌+◌, ◌-◌, ◌<◌, ◌≤◌, List, [], ◌∷◌, ◌++◌, length, take, drop, get_or, false, refl, sym, ap, ◌∙◌, ◌==◌, arith, append-nil, inl, inr, take-take, drop-drop, get_or-take, length-drop, get_or-drop, nat_eq, not, true, codes}
+use Rattle.std.proofs.Common.{◌≡◌, ◌≢◌, ℕ, suc, ◌+◌, ◌-◌, ◌<◌, ◌≤◌, List, [], ◌∷◌, ◌++◌, length, take, drop, get_or}
+use Rattle.std.proofs.Common.{false, refl, sym, ap, ◌∙◌, ◌==◌, arith, append-nil, inl, inr, take-take, drop-drop}
+use Rattle.std.proofs.Common.{get_or-take, length-drop, get_or-drop, nat_eq, not, true, codes}
 use Rattle.std.specs.List.{All, flat_map, position_or_len, before_first, after_first, slice_split}
 use Rattle.std.specs.Cmp.Lexicographic.{pointwise, same_text}
 use Rattle.std.specs.Str.Lines.{lines_of_parts, strip_carriage_return}
@@ -13,23 +15,28 @@ use Rattle.cbor_diag.specs.HexText.{unspaced, uncommented, strip}
 -- ---- spaces
 
 -- a space is dropped
-pub space_here : (line : List ℕ) (i : ℕ) → i < length line → get_or line i 0 ≡ 32 → unspaced (drop i line) ≡ unspaced (drop (i + 1) line)
+pub space_here : (line : List ℕ) (i : ℕ) → i < length line → get_or line i 0 ≡ 32
+    → unspaced (drop i line) ≡ unspaced (drop (i + 1) line)
 space_here line i inside e = rw (drop_more line i 0 inside, e) refl
 
 -- and so are eight of them
-pub eight_spaces : (line : List ℕ) → pointwise nat_eq (take 8 line) (codes "        ") ≡ true → unspaced (drop 8 line) ≡ unspaced line
+pub eight_spaces : (line : List ℕ) → pointwise nat_eq (take 8 line) (codes "        ") ≡ true
+    → unspaced (drop 8 line) ≡ unspaced line
 eight_spaces line spaces =
     let same = same_text (take 8 line) (codes "        ") (sym spaces) in
     let parts = filter-append (λ (b : ℕ). not (b == 32)) (take 8 line) (drop 8 line) in
-    sym (ap unspaced (sym (take-append-drop 8 line)) ∙ parts ∙ ap (λ (front : List ℕ). unspaced front ++ unspaced (drop 8 line)) same)
+    sym (ap unspaced (sym (take-append-drop 8 line)) ∙ parts
+    ∙ ap (λ (front : List ℕ). unspaced front ++ unspaced (drop 8 line)) same)
 
 -- a line without spaces is kept
 no_spaces : (line : List ℕ) → ((k : ℕ) → k < length line → get_or line k 0 ≢ 32) → unspaced line ≡ line
 no_spaces [] none = refl
-no_spaces (x ∷ rest) none = rw (ne_eqb x 32 (none 0 (omega arith))) (ap (λ (kept : List ℕ). x ∷ kept) (no_spaces rest (λ k lt. none (suc k) (omega arith))))
+no_spaces (x ∷ rest) none = rw (ne_eqb x 32 (none 0 (omega arith)))
+    (ap (λ (kept : List ℕ). x ∷ kept) (no_spaces rest (λ k lt. none (suc k) (omega arith))))
 
 -- and so is the front of one
-pub front_kept : (line : List ℕ) (n : ℕ) → n ≤ length line → ((k : ℕ) → k < n → get_or line k 0 ≢ 32) → unspaced line ≡ take n line ++ unspaced (drop n line)
+pub front_kept : (line : List ℕ) (n : ℕ) → n ≤ length line → ((k : ℕ) → k < n → get_or line k 0 ≢ 32)
+    → unspaced line ≡ take n line ++ unspaced (drop n line)
 front_kept line n le none =
     let len = length-take-le n line le in
     let front = no_spaces (take n line) (λ k below.
@@ -45,7 +52,8 @@ uncommented_to : (line : List ℕ) (n : ℕ) → n ≤ length line → ((k : ℕ
     → (n < length line → get_or line n 0 ≡ 35) → uncommented line ≡ unspaced (take n line)
 uncommented_to line n le before here =
     let at : position_or_len (λ (b : ℕ). b == 35) line ≡ n =
-    position_or_len_is (λ (b : ℕ). b == 35) line n 0 le (λ k lt. ne_eqb _ 35 (before k lt)) (λ lt. eq-eqb _ 35 (here lt)) in
+    position_or_len_is (λ (b : ℕ). b == 35) line n 0 le (λ k lt. ne_eqb _ 35 (before k lt))
+    (λ lt. eq-eqb _ 35 (here lt)) in
     ap (λ (k : ℕ). unspaced (take k line)) at
 
 -- the carriage return before a line feed stands behind a `#`
@@ -68,11 +76,14 @@ uncommented_return line n lt before here =
     ]
 
 -- a line without `#`
-uncommented_whole : (line : List ℕ) → ((k : ℕ) → k < length line → get_or line k 0 ≢ 35) → uncommented line ≡ unspaced line
-uncommented_whole line none = uncommented_to line (length line) (omega arith) none (λ lt. absurd (omega arith)) ∙ ap unspaced (take_all (length line) line (omega arith))
+uncommented_whole : (line : List ℕ) → ((k : ℕ) → k < length line → get_or line k 0 ≢ 35)
+    → uncommented line ≡ unspaced line
+uncommented_whole line none = uncommented_to line (length line) (omega arith) none (λ lt. absurd (omega arith))
+    ∙ ap unspaced (take_all (length line) line (omega arith))
 
 -- the same without the carriage return before its line feed
-return_whole : (line : List ℕ) → ((k : ℕ) → k < length line → get_or line k 0 ≢ 35) → uncommented (strip_carriage_return line) ≡ unspaced (strip_carriage_return line)
+return_whole : (line : List ℕ) → ((k : ℕ) → k < length line → get_or line k 0 ≢ 35)
+    → uncommented (strip_carriage_return line) ≡ unspaced (strip_carriage_return line)
 return_whole line none =
     elim (cases_eq (get_or line (length line - 1) 0) 13) [
       | inl is ↦
@@ -91,7 +102,8 @@ abbrev strip_of : List (List ℕ) → List ℕ
 strip_of = flat_map uncommented
 
 -- the lines of some parts, one in front of others
-parts_cons : (x : List ℕ) (parts : List (List ℕ)) → 0 < length parts → lines_of_parts (x ∷ parts) ≡ strip_carriage_return x ∷ lines_of_parts parts
+parts_cons : (x : List ℕ) (parts : List (List ℕ)) → 0 < length parts
+    → lines_of_parts (x ∷ parts) ≡ strip_carriage_return x ∷ lines_of_parts parts
 parts_cons x [] some = absurd (omega arith)
 parts_cons x (y ∷ more) some = refl
 
@@ -106,7 +118,8 @@ strip_line text n lt before here =
     let at : position_or_len feed text ≡ n =
     position_or_len_is feed text n 0 (omega arith) (λ k below. ne_eqb _ 10 (before k below)) (λ _. eq-eqb _ 10 here) in
     let split = slice_split_first feed text 0 (omega (arith, at)) in
-    let some : 0 < length (slice_split feed (after_first feed text)) = omega (arith, length-slice_split feed (after_first feed text)) in
+    let some : 0 < length (slice_split feed (after_first feed text)) =
+    omega (arith, length-slice_split feed (after_first feed text)) in
     ap (λ (parts : List (List ℕ)). strip_of (lines_of_parts parts)) split
     ∙ ap strip_of (parts_cons (before_first feed text) (slice_split feed (after_first feed text)) some)
     ∙ ap (λ (k : ℕ). uncommented (strip_carriage_return (take k text)) ++ strip (drop (k + 1) text)) at
@@ -125,21 +138,25 @@ strip_last (x ∷ rest) before =
 -- ---- the first line, as it is cut off
 
 -- there is neither `#` nor a line feed
-pub cut_whole : (text : List ℕ) → ((k : ℕ) → k < length text → (get_or text k 0 ≢ 35) × (get_or text k 0 ≢ 10)) → strip text ≡ unspaced text
+pub cut_whole : (text : List ℕ) → ((k : ℕ) → k < length text → (get_or text k 0 ≢ 35) × (get_or text k 0 ≢ 10))
+    → strip text ≡ unspaced text
 cut_whole text none = strip_last text (λ k lt. (none k lt).1) ∙ uncommented_whole text (λ k lt. (none k lt).0)
 
 -- a line feed comes first
-pub cut_feed : (text : List ℕ) (n : ℕ) → n < length text → ((k : ℕ) → k < n → (get_or text k 0 ≢ 35) × (get_or text k 0 ≢ 10))
+pub cut_feed : (text : List ℕ) (n : ℕ) → n < length text
+    → ((k : ℕ) → k < n → (get_or text k 0 ≢ 35) × (get_or text k 0 ≢ 10))
     → get_or text n 0 ≡ 10 → strip text ≡ unspaced (strip_carriage_return (take n text)) ++ strip (drop (n + 1) text)
 cut_feed text n lt none here =
     let len = length-take-le n text (omega arith) in
     let whole = return_whole (take n text) (λ k below.
     let inside : k < n = omega (arith, len, below) in
     rw (get_or-take n text k 0 inside) ((none k inside).0)) in
-    strip_line text n lt (λ k below. (none k below).1) here ∙ ap (λ (line : List ℕ). line ++ strip (drop (n + 1) text)) whole
+    strip_line text n lt (λ k below. (none k below).1) here
+    ∙ ap (λ (line : List ℕ). line ++ strip (drop (n + 1) text)) whole
 
 -- a `#` comes first, and a line feed stands m places behind it
-comment_then_feed : (text : List ℕ) (n m : ℕ) → n + m < length text → ((k : ℕ) → k < n → (get_or text k 0 ≢ 35) × (get_or text k 0 ≢ 10))
+comment_then_feed : (text : List ℕ) (n m : ℕ) → n + m < length text
+    → ((k : ℕ) → k < n → (get_or text k 0 ≢ 35) × (get_or text k 0 ≢ 10))
     → get_or text n 0 ≡ 35 → ((k : ℕ) → k < m → get_or text (n + k) 0 ≢ 10) → get_or text (n + m) 0 ≡ 10
     → strip text ≡ unspaced (take n text) ++ strip (drop (n + m + 1) text)
 comment_then_feed text n m lt none here later feed =
@@ -157,10 +174,12 @@ comment_then_feed text n m lt none here later feed =
           rw same at (later (k - n) (omega arith))
     ] in
     strip_line text (n + m) lt no_feed feed
-    ∙ ap (λ (kept : List ℕ). kept ++ strip (drop (n + m + 1) text)) (line ∙ ap unspaced (take-take n (n + m) text (omega arith)))
+    ∙ ap (λ (kept : List ℕ). kept ++ strip (drop (n + m + 1) text))
+    (line ∙ ap unspaced (take-take n (n + m) text (omega arith)))
 
 -- a `#` comes first
-pub cut_comment : (text : List ℕ) (n : ℕ) → n < length text → ((k : ℕ) → k < n → (get_or text k 0 ≢ 35) × (get_or text k 0 ≢ 10))
+pub cut_comment : (text : List ℕ) (n : ℕ) → n < length text
+    → ((k : ℕ) → k < n → (get_or text k 0 ≢ 35) × (get_or text k 0 ≢ 10))
     → get_or text n 0 ≡ 35 → strip text ≡ unspaced (take n text) ++ strip (after_first (λ b. b == 10) (drop n text))
 cut_comment text n lt none here =
     let feed = λ (b : ℕ). b == 10 in
@@ -175,7 +194,8 @@ cut_comment text n lt none here =
           let passes = passes_at_first feed rest 0 inside in
           let is : get_or text (n + m) 0 ≡ 10 = sym (get_or-drop n text m 0) ∙ eqb-true _ 10 passes in
           comment_then_feed text n m (omega (arith, len)) none here apart is
-          ∙ ap (λ (behind : List ℕ). unspaced (take n text) ++ strip behind) (sym (drop-drop (m + 1) n text ∙ ap (λ (k : ℕ). drop k text) (omega arith)))
+          ∙ ap (λ (behind : List ℕ). unspaced (take n text) ++ strip behind)
+          (sym (drop-drop (m + 1) n text ∙ ap (λ (k : ℕ). drop k text) (omega arith)))
       | inr all ↦
           let no_feed : (k : ℕ) → k < length text → get_or text k 0 ≢ 10 = λ k below.
           elim (cases_lt k n) [
@@ -186,5 +206,6 @@ cut_comment text n lt none here =
           ] in
           let nothing : drop (m + 1) rest ≡ [] = drop_all (m + 1) rest (omega arith) in
           strip_last text no_feed ∙ uncommented_to text n (omega arith) (λ k below. (none k below).0) (λ _. here)
-          ∙ sym (ap (λ (behind : List ℕ). unspaced (take n text) ++ strip behind) nothing ∙ append-nil (unspaced (take n text)))
+          ∙ sym (ap (λ (behind : List ℕ). unspaced (take n text) ++ strip behind) nothing
+          ∙ append-nil (unspaced (take n text)))
     ]

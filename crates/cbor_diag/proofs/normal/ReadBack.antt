@@ -1,5 +1,6 @@
 -- The text of an item, compact or pretty, is read as its normal form.
-use Rattle.std.proofs.Common.{◌≡◌, ℕ, zero, suc, ◌+◌, List, [], ◌∷◌, ◌++◌, length, map, codes, Option, Some, None, inl, inr, refl, sym, ap, subst, ◌∙◌, append_assoc, arith}
+use Rattle.std.proofs.Common.{◌≡◌, ℕ, zero, suc, ◌+◌, List, [], ◌∷◌, ◌++◌, length, map, codes, Option, Some, None, inl}
+use Rattle.std.proofs.Common.{inr, refl, sym, ap, subst, ◌∙◌, append_assoc, arith}
 use Rattle.std.specs.List.{AllByRecursion}
 use Rattle.std.proofs.lemmas.List.{append-nil}
 use Rattle.cbor_notes.specs.Token.{nothing}
@@ -9,25 +10,30 @@ use Rattle.cbor_diag.specs.Layout.{Content, Layout, Compact, Pretty, Context}
 use Rattle.cbor_diag.specs.ContainerStyle.{ContainerStyle}
 use Rattle.cbor_diag.specs.ContainerStyle as style
 use Rattle.cbor_diag.specs.Item as spec
-use Rattle.cbor_diag.specs.Item.{Chunk, Atom, integer, negative, byte_string, text_string, byte_chunks, text_chunks, float, simple, Item, atom, array, tagged, Items, no_items, item, Pairs, no_pairs, pair}
-use Rattle.cbor_diag.specs.WellFormed.{IsByteChunk, IsTextChunk, WellFormedAtom, WellFormed, WellFormedItems, WellFormedPairs}
+use Rattle.cbor_diag.specs.Item.{Chunk, Atom, integer, negative, byte_string, text_string, byte_chunks, text_chunks}
+use Rattle.cbor_diag.specs.Item.{float, simple, Item, atom, array, tagged, Items, no_items, item, Pairs, no_pairs, pair}
+use Rattle.cbor_diag.specs.WellFormed.{IsByteChunk, IsTextChunk, WellFormedAtom, WellFormed, WellFormedItems}
+use Rattle.cbor_diag.specs.WellFormed.{WellFormedPairs}
 use Rattle.cbor_diag.specs.Bytes.{bytes_kind, text_kind}
 use Rattle.cbor_diag.specs.Written.{encoded, encoded_items}
 use Rattle.cbor_diag.specs.Reading.{read_item}
 use Rattle.cbor_diag.specs.Embedded.{if_whole, embedded_at, sequence_at}
 use Rattle.cbor_diag.specs.Estimate.{estimated_atom, estimated_length}
-use Rattle.cbor_diag.specs.Notation.{IsBlank, Blanked, list_of, pairs_list, PairOf, Notation, as_items, Joined, one, more, StringOf, AtomCore, Core, Reads}
+use Rattle.cbor_diag.specs.Notation.{IsBlank, Blanked, list_of, pairs_list, PairOf, Notation, as_items, Joined, one}
+use Rattle.cbor_diag.specs.Notation.{more, StringOf, AtomCore, Core, Reads}
 use Rattle.cbor_diag.specs.NotationText.{number, quoted, text, container_style, members_layout, colon, rest_gap, below}
 use Rattle.cbor_diag.specs.NotationText.{inside, item_texts, pair_texts, embedded_text, rest_text, items_text}
 use Rattle.cbor_diag.specs.NotationText.{sequence_text, content_text, chunks_text, atom_text, text_with, text_at}
-use Rattle.cbor_diag.specs.Normal.{normal_chunk, normal_items, normal_pairs, normal_embedded, normal_sequence, normal_content, normal_atom, normal_with, normal_at}
+use Rattle.cbor_diag.specs.Normal.{normal_chunk, normal_items, normal_pairs, normal_embedded, normal_sequence}
+use Rattle.cbor_diag.specs.Normal.{normal_content, normal_atom, normal_with, normal_at}
 use Rattle.cbor_diag.proofs.bytes.Refusals.{item_nothing}
 use Rattle.cbor_diag.proofs.bytes.Resolved.{spells_well}
 use Rattle.cbor_diag.proofs.text.Parts.{content_of, well_level}
 use Rattle.cbor_diag.proofs.shared.EmbeddedItems.{embedded_spells, sequence_spells}
 use Rattle.cbor_diag.proofs.normal.Form.{AllBytes, bytes_at}
 use Rattle.cbor_diag.proofs.normal.WellFormed.{tag_kind, items_well}
-use Rattle.cbor_diag.proofs.normal.ReadTokens.{one_space, number_read, negative_read, quoted_read, bytes_read, text_read, float_read, simple_read}
+use Rattle.cbor_diag.proofs.normal.ReadTokens.{one_space, number_read, negative_read, quoted_read, bytes_read}
+use Rattle.cbor_diag.proofs.normal.ReadTokens.{text_read, float_read, simple_read}
 use Rattle.cbor_diag.proofs.normal.ReadLists.{Each, opening_of, opens, listed}
 
 -- ---- blanks round a core
@@ -36,7 +42,15 @@ plain : (Is : List ℕ → Type 0) (core : List ℕ) → Is core → Blanked Is 
 plain Is core h = ([], core, [], sym (append-nil core), nothing, h, nothing)
 
 blank_before : (Is : List ℕ → Type 0) (gap core : List ℕ) → IsBlank gap → Blanked Is core → Blanked Is (gap ++ core)
-blank_before Is gap core b h = (gap ++ h.0, h.1, h.2, ap (λ t. gap ++ t) h.3 ∙ sym (append_assoc gap h.0 (h.1 ++ h.2)), Blank-append b h.4, h.5, h.6)
+blank_before Is gap core b h = (
+  gap ++ h.0,
+  h.1,
+  h.2,
+  ap (λ t. gap ++ t) h.3 ∙ sym (append_assoc gap h.0 (h.1 ++ h.2)),
+  Blank-append b h.4,
+  h.5,
+  h.6,
+)
 
 reads_after : (left : ℕ) (gap t : List ℕ) (i : Item) → IsBlank gap → Reads left t i → Reads left (gap ++ t) i
 unfolding Reads
@@ -46,31 +60,44 @@ reads_after (suc left) gap t i b h = blank_before (λ core. Core (Reads left) co
 -- ---- chunks
 
 byte_chunks_each : (Read : List ℕ → Item → Type 0) (c : Context) (cs : List Chunk) → AllByRecursion IsByteChunk cs
-    → Each (λ m x. Blanked (λ core. StringOf bytes_kind Read core x) m) (map (λ s. quoted c.encoding s.bytes) cs) (map normal_chunk cs)
+    → Each (λ m x. Blanked (λ core. StringOf bytes_kind Read core x) m) (map (λ s. quoted c.encoding s.bytes) cs)
+    (map normal_chunk cs)
 byte_chunks_each Read c [] h = tt
 byte_chunks_each Read c (s ∷ cs) h =
-    let Is : List ℕ → Type 0 = λ core. StringOf bytes_kind Read core (normal_chunk s) in
-    (λ gap b. blank_before Is gap (quoted c.encoding s.bytes) b (plain Is (quoted c.encoding s.bytes) (bytes_read Read c.encoding s.bytes h.0.bytes)), byte_chunks_each Read c cs h.1)
+    let Is : List ℕ → Type 0 = λ core. StringOf bytes_kind Read core (normal_chunk s) in (
+      λ gap b. blank_before Is gap (quoted c.encoding s.bytes) b
+          (plain Is (quoted c.encoding s.bytes) (bytes_read Read c.encoding s.bytes h.0.bytes)),
+      byte_chunks_each Read c cs h.1,
+    )
 
 text_chunks_each : (Read : List ℕ → Item → Type 0) (cs : List Chunk) → AllByRecursion IsTextChunk cs
-    → Each (λ m x. Blanked (λ core. StringOf text_kind Read core x) m) (map (λ s. text s.bytes) cs) (map normal_chunk cs)
+    → Each (λ m x. Blanked (λ core. StringOf text_kind Read core x) m) (map (λ s. text s.bytes) cs)
+    (map normal_chunk cs)
 text_chunks_each Read [] h = tt
 text_chunks_each Read (s ∷ cs) h =
-    let Is : List ℕ → Type 0 = λ core. StringOf text_kind Read core (normal_chunk s) in
-    (λ gap b. blank_before Is gap (text s.bytes) b (plain Is (text s.bytes) (text_read Read s.bytes h.0.utf8)), text_chunks_each Read cs h.1)
+    let Is : List ℕ → Type 0 = λ core. StringOf text_kind Read core (normal_chunk s) in (
+      λ gap b. blank_before Is gap (text s.bytes) b (plain Is (text s.bytes) (text_read Read s.bytes h.0.utf8)),
+      text_chunks_each Read cs h.1,
+    )
 
 byte_chunks_read : (Read : List ℕ → Item → Type 0) (c : Context) (l : ContainerStyle) (cs : List Chunk)
     → AllByRecursion IsByteChunk cs
     → AtomCore Read (chunks_text l (codes "''_") (map (λ s. quoted c.encoding s.bytes) cs))
     (byte_chunks (map normal_chunk cs))
 byte_chunks_read Read c l [] h = inl (refl, refl)
-byte_chunks_read Read c l (s ∷ cs) h = inr (listed {X = Chunk} (λ m x. Blanked (λ core. StringOf bytes_kind Read core x) m) l (codes "(") (codes ")") None _ (map normal_chunk (s ∷ cs)) (byte_chunks_each Read c (s ∷ cs) h))
+byte_chunks_read Read c l (s ∷ cs) h = inr
+    (listed {X = Chunk} (λ m x. Blanked (λ core. StringOf bytes_kind Read core x) m) l (codes "(") (codes ")") None _
+    (map normal_chunk (s ∷ cs)) (byte_chunks_each Read c (s ∷ cs) h))
 
 text_chunks_read : (Read : List ℕ → Item → Type 0) (l : ContainerStyle) (cs : List Chunk)
     → AllByRecursion IsTextChunk cs
     → AtomCore Read (chunks_text l (codes "\"\"_") (map (λ s. text s.bytes) cs)) (text_chunks (map normal_chunk cs))
 text_chunks_read Read l [] h = inl (refl, refl)
-text_chunks_read Read l (s ∷ cs) h = inr (omega arith, listed {X = Chunk} (λ m x. Blanked (λ core. StringOf text_kind Read core x) m) l (codes "(") (codes ")") None _ (map normal_chunk (s ∷ cs)) (text_chunks_each Read (s ∷ cs) h))
+text_chunks_read Read l (s ∷ cs) h = inr (
+  omega arith,
+  listed {X = Chunk} (λ m x. Blanked (λ core. StringOf text_kind Read core x) m) l (codes "(") (codes ")") None _
+      (map normal_chunk (s ∷ cs)) (text_chunks_each Read (s ∷ cs) h),
+)
 
 gap_blank : (l : Layout) → IsBlank (rest_gap l)
 gap_blank Compact = nothing
@@ -87,12 +114,18 @@ colon_blank (style.MultiLine k) = one_space
 
 -- no bytes are no item
 nothing_embedded : (left : ℕ) (e : Item) → embedded_at left [] ≡ Some e → ⊥
-nothing_embedded left e h = let none : if_whole (read_item left []) ≡ None = ap if_whole (item_nothing left) in absurd cc
+nothing_embedded left e h = let none : if_whole (read_item left []) ≡ None =
+    ap if_whole (item_nothing left) in absurd cc
 
 -- what of a sequence is no item follows it
-rest_read : {Read : List ℕ → Item → Type 0} (c : Context) (shown bytes rest : List ℕ) → Notation Read shown bytes → AllBytes rest → Joined (Notation Read) (shown ++ rest_text c rest) (bytes ++ rest)
-rest_read {Read} c shown bytes [] first all = subst (λ t. Joined (Notation Read) t (bytes ++ [])) (sym (append-nil shown)) (subst (λ x. Joined (Notation Read) shown x) (sym (append-nil bytes)) (one first))
-rest_read {Read} c shown bytes (x ∷ rest) first all = more shown (rest_gap c.layout) (quoted c.encoding (x ∷ rest)) bytes (x ∷ rest) refl refl first (gap_blank c.layout) (one (quoted_read Read c.encoding (x ∷ rest) all))
+rest_read : {Read : List ℕ → Item → Type 0} (c : Context) (shown bytes rest : List ℕ) → Notation Read shown bytes
+    → AllBytes rest → Joined (Notation Read) (shown ++ rest_text c rest) (bytes ++ rest)
+rest_read {Read} c shown bytes [] first all =
+    subst (λ t. Joined (Notation Read) t (bytes ++ [])) (sym (append-nil shown))
+    (subst (λ x. Joined (Notation Read) shown x) (sym (append-nil bytes)) (one first))
+rest_read {Read} c shown bytes (x ∷ rest) first all =
+    more shown (rest_gap c.layout) (quoted c.encoding (x ∷ rest)) bytes (x ∷ rest) refl refl first (gap_blank c.layout)
+    (one (quoted_read Read c.encoding (x ∷ rest) all))
 
 colon_after : (l : ContainerStyle) (value : List ℕ) → colon l ++ value ≡ codes ":" ++ (colon_gap l ++ value)
 colon_after style.Compact value = refl
@@ -140,11 +173,13 @@ module _ (level left : ℕ) (levels : level + left ≡ 129) (reads : IsRead leve
   -- the bytes of a byte string
   embedded_read : (c : Context) (b : List ℕ) (o : Option Item) → AllBytes b → embedded_at left b ≡ o
       → Joined (Notation (Reads left)) (embedded_text (text_at left) c b o) (normal_embedded (normal_at left None) b o)
-  embedded_read c [] None all h = one (as_items no_items (codes ">>", refl, ([], codes ">>", refl, nothing, inl refl)) refl)
+  embedded_read c [] None all h = one (as_items no_items (codes ">>", refl, ([], codes ">>", refl, nothing, inl refl))
+      refl)
   embedded_read c [] (Some e) all h = absurd (nothing_embedded left e h)
   embedded_read c (x ∷ b) None all h = one (quoted_read (Reads left) c.encoding (x ∷ b) all)
   embedded_read c (x ∷ b) (Some e) all h =
-      let well = spells_well level (x ∷ b) e (bytes_at (x ∷ b) all) (embedded_spells level left (x ∷ b) e levels (bytes_at (x ∷ b) all) h) in
+      let well = spells_well level (x ∷ b) e (bytes_at (x ∷ b) all)
+      (embedded_spells level left (x ∷ b) e levels (bytes_at (x ∷ b) all) h) in
       let t = text_at left (inside c.layout c) e in
       one
       (as_items (item (normal_at left None e) no_items)
@@ -161,7 +196,8 @@ module _ (level left : ℕ) (levels : level + left ≡ 129) (reads : IsRead leve
       let w = items_well level s.0 b s.1 all so.spelled_so in
       let js = normal_items (normal_at left None) s.0 in
       let shown = items_text (text_at left) c l (codes "<<") s.0 (codes ">>") in
-      let first = as_items {text = shown} js (listed (Reads left) l (codes "<<") (codes ">>") (Some Unknown) _ _ (items_each (inside (members_layout l) c) s.0 w.0)) refl in
+      let first = as_items {text = shown} js (listed (Reads left) l (codes "<<") (codes ">>") (Some Unknown) _ _
+      (items_each (inside (members_layout l) c) s.0 w.0)) refl in
       rest_read c shown (encoded_items js) s.1 first w.1
 
   content_read : (tag : Option ℕ) (c : Context) (b : List ℕ) → AllBytes b
@@ -199,11 +235,19 @@ core_read : (level left : ℕ) → (level + 1) + left ≡ 129 → (reads : IsRea
     → Core (Reads left) (text_with left (text_at left) c i) (normal_with left (normal_at left) tag i)
 core_read level left levels reads c tag (atom a) is h = atom_read (level + 1) left levels reads c tag a is h.1
 core_read level left levels reads c tag (array is w) same h =
-    let l = container_style c.layout (estimated_length (array is w)) in
-    (opening_of (codes "[") w, opens (codes "[") w, listed (Reads left) l (codes "[") (codes "]") w _ _ (items_each (level + 1) left levels reads (inside (members_layout l) c) is h.2))
+    let l = container_style c.layout (estimated_length (array is w)) in (
+      opening_of (codes "[") w,
+      opens (codes "[") w,
+      listed (Reads left) l (codes "[") (codes "]") w _ _
+          (items_each (level + 1) left levels reads (inside (members_layout l) c) is h.2),
+    )
 core_read level left levels reads c tag (spec.map ps w) same h =
-    let l = container_style c.layout (estimated_length (spec.map ps w)) in
-    (opening_of (codes "{") w, opens (codes "{") w, listed (PairOf (Reads left)) l (codes "{") (codes "}") w _ _ (pairs_each (level + 1) left levels reads (inside (members_layout l) c) l ps h.2))
+    let l = container_style c.layout (estimated_length (spec.map ps w)) in (
+      opening_of (codes "{") w,
+      opens (codes "{") w,
+      listed (PairOf (Reads left)) l (codes "{") (codes "}") w _ _
+          (pairs_each (level + 1) left levels reads (inside (members_layout l) c) l ps h.2),
+    )
 core_read level left levels reads c tag (tagged t w i) same h =
     (number t w, text_at left (below t c) i, refl, number_read t w h.1, reads (below t c) (Some t) i refl h.2)
 

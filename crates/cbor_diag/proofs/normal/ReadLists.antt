@@ -57,7 +57,13 @@ module _ {X : Type 0} (Member : List ℕ → X → Type 0) (closing : List ℕ) 
 
   none_read : (l : ContainerStyle) (lead : List ℕ) → IsBlank lead → IsBlank (last_line l)
       → Members Member closing (lead ++ (last_line l ++ closing)) []
-  none_read l lead b last = (lead ++ last_line l, closing, sym (append_assoc lead (last_line l) closing), Blank-append b last, inl refl)
+  none_read l lead b last = (
+    lead ++ last_line l,
+    closing,
+    sym (append_assoc lead (last_line l) closing),
+    Blank-append b last,
+    inl refl,
+  )
 
   -- what is between the opening and the end of the closing bracket, after a blank
   pub members_read : (l : ContainerStyle) (lead : List ℕ) → IsBlank lead → (ms : List (List ℕ)) (xs : List X)

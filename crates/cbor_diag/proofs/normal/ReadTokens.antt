@@ -1,5 +1,7 @@
 -- What is written of numbers, strings, floats and simple values is read as these.
-use Rattle.std.proofs.Common.{◌≡◌, ℕ, zero, suc, ◌+◌, ◌*◌, ◌/◌, ◌%◌, ◌^◌, ◌<◌, ◌≤◌, Bool, true, false, cond, IsTrue, List, [], ◌∷◌, ◌++◌, length, replicate, slice_index, codes, Option, Some, None, ◌⊎◌, inl, inr, refl, sym, ap, subst, ◌∙◌, arith}
+use Rattle.std.proofs.Common.{◌≡◌, ℕ, zero, suc, ◌+◌, ◌*◌, ◌/◌, ◌%◌, ◌^◌, ◌<◌, ◌≤◌, Bool, true, false, cond, IsTrue}
+use Rattle.std.proofs.Common.{List, [], ◌∷◌, ◌++◌, length, replicate, slice_index, codes, Option, Some, None, ◌⊎◌, inl}
+use Rattle.std.proofs.Common.{inr, refl, sym, ap, subst, ◌∙◌, arith}
 use Rattle.std.proofs.lemmas.Bool.{cases_eq, eq-eqb, ne_eqb, lt-ltb}
 use Rattle.std.proofs.lemmas.Nat.{from_be_bytes-to_be_bytes_4, from_be_bytes-to_be_bytes_8}
 use Rattle.std.proofs.lemmas.Bool.{false≢true}
@@ -14,10 +16,12 @@ use Rattle.hex.specs.Hex.{encode_lower, encode_with, lower_digits}
 use Rattle.hex.proofs.HexLemmas.{decode_of-encode_lower}
 use Rattle.base64.specs.Rfc4648.{encode_group, encode_symbols, padding_len}
 use Rattle.cbor_notes.specs.Base64.{standard, url_safe}
-use Rattle.cbor_notes.specs.Token.{Blank, nothing, whitespace, IsNumber, AreDigits, Indicates, is_digit, Spaced, blank, digit, DigitsBetween, in_quotes}
+use Rattle.cbor_notes.specs.Token.{Blank, nothing, whitespace, IsNumber, AreDigits, Indicates, is_digit, Spaced, blank}
+use Rattle.cbor_notes.specs.Token.{digit, DigitsBetween, in_quotes}
 use Rattle.cbor_notes.proofs.tokens.WrittenNumbers.{decimal_IsNumber}
 use Rattle.cbor_diag.specs.declared.syntax.IntegerWidth.{IntegerWidth}
-use Rattle.cbor_diag.specs.declared.syntax.IntegerWidth.TheVariants.{Unknown, Zero, Eight, Sixteen, ThirtyTwo, SixtyFour}
+use Rattle.cbor_diag.specs.declared.syntax.IntegerWidth.TheVariants.{Unknown, Zero, Eight, Sixteen, ThirtyTwo}
+use Rattle.cbor_diag.specs.declared.syntax.IntegerWidth.TheVariants.{SixtyFour}
 use Rattle.cbor_diag.specs.declared.syntax.FloatWidth.{FloatWidth}
 use Rattle.cbor_diag.specs.declared.syntax.FloatWidth.TheVariants as float_width
 use Rattle.cbor_diag.specs.declared.encode.encoding.Encoding.{Encoding}
@@ -27,7 +31,8 @@ use Rattle.cbor_diag.specs.Head.{FitsWidth}
 use Rattle.cbor_diag.specs.WellFormed.{FitsFloat}
 use Rattle.cbor_diag.specs.Bytes.{bytes_kind, text_kind}
 use Rattle.cbor_diag.specs.Written.{resolve_float}
-use Rattle.cbor_diag.specs.Notation.{NumberOf, NegativeOf, number_width, Notation, in_base16, in_base64, StringOf, one, SimpleOf, FloatOf}
+use Rattle.cbor_diag.specs.Notation.{NumberOf, NegativeOf, number_width, Notation, in_base16, in_base64, StringOf, one}
+use Rattle.cbor_diag.specs.Notation.{SimpleOf, FloatOf}
 use Rattle.cbor_diag.specs.NotationText.{indicator, number, quoted, text, float_text, simple_text}
 use Rattle.cbor_diag.specs.Normal.{normal_width}
 use Rattle.cbor_diag.proofs.normal.Form.{AllBytes, normal_fits}
@@ -90,7 +95,8 @@ number_read n w fits =
     let lt = below_limit n w fits in
     (indicated w, is_number n w (omega arith), (width_is n w fits, normal_fits n w fits))
 
-pub negative_read : (n : ℕ) (w : IntegerWidth) → FitsWidth w n → NegativeOf (codes "-" ++ number (n + 1) w) n (normal_width w n)
+pub negative_read : (n : ℕ) (w : IntegerWidth) → FitsWidth w n
+    → NegativeOf (codes "-" ++ number (n + 1) w) n (normal_width w n)
 negative_read n w fits =
     let lt = below_limit n w fits in
     (number (n + 1) w, indicated w, refl, is_number (n + 1) w (omega arith), (width_is n w fits, normal_fits n w fits))
@@ -139,7 +145,8 @@ unfolding encode_symbols
 symbols t [] h = tt
 symbols t (x ∷ []) h = (h _, (h _, tt))
 symbols t (x ∷ (y ∷ [])) h = (h _, (h _, (h _, tt)))
-symbols t (x ∷ (y ∷ (z ∷ b))) h = all_append _ (encode_group t x y z) (encode_symbols t b) (h _, (h _, (h _, (h _, tt)))) (symbols t b h)
+symbols t (x ∷ (y ∷ (z ∷ b))) h = all_append _ (encode_group t x y z) (encode_symbols t b)
+    (h _, (h _, (h _, (h _, tt)))) (symbols t b h)
 
 abbrev standard_alphabet : List ℕ
 standard_alphabet = codes "ABCDEFGHIJKLMNOPQRSTUVWXYZabcdefghijklmnopqrstuvwxyz0123456789+/"
@@ -148,17 +155,20 @@ abbrev url_safe_alphabet : List ℕ
 url_safe_alphabet = codes "ABCDEFGHIJKLMNOPQRSTUVWXYZabcdefghijklmnopqrstuvwxyz0123456789-_"
 
 encoded_digits : (b : List ℕ) → Digits true (encode_lower b)
-encoded_digits b = hex_digits lower_digits b (at_index (λ d. IsTrue (is_digit true d)) lower_digits (from_test (is_digit true) lower_digits refl) refl)
+encoded_digits b = hex_digits lower_digits b
+    (at_index (λ d. IsTrue (is_digit true d)) lower_digits (from_test (is_digit true) lower_digits refl) refl)
 
 standard_digits : (b : List ℕ) → Digits false (standard b)
 standard_digits b =
     all_append _ (encode_symbols standard_alphabet b) (replicate (padding_len (length b)) 61)
-    (symbols standard_alphabet b (at_index (λ d. IsTrue (is_digit false d)) standard_alphabet (from_test (is_digit false) standard_alphabet refl) refl)) (all_replicate _ (padding_len (length b)) 61 refl)
+    (symbols standard_alphabet b (at_index (λ d. IsTrue (is_digit false d)) standard_alphabet
+    (from_test (is_digit false) standard_alphabet refl) refl)) (all_replicate _ (padding_len (length b)) 61 refl)
 
 url_safe_digits : (b : List ℕ) → Digits false (url_safe b)
 url_safe_digits b =
     all_append _ (encode_symbols url_safe_alphabet b) []
-    (symbols url_safe_alphabet b (at_index (λ d. IsTrue (is_digit false d)) url_safe_alphabet (from_test (is_digit false) url_safe_alphabet refl) refl)) tt
+    (symbols url_safe_alphabet b (at_index (λ d. IsTrue (is_digit false d)) url_safe_alphabet
+    (from_test (is_digit false) url_safe_alphabet refl) refl)) tt
 
 spaced : (comments : Bool) (ds : List ℕ) → Digits comments ds → Spaced comments ds ds
 spaced comments [] h = blank nothing
@@ -174,18 +184,25 @@ between comments ds h = (spaced comments ds h, some_or_none ds)
 bytes_index : (b : List ℕ) → AllBytes b → (i : ℕ) → slice_index b i < 256
 bytes_index b h i = at_index (λ x. x < 256) b h (omega arith) i
 
-pub quoted_read : (Read : List ℕ → Item → Type 0) (e : Encoding) (b : List ℕ) → AllBytes b → Notation Read (quoted e b) b
-quoted_read Read Base16 b h = in_base16 (encode_lower b) (encode_lower b, refl, between true (encode_lower b) (encoded_digits b)) (decode_of-encode_lower b (bytes_index b h))
-quoted_read Read Base64 b h = in_base64 (standard b) (standard b, refl, between false (standard b) (standard_digits b)) h (inr refl)
-quoted_read Read Base64Url b h = in_base64 (url_safe b) (url_safe b, refl, between false (url_safe b) (url_safe_digits b)) h (inl refl)
+pub quoted_read : (Read : List ℕ → Item → Type 0) (e : Encoding) (b : List ℕ) → AllBytes b
+    → Notation Read (quoted e b) b
+quoted_read Read Base16 b h = in_base16 (encode_lower b)
+    (encode_lower b, refl, between true (encode_lower b) (encoded_digits b))
+    (decode_of-encode_lower b (bytes_index b h))
+quoted_read Read Base64 b h = in_base64 (standard b) (standard b, refl, between false (standard b) (standard_digits b))
+    h (inr refl)
+quoted_read Read Base64Url b h = in_base64 (url_safe b)
+    (url_safe b, refl, between false (url_safe b) (url_safe_digits b)) h (inl refl)
 
 abbrev open_chunk : List ℕ → Chunk
 open_chunk b = record { bytes = b; width = Unknown }
 
-pub bytes_read : (Read : List ℕ → Item → Type 0) (e : Encoding) (b : List ℕ) → AllBytes b → StringOf bytes_kind Read (quoted e b) (open_chunk b)
+pub bytes_read : (Read : List ℕ → Item → Type 0) (e : Encoding) (b : List ℕ) → AllBytes b
+    → StringOf bytes_kind Read (quoted e b) (open_chunk b)
 bytes_read Read e b h = (refl, tt, one (quoted_read Read e b h), tt)
 
-pub text_read : (Read : List ℕ → Item → Type 0) (b : List ℕ) → IsUtf8 b → StringOf text_kind Read (text b) (open_chunk b)
+pub text_read : (Read : List ℕ → Item → Type 0) (b : List ℕ) → IsUtf8 b
+    → StringOf text_kind Read (text b) (open_chunk b)
 text_read Read b h = (refl, (in_quotes 34 b ++ 34 ∷ [], refl), one (inl refl), h)
 
 -- ---- floats and simple values
@@ -207,7 +224,8 @@ digit_is (suc (suc (suc (suc (suc (suc (suc (suc (suc (suc (suc (suc zero)))))))
 digit_is (suc (suc (suc (suc (suc (suc (suc (suc (suc (suc (suc (suc (suc zero))))))))))))) lt = refl
 digit_is (suc (suc (suc (suc (suc (suc (suc (suc (suc (suc (suc (suc (suc (suc zero)))))))))))))) lt = refl
 digit_is (suc (suc (suc (suc (suc (suc (suc (suc (suc (suc (suc (suc (suc (suc (suc zero))))))))))))))) lt = refl
-digit_is (suc (suc (suc (suc (suc (suc (suc (suc (suc (suc (suc (suc (suc (suc (suc (suc k)))))))))))))))) lt = absurd (omega arith)
+digit_is (suc (suc (suc (suc (suc (suc (suc (suc (suc (suc (suc (suc (suc (suc (suc (suc k)))))))))))))))) lt =
+    absurd (omega arith)
 
 -- the number that bytes are, the first of them the highest
 abbrev number_after : ℕ → List ℕ → ℕ
@@ -221,7 +239,8 @@ hex_value n (b ∷ bs) h =
     let lt : b < 256 = h.0 in
     let high = digit_is (b / 16) (omega arith) in
     let low = digit_is (b % 16) (omega arith) in
-    let step : (n * 16 + digit_value (slice_index lower_digits (b / 16))) * 16 + digit_value (slice_index lower_digits (b % 16)) ≡ n * 256 + b = rw (high, low) (omega arith) in
+    let step : (n * 16 + digit_value (slice_index lower_digits (b / 16))) * 16 + digit_value
+    (slice_index lower_digits (b % 16)) ≡ n * 256 + b = rw (high, low) (omega arith) in
     ap (λ m. digits_value_after 16 m (encode_lower bs)) step ∙ hex_value (n * 256 + b) bs h.1
 
 hex_all : (bs : List ℕ) → AllBytes bs → AllDigits 16 (encode_lower bs)
@@ -238,7 +257,13 @@ pub float_read : (n : ℕ) (w : FloatWidth) → FitsFloat w n → FloatOf (float
 unfolding encode_with
 float_read n float_width.Unknown fits =
     let bs = to_be_bytes w64 n in
-    let all : AllBytes bs = (omega arith, (omega arith, (omega arith, (omega arith, (omega arith, (omega arith, (omega arith, (omega arith, tt)))))))) in
+    let all : AllBytes bs = (
+      omega arith,
+      (
+        omega arith,
+        (omega arith, (omega arith, (omega arith, (omega arith, (omega arith, (omega arith, tt)))))),
+      ),
+    ) in
     let lt : n < 2 ^ 64 = fits in
     (encode_lower bs, refl, (((omega arith, hex_all bs all), sym (hex_value 0 bs all ∙ wide_number n lt)), refl))
 float_read n float_width.Sixteen fits =
@@ -255,7 +280,13 @@ float_read n float_width.ThirtyTwo fits =
     (encode_lower bs, refl, (((omega arith, hex_all bs all), sym (hex_value 0 bs all ∙ value)), refl))
 float_read n float_width.SixtyFour fits =
     let bs = to_be_bytes w64 n in
-    let all : AllBytes bs = (omega arith, (omega arith, (omega arith, (omega arith, (omega arith, (omega arith, (omega arith, (omega arith, tt)))))))) in
+    let all : AllBytes bs = (
+      omega arith,
+      (
+        omega arith,
+        (omega arith, (omega arith, (omega arith, (omega arith, (omega arith, (omega arith, tt)))))),
+      ),
+    ) in
     let lt : n < 2 ^ 64 = fits in
     (encode_lower bs, refl, (((omega arith, hex_all bs all), sym (hex_value 0 bs all ∙ wide_number n lt)), refl))
 
@@ -271,7 +302,8 @@ simple_read n lt =
             | inl e ↦ rw (ne_eqb n 20 a, ne_eqb n 21 b, ne_eqb n 22 c, eq-eqb n 23 e) (inl (inr (inr (inr (refl, e)))))
             | inr d ↦
                 let v = decimal_is_IsNumeral n (omega arith) in
-                rw (ne_eqb n 20 a, ne_eqb n 21 b, ne_eqb n 22 c, ne_eqb n 23 d) (inr (decimal n, refl, ((v.0, sym v.1), lt)))
+                rw (ne_eqb n 20 a, ne_eqb n 21 b, ne_eqb n 22 c, ne_eqb n 23 d)
+                (inr (decimal n, refl, ((v.0, sym v.1), lt)))
           ]
         ]
       ]

@@ -1,9 +1,11 @@
 -- The text of an item is that of its normal form, and the normal form of a normal form is itself.
-use Rattle.std.proofs.Common.{◌≡◌, ℕ, zero, suc, ◌+◌, ◌≤◌, List, [], ◌∷◌, ◌++◌, length, map, codes, Option, Some, None, ◌⊎◌, inl, inr, refl, sym, ap, ◌∙◌, arith}
+use Rattle.std.proofs.Common.{◌≡◌, ℕ, zero, suc, ◌+◌, ◌≤◌, List, [], ◌∷◌, ◌++◌, length, map, codes, Option, Some, None}
+use Rattle.std.proofs.Common.{◌⊎◌, inl, inr, refl, sym, ap, ◌∙◌, arith}
 use Rattle.std.proofs.lemmas.Bool.{cases_lt, lt-ltb, le-ltb}
 use Rattle.std.specs.Fmt.{decimal}
 use Rattle.cbor_diag.specs.declared.syntax.IntegerWidth.{IntegerWidth}
-use Rattle.cbor_diag.specs.declared.syntax.IntegerWidth.TheVariants.{Unknown, Zero, Eight, Sixteen, ThirtyTwo, SixtyFour}
+use Rattle.cbor_diag.specs.declared.syntax.IntegerWidth.TheVariants.{Unknown, Zero, Eight, Sixteen, ThirtyTwo}
+use Rattle.cbor_diag.specs.declared.syntax.IntegerWidth.TheVariants.{SixtyFour}
 use Rattle.cbor_diag.specs.declared.syntax.FloatWidth.{FloatWidth}
 use Rattle.cbor_diag.specs.declared.syntax.FloatWidth.TheVariants as float_width
 use Rattle.cbor_diag.specs.declared.encode.encoding.Encoding.{Encoding}
@@ -11,16 +13,19 @@ use Rattle.cbor_diag.specs.Layout as content
 use Rattle.cbor_diag.specs.Layout.{Compact, Context}
 use Rattle.cbor_diag.specs.ContainerStyle as style
 use Rattle.cbor_diag.specs.Item as spec
-use Rattle.cbor_diag.specs.Item.{Chunk, Atom, integer, negative, byte_string, text_string, byte_chunks, text_chunks, float, simple, Item, atom, array, tagged, Items, no_items, item, Pairs, no_pairs, pair}
+use Rattle.cbor_diag.specs.Item.{Chunk, Atom, integer, negative, byte_string, text_string, byte_chunks, text_chunks}
+use Rattle.cbor_diag.specs.Item.{float, simple, Item, atom, array, tagged, Items, no_items, item, Pairs, no_pairs, pair}
 use Rattle.cbor_diag.specs.Head.{FitsStated}
 use Rattle.cbor_diag.specs.WellFormed.{WellFormedAtom, WellFormed, WellFormedItems, WellFormedPairs}
 use Rattle.cbor_diag.specs.Bytes.{any, SpellsAtom, SpellsFloat, Spells, SpellsItems, SpellsPairs}
-use Rattle.cbor_diag.specs.Written.{encoded, encoded_items, resolve_chunk, resolve_float, resolve_atom, resolve, resolve_items, resolve_pairs}
+use Rattle.cbor_diag.specs.Written.{encoded, encoded_items, resolve_chunk, resolve_float, resolve_atom, resolve}
+use Rattle.cbor_diag.specs.Written.{resolve_items, resolve_pairs}
 use Rattle.cbor_diag.specs.Embedded.{embedded_at, sequence_at}
 use Rattle.cbor_diag.specs.NotationText.{number, indicator, bracketed, inside, float_text, encoding_below, quoted, text}
 use Rattle.cbor_diag.specs.NotationText.{item_texts, pair_texts, embedded_text, rest_text, sequence_text, content_text}
 use Rattle.cbor_diag.specs.NotationText.{chunks_text, atom_text, text_with, text_at}
-use Rattle.cbor_diag.specs.Normal.{normal_width, normal_chunk, normal_items, normal_pairs, normal_embedded, normal_sequence, normal_content, normal_atom, normal_with, normal_at}
+use Rattle.cbor_diag.specs.Normal.{normal_width, normal_chunk, normal_items, normal_pairs, normal_embedded}
+use Rattle.cbor_diag.specs.Normal.{normal_sequence, normal_content, normal_atom, normal_with, normal_at}
 use Rattle.cbor_diag.proofs.bytes.Strict.{stated_is, strict_any, strict_encoded, items_enc, items_any}
 use Rattle.cbor_diag.proofs.bytes.Resolved.{spells_well}
 use Rattle.cbor_diag.proofs.bytes.Sizes.{one_byte}
@@ -81,7 +86,8 @@ mutual
 
   pairs_stated : (level : ℕ) (b : List ℕ) (ps : Pairs) (end : List ℕ) → SpellsPairs any level b ps end → StatedPairs ps
   pairs_stated level b no_pairs end h = tt
-  pairs_stated level b (pair k v ps) end h = (spelled_stated level h.0 k h.4, spelled_stated level h.1 v h.5, pairs_stated level h.2 ps end h.6)
+  pairs_stated level b (pair k v ps) end h =
+      (spelled_stated level h.0 k h.4, spelled_stated level h.1 v h.5, pairs_stated level h.2 ps end h.6)
 
 -- ---- the normal form keeps stated widths
 
@@ -139,7 +145,8 @@ at e tag = record { layout = Compact; encoding = e; content = content_of tag }
 abbrev Writer : Type 0
 Writer = Context → Item → List ℕ
 
-bytes_resolved : (f : Chunk → List ℕ) (same : (c : Chunk) → f (resolve_chunk c) ≡ f c) (cs : List Chunk) → map f (map resolve_chunk cs) ≡ map f cs
+bytes_resolved : (f : Chunk → List ℕ) (same : (c : Chunk) → f (resolve_chunk c) ≡ f c) (cs : List Chunk)
+    → map f (map resolve_chunk cs) ≡ map f cs
 bytes_resolved f same [] = refl
 bytes_resolved f same (c ∷ cs) = rw (same c, bytes_resolved f same cs) refl
 
@@ -262,13 +269,15 @@ record Embeds (level left : ℕ) (b : List ℕ) (e : Item) : Type 0 where
   pub some : 1 ≤ length b
   pub some_again : 1 ≤ length (encoded (into_normal left e))
 
-embeds : (level left : ℕ) → level + left ≡ 129 → (b : List ℕ) → AllBytes b → (o : Option Item) → embedded_at left b ≡ o → (embedded_at left b ≡ None) ⊎ ((e : Item) × Embeds level left b e)
+embeds : (level left : ℕ) → level + left ≡ 129 → (b : List ℕ) → AllBytes b → (o : Option Item) → embedded_at left b ≡ o
+    → (embedded_at left b ≡ None) ⊎ ((e : Item) × Embeds level left b e)
 embeds level left levels b all None is = inl is
 embeds level left levels b all (Some e) is =
     let s = embedded_spells level left b e levels (bytes_at b all) is in
     let well = spells_well level b e (bytes_at b all) s in
     let n = (normal_serves level left levels None e well).well in
-    let t = strict_any level (encoded (into_normal left e)) (resolve (into_normal left e)) (strict_encoded level (into_normal left e) n) in
+    let t = strict_any level (encoded (into_normal left e)) (resolve (into_normal left e))
+    (strict_encoded level (into_normal left e) n) in
     inr (
       e,
       record {
@@ -286,7 +295,8 @@ record Sequences (level left : ℕ) (b : List ℕ) : Type 0 where
   pub well : WellFormedItems level (sequence_at left b).0
   pub states : StatedItems (normal_items (into_normal left) (sequence_at left b).0)
   pub normal_well : WellFormedItems level (normal_items (into_normal left) (sequence_at left b).0)
-  pub again : sequence_at left (normal_sequence (into_normal left) (sequence_at left b)) ≡ (resolve_items (normal_items (into_normal left) (sequence_at left b).0), (sequence_at left b).1)
+  pub again : sequence_at left (normal_sequence (into_normal left) (sequence_at left b))
+      ≡ (resolve_items (normal_items (into_normal left) (sequence_at left b).0), (sequence_at left b).1)
 
 sequences : (level left : ℕ) → level + left ≡ 129 → (b : List ℕ) → AllBytes b → Sequences level left b
 sequences level left levels b all =
@@ -298,15 +308,18 @@ sequences level left levels b all =
     let t = items_any level (encoded_items js ++ s.1) (resolve_items js) s.1 (items_enc level js s.1 n) in
     record {
       well = w;
-      states = normal_items_stated left (normal_at left) (normal_stated left) s.0 (items_stated level b s.0 s.1 so.spelled_so);
+      states = normal_items_stated left (normal_at left) (normal_stated left) s.0
+          (items_stated level b s.0 s.1 so.spelled_so);
       normal_well = n;
-      again = sequence_again level left levels (length (encoded_items js ++ s.1)) (resolve_items js) (encoded_items js ++ s.1) s.1 so.error (omega arith) t so.ends;
+      again = sequence_again level left levels (length (encoded_items js ++ s.1)) (resolve_items js)
+          (encoded_items js ++ s.1) s.1 so.error (omega arith) t so.ends;
     }
 
 -- ---- the compact text of the normal form
 
 indicator_kept : (n : ℕ) (w : IntegerWidth) → indicator (normal_width w n) ≡ indicator w
-indicator_kept n Unknown = elim (cases_lt n 24) [ inl low ↦ rw (lt-ltb n 24 low) refl | inr high ↦ rw (le-ltb n 24 high) refl ]
+indicator_kept n Unknown = elim (cases_lt n 24)
+    [ inl low ↦ rw (lt-ltb n 24 low) refl | inr high ↦ rw (le-ltb n 24 high) refl ]
 indicator_kept n Zero = refl
 indicator_kept n Eight = refl
 indicator_kept n Sixteen = refl
@@ -319,11 +332,13 @@ float_normal_text bits float_width.Sixteen = refl
 float_normal_text bits float_width.ThirtyTwo = refl
 float_normal_text bits float_width.SixtyFour = refl
 
-bytes_normal : (f : Chunk → List ℕ) (same : (c : Chunk) → f (normal_chunk c) ≡ f c) (cs : List Chunk) → map f (map normal_chunk cs) ≡ map f cs
+bytes_normal : (f : Chunk → List ℕ) (same : (c : Chunk) → f (normal_chunk c) ≡ f c) (cs : List Chunk)
+    → map f (map normal_chunk cs) ≡ map f cs
 bytes_normal f same [] = refl
 bytes_normal f same (c ∷ cs) = rw (same c, bytes_normal f same cs) refl
 
-embedded_text-some : (write : Writer) (c : Context) (b : List ℕ) (e : Item) → 1 ≤ length b → embedded_text write c b (Some e) ≡ codes "<<" ++ (write (inside c.layout c) e ++ codes ">>")
+embedded_text-some : (write : Writer) (c : Context) (b : List ℕ) (e : Item) → 1 ≤ length b
+    → embedded_text write c b (Some e) ≡ codes "<<" ++ (write (inside c.layout c) e ++ codes ">>")
 embedded_text-some write c [] e some = absurd (omega arith)
 embedded_text-some write c (x ∷ b) e some = refl
 
@@ -376,7 +391,8 @@ module _ (level left : ℕ) (levels : level + left ≡ 129)
       let s = sequence_at left b in
       let js = normal_items (into_normal left) s.0 in
       let f = sequences level left levels b all in
-      let texts = items_resolved left (text_at left) (text_resolved left) e js f.states ∙ items_normal_text e s.0 f.well in
+      let texts = items_resolved left (text_at left) (text_resolved left) e js f.states
+      ∙ items_normal_text e s.0 f.well in
       ap (sequence_text (text_at left) c) f.again
       ∙ ap (λ ms. bracketed style.Compact (codes "<<") ms (codes ">>") ++ rest_text c s.1) texts
 
@@ -442,7 +458,8 @@ normal_width_twice : (n : ℕ) (w : IntegerWidth) → normal_width (normal_width
 normal_width_twice n Unknown =
     elim (cases_lt n 24) [
       | inl low ↦ rw (lt-ltb n 24 low) refl
-      | inr high ↦ let same : normal_width Unknown n ≡ Unknown = rw (le-ltb n 24 high) refl in ap (λ v. normal_width v n) same
+      | inr high ↦ let same : normal_width Unknown n ≡ Unknown =
+          rw (le-ltb n 24 high) refl in ap (λ v. normal_width v n) same
     ]
 normal_width_twice n Zero = refl
 normal_width_twice n Eight = refl
@@ -463,11 +480,13 @@ chunks_twice (c ∷ cs) = ap (λ ds. normal_chunk c ∷ ds) (chunks_twice cs)
 module _ (level left : ℕ) (levels : level + left ≡ 129)
     (same : (tag : Option ℕ) (i : Item) → WellFormed level i → normal_at left tag (normal_at left tag i)
     ≡ normal_at left tag i) where
-  items_twice : (is : Items) → WellFormedItems level is → normal_items (into_normal left) (normal_items (into_normal left) is) ≡ normal_items (into_normal left) is
+  items_twice : (is : Items) → WellFormedItems level is
+      → normal_items (into_normal left) (normal_items (into_normal left) is) ≡ normal_items (into_normal left) is
   items_twice no_items h = refl
   items_twice (item i is) h = rw (same None i h.0, items_twice is h.1) refl
 
-  pairs_twice : (ps : Pairs) → WellFormedPairs level ps → normal_pairs (into_normal left) (normal_pairs (into_normal left) ps) ≡ normal_pairs (into_normal left) ps
+  pairs_twice : (ps : Pairs) → WellFormedPairs level ps
+      → normal_pairs (into_normal left) (normal_pairs (into_normal left) ps) ≡ normal_pairs (into_normal left) ps
   pairs_twice no_pairs h = refl
   pairs_twice (pair k v ps) h = rw (same None k h.0, same None v h.1, pairs_twice ps h.2) refl
 

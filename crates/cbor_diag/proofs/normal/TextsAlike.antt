@@ -18,6 +18,7 @@ text_of_normal i well = normal_text 1 128 (omega arith) Base16 None i well
 
 pub texts_alike : (i j : Item) → IsWellFormed i → IsWellFormed j → (diag_of i ≡ diag_of j) ↔ (normal_of i ≡ normal_of j)
 texts_alike i j well other = (
-  λ same. one_reading 128 128 (diag_of j) (normal_of i) (normal_of j) (subst (λ (t : List ℕ). Reads 128 t (normal_of i)) same (text_read i well)) (text_read j other),
+  λ same. one_reading 128 128 (diag_of j) (normal_of i) (normal_of j)
+      (subst (λ (t : List ℕ). Reads 128 t (normal_of i)) same (text_read i well)) (text_read j other),
   λ same. sym (text_of_normal i well) ∙ ap diag_of same ∙ text_of_normal j other,
 )

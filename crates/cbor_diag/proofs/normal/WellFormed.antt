@@ -9,41 +9,74 @@ use Rattle.cbor_diag.specs.declared.syntax.IntegerWidth.TheVariants.{Unknown}
 use Rattle.cbor_diag.specs.declared.syntax.FloatWidth.{FloatWidth}
 use Rattle.cbor_diag.specs.declared.syntax.FloatWidth.TheVariants as float_width
 use Rattle.cbor_diag.specs.Item as spec
-use Rattle.cbor_diag.specs.Item.{Chunk, Atom, integer, negative, byte_string, text_string, byte_chunks, text_chunks, float, simple, Item, atom, array, tagged, Items, no_items, item, Pairs, no_pairs, pair, item_count, pair_count}
+use Rattle.cbor_diag.specs.Item.{Chunk, Atom, integer, negative, byte_string, text_string, byte_chunks, text_chunks}
+use Rattle.cbor_diag.specs.Item.{float, simple, Item, atom, array, tagged, Items, no_items, item, Pairs, no_pairs, pair}
+use Rattle.cbor_diag.specs.Item.{item_count, pair_count}
 use Rattle.cbor_diag.specs.Head.{FitsWidth, head, break_byte, HeadThen}
-use Rattle.cbor_diag.specs.WellFormed.{IsByteChunk, IsTextChunk, WellFormedAtom, FitsCount, WellFormed, WellFormedItems, WellFormedPairs}
-use Rattle.cbor_diag.specs.Bytes.{StringKind, bytes_kind, text_kind, major_of, any, ChunkThen, SpellsChunks, SpellsAtom, SpellsFloat, SpellsSimple, MembersThen, Spells, SpellsItems, SpellsPairs}
-use Rattle.cbor_diag.specs.Written.{encoded_head, encoded_chunk, encoded_float, encoded_simple, encoded_atom, encoded_open, encoded_close, encoded, encoded_items, encoded_pairs}
+use Rattle.cbor_diag.specs.WellFormed.{IsByteChunk, IsTextChunk, WellFormedAtom, FitsCount, WellFormed, WellFormedItems}
+use Rattle.cbor_diag.specs.WellFormed.{WellFormedPairs}
+use Rattle.cbor_diag.specs.Bytes.{StringKind, bytes_kind, text_kind, major_of, any, ChunkThen, SpellsChunks, SpellsAtom}
+use Rattle.cbor_diag.specs.Bytes.{SpellsFloat, SpellsSimple, MembersThen, Spells, SpellsItems, SpellsPairs}
+use Rattle.cbor_diag.specs.Written.{encoded_head, encoded_chunk, encoded_float, encoded_simple, encoded_atom}
+use Rattle.cbor_diag.specs.Written.{encoded_open, encoded_close, encoded, encoded_items, encoded_pairs}
 use Rattle.cbor_diag.specs.Embedded.{embedded_at, sequence_at}
-use Rattle.cbor_diag.specs.Normal.{normal_width, normal_chunk, normal_count, normal_items, normal_pairs, normal_embedded, normal_sequence, normal_content, normal_atom, normal_with, normal_at}
+use Rattle.cbor_diag.specs.Normal.{normal_width, normal_chunk, normal_count, normal_items, normal_pairs}
+use Rattle.cbor_diag.specs.Normal.{normal_embedded, normal_sequence, normal_content, normal_atom, normal_with}
+use Rattle.cbor_diag.specs.Normal.{normal_at}
 use Rattle.cbor_diag.proofs.bytes.Strict.{stated_is}
 use Rattle.cbor_diag.proofs.bytes.Resolved.{spells_well}
 use Rattle.cbor_diag.proofs.shared.EmbeddedItems.{embedded_spells, sequence_spells}
-use Rattle.cbor_diag.proofs.normal.Form.{AllBytes, all_bytes-append, all_bytes-front, all_bytes-rest, bytes_at, open_fits, head_no_longer, normal_fits, normal_head, normal_float, float_fits, encoded_bytes, items_bytes}
+use Rattle.cbor_diag.proofs.normal.Form.{AllBytes, all_bytes-append, all_bytes-front, all_bytes-rest, bytes_at}
+use Rattle.cbor_diag.proofs.normal.Form.{open_fits, head_no_longer, normal_fits, normal_head, normal_float, float_fits}
+use Rattle.cbor_diag.proofs.normal.Form.{encoded_bytes, items_bytes}
 
 -- ---- the encoding of a spelled item is no longer than its spelling
 
-head_spelled : (major n : ℕ) (w : IntegerWidth) (b : List ℕ) (Rest : List ℕ → Type 0) (h : HeadThen major n w b Rest) → length (encoded_head major n w) + length h.1 ≡ length b
-head_spelled major n w b Rest h = omega (arith, ap (λ v. length (head major n v)) (stated_is w n h.0), ap length h.2, length-append (head major n w) h.1)
+head_spelled : (major n : ℕ) (w : IntegerWidth) (b : List ℕ) (Rest : List ℕ → Type 0) (h : HeadThen major n w b Rest)
+    → length (encoded_head major n w) + length h.1 ≡ length b
+head_spelled major n w b Rest h = omega (
+  arith,
+  ap (λ v. length (head major n v)) (stated_is w n h.0),
+  ap length h.2,
+  length-append (head major n w) h.1,
+)
 
-chunk_spelled : (kind : StringKind) (c : Chunk) (b : List ℕ) (Rest : List ℕ → Type 0) (h : ChunkThen kind c b Rest) → length (encoded_chunk (major_of kind) c) + length h.1.3.0 ≡ length b
+chunk_spelled : (kind : StringKind) (c : Chunk) (b : List ℕ) (Rest : List ℕ → Type 0) (h : ChunkThen kind c b Rest)
+    → length (encoded_chunk (major_of kind) c) + length h.1.3.0 ≡ length b
 chunk_spelled kind c b Rest h =
     let s = head_spelled (major_of kind) (length c.bytes) c.width b _ h.1 in
-    omega (arith, s, ap length h.1.3.1, length-append c.bytes h.1.3.0, length-append (encoded_head (major_of kind) (length c.bytes) c.width) c.bytes)
+    omega (
+      arith,
+      s,
+      ap length h.1.3.1,
+      length-append c.bytes h.1.3.0,
+      length-append (encoded_head (major_of kind) (length c.bytes) c.width) c.bytes,
+    )
 
-chunks_spelled : (kind : StringKind) (cs : List Chunk) (b end : List ℕ) → SpellsChunks kind b cs end → length (flat_map (encoded_chunk (major_of kind)) cs) + length end ≡ length b
+chunks_spelled : (kind : StringKind) (cs : List Chunk) (b end : List ℕ) → SpellsChunks kind b cs end
+    → length (flat_map (encoded_chunk (major_of kind)) cs) + length end ≡ length b
 chunks_spelled kind [] b end h = omega (arith, ap length h)
 chunks_spelled kind (c ∷ cs) b end h =
-    omega (arith, chunk_spelled kind c b _ h, chunks_spelled kind cs h.1.3.0 end h.1.3.2, length-append (encoded_chunk (major_of kind) c) (flat_map (encoded_chunk (major_of kind)) cs))
+    omega (
+      arith,
+      chunk_spelled kind c b _ h,
+      chunks_spelled kind cs h.1.3.0 end h.1.3.2,
+      length-append (encoded_chunk (major_of kind) c) (flat_map (encoded_chunk (major_of kind)) cs),
+    )
 
-float_spelled : (b : List ℕ) (bits : ℕ) (w : FloatWidth) → SpellsFloat b bits w → length (encoded_float bits w) ≤ length b
+float_spelled : (b : List ℕ) (bits : ℕ) (w : FloatWidth) → SpellsFloat b bits w
+    → length (encoded_float bits w) ≤ length b
 float_spelled b bits float_width.Unknown h = absurd h
 float_spelled b bits float_width.Sixteen h = omega (arith, ap length h.1)
 float_spelled b bits float_width.ThirtyTwo h = omega (arith, ap length h.1)
 float_spelled b bits float_width.SixtyFour h = omega (arith, ap length h.1)
 
 simple_len : (n : ℕ) → length (encoded_simple n) ≤ 2
-simple_len n = elim (cases_lt n 24) [ inl low ↦ rw (lt-ltb n 24 low) (omega arith) | inr high ↦ rw (le-ltb n 24 high) (omega arith) ]
+simple_len n = elim (cases_lt n 24) [
+  | inl low ↦ rw (lt-ltb n 24 low) (omega arith)
+  | inr high ↦ rw (le-ltb n 24 high)
+      (omega arith)
+]
 
 simple_spelled : (b : List ℕ) (n : ℕ) → SpellsSimple any b n → length (encoded_simple n) ≤ length b
 simple_spelled b n (inl h) = rw (lt-ltb n 24 h.0) (omega (arith, ap length h.1))
@@ -54,35 +87,79 @@ atom_spelled b (integer n w) h = omega (arith, head_spelled 0 n w b _ h)
 atom_spelled b (negative n w) h = omega (arith, head_spelled 1 n w b _ h)
 atom_spelled b (byte_string c) h = omega (arith, chunk_spelled bytes_kind c b _ h)
 atom_spelled b (text_string c) h = omega (arith, chunk_spelled text_kind c b _ h)
-atom_spelled b (byte_chunks cs) h = omega (arith, chunks_spelled bytes_kind cs h.0 (break_byte ∷ []) h.2, ap length h.1, length-append (flat_map (encoded_chunk 2) cs) (break_byte ∷ []))
-atom_spelled b (text_chunks cs) h = omega (arith, chunks_spelled text_kind cs h.0 (break_byte ∷ []) h.2, ap length h.1, length-append (flat_map (encoded_chunk 3) cs) (break_byte ∷ []))
+atom_spelled b (byte_chunks cs) h = omega (
+  arith,
+  chunks_spelled bytes_kind cs h.0 (break_byte ∷ []) h.2,
+  ap length h.1,
+  length-append (flat_map (encoded_chunk 2) cs) (break_byte ∷ []),
+)
+atom_spelled b (text_chunks cs) h = omega (
+  arith,
+  chunks_spelled text_kind cs h.0 (break_byte ∷ []) h.2,
+  ap length h.1,
+  length-append (flat_map (encoded_chunk 3) cs) (break_byte ∷ []),
+)
 atom_spelled b (float bits w) h = float_spelled b bits w h
 atom_spelled b (simple n) h = simple_spelled b n h
 
 -- a container, by what its members take
-members_spelled : (major n : ℕ) (w : Option IntegerWidth) (b written : List ℕ) (Members : List ℕ → List ℕ → Type 0) → MembersThen major n w b Members → ((r end : List ℕ) → Members r end → length written + length end ≤ length r)
+members_spelled : (major n : ℕ) (w : Option IntegerWidth) (b written : List ℕ) (Members : List ℕ → List ℕ → Type 0)
+    → MembersThen major n w b Members → ((r end : List ℕ) → Members r end → length written + length end ≤ length r)
     → length (encoded_open major n w ++ (written ++ encoded_close w)) ≤ length b
 members_spelled major n (Some w) b written Members h each =
-    omega (arith, head_spelled major n w b _ h, each h.1 [] h.3, length-append (encoded_head major n w) (written ++ []), length-append written [])
-members_spelled major n None b written Members h each = omega (arith, each h.0 (break_byte ∷ []) h.2, ap length h.1, length-append written (break_byte ∷ []))
+    omega (
+      arith,
+      head_spelled major n w b _ h,
+      each h.1 [] h.3,
+      length-append (encoded_head major n w) (written ++ []),
+      length-append written [],
+    )
+members_spelled major n None b written Members h each =
+    omega (arith, each h.0 (break_byte ∷ []) h.2, ap length h.1, length-append written (break_byte ∷ []))
 
 mutual
   pub spelled_len : (level : ℕ) (b : List ℕ) (i : Item) → Spells any level b i → length (encoded i) ≤ length b
   spelled_len level b (atom a) h = atom_spelled b a h.1
-  spelled_len level b (array is w) h = members_spelled 4 (item_count is) w b (encoded_items is) _ h.1 (λ r end s. items_len (level + 1) is r end s)
-  spelled_len level b (spec.map ps w) h = members_spelled 5 (pair_count ps) w b (encoded_pairs ps) _ h.1 (λ r end s. pairs_len (level + 1) ps r end s)
+  spelled_len level b (array is w) h = members_spelled 4 (item_count is) w b (encoded_items is) _ h.1
+      (λ r end s. items_len (level + 1) is r end s)
+  spelled_len level b (spec.map ps w) h = members_spelled 5 (pair_count ps) w b (encoded_pairs ps) _ h.1
+      (λ r end s. pairs_len (level + 1) ps r end s)
   spelled_len level b (tagged t w i) h =
-      omega (arith, head_spelled 6 t w b _ h.1, spelled_len (level + 1) h.1.1 i h.1.3, length-append (encoded_head 6 t w) (encoded i))
+      omega (
+        arith,
+        head_spelled 6 t w b _ h.1,
+        spelled_len (level + 1) h.1.1 i h.1.3,
+        length-append (encoded_head 6 t w) (encoded i),
+      )
 
-  pub items_len : (level : ℕ) (is : Items) (b end : List ℕ) → SpellsItems any level b is end → length (encoded_items is) + length end ≤ length b
+  pub items_len : (level : ℕ) (is : Items) (b end : List ℕ) → SpellsItems any level b is end
+      → length (encoded_items is) + length end ≤ length b
   items_len level no_items b end h = omega (arith, ap length h)
   items_len level (item i is) b end h =
-      omega (arith, spelled_len level h.0 i h.3, items_len level is h.1 end h.4, ap length h.2, length-append h.0 h.1, length-append (encoded i) (encoded_items is))
+      omega (
+        arith,
+        spelled_len level h.0 i h.3,
+        items_len level is h.1 end h.4,
+        ap length h.2,
+        length-append h.0 h.1,
+        length-append (encoded i) (encoded_items is),
+      )
 
-  pairs_len : (level : ℕ) (ps : Pairs) (b end : List ℕ) → SpellsPairs any level b ps end → length (encoded_pairs ps) + length end ≤ length b
+  pairs_len : (level : ℕ) (ps : Pairs) (b end : List ℕ) → SpellsPairs any level b ps end
+      → length (encoded_pairs ps) + length end ≤ length b
   pairs_len level no_pairs b end h = omega (arith, ap length h)
   pairs_len level (pair k v ps) b end h =
-      omega (arith, spelled_len level h.0 k h.4, spelled_len level h.1 v h.5, pairs_len level ps h.2 end h.6, ap length h.3, length-append h.0 (h.1 ++ h.2), length-append h.1 h.2, length-append (encoded k) (encoded v ++ encoded_pairs ps), length-append (encoded v) (encoded_pairs ps))
+      omega (
+        arith,
+        spelled_len level h.0 k h.4,
+        spelled_len level h.1 v h.5,
+        pairs_len level ps h.2 end h.6,
+        ap length h.3,
+        length-append h.0 (h.1 ++ h.2),
+        length-append h.1 h.2,
+        length-append (encoded k) (encoded v ++ encoded_pairs ps),
+        length-append (encoded v) (encoded_pairs ps),
+      )
 
 -- ---- the normal form
 
@@ -97,7 +174,8 @@ pub record ServesBytes (b x : List ℕ) : Type 0 where
   pub no_longer : length x ≤ length b
 
 -- items that are spelled one after the other are well formed, and what follows them is bytes
-pub items_well : (level : ℕ) (is : Items) (b end : List ℕ) → AllBytes b → SpellsItems any level b is end → WellFormedItems level is × AllBytes end
+pub items_well : (level : ℕ) (is : Items) (b end : List ℕ) → AllBytes b → SpellsItems any level b is end
+    → WellFormedItems level is × AllBytes end
 items_well level no_items b end all h = (tt, subst AllBytes h all)
 items_well level (item i is) b end all h =
     let parts : AllBytes (h.0 ++ h.1) = subst AllBytes h.2 all in
@@ -105,27 +183,54 @@ items_well level (item i is) b end all h =
     ((spells_well level h.0 i (bytes_at h.0 (all_bytes-front h.0 h.1 parts)) h.3, others.0), others.1)
 
 -- the bytes of items that are spelled are replaced by those of items that serve in their place
-module _ (level left : ℕ) (levels : level + left ≡ 129) (into : Item → Item) (serves : (i : Item) → WellFormed level i → Serves level i (into i)) where
-  pub items_serve : (is : Items) → WellFormedItems level is → WellFormedItems level (normal_items into is) × (length (encoded_items (normal_items into is)) ≤ length (encoded_items is))
+module _ (level left : ℕ) (levels : level + left ≡ 129) (into : Item → Item) (serves : (i : Item) → WellFormed level i
+    → Serves level i (into i)) where
+  pub items_serve : (is : Items) → WellFormedItems level is → WellFormedItems level (normal_items into is)
+      × (length (encoded_items (normal_items into is)) ≤ length (encoded_items is))
   items_serve no_items h = (tt, omega arith)
   items_serve (item i is) h =
       let s = serves i h.0 in
-      let others = items_serve is h.1 in
-      ((s.well, others.0), omega (arith, s.no_longer, others.1, length-append (encoded i) (encoded_items is), length-append (encoded (into i)) (encoded_items (normal_items into is))))
+      let others = items_serve is h.1 in (
+        (s.well, others.0),
+        omega (
+          arith,
+          s.no_longer,
+          others.1,
+          length-append (encoded i) (encoded_items is),
+          length-append (encoded (into i)) (encoded_items (normal_items into is)),
+        ),
+      )
 
-  pub pairs_serve : (ps : Pairs) → WellFormedPairs level ps → WellFormedPairs level (normal_pairs into ps) × (length (encoded_pairs (normal_pairs into ps)) ≤ length (encoded_pairs ps))
+  pub pairs_serve : (ps : Pairs) → WellFormedPairs level ps → WellFormedPairs level (normal_pairs into ps)
+      × (length (encoded_pairs (normal_pairs into ps)) ≤ length (encoded_pairs ps))
   pairs_serve no_pairs h = (tt, omega arith)
   pairs_serve (pair k v ps) h =
       let s = serves k h.0 in
       let t = serves v h.1 in
-      let others = pairs_serve ps h.2 in
-      ((s.well, t.well, others.0), omega (arith, s.no_longer, t.no_longer, others.1, length-append (encoded k) (encoded v ++ encoded_pairs ps), length-append (encoded v) (encoded_pairs ps), length-append (encoded (into k)) (encoded (into v) ++ encoded_pairs (normal_pairs into ps)), length-append (encoded (into v)) (encoded_pairs (normal_pairs into ps))))
+      let others = pairs_serve ps h.2 in (
+        (s.well, t.well, others.0),
+        omega (
+          arith,
+          s.no_longer,
+          t.no_longer,
+          others.1,
+          length-append (encoded k) (encoded v ++ encoded_pairs ps),
+          length-append (encoded v) (encoded_pairs ps),
+          length-append (encoded (into k)) (encoded (into v) ++ encoded_pairs (normal_pairs into ps)),
+          length-append (encoded (into v)) (encoded_pairs (normal_pairs into ps)),
+        ),
+      )
 
-  embedded_serves : (b : List ℕ) (o : Option Item) → AllBytes b → embedded_at left b ≡ o → ServesBytes b (normal_embedded into b o)
+  embedded_serves : (b : List ℕ) (o : Option Item) → AllBytes b → embedded_at left b ≡ o
+      → ServesBytes b (normal_embedded into b o)
   embedded_serves b (Some e) all h =
       let s = embedded_spells level left b e levels (bytes_at b all) h in
       let t = serves e (spells_well level b e (bytes_at b all) s) in
-      record { bytes = encoded_bytes level (into e) t.well; no_longer = omega (arith, t.no_longer, spelled_len level b e s) }
+      record {
+        bytes = encoded_bytes level (into e) t.well;
+        no_longer =
+            omega (arith, t.no_longer, spelled_len level b e s);
+      }
   embedded_serves b None all h = record { bytes = all; no_longer = omega arith }
 
   sequence_serves : (b : List ℕ) → AllBytes b → ServesBytes b (normal_sequence into (sequence_at left b))
@@ -134,7 +239,17 @@ module _ (level left : ℕ) (levels : level + left ≡ 129) (into : Item → Ite
       let so = sequence_spells level left levels (length b) b (omega arith) (bytes_at b all) in
       let w = items_well level s.0 b s.1 all so.spelled_so in
       let t = items_serve s.0 w.0 in
-      record { bytes = all_bytes-append (encoded_items (normal_items into s.0)) s.1 (items_bytes level (normal_items into s.0) t.0) w.1; no_longer = omega (arith, t.1, items_len level s.0 b s.1 so.spelled_so, length-append (encoded_items (normal_items into s.0)) s.1) }
+      record {
+        bytes = all_bytes-append (encoded_items (normal_items into s.0)) s.1
+            (items_bytes level (normal_items into s.0) t.0) w.1;
+        no_longer =
+            omega (
+              arith,
+              t.1,
+              items_len level s.0 b s.1 so.spelled_so,
+              length-append (encoded_items (normal_items into s.0)) s.1,
+            );
+      }
 
 -- ---- one level
 
@@ -163,21 +278,56 @@ content_serves level left levels into serves (Some t) b all =
     ]
 
 -- a string whose content is replaced so
-string_no_longer : (major : ℕ) (c : Chunk) (x : List ℕ) → FitsWidth c.width (length c.bytes) → length x ≤ length c.bytes → length (encoded_chunk major (record { bytes = x; width = Unknown })) ≤ length (encoded_chunk major c)
+string_no_longer : (major : ℕ) (c : Chunk) (x : List ℕ) → FitsWidth c.width (length c.bytes) → length x ≤ length c.bytes
+    → length (encoded_chunk major (record { bytes = x; width = Unknown })) ≤ length (encoded_chunk major c)
 string_no_longer major c x fits le =
-    omega (arith, head_no_longer major (length x) (length c.bytes) c.width le fits, length-append (encoded_head major (length x) Unknown) x, length-append (encoded_head major (length c.bytes) c.width) c.bytes)
+    omega (
+      arith,
+      head_no_longer major (length x) (length c.bytes) c.width le fits,
+      length-append (encoded_head major (length x) Unknown) x,
+      length-append (encoded_head major (length c.bytes) c.width) c.bytes,
+    )
 
-byte_chunks_serve : (cs : List Chunk) → AllByRecursion IsByteChunk cs → AllByRecursion IsByteChunk (map normal_chunk cs) × (length (flat_map (encoded_chunk 2) (map normal_chunk cs)) ≤ length (flat_map (encoded_chunk 2) cs))
+byte_chunks_serve : (cs : List Chunk) → AllByRecursion IsByteChunk cs → AllByRecursion IsByteChunk (map normal_chunk cs)
+    × (length (flat_map (encoded_chunk 2) (map normal_chunk cs)) ≤ length (flat_map (encoded_chunk 2) cs))
 byte_chunks_serve [] h = (tt, omega arith)
 byte_chunks_serve (c ∷ cs) h =
-    let others = byte_chunks_serve cs h.1 in
-    ((record { fits = open_fits (length c.bytes) (length c.bytes) c.width (omega arith) h.0.fits; bytes = h.0.bytes }, others.0), omega (arith, string_no_longer 2 c c.bytes h.0.fits (omega arith), others.1, length-append (encoded_chunk 2 c) (flat_map (encoded_chunk 2) cs), length-append (encoded_chunk 2 (normal_chunk c)) (flat_map (encoded_chunk 2) (map normal_chunk cs))))
+    let others = byte_chunks_serve cs h.1 in (
+      (
+        record { fits = open_fits (length c.bytes) (length c.bytes) c.width (omega arith) h.0.fits; bytes = h.0.bytes },
+        others.0,
+      ),
+      omega (
+        arith,
+        string_no_longer 2 c c.bytes h.0.fits (omega arith),
+        others.1,
+        length-append (encoded_chunk 2 c) (flat_map (encoded_chunk 2) cs),
+        length-append (encoded_chunk 2 (normal_chunk c)) (flat_map (encoded_chunk 2) (map normal_chunk cs)),
+      ),
+    )
 
-text_chunks_serve : (cs : List Chunk) → AllByRecursion IsTextChunk cs → AllByRecursion IsTextChunk (map normal_chunk cs) × (length (flat_map (encoded_chunk 3) (map normal_chunk cs)) ≤ length (flat_map (encoded_chunk 3) cs))
+text_chunks_serve : (cs : List Chunk) → AllByRecursion IsTextChunk cs → AllByRecursion IsTextChunk (map normal_chunk cs)
+    × (length (flat_map (encoded_chunk 3) (map normal_chunk cs)) ≤ length (flat_map (encoded_chunk 3) cs))
 text_chunks_serve [] h = (tt, omega arith)
 text_chunks_serve (c ∷ cs) h =
-    let others = text_chunks_serve cs h.1 in
-    ((record { fits = open_fits (length c.bytes) (length c.bytes) c.width (omega arith) h.0.fits; bytes = h.0.bytes; utf8 = h.0.utf8 }, others.0), omega (arith, string_no_longer 3 c c.bytes h.0.fits (omega arith), others.1, length-append (encoded_chunk 3 c) (flat_map (encoded_chunk 3) cs), length-append (encoded_chunk 3 (normal_chunk c)) (flat_map (encoded_chunk 3) (map normal_chunk cs))))
+    let others = text_chunks_serve cs h.1 in (
+      (
+        record {
+          fits = open_fits (length c.bytes) (length c.bytes) c.width (omega arith) h.0.fits;
+          bytes =
+              h.0.bytes;
+          utf8 = h.0.utf8;
+        },
+        others.0,
+      ),
+      omega (
+        arith,
+        string_no_longer 3 c c.bytes h.0.fits (omega arith),
+        others.1,
+        length-append (encoded_chunk 3 c) (flat_map (encoded_chunk 3) cs),
+        length-append (encoded_chunk 3 (normal_chunk c)) (flat_map (encoded_chunk 3) (map normal_chunk cs)),
+      ),
+    )
 
 normal_items_count : (into : Item → Item) (is : Items) → item_count (normal_items into is) ≡ item_count is
 normal_items_count into no_items = refl
@@ -192,10 +342,20 @@ count_fits None m n same h = tt
 count_fits (Some w) m n same h = open_fits m n w (omega arith) h
 
 -- a container in whose members others serve
-container_no_longer : (major m n : ℕ) (w : Option IntegerWidth) (x y : List ℕ) → m ≡ n → FitsCount w n → length x ≤ length y → length (encoded_open major m (normal_count w) ++ (x ++ encoded_close (normal_count w))) ≤ length (encoded_open major n w ++ (y ++ encoded_close w))
-container_no_longer major m n None x y same fits le = omega (arith, length-append x (break_byte ∷ []), length-append y (break_byte ∷ []))
+container_no_longer : (major m n : ℕ) (w : Option IntegerWidth) (x y : List ℕ) → m ≡ n → FitsCount w n
+    → length x ≤ length y → length (encoded_open major m (normal_count w) ++ (x ++ encoded_close (normal_count w)))
+    ≤ length (encoded_open major n w ++ (y ++ encoded_close w))
+container_no_longer major m n None x y same fits le =
+    omega (arith, length-append x (break_byte ∷ []), length-append y (break_byte ∷ []))
 container_no_longer major m n (Some w) x y same fits le =
-    omega (arith, head_no_longer major m n w (omega arith) fits, length-append (encoded_head major m Unknown) (x ++ []), length-append (encoded_head major n w) (y ++ []), length-append x [], length-append y [])
+    omega (
+      arith,
+      head_no_longer major m n w (omega arith) fits,
+      length-append (encoded_head major m Unknown) (x ++ []),
+      length-append (encoded_head major n w) (y ++ []),
+      length-append x [],
+      length-append y [],
+    )
 
 module _ (level left : ℕ) (levels : (level + 1) + left ≡ 129) (into : Option ℕ → Item → Item)
     (serves : (tag : Option ℕ) (i : Item) → WellFormed (level + 1) i → Serves (level + 1) i (into tag i)) where
@@ -206,16 +366,39 @@ module _ (level left : ℕ) (levels : (level + 1) + left ≡ 129) (into : Option
   atom_serves tag (negative n w) h = (normal_fits n w h, omega (arith, ap length (normal_head 1 n w)))
   atom_serves tag (byte_string c) h =
       let x = normal_content left (into None) tag c.bytes in
-      let s = content_serves (level + 1) left levels (into None) (serves None) tag c.bytes h.bytes in
-      (record { fits = open_fits (length x) (length c.bytes) c.width s.no_longer h.fits; bytes = s.bytes }, string_no_longer 2 c x h.fits s.no_longer)
-  atom_serves tag (text_string c) h =
-      (record { fits = open_fits (length c.bytes) (length c.bytes) c.width (omega arith) h.fits; bytes = h.bytes; utf8 = h.utf8 }, string_no_longer 3 c c.bytes h.fits (omega arith))
+      let s = content_serves (level + 1) left levels (into None) (serves None) tag c.bytes h.bytes in (
+        record { fits = open_fits (length x) (length c.bytes) c.width s.no_longer h.fits; bytes = s.bytes },
+        string_no_longer 2 c x h.fits s.no_longer,
+      )
+  atom_serves tag (text_string c) h = (
+    record {
+      fits = open_fits (length c.bytes) (length c.bytes) c.width (omega arith) h.fits;
+      bytes = h.bytes;
+      utf8 =
+          h.utf8;
+    },
+    string_no_longer 3 c c.bytes h.fits (omega arith),
+  )
   atom_serves tag (byte_chunks cs) h =
-      let s = byte_chunks_serve cs h in
-      (s.0, omega (arith, s.1, length-append (flat_map (encoded_chunk 2) (map normal_chunk cs)) (break_byte ∷ []), length-append (flat_map (encoded_chunk 2) cs) (break_byte ∷ [])))
+      let s = byte_chunks_serve cs h in (
+        s.0,
+        omega (
+          arith,
+          s.1,
+          length-append (flat_map (encoded_chunk 2) (map normal_chunk cs)) (break_byte ∷ []),
+          length-append (flat_map (encoded_chunk 2) cs) (break_byte ∷ []),
+        ),
+      )
   atom_serves tag (text_chunks cs) h =
-      let s = text_chunks_serve cs h in
-      (s.0, omega (arith, s.1, length-append (flat_map (encoded_chunk 3) (map normal_chunk cs)) (break_byte ∷ []), length-append (flat_map (encoded_chunk 3) cs) (break_byte ∷ [])))
+      let s = text_chunks_serve cs h in (
+        s.0,
+        omega (
+          arith,
+          s.1,
+          length-append (flat_map (encoded_chunk 3) (map normal_chunk cs)) (break_byte ∷ []),
+          length-append (flat_map (encoded_chunk 3) cs) (break_byte ∷ []),
+        ),
+      )
   atom_serves tag (float bits w) h = (float_fits bits w h, omega (arith, ap length (normal_float bits w)))
   atom_serves tag (simple n) h = (h, omega arith)
 

@@ -8,7 +8,8 @@ use Rattle.cbor_diag.specs.View.{view, items_view}
 use Rattle.cbor_diag.specs.Reading.{Read, ◌>>=◌, Fails}
 
 -- a refusal of one step is that of all
-pub Fails-bind : {A B : Type 0} (e : Error) (r : Result A Error) (f : A → Result B Error) → Fails e r → Fails e (r >>= f)
+pub Fails-bind : {A B : Type 0} (e : Error) (r : Result A Error) (f : A → Result B Error) → Fails e r
+    → Fails e (r >>= f)
 Fails-bind refusal.Memory r f h = tt
 Fails-bind _ r f h = ap (λ x. x >>= f) h
 
@@ -16,7 +17,8 @@ Fails-bind _ r f h = ap (λ x. x >>= f) h
 abbrev pub onto : {R : Type 0} → (R → R) → Read R → Read R
 onto front read = read >>= λ x. Ok (front x.0, x.1)
 
-pub onto_fails : {R : Type 0} (e : Error) (front : R → R) (read total : Read R) → Fails e read → onto front read ≡ total → Fails e total
+pub onto_fails : {R : Type 0} (e : Error) (front : R → R) (read total : Read R) → Fails e read → onto front read ≡ total
+    → Fails e total
 onto_fails e front read total h so_far = subst (λ r. Fails e r) so_far (Fails-bind e read (λ x. Ok (front x.0, x.1)) h)
 
 -- items, and those behind them
@@ -29,6 +31,7 @@ joined-none no_items = refl
 joined-none (item i is) = ap (item i) (joined-none is)
 
 -- one item more at the end of those that were read
-pub item_joins : (vs : List DataItem) (v : DataItem) (js : Items) → joined (items_view vs) (item (view v) js) ≡ joined (items_view (vs ++ v ∷ [])) js
+pub item_joins : (vs : List DataItem) (v : DataItem) (js : Items)
+    → joined (items_view vs) (item (view v) js) ≡ joined (items_view (vs ++ v ∷ [])) js
 item_joins [] v js = refl
 item_joins (w ∷ vs) v js = ap (item (view w)) (item_joins vs v js)

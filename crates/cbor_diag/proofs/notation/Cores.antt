@@ -1,5 +1,7 @@
 -- What reading an item, a string or a piece gives, by what stands at the front of the text.
-use Rattle.std.proofs.Common.{◌≡◌, ◌≢◌, ℕ, zero, suc, ◌+◌, ◌-◌, ◌<◌, ◌≤◌, ◌^◌, ◌⊎◌, inl, inr, Bool, true, false, List, [], ◌∷◌, ◌++◌, length, Option, Some, None, Ok, Err, Vec, Global, refl, sym, ap, subst, ◌∙◌, append_assoc, arith}
+use Rattle.std.proofs.Common.{◌≡◌, ◌≢◌, ℕ, zero, suc, ◌+◌, ◌-◌, ◌<◌, ◌≤◌, ◌^◌, ◌⊎◌, inl, inr, Bool, true, false, List}
+use Rattle.std.proofs.Common.{[], ◌∷◌, ◌++◌, length, Option, Some, None, Ok, Err, Vec, Global, refl, sym, ap, subst}
+use Rattle.std.proofs.Common.{◌∙◌, append_assoc, arith}
 use Rattle.std.specs.List.{AllByRecursion}
 use Rattle.std.proofs.lemmas.List.{append-nil}
 use Rattle.cbor_diag.specs.declared.syntax.IntegerWidth.{IntegerWidth}
@@ -14,29 +16,37 @@ use Rattle.cbor_diag.specs.View.{view, items_view, pairs_view}
 use Rattle.cbor_diag.specs.WellFormed.{WellFormed, WellFormedItems, WellFormedPairs, FitsCount}
 use Rattle.cbor_diag.specs.Bytes.{StringKind, text_kind}
 use Rattle.cbor_diag.specs.Reading.{Read, ◌>>=◌, Fails}
-use Rattle.cbor_diag.specs.mirror.NotationReading.{or_refused, after_byte, skip_blank, read_pair, first_start, rest_of, core_of, read_core, read_item, piece_of, read_piece, begins_piece, begins_string, read_pieces, string_of, read_string, read_byte_string}
+use Rattle.cbor_diag.specs.mirror.NotationReading.{or_refused, after_byte, skip_blank, read_pair, first_start, rest_of}
+use Rattle.cbor_diag.specs.mirror.NotationReading.{core_of, read_core, read_item, piece_of, read_piece, begins_piece}
+use Rattle.cbor_diag.specs.mirror.NotationReading.{begins_string, read_pieces, string_of, read_string, read_byte_string}
 use Rattle.cbor_diag.proofs.notation.ChunkLoops.{Fails-bind, onto, onto_fails}
 use Rattle.cbor_diag.proofs.shared.Views.{view-Array, view-Map, item_count_view, pair_count_view}
 
-pub core_by : (read : List ℕ → Read Item) (text rest : List ℕ) (s : Start) → s ≡ first_start text → rest ≡ rest_of text → read_core read text ≡ core_of read s text rest
+pub core_by : (read : List ℕ → Read Item) (text rest : List ℕ) (s : Start) → s ≡ first_start text → rest ≡ rest_of text
+    → read_core read text ≡ core_of read s text rest
 unfolding read_core
 core_by read [] rest s is behind = sym (ap (λ s. core_of read s [] rest) is)
-core_by read (b ∷ text) rest s is behind = ap (λ s. core_of read s (b ∷ text) text) (sym is) ∙ ap (core_of read s (b ∷ text)) (sym behind)
+core_by read (b ∷ text) rest s is behind = ap (λ s. core_of read s (b ∷ text) text) (sym is)
+    ∙ ap (core_of read s (b ∷ text)) (sym behind)
 
 -- what bytes begin with
-pub bytes_core : (read : List ℕ → Read Item) (text rest : List ℕ) (s : Start) → (s ≡ start.Apostrophe) ⊎ ((s ≡ start.Angle) ⊎ ((s ≡ start.LetterB) ⊎ (s ≡ start.LetterH))) → core_of read s text rest ≡ read_byte_string read text
+pub bytes_core : (read : List ℕ → Read Item) (text rest : List ℕ) (s : Start)
+    → (s ≡ start.Apostrophe) ⊎ ((s ≡ start.Angle) ⊎ ((s ≡ start.LetterB) ⊎ (s ≡ start.LetterH)))
+    → core_of read s text rest ≡ read_byte_string read text
 bytes_core read text rest s (inl e) = rw e refl
 bytes_core read text rest s (inr (inl e)) = rw e refl
 bytes_core read text rest s (inr (inr (inl e))) = rw e refl
 bytes_core read text rest s (inr (inr (inr e))) = rw e refl
 
-pub piece_by : (read : List ℕ → Read Item) (text rest : List ℕ) (s : Start) → s ≡ first_start text → rest ≡ rest_of text → read_piece read text ≡ piece_of read s rest
+pub piece_by : (read : List ℕ → Read Item) (text rest : List ℕ) (s : Start) → s ≡ first_start text → rest ≡ rest_of text
+    → read_piece read text ≡ piece_of read s rest
 unfolding read_piece
 piece_by read [] rest s is behind = sym (ap (λ s. piece_of read s rest) is)
 piece_by read (b ∷ text) rest s is behind = ap (λ s. piece_of read s text) (sym is) ∙ ap (piece_of read s) (sym behind)
 
 -- what begins otherwise is no piece, and no text string
-pub no_piece : (read : List ℕ → Read Item) (rest : List ℕ) (s : Start) → s ≢ start.Quote → s ≢ start.Apostrophe → s ≢ start.Angle → s ≢ start.LetterB → s ≢ start.LetterH → piece_of read s rest ≡ Err refusal.Notation
+pub no_piece : (read : List ℕ → Read Item) (rest : List ℕ) (s : Start) → s ≢ start.Quote → s ≢ start.Apostrophe
+    → s ≢ start.Angle → s ≢ start.LetterB → s ≢ start.LetterH → piece_of read s rest ≡ Err refusal.Notation
 no_piece read rest start.Quote q a n b h = absurd (q refl)
 no_piece read rest start.Apostrophe q a n b h = absurd (a refl)
 no_piece read rest start.Angle q a n b h = absurd (n refl)
@@ -48,7 +58,8 @@ pub no_text : (s : Start) → s ≢ start.Quote → begins_string text_kind s �
 no_text start.Quote q = absurd (q refl)
 no_text _ q = refl
 
-pub string_by : (read : List ℕ → Read Item) (kind : StringKind) (text : List ℕ) (t : Bool) → begins_string kind (first_start text) ≡ t → read_string read kind text ≡ string_of read kind text t
+pub string_by : (read : List ℕ → Read Item) (kind : StringKind) (text : List ℕ) (t : Bool)
+    → begins_string kind (first_start text) ≡ t → read_string read kind text ≡ string_of read kind text t
 unfolding read_string
 string_by read kind text t e = ap (string_of read kind text) e
 
@@ -56,24 +67,31 @@ pub item_none : (n : ℕ) (text : List ℕ) → n ≡ 0 → read_item n text ≡
 unfolding read_item
 item_none n text e = ap (λ k. read_item k text) e
 
-pub item_some : (n m : ℕ) (text : List ℕ) → n ≡ suc m → read_item n text ≡ (read_core (read_item m) (skip_blank text) >>= λ i. Ok (i.0, skip_blank i.1))
+pub item_some : (n m : ℕ) (text : List ℕ) → n ≡ suc m
+    → read_item n text ≡ (read_core (read_item m) (skip_blank text) >>= λ i. Ok (i.0, skip_blank i.1))
 unfolding read_item
 item_some n m text e = ap (λ k. read_item k text) e
 
 -- ---- the pieces of a string
 
-pub pieces_begin : (read : List ℕ → Read Item) (texts : Bool) (text content : List ℕ) → content ≡ [] → (n : ℕ) × (length text < n) × (onto (λ xs. content ++ xs) (read_pieces read texts n text) ≡ read_pieces read texts (suc (length text)) text)
-pieces_begin read texts text content none = (suc (length text), omega arith, rw none (onto_nothing (read_pieces read texts (suc (length text)) text))) where
-  onto_nothing : (r : Read (List ℕ)) → onto (λ xs. [] ++ xs) r ≡ r
-  onto_nothing (Ok r) = refl
-  onto_nothing (Err e) = refl
+pub pieces_begin : (read : List ℕ → Read Item) (texts : Bool) (text content : List ℕ) → content ≡ []
+    → (n : ℕ) × (length text < n) × (onto (λ xs. content ++ xs) (read_pieces read texts n text)
+    ≡ read_pieces read texts (suc (length text)) text)
+pieces_begin read texts text content none =
+    (suc (length text), omega arith, rw none (onto_nothing (read_pieces read texts (suc (length text)) text))) where
+      onto_nothing : (r : Read (List ℕ)) → onto (λ xs. [] ++ xs) r ≡ r
+      onto_nothing (Ok r) = refl
+      onto_nothing (Err e) = refl
 
-module _ (read : List ℕ → Read Item) (texts : Bool) (front : List ℕ) (n : ℕ) (text : List ℕ) (total : Read (List ℕ)) (room : length text < n) (so_far : onto (λ xs. front ++ xs) (read_pieces read texts n text) ≡ total) where
+module _ (read : List ℕ → Read Item) (texts : Bool) (front : List ℕ) (n : ℕ) (text : List ℕ) (total : Read (List ℕ))
+    (room : length text < n) (so_far : onto (λ xs. front ++ xs) (read_pieces read texts n text) ≡ total) where
   room_left : (k : ℕ) → length text < k → (m : ℕ) × (k ≡ suc m)
   room_left zero lt = absurd (omega arith)
   room_left (suc m) lt = (m, refl)
 
-  begun : (k m : ℕ) → k ≡ suc m → begins_piece texts (first_start text) ≡ true → read_pieces read texts k text ≡ (read_piece read text >>= λ x. read_pieces read texts m (skip_blank x.1) >>= λ xs. Ok (x.0 ++ xs.0, xs.1))
+  begun : (k m : ℕ) → k ≡ suc m → begins_piece texts (first_start text) ≡ true
+      → read_pieces read texts k text ≡ (read_piece read text >>= λ x. read_pieces read texts m (skip_blank x.1)
+      >>= λ xs. Ok (x.0 ++ xs.0, xs.1))
   unfolding read_pieces
   begun k m e begins = ap (λ j. read_pieces read texts j text) e ∙ rw (begins, read_pieces) refl
 
@@ -81,30 +99,46 @@ module _ (read : List ℕ → Read Item) (texts : Bool) (front : List ℕ) (n : 
   unfolding read_pieces
   pieces_end none =
       let left = room_left n room in
-      let here : read_pieces read texts n text ≡ Ok ([], text) = ap (λ j. read_pieces read texts j text) left.1 ∙ rw (none, read_pieces) refl in
+      let here : read_pieces read texts n text ≡ Ok ([], text) = ap (λ j. read_pieces read texts j text) left.1
+      ∙ rw (none, read_pieces) refl in
       sym so_far ∙ ap (onto (λ xs. front ++ xs)) here ∙ ap (λ xs. Ok (xs, text)) (append-nil front)
 
-  pub piece_fails : (e : Error) → begins_piece texts (first_start text) ≡ true → Fails e (read_piece read text) → Fails e total
+  pub piece_fails : (e : Error) → begins_piece texts (first_start text) ≡ true → Fails e (read_piece read text)
+      → Fails e total
   piece_fails e begins h =
       let left = room_left n room in
-      let failed = Fails-bind e (read_piece read text) (λ x. read_pieces read texts left.0 (skip_blank x.1) >>= λ xs. Ok (x.0 ++ xs.0, xs.1)) h in
-      onto_fails e (λ xs. front ++ xs) (read_pieces read texts n text) total (subst (λ r. Fails e r) (sym (begun n left.0 left.1 begins)) failed) so_far
+      let failed = Fails-bind e (read_piece read text)
+      (λ x. read_pieces read texts left.0 (skip_blank x.1) >>= λ xs. Ok (x.0 ++ xs.0, xs.1)) h in
+      onto_fails e (λ xs. front ++ xs) (read_pieces read texts n text) total
+      (subst (λ r. Fails e r) (sym (begun n left.0 left.1 begins)) failed) so_far
 
-  joined : (piece : List ℕ) (r : Read (List ℕ)) → onto (λ xs. front ++ xs) (r >>= λ xs. Ok (piece ++ xs.0, xs.1)) ≡ onto (λ xs. (front ++ piece) ++ xs) r
+  joined : (piece : List ℕ) (r : Read (List ℕ))
+      → onto (λ xs. front ++ xs) (r >>= λ xs. Ok (piece ++ xs.0, xs.1)) ≡ onto (λ xs. (front ++ piece) ++ xs) r
   joined piece (Ok r) = ap (λ xs. Ok (xs, r.1)) (sym (append_assoc front piece r.0))
   joined piece (Err e) = refl
 
-  pub piece_more : (piece after rest : List ℕ) → begins_piece texts (first_start text) ≡ true → read_piece read text ≡ Ok (piece, after) → rest ≡ skip_blank after → length after < length text → length rest ≤ length after
+  pub piece_more : (piece after rest : List ℕ) → begins_piece texts (first_start text) ≡ true
+      → read_piece read text ≡ Ok (piece, after) → rest ≡ skip_blank after → length after < length text
+      → length rest ≤ length after
       → (m : ℕ) × (length rest < m) × (onto (λ xs. (front ++ piece) ++ xs) (read_pieces read texts m rest) ≡ total)
   piece_more piece after rest begins r blank less shorter =
       let left = room_left n room in
-      let many = λ (x : List ℕ × List ℕ). read_pieces read texts left.0 (skip_blank x.1) >>= λ xs. Ok (x.0 ++ xs.0, xs.1) in
-      let here : read_pieces read texts n text ≡ (read_pieces read texts left.0 (skip_blank after) >>= λ xs. Ok (piece ++ xs.0, xs.1)) = begun n left.0 left.1 begins ∙ ap (λ o. o >>= many) r in
-      (left.0, omega (arith, left.1), ap (λ b. onto (λ xs. (front ++ piece) ++ xs) (read_pieces read texts left.0 b)) blank ∙ sym (joined piece (read_pieces read texts left.0 (skip_blank after))) ∙ sym (ap (onto (λ xs. front ++ xs)) here) ∙ so_far)
+      let many = λ (x : List ℕ × List ℕ). read_pieces read texts left.0 (skip_blank x.1)
+      >>= λ xs. Ok (x.0 ++ xs.0, xs.1) in
+      let here : read_pieces read texts n text
+      ≡ (read_pieces read texts left.0 (skip_blank after) >>= λ xs. Ok (piece ++ xs.0, xs.1)) =
+      begun n left.0 left.1 begins ∙ ap (λ o. o >>= many) r in (
+        left.0,
+        omega (arith, left.1),
+        ap (λ b. onto (λ xs. (front ++ piece) ++ xs) (read_pieces read texts left.0 b))
+            blank ∙ sym (joined piece (read_pieces read texts left.0 (skip_blank after)))
+            ∙ sym (ap (onto (λ xs. front ++ xs)) here) ∙ so_far,
+      )
 
 -- ---- well formed members
 
-pub items_push : (level : ℕ) (vs : List DataItem) (v : DataItem) → WellFormedItems level (items_view vs) → WellFormed level (view v) → WellFormedItems level (items_view (vs ++ v ∷ []))
+pub items_push : (level : ℕ) (vs : List DataItem) (v : DataItem) → WellFormedItems level (items_view vs)
+    → WellFormed level (view v) → WellFormedItems level (items_view (vs ++ v ∷ []))
 items_push level [] v held well = (well, tt)
 items_push level (w ∷ vs) v held well = (held.0, items_push level vs v held.1 well)
 
@@ -112,14 +146,18 @@ items_push level (w ∷ vs) v held well = (held.0, items_push level vs v held.1 
 
 module _ (read : List ℕ → Read Item) (text : List ℕ) where
   pub no_key : (e : Error) → Fails e (read text) → Fails e (read_pair read text)
-  no_key e h = Fails-bind e (read text) (λ k. or_refused (after_byte 58 k.1) >>= λ rest. read rest >>= λ v. Ok ((k.0, v.0), v.1)) h
+  no_key e h = Fails-bind e (read text) (λ k. or_refused (after_byte 58 k.1) >>= λ rest. read rest
+      >>= λ v. Ok ((k.0, v.0), v.1)) h
 
   module _ (key : Item) (behind : List ℕ) (read_key : read text ≡ Ok (key, behind)) where
-    behind_key : read_pair read text ≡ (or_refused (after_byte 58 behind) >>= λ rest. read rest >>= λ v. Ok ((key, v.0), v.1))
-    behind_key = ap (λ r. r >>= λ k. or_refused (after_byte 58 k.1) >>= λ rest. read rest >>= λ v. Ok ((k.0, v.0), v.1)) read_key
+    behind_key : read_pair read text ≡ (or_refused (after_byte 58 behind) >>= λ rest. read rest
+        >>= λ v. Ok ((key, v.0), v.1))
+    behind_key = ap (λ r. r >>= λ k. or_refused (after_byte 58 k.1) >>= λ rest. read rest >>= λ v. Ok ((k.0, v.0), v.1))
+        read_key
 
     pub no_colon : (e : Error) → Fails e (or_refused (after_byte 58 behind)) → Fails e (read_pair read text)
-    no_colon e h = subst (λ r. Fails e r) (sym behind_key) (Fails-bind e (or_refused (after_byte 58 behind)) (λ rest. read rest >>= λ v. Ok ((key, v.0), v.1)) h)
+    no_colon e h = subst (λ r. Fails e r) (sym behind_key)
+        (Fails-bind e (or_refused (after_byte 58 behind)) (λ rest. read rest >>= λ v. Ok ((key, v.0), v.1)) h)
 
     module _ (next : List ℕ) (colon : or_refused (after_byte 58 behind) ≡ Ok next) where
       behind_colon : read_pair read text ≡ (read next >>= λ v. Ok ((key, v.0), v.1))
@@ -128,17 +166,21 @@ module _ (read : List ℕ → Read Item) (text : List ℕ) where
       pub no_value : (e : Error) → Fails e (read next) → Fails e (read_pair read text)
       no_value e h = subst (λ r. Fails e r) (sym behind_colon) (Fails-bind e (read next) (λ v. Ok ((key, v.0), v.1)) h)
 
-      pub pair_read : (value : Item) (after : List ℕ) → read next ≡ Ok (value, after) → read_pair read text ≡ Ok ((key, value), after)
+      pub pair_read : (value : Item) (after : List ℕ) → read next ≡ Ok (value, after)
+          → read_pair read text ≡ Ok ((key, value), after)
       pair_read value after e = behind_colon ∙ ap (λ r. r >>= λ v. Ok ((key, v.0), v.1)) e
 
 abbrev pub pair_view : DataItem × DataItem → Item × Item
 pair_view p = (view p.0, view p.1)
 
-pub pairs_push : (level : ℕ) (vs : List (DataItem × DataItem)) (v : DataItem × DataItem) → WellFormedPairs level (pairs_view vs) → WellFormed level (view v.0) → WellFormed level (view v.1) → WellFormedPairs level (pairs_view (vs ++ v ∷ []))
+pub pairs_push : (level : ℕ) (vs : List (DataItem × DataItem)) (v : DataItem × DataItem)
+    → WellFormedPairs level (pairs_view vs) → WellFormed level (view v.0) → WellFormed level (view v.1)
+    → WellFormedPairs level (pairs_view (vs ++ v ∷ []))
 pairs_push level [] v held key value = (key, value, tt)
 pairs_push level (w ∷ vs) v held key value = (held.0, held.1, pairs_push level vs v held.2 key value)
 
-pub all_push : {X : Type 0} (P : X → Type 0) (xs : List X) (x : X) → AllByRecursion P xs → P x → AllByRecursion P (xs ++ x ∷ [])
+pub all_push : {X : Type 0} (P : X → Type 0) (xs : List X) (x : X) → AllByRecursion P xs → P x
+    → AllByRecursion P (xs ++ x ∷ [])
 all_push P [] x held here = (here, tt)
 all_push P (y ∷ xs) x held here = (held.0, all_push P xs x held.1 here)
 
@@ -146,14 +188,26 @@ open_fits : (w : Option IntegerWidth) (n : ℕ) → n < 2 ^ 64 → (w ≡ None) 
 open_fits w n fits (inl e) = subst (λ x. FitsCount x n) (sym e) tt
 open_fits w n fits (inr e) = subst (λ x. FitsCount x n) (sym e) fits
 
-pub array_well : (inner : ℕ) (v : Vec DataItem Global) (w : Option IntegerWidth) → 1 ≤ inner → inner ≤ 129 → (w ≡ None) ⊎ (w ≡ Some Unknown) → WellFormedItems inner (items_view v.items) → WellFormed (inner - 1) (view (Array v w))
+pub array_well : (inner : ℕ) (v : Vec DataItem Global) (w : Option IntegerWidth) → 1 ≤ inner → inner ≤ 129
+    → (w ≡ None) ⊎ (w ≡ Some Unknown) → WellFormedItems inner (items_view v.items)
+    → WellFormed (inner - 1) (view (Array v w))
 array_well inner v w low high length_is held =
     let level : inner - 1 + 1 ≡ inner = omega arith in
     let count : item_count (items_view v.items) < 2 ^ 64 = omega (arith, item_count_view v.items, v.ok.0) in
-    subst (λ i. WellFormed (inner - 1) i) (sym (view-Array v w)) (omega arith, open_fits w (item_count (items_view v.items)) count length_is, subst (λ l. WellFormedItems l (items_view v.items)) (sym level) held)
+    subst (λ i. WellFormed (inner - 1) i) (sym (view-Array v w)) (
+      omega arith,
+      open_fits w (item_count (items_view v.items)) count length_is,
+      subst (λ l. WellFormedItems l (items_view v.items)) (sym level) held,
+    )
 
-pub map_well : (inner : ℕ) (v : Vec (DataItem × DataItem) Global) (w : Option IntegerWidth) → 1 ≤ inner → inner ≤ 129 → (w ≡ None) ⊎ (w ≡ Some Unknown) → WellFormedPairs inner (pairs_view v.items) → WellFormed (inner - 1) (view (Map v w))
+pub map_well : (inner : ℕ) (v : Vec (DataItem × DataItem) Global) (w : Option IntegerWidth) → 1 ≤ inner → inner ≤ 129
+    → (w ≡ None) ⊎ (w ≡ Some Unknown) → WellFormedPairs inner (pairs_view v.items)
+    → WellFormed (inner - 1) (view (Map v w))
 map_well inner v w low high length_is held =
     let level : inner - 1 + 1 ≡ inner = omega arith in
     let count : pair_count (pairs_view v.items) < 2 ^ 64 = omega (arith, pair_count_view v.items, v.ok.0) in
-    subst (λ i. WellFormed (inner - 1) i) (sym (view-Map v w)) (omega arith, open_fits w (pair_count (pairs_view v.items)) count length_is, subst (λ l. WellFormedPairs l (pairs_view v.items)) (sym level) held)
+    subst (λ i. WellFormed (inner - 1) i) (sym (view-Map v w)) (
+      omega arith,
+      open_fits w (pair_count (pairs_view v.items)) count length_is,
+      subst (λ l. WellFormedPairs l (pairs_view v.items)) (sym level) held,
+    )

@@ -1,5 +1,6 @@
 -- Bytes are decoded from the digits of their encodings.
-use Rattle.std.proofs.Common.{◌≡◌, ℕ, zero, suc, ◌+◌, ◌*◌, ◌/◌, ◌%◌, ◌<◌, true, false, ◌==◌, List, [], ◌∷◌, ◌++◌, map, length, take, replicate, slice_index, codes, Option, Some, None, refl, ap, ◌∙◌, arith}
+use Rattle.std.proofs.Common.{◌≡◌, ℕ, zero, suc, ◌+◌, ◌*◌, ◌/◌, ◌%◌, ◌<◌, true, false, ◌==◌, List, [], ◌∷◌, ◌++◌, map}
+use Rattle.std.proofs.Common.{length, take, replicate, slice_index, codes, Option, Some, None, refl, ap, ◌∙◌, arith}
 use Rattle.std.specs.List.{list_any, position_or_len}
 use Rattle.std.specs.Str.{bytes_eq}
 use Rattle.std.specs.Int.Digits.{AllBelowBase}
@@ -12,7 +13,8 @@ use Rattle.cbor_notes.specs.AreBytes.{AreBytes}
 use Rattle.cbor_notes.specs.Base32.{base32, base32hex}
 use Rattle.cbor_notes.specs.Base64.{standard, url_safe}
 use Rattle.cbor_notes.proofs.bases.Fives.{fives, padding, values_below, group_again, base32_values, base32hex_values}
-use Rattle.cbor_diag.specs.mirror.NotationReading.{if_encoded, either, value_in, from_fives, from_sixes, six_bits, unpadded, base32_of, base32hex_of, base64_of}
+use Rattle.cbor_diag.specs.mirror.NotationReading.{if_encoded, either, value_in, from_fives, from_sixes, six_bits}
+use Rattle.cbor_diag.specs.mirror.NotationReading.{unpadded, base32_of, base32hex_of, base64_of}
 use Rattle.cbor_diag.proofs.notation.Lists.{position_at}
 
 -- ---- an alphabet: the digit of each value, and the value of each digit
@@ -21,18 +23,23 @@ record IsAlphabet (size : ℕ) (digit : ℕ → ℕ) (value : ℕ → ℕ) : Typ
   back : (v : ℕ) → v < size → value (digit v) ≡ v
   plain : (v : ℕ) → v < size → (digit v == 61) ≡ false
 
-no_padding : (front : List ℕ) → list_any (λ d. d == 61) front ≡ false → position_or_len (λ d. d == 61) front ≡ length front
+no_padding : (front : List ℕ) → list_any (λ d. d == 61) front ≡ false
+    → position_or_len (λ d. d == 61) front ≡ length front
 no_padding [] none = refl
 no_padding (x ∷ front) none =
     let parts = or_parts (x == 61) (list_any (λ d. d == 61) front) none in
     rw (parts.0, one-add (position_or_len (λ d. d == 61) front)) (ap suc (no_padding front parts.1))
 
 -- the digits before the padding
-unpadded_front : (front : List ℕ) (n : ℕ) → list_any (λ d. d == 61) front ≡ false → unpadded (front ++ replicate n 61) ≡ front
+unpadded_front : (front : List ℕ) (n : ℕ) → list_any (λ d. d == 61) front ≡ false
+    → unpadded (front ++ replicate n 61) ≡ front
 unpadded_front front zero none =
-    ap unpadded (append-nil front) ∙ (ap (λ (n : ℕ). take n front) (no_padding front none) ∙ take_all (length front) front (omega arith))
+    ap unpadded (append-nil front) ∙ (ap (λ (n : ℕ). take n front) (no_padding front none)
+    ∙ take_all (length front) front (omega arith))
 unpadded_front front (suc n) none =
-    ap (λ (k : ℕ). take k (front ++ replicate (suc n) 61)) (position_at (λ d. d == 61) front 61 (replicate n 61) none refl) ∙ take_at front (replicate (suc n) 61) (length front) refl
+    ap (λ (k : ℕ). take k (front ++ replicate (suc n) 61))
+    (position_at (λ d. d == 61) front 61 (replicate n 61) none refl)
+    ∙ take_at front (replicate (suc n) 61) (length front) refl
 
 module _ (size : ℕ) (digit : ℕ → ℕ) (value : ℕ → ℕ) (is : IsAlphabet size digit value) where
   digits_plain : (vs : List ℕ) → AllBelowBase size vs → list_any (λ d. d == 61) (map digit vs) ≡ false
@@ -43,13 +50,17 @@ module _ (size : ℕ) (digit : ℕ → ℕ) (value : ℕ → ℕ) (is : IsAlphab
   values_back [] all = refl
   values_back (v ∷ vs) all = rw (is.back v all.0, values_back vs all.1) refl
 
-  values_read : (vs digits : List ℕ) (n : ℕ) → AllBelowBase size vs → digits ≡ map digit vs ++ replicate n 61 → map value (unpadded digits) ≡ vs
+  values_read : (vs digits : List ℕ) (n : ℕ) → AllBelowBase size vs → digits ≡ map digit vs ++ replicate n 61
+      → map value (unpadded digits) ≡ vs
   values_read vs digits n all digits_are =
-      ap (λ (d : List ℕ). map value (unpadded d)) digits_are ∙ (ap (map value) (unpadded_front (map digit vs) n (digits_plain vs all)) ∙ values_back vs all)
+      ap (λ (d : List ℕ). map value (unpadded d)) digits_are
+      ∙ (ap (map value) (unpadded_front (map digit vs) n (digits_plain vs all)) ∙ values_back vs all)
 
 -- the answer where its encoding is these digits
-encoded_is : (encode : List ℕ → List ℕ) (digits bytes : List ℕ) → encode bytes ≡ digits → if_encoded encode digits bytes ≡ Some bytes
-encoded_is encode digits bytes is = cond-true (bytes_eq (encode bytes) digits) (Some bytes) None ((bytes_eq-Decides (encode bytes) digits).1 is)
+encoded_is : (encode : List ℕ → List ℕ) (digits bytes : List ℕ) → encode bytes ≡ digits
+    → if_encoded encode digits bytes ≡ Some bytes
+encoded_is encode digits bytes is = cond-true (bytes_eq (encode bytes) digits) (Some bytes) None
+    ((bytes_eq-Decides (encode bytes) digits).1 is)
 
 -- ---- base 32
 
@@ -64,8 +75,22 @@ fives_below (a ∷ b ∷ []) = values_below (a ∷ b ∷ []) (omega arith)
 fives_below (a ∷ b ∷ c ∷ []) = values_below (a ∷ b ∷ c ∷ []) (omega arith)
 fives_below (a ∷ b ∷ c ∷ d ∷ []) = values_below (a ∷ b ∷ c ∷ d ∷ []) (omega arith)
 fives_below (a ∷ b ∷ c ∷ d ∷ e ∷ bytes) =
-    let v = values_below (a ∷ b ∷ c ∷ d ∷ e ∷ []) (omega arith) in
-    (v.0, (v.1.0, (v.1.1.0, (v.1.1.1.0, (v.1.1.1.1.0, (v.1.1.1.1.1.0, (v.1.1.1.1.1.1.0, (v.1.1.1.1.1.1.1.0, fives_below bytes))))))))
+    let v = values_below (a ∷ b ∷ c ∷ d ∷ e ∷ []) (omega arith) in (
+      v.0,
+      (
+        v.1.0,
+        (
+          v.1.1.0,
+          (
+            v.1.1.1.0,
+            (
+              v.1.1.1.1.0,
+              (v.1.1.1.1.1.0, (v.1.1.1.1.1.1.0, (v.1.1.1.1.1.1.1.0, fives_below bytes))),
+            ),
+          ),
+        ),
+      ),
+    )
 
 from_fives_again : (bytes : List ℕ) → AreBytes bytes → from_fives (fives bytes) ≡ bytes
 unfolding fives from_fives
@@ -76,33 +101,48 @@ from_fives_again (a ∷ b ∷ c ∷ []) all = group_again (a ∷ b ∷ c ∷ [])
 from_fives_again (a ∷ b ∷ c ∷ d ∷ []) all = group_again (a ∷ b ∷ c ∷ d ∷ []) (all, omega arith, omega arith)
 from_fives_again (a ∷ b ∷ c ∷ d ∷ e ∷ bytes) all =
     let group : List ℕ = a ∷ b ∷ c ∷ d ∷ e ∷ [] in
-    ap (λ (front : List ℕ). front ++ from_fives (fives bytes)) (group_again group ((all.0, (all.1.0, (all.1.1.0, (all.1.1.1.0, (all.1.1.1.1.0, tt))))), omega arith, omega arith))
+    ap (λ (front : List ℕ). front ++ from_fives (fives bytes))
+    (group_again group (
+      (all.0, (all.1.0, (all.1.1.0, (all.1.1.1.0, (all.1.1.1.1.0, tt))))),
+      omega arith,
+      omega arith,
+    ))
     ∙ ap (λ (rest : List ℕ). group ++ rest) (from_fives_again bytes all.1.1.1.1.1)
 
-is_base32 : IsAlphabet 32 (slice_index (codes "ABCDEFGHIJKLMNOPQRSTUVWXYZ234567")) (value_in (codes "ABCDEFGHIJKLMNOPQRSTUVWXYZ234567"))
+is_base32 : IsAlphabet 32 (slice_index (codes "ABCDEFGHIJKLMNOPQRSTUVWXYZ234567"))
+    (value_in (codes "ABCDEFGHIJKLMNOPQRSTUVWXYZ234567"))
 is_base32 = record {
-  back = λ v small. eqb-true _ v (agree_below_at (λ v. value_in (codes "ABCDEFGHIJKLMNOPQRSTUVWXYZ234567") (slice_index (codes "ABCDEFGHIJKLMNOPQRSTUVWXYZ234567") v) == v) (λ v. true) 32 v refl small);
-  plain = λ v small. agree_below_at (λ v. slice_index (codes "ABCDEFGHIJKLMNOPQRSTUVWXYZ234567") v == 61) (λ v. false) 32 v refl small;
+  back = λ v small. eqb-true _ v (agree_below_at
+      (λ v. value_in (codes "ABCDEFGHIJKLMNOPQRSTUVWXYZ234567")
+      (slice_index (codes "ABCDEFGHIJKLMNOPQRSTUVWXYZ234567") v) == v) (λ v. true) 32 v refl small);
+  plain = λ v small. agree_below_at (λ v. slice_index (codes "ABCDEFGHIJKLMNOPQRSTUVWXYZ234567") v == 61) (λ v. false)
+      32 v refl small;
 }
 
-is_base32hex : IsAlphabet 32 (slice_index (codes "0123456789ABCDEFGHIJKLMNOPQRSTUV")) (value_in (codes "0123456789ABCDEFGHIJKLMNOPQRSTUV"))
+is_base32hex : IsAlphabet 32 (slice_index (codes "0123456789ABCDEFGHIJKLMNOPQRSTUV"))
+    (value_in (codes "0123456789ABCDEFGHIJKLMNOPQRSTUV"))
 is_base32hex = record {
-  back = λ v small. eqb-true _ v (agree_below_at (λ v. value_in (codes "0123456789ABCDEFGHIJKLMNOPQRSTUV") (slice_index (codes "0123456789ABCDEFGHIJKLMNOPQRSTUV") v) == v) (λ v. true) 32 v refl small);
-  plain = λ v small. agree_below_at (λ v. slice_index (codes "0123456789ABCDEFGHIJKLMNOPQRSTUV") v == 61) (λ v. false) 32 v refl small;
+  back = λ v small. eqb-true _ v (agree_below_at
+      (λ v. value_in (codes "0123456789ABCDEFGHIJKLMNOPQRSTUV")
+      (slice_index (codes "0123456789ABCDEFGHIJKLMNOPQRSTUV") v) == v) (λ v. true) 32 v refl small);
+  plain = λ v small. agree_below_at (λ v. slice_index (codes "0123456789ABCDEFGHIJKLMNOPQRSTUV") v == 61) (λ v. false)
+      32 v refl small;
 }
 
 pub base32_again : (bytes : List ℕ) → AreBytes bytes → base32_of (base32 bytes) ≡ Some bytes
 unfolding base32_of
 base32_again bytes all =
     ap (if_encoded base32 (base32 bytes))
-    (ap from_fives (values_read 32 _ _ is_base32 (fives bytes) (base32 bytes) (padding bytes) (fives_below bytes) (base32_values bytes)) ∙ from_fives_again bytes all)
+    (ap from_fives (values_read 32 _ _ is_base32 (fives bytes) (base32 bytes) (padding bytes) (fives_below bytes)
+    (base32_values bytes)) ∙ from_fives_again bytes all)
     ∙ encoded_is base32 (base32 bytes) bytes refl
 
 pub base32hex_again : (bytes : List ℕ) → AreBytes bytes → base32hex_of (base32hex bytes) ≡ Some bytes
 unfolding base32hex_of
 base32hex_again bytes all =
     ap (if_encoded base32hex (base32hex bytes))
-    (ap from_fives (values_read 32 _ _ is_base32hex (fives bytes) (base32hex bytes) (padding bytes) (fives_below bytes) (base32hex_values bytes)) ∙ from_fives_again bytes all)
+    (ap from_fives (values_read 32 _ _ is_base32hex (fives bytes) (base32hex bytes) (padding bytes) (fives_below bytes)
+    (base32hex_values bytes)) ∙ from_fives_again bytes all)
     ∙ encoded_is base32hex (base32hex bytes) bytes refl
 
 -- ---- base 64
@@ -120,7 +160,8 @@ symbols_are symbols [] = refl
 symbols_are symbols (a ∷ []) = refl
 symbols_are symbols (a ∷ b ∷ []) = refl
 symbols_are symbols (a ∷ b ∷ c ∷ bytes) =
-    ap (λ (rest : List ℕ). slice_index symbols (a / 4) ∷ slice_index symbols (a % 4 * 16 + b / 16) ∷ slice_index symbols (b % 16 * 4 + c / 64) ∷ slice_index symbols (c % 64) ∷ rest) (symbols_are symbols bytes)
+    ap (λ (rest : List ℕ). slice_index symbols (a / 4) ∷ slice_index symbols (a % 4 * 16 + b / 16)
+    ∷ slice_index symbols (b % 16 * 4 + c / 64) ∷ slice_index symbols (c % 64) ∷ rest) (symbols_are symbols bytes)
 
 sixes_below : (bytes : List ℕ) → AreBytes bytes → AllBelowBase 64 (sixes bytes)
 unfolding sixes
@@ -155,36 +196,46 @@ standard_symbols = codes "ABCDEFGHIJKLMNOPQRSTUVWXYZabcdefghijklmnopqrstuvwxyz01
 
 is_url_safe : IsAlphabet 64 (slice_index url_safe_symbols) six_bits
 is_url_safe = record {
-  back = λ v small. eqb-true _ v (agree_below_at (λ v. six_bits (slice_index url_safe_symbols v) == v) (λ v. true) 64 v refl small);
+  back = λ v small. eqb-true _ v (agree_below_at (λ v. six_bits (slice_index url_safe_symbols v) == v) (λ v. true) 64 v
+      refl small);
   plain = λ v small. agree_below_at (λ v. slice_index url_safe_symbols v == 61) (λ v. false) 64 v refl small;
 }
 
 is_standard : IsAlphabet 64 (slice_index standard_symbols) six_bits
 is_standard = record {
-  back = λ v small. eqb-true _ v (agree_below_at (λ v. six_bits (slice_index standard_symbols v) == v) (λ v. true) 64 v refl small);
+  back = λ v small. eqb-true _ v (agree_below_at (λ v. six_bits (slice_index standard_symbols v) == v) (λ v. true) 64 v
+      refl small);
   plain = λ v small. agree_below_at (λ v. slice_index standard_symbols v == 61) (λ v. false) 64 v refl small;
 }
 
 -- one of two encodings
-first_of : (one other : List ℕ → List ℕ) (digits bytes found : List ℕ) → found ≡ bytes → one bytes ≡ digits → either (if_encoded one digits found) (if_encoded other digits found) ≡ Some bytes
+first_of : (one other : List ℕ → List ℕ) (digits bytes found : List ℕ) → found ≡ bytes → one bytes ≡ digits
+    → either (if_encoded one digits found) (if_encoded other digits found) ≡ Some bytes
 first_of one other digits bytes found found_is is =
-    ap (λ (b : List ℕ). either (if_encoded one digits b) (if_encoded other digits b)) found_is ∙ ap (λ (o : Option (List ℕ)). either o (if_encoded other digits bytes)) (encoded_is one digits bytes is)
+    ap (λ (b : List ℕ). either (if_encoded one digits b) (if_encoded other digits b)) found_is
+    ∙ ap (λ (o : Option (List ℕ)). either o (if_encoded other digits bytes)) (encoded_is one digits bytes is)
 
-second_of : (one other : List ℕ → List ℕ) (digits bytes found : List ℕ) → found ≡ bytes → other bytes ≡ digits → either (if_encoded one digits found) (if_encoded other digits found) ≡ Some bytes
+second_of : (one other : List ℕ → List ℕ) (digits bytes found : List ℕ) → found ≡ bytes → other bytes ≡ digits
+    → either (if_encoded one digits found) (if_encoded other digits found) ≡ Some bytes
 second_of one other digits bytes found found_is is =
     ap (λ (b : List ℕ). either (if_encoded one digits b) (if_encoded other digits b)) found_is
     ∙ (ap (λ (o : Option (List ℕ)). either (if_encoded one digits bytes) o) (encoded_is other digits bytes is)
-    ∙ cond_both (bytes_eq (one bytes) digits) (Some bytes) None (λ o. either o (Some bytes) ≡ Some bytes) (λ e. refl) (λ e. refl))
+    ∙ cond_both (bytes_eq (one bytes) digits) (Some bytes) None (λ o. either o (Some bytes) ≡ Some bytes) (λ e. refl)
+    (λ e. refl))
 
-sixes_read : (symbols bytes digits : List ℕ) (n : ℕ) → IsAlphabet 64 (slice_index symbols) six_bits → AreBytes bytes → digits ≡ encode_symbols symbols bytes ++ replicate n 61 → from_sixes (map six_bits (unpadded digits)) ≡ bytes
+sixes_read : (symbols bytes digits : List ℕ) (n : ℕ) → IsAlphabet 64 (slice_index symbols) six_bits → AreBytes bytes
+    → digits ≡ encode_symbols symbols bytes ++ replicate n 61 → from_sixes (map six_bits (unpadded digits)) ≡ bytes
 sixes_read symbols bytes digits n is all digits_are =
-    ap from_sixes (values_read 64 (slice_index symbols) six_bits is (sixes bytes) digits n (sixes_below bytes all) (digits_are ∙ ap (λ (front : List ℕ). front ++ replicate n 61) (symbols_are symbols bytes)))
+    ap from_sixes (values_read 64 (slice_index symbols) six_bits is (sixes bytes) digits n (sixes_below bytes all)
+    (digits_are ∙ ap (λ (front : List ℕ). front ++ replicate n 61) (symbols_are symbols bytes)))
     ∙ from_sixes_again bytes all
 
 pub url_safe_again : (bytes : List ℕ) → AreBytes bytes → base64_of (url_safe bytes) ≡ Some bytes
 unfolding base64_of
-url_safe_again bytes all = first_of url_safe standard (url_safe bytes) bytes _ (sixes_read url_safe_symbols bytes (url_safe bytes) 0 is_url_safe all refl) refl
+url_safe_again bytes all = first_of url_safe standard (url_safe bytes) bytes _
+    (sixes_read url_safe_symbols bytes (url_safe bytes) 0 is_url_safe all refl) refl
 
 pub standard_again : (bytes : List ℕ) → AreBytes bytes → base64_of (standard bytes) ≡ Some bytes
 unfolding base64_of
-standard_again bytes all = second_of url_safe standard (standard bytes) bytes _ (sixes_read standard_symbols bytes (standard bytes) (padding_len (length bytes)) is_standard all refl) refl
+standard_again bytes all = second_of url_safe standard (standard bytes) bytes _
+    (sixes_read standard_symbols bytes (standard bytes) (padding_len (length bytes)) is_standard all refl) refl

@@ -1,5 +1,7 @@
 -- Digits that are read as bytes are the encoding of these bytes.
-use Rattle.std.proofs.Common.{◌≡◌, ◌≢◌, ℕ, ◌-◌, ◌*◌, ◌/◌, ◌^◌, ◌<◌, ◌==◌, ◌||◌, ◌⊎◌, inl, inr, Bool, true, false, if◌then◌else◌, List, [], ◌∷◌, length, map, take, zero, suc, position, unwrap_or, bytes_eq, codes, Option, Some, None, refl, sym, ap, subst, ◌∙◌, arith, lit<}
+use Rattle.std.proofs.Common.{◌≡◌, ◌≢◌, ℕ, ◌-◌, ◌*◌, ◌/◌, ◌^◌, ◌<◌, ◌==◌, ◌||◌, ◌⊎◌, inl, inr, Bool, true, false}
+use Rattle.std.proofs.Common.{if◌then◌else◌, List, [], ◌∷◌, length, map, take, zero, suc, position, unwrap_or, bytes_eq}
+use Rattle.std.proofs.Common.{codes, Option, Some, None, refl, sym, ap, subst, ◌∙◌, arith, lit<}
 use Rattle.std.specs.Int.Digits.{AllBelowBase, number_from_digits}
 use Rattle.std.proofs.lemmas.Slice.Eq.{bytes_eq-Decides}
 use Rattle.cbor_notes.specs.AreBytes.{AreBytes}
@@ -9,17 +11,21 @@ use Rattle.cbor_notes.proofs.bases.Base32Encode.{AllBelowBase-append}
 use Rattle.cbor_notes.proofs.dates.Places.{AllBelowBase-places}
 use Rattle.cbor_notes.proofs.tokens.TextPlaces.{first_at}
 use Rattle.cbor_diag.proofs.notation.Decoded.{url_safe_again, standard_again}
-use Rattle.cbor_diag.specs.mirror.NotationReading.{if_encoded, either, value_in, bytes_of_fives, from_fives, from_sixes, six_bits, unpadded, base32_of, base32hex_of, base64_of}
+use Rattle.cbor_diag.specs.mirror.NotationReading.{if_encoded, either, value_in, bytes_of_fives, from_fives, from_sixes}
+use Rattle.cbor_diag.specs.mirror.NotationReading.{six_bits, unpadded, base32_of, base32hex_of, base64_of}
 
 -- the answer whose encoding was compared
-encoded_is : (encode : List ℕ → List ℕ) (digits answer bytes : List ℕ) → if_encoded encode digits answer ≡ Some bytes → (answer ≡ bytes) × (digits ≡ encode bytes)
+encoded_is : (encode : List ℕ → List ℕ) (digits answer bytes : List ℕ) → if_encoded encode digits answer ≡ Some bytes
+    → (answer ≡ bytes) × (digits ≡ encode bytes)
 encoded_is encode digits answer bytes e = by_test (bytes_eq (encode answer) digits) refl where
   by_test : (t : Bool) → bytes_eq (encode answer) digits ≡ t → (answer ≡ bytes) × (digits ≡ encode bytes)
   by_test true is =
-      let same : ◌≡◌ {A = Option (List ℕ)} (Some answer) (Some bytes) = sym (ap (λ t. if t then Some answer else None) is) ∙ e in
+      let same : ◌≡◌ {A = Option (List ℕ)} (Some answer) (Some bytes) =
+      sym (ap (λ t. if t then Some answer else None) is) ∙ e in
       let one : answer ≡ bytes = cc same in
       (one, sym ((bytes_eq-Decides (encode answer) digits).0 is) ∙ ap encode one)
-  by_test false is = let never : ◌≡◌ {A = Option (List ℕ)} None (Some bytes) = sym (ap (λ t. if t then Some answer else None) is) ∙ e in absurd (cc never)
+  by_test false is = let never : ◌≡◌ {A = Option (List ℕ)} None (Some bytes) =
+      sym (ap (λ t. if t then Some answer else None) is) ∙ e in absurd (cc never)
 
 -- ---- the answer is bytes
 
@@ -29,11 +35,15 @@ below_take base (suc n) [] all = tt
 below_take base (suc n) (d ∷ digits) all = (all.0, below_take base n digits all.1)
 
 fives_are : (values : List ℕ) → AreBytes (bytes_of_fives values)
-fives_are values = below_take 256 (5 * length values / 8) (places 256 5 (number_from_digits 32 values * 32 ^ (8 - length values))) (AllBelowBase-places 256 5 (number_from_digits 32 values * 32 ^ (8 - length values)) (lit< tt))
+fives_are values = below_take 256 (5 * length values / 8)
+    (places 256 5 (number_from_digits 32 values * 32 ^ (8 - length values)))
+    (AllBelowBase-places 256 5 (number_from_digits 32 values * 32 ^ (8 - length values)) (lit< tt))
 
 from_fives_are : (values : List ℕ) → AreBytes (from_fives values)
 unfolding from_fives
-from_fives_are (a ∷ b ∷ c ∷ d ∷ e ∷ f ∷ g ∷ h ∷ values) = AllBelowBase-append 256 (bytes_of_fives (a ∷ b ∷ c ∷ d ∷ e ∷ f ∷ g ∷ h ∷ [])) (from_fives values) (fives_are (a ∷ b ∷ c ∷ d ∷ e ∷ f ∷ g ∷ h ∷ [])) (from_fives_are values)
+from_fives_are (a ∷ b ∷ c ∷ d ∷ e ∷ f ∷ g ∷ h ∷ values) =
+    AllBelowBase-append 256 (bytes_of_fives (a ∷ b ∷ c ∷ d ∷ e ∷ f ∷ g ∷ h ∷ [])) (from_fives values)
+    (fives_are (a ∷ b ∷ c ∷ d ∷ e ∷ f ∷ g ∷ h ∷ [])) (from_fives_are values)
 from_fives_are [] = fives_are []
 from_fives_are (a ∷ []) = fives_are (a ∷ [])
 from_fives_are (a ∷ b ∷ []) = fives_are (a ∷ b ∷ [])
@@ -48,7 +58,8 @@ unfolding from_sixes
 from_sixes_are [] all = tt
 from_sixes_are (a ∷ []) all = tt
 from_sixes_are (a ∷ b ∷ []) all = let x = all.0 in let y = all.1.0 in (omega arith, tt)
-from_sixes_are (a ∷ b ∷ c ∷ []) all = let x = all.0 in let y = all.1.0 in let z = all.1.1.0 in (omega arith, (omega arith, tt))
+from_sixes_are (a ∷ b ∷ c ∷ []) all = let x = all.0 in let y = all.1.0 in let z =
+    all.1.1.0 in (omega arith, (omega arith, tt))
 from_sixes_are (a ∷ b ∷ c ∷ d ∷ values) all =
     let x = all.0 in let y = all.1.0 in let z = all.1.1.0 in let w = all.1.1.1.0 in
     (omega arith, (omega arith, (omega arith, from_sixes_are values all.1.1.1.1)))
@@ -82,14 +93,16 @@ base32_found digits bytes e =
     let is = encoded_is base32 digits (from_fives values) bytes e in
     (subst AreBytes is.0 (from_fives_are values), is.1)
 
-pub base32hex_found : (digits bytes : List ℕ) → base32hex_of digits ≡ Some bytes → AreBytes bytes × (digits ≡ base32hex bytes)
+pub base32hex_found : (digits bytes : List ℕ) → base32hex_of digits ≡ Some bytes
+    → AreBytes bytes × (digits ≡ base32hex bytes)
 unfolding base32hex_of
 base32hex_found digits bytes e =
     let values = map (value_in (codes "0123456789ABCDEFGHIJKLMNOPQRSTUV")) (unpadded digits) in
     let is = encoded_is base32hex digits (from_fives values) bytes e in
     (subst AreBytes is.0 (from_fives_are values), is.1)
 
-pub base64_found : (digits bytes : List ℕ) → base64_of digits ≡ Some bytes → AreBytes bytes × ((digits ≡ url_safe bytes) ⊎ (digits ≡ standard bytes))
+pub base64_found : (digits bytes : List ℕ) → base64_of digits ≡ Some bytes
+    → AreBytes bytes × ((digits ≡ url_safe bytes) ⊎ (digits ≡ standard bytes))
 unfolding base64_of
 base64_found digits bytes e = by_first (if_encoded url_safe digits answer) refl e where
   values : List ℕ
@@ -101,7 +114,9 @@ base64_found digits bytes e = by_first (if_encoded url_safe digits answer) refl 
   are : AreBytes answer
   are = from_sixes_are values (all_six_bits (unpadded digits))
 
-  by_first : (r : Option (List ℕ)) → if_encoded url_safe digits answer ≡ r → either r (if_encoded standard digits answer) ≡ Some bytes → AreBytes bytes × ((digits ≡ url_safe bytes) ⊎ (digits ≡ standard bytes))
+  by_first : (r : Option (List ℕ)) → if_encoded url_safe digits answer ≡ r
+      → either r (if_encoded standard digits answer) ≡ Some bytes
+      → AreBytes bytes × ((digits ≡ url_safe bytes) ⊎ (digits ≡ standard bytes))
   by_first None first is =
       let found = encoded_is standard digits answer bytes is in
       (subst AreBytes found.0 are, inr found.1)
@@ -115,18 +130,25 @@ none_found : (r : Option (List ℕ)) → ((bytes : List ℕ) → ¬ (r ≡ Some 
 none_found None none = refl
 none_found (Some bytes) none = absurd (none bytes refl)
 
-pub base32_missing : (digits : List ℕ) → ((bytes : List ℕ) → AreBytes bytes → digits ≢ base32 bytes) → base32_of digits ≡ None
-base32_missing digits none = none_found (base32_of digits) (λ bytes e. let found = base32_found digits bytes e in none bytes found.0 found.1)
+pub base32_missing : (digits : List ℕ) → ((bytes : List ℕ) → AreBytes bytes → digits ≢ base32 bytes)
+    → base32_of digits ≡ None
+base32_missing digits none = none_found (base32_of digits)
+    (λ bytes e. let found = base32_found digits bytes e in none bytes found.0 found.1)
 
-pub base32hex_missing : (digits : List ℕ) → ((bytes : List ℕ) → AreBytes bytes → digits ≢ base32hex bytes) → base32hex_of digits ≡ None
-base32hex_missing digits none = none_found (base32hex_of digits) (λ bytes e. let found = base32hex_found digits bytes e in none bytes found.0 found.1)
+pub base32hex_missing : (digits : List ℕ) → ((bytes : List ℕ) → AreBytes bytes → digits ≢ base32hex bytes)
+    → base32hex_of digits ≡ None
+base32hex_missing digits none = none_found (base32hex_of digits)
+    (λ bytes e. let found = base32hex_found digits bytes e in none bytes found.0 found.1)
 
-pub base64_missing : (digits : List ℕ) → ((bytes : List ℕ) → AreBytes bytes → (digits ≢ url_safe bytes) × (digits ≢ standard bytes)) → base64_of digits ≡ None
-base64_missing digits none = none_found (base64_of digits) (λ bytes e. let found = base64_found digits bytes e in neither bytes found.0 found.1) where
-  neither : (bytes : List ℕ) → AreBytes bytes → ¬ ((digits ≡ url_safe bytes) ⊎ (digits ≡ standard bytes))
-  neither bytes are (inl e) = (none bytes are).0 e
-  neither bytes are (inr e) = (none bytes are).1 e
+pub base64_missing : (digits : List ℕ) → ((bytes : List ℕ) → AreBytes bytes
+    → (digits ≢ url_safe bytes) × (digits ≢ standard bytes)) → base64_of digits ≡ None
+base64_missing digits none = none_found (base64_of digits)
+    (λ bytes e. let found = base64_found digits bytes e in neither bytes found.0 found.1) where
+      neither : (bytes : List ℕ) → AreBytes bytes → ¬ ((digits ≡ url_safe bytes) ⊎ (digits ≡ standard bytes))
+      neither bytes are (inl e) = (none bytes are).0 e
+      neither bytes are (inr e) = (none bytes are).1 e
 
-pub base64_again : (digits bytes : List ℕ) → AreBytes bytes → (digits ≡ url_safe bytes) ⊎ (digits ≡ standard bytes) → base64_of digits ≡ Some bytes
+pub base64_again : (digits bytes : List ℕ) → AreBytes bytes → (digits ≡ url_safe bytes) ⊎ (digits ≡ standard bytes)
+    → base64_of digits ≡ Some bytes
 base64_again digits bytes are (inl e) = ap base64_of e ∙ url_safe_again bytes are
 base64_again digits bytes are (inr e) = ap base64_of e ∙ standard_again bytes are

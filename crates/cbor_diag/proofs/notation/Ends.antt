@@ -1,5 +1,6 @@
 -- What may stand behind an item, and what an item begins with: all by tests of one byte.
-use Rattle.std.proofs.Common.{◌≡◌, ℕ, Bool, true, not, ◌==◌, ◌||◌, ◌&&◌, nat_le, List, [], ◌∷◌, ◌++◌, codes, None, refl, sym, ap, ◌∙◌, subst, inl, inr, IsTrue}
+use Rattle.std.proofs.Common.{◌≡◌, ℕ, Bool, true, not, ◌==◌, ◌||◌, ◌&&◌, nat_le, List, [], ◌∷◌, ◌++◌, codes, None, refl}
+use Rattle.std.proofs.Common.{sym, ap, ◌∙◌, subst, inl, inr, IsTrue}
 use Rattle.std.specs.List.{list_any, list_all}
 use Rattle.std.specs.Char.{digit_value}
 use Rattle.std.proofs.lemmas.Bool.{and_parts, or_cases, or_parts, eqb-true, eqb-false, leb-true, not-true}
@@ -15,7 +16,8 @@ abbrev pub is_one_of : List ℕ → ℕ → Bool
 is_one_of bytes b = list_any (λ c. c == b) bytes
 
 -- a test that each of them passes
-pub holds_of : (test : ℕ → Bool) (bytes : List ℕ) (b : ℕ) → list_all test bytes ≡ true → is_one_of bytes b ≡ true → test b ≡ true
+pub holds_of : (test : ℕ → Bool) (bytes : List ℕ) (b : ℕ) → list_all test bytes ≡ true → is_one_of bytes b ≡ true
+    → test b ≡ true
 holds_of test [] b all some = cc some
 holds_of test (c ∷ bytes) b all some =
     let parts = and_parts (test c) (list_all test bytes) all in
@@ -43,7 +45,8 @@ begins_ends bytes [] is = absurd is
 begins_ends bytes (b ∷ text) is = is
 
 -- fewer bytes
-pub begins_more : (few bytes text : List ℕ) → list_all (is_one_of bytes) few ≡ true → Begins few text → Begins bytes text
+pub begins_more : (few bytes text : List ℕ) → list_all (is_one_of bytes) few ≡ true → Begins few text
+    → Begins bytes text
 begins_more few bytes [] all is = absurd is
 begins_more few bytes (b ∷ text) all is = holds_of (is_one_of bytes) few b all is
 
@@ -52,9 +55,11 @@ ends_more few bytes [] all is = tt
 ends_more few bytes (b ∷ text) all is = holds_of (is_one_of bytes) few b all is
 
 -- a byte that is none of them does not begin the text
-pub ends_after_byte : (byte : ℕ) (bytes text : List ℕ) → list_all (λ b. not (b == byte)) bytes ≡ true → Ends bytes text → after_byte byte text ≡ None
+pub ends_after_byte : (byte : ℕ) (bytes text : List ℕ) → list_all (λ b. not (b == byte)) bytes ≡ true → Ends bytes text
+    → after_byte byte text ≡ None
 ends_after_byte byte bytes [] all is = refl
-ends_after_byte byte bytes (b ∷ text) all is = rw (not-true (b == byte) (holds_of (λ c. not (c == byte)) bytes b all is)) refl
+ends_after_byte byte bytes (b ∷ text) all is =
+    rw (not-true (b == byte) (holds_of (λ c. not (c == byte)) bytes b all is)) refl
 
 -- no blank goes on with one of them
 abbrev pub no_blank : ℕ → Bool
@@ -67,8 +72,10 @@ ends_blank bytes (b ∷ text) all is =
     (parts.0, eqb-false b 47 parts.1)
 
 -- a blank is passed up to one of them
-pub blank_passed : (bytes blank text : List ℕ) → list_all no_blank bytes ≡ true → IsBlank blank → Ends bytes text → skip_blank (blank ++ text) ≡ text
-blank_passed bytes blank text all is ends = after_blank-append is text ∙ after_blank-ends true text (ends_blank bytes text all ends)
+pub blank_passed : (bytes blank text : List ℕ) → list_all no_blank bytes ≡ true → IsBlank blank → Ends bytes text
+    → skip_blank (blank ++ text) ≡ text
+blank_passed bytes blank text all is ends = after_blank-append is text
+    ∙ after_blank-ends true text (ends_blank bytes text all ends)
 
 -- ---- what stands behind an item, and behind its core
 
@@ -88,10 +95,14 @@ abbrev blank_starts : List ℕ
 blank_starts = codes "/ " ++ (9 ∷ 10 ∷ 13 ∷ [])
 
 -- a blank before one of some bytes
-pub blank_ends : (few bytes after rest : List ℕ) → list_all (is_one_of bytes) few ≡ true → list_all (is_one_of bytes) blank_starts ≡ true → IsBlank after → Ends few rest → Ends bytes (after ++ rest)
+pub blank_ends : (few bytes after rest : List ℕ) → list_all (is_one_of bytes) few ≡ true
+    → list_all (is_one_of bytes) blank_starts ≡ true → IsBlank after → Ends few rest → Ends bytes (after ++ rest)
 blank_ends few bytes after rest all blanks nothing ends = ends_more few bytes rest all ends
-blank_ends few bytes after rest all blanks (whitespace {byte = byte} is more) ends = holds_of (is_one_of bytes) blank_starts byte blanks (at_whitespace (λ b. IsTrue (is_one_of blank_starts b)) refl refl refl refl byte is)
-blank_ends few bytes after rest all blanks (comment words more allowed none blank is) ends = subst (λ (t : List ℕ). Ends bytes (t ++ rest)) (sym is) (holds_of (is_one_of bytes) blank_starts 47 blanks refl)
+blank_ends few bytes after rest all blanks (whitespace {byte = byte} is more) ends =
+    holds_of (is_one_of bytes) blank_starts byte blanks
+    (at_whitespace (λ b. IsTrue (is_one_of blank_starts b)) refl refl refl refl byte is)
+blank_ends few bytes after rest all blanks (comment words more allowed none blank is) ends =
+    subst (λ (t : List ℕ). Ends bytes (t ++ rest)) (sym is) (holds_of (is_one_of bytes) blank_starts 47 blanks refl)
 
 pub follows_blank : (after rest : List ℕ) → IsBlank after → Follows rest → Ends core_ends (after ++ rest)
 follows_blank after rest is follows = blank_ends item_ends core_ends after rest refl refl is follows

@@ -1,5 +1,6 @@
 -- With more levels left, reading answers the same, unless it was TooDeep.
-use Rattle.std.proofs.Common.{◌≡◌, ℕ, zero, suc, ◌+◌, Bool, true, false, List, [], ◌∷◌, length, codes, Option, Some, None, Result, Ok, Err, ◌⊎◌, inl, inr, refl, sym, ap, ◌∙◌, subst, arith}
+use Rattle.std.proofs.Common.{◌≡◌, ℕ, zero, suc, ◌+◌, Bool, true, false, List, [], ◌∷◌, length, codes, Option, Some}
+use Rattle.std.proofs.Common.{None, Result, Ok, Err, ◌⊎◌, inl, inr, refl, sym, ap, ◌∙◌, subst, arith}
 use Rattle.std.proofs.lemmas.Bool.{cases_Bool}
 use Rattle.cbor_diag.specs.declared.syntax.IntegerWidth.{IntegerWidth}
 use Rattle.cbor_diag.specs.declared.error.Error.{Error}
@@ -9,25 +10,36 @@ use Rattle.cbor_diag.specs.declared.parse.notation.start.Start.TheVariants as st
 use Rattle.cbor_diag.specs.Item.{Item}
 use Rattle.cbor_diag.specs.Bytes.{StringKind, bytes_kind, text_kind}
 use Rattle.cbor_diag.specs.Reading.{Read, ◌>>=◌}
-use Rattle.cbor_diag.specs.mirror.NotationReading.{or_refused, after_byte, after_word, read_unsigned_number, integer_or_tag, read_integer, after_end, more_members, members_from, members_or_end, read_members, read_pair, read_length, read_array, read_map, read_embedded, piece_of, read_piece, start_of, first_start, begins_piece, read_pieces, skip_blank, begins_string, may_have_texts, string_of, read_string, read_chunk, chunks_of, read_chunks, byte_string_of, read_byte_string, text_string_of, read_text_string, core_of, read_core, read_item}
+use Rattle.cbor_diag.specs.mirror.NotationReading.{or_refused, after_byte, after_word, read_unsigned_number}
+use Rattle.cbor_diag.specs.mirror.NotationReading.{integer_or_tag, read_integer, after_end, more_members, members_from}
+use Rattle.cbor_diag.specs.mirror.NotationReading.{members_or_end, read_members, read_pair, read_length, read_array}
+use Rattle.cbor_diag.specs.mirror.NotationReading.{read_map, read_embedded, piece_of, read_piece, start_of, first_start}
+use Rattle.cbor_diag.specs.mirror.NotationReading.{begins_piece, read_pieces, skip_blank, begins_string, may_have_texts}
+use Rattle.cbor_diag.specs.mirror.NotationReading.{string_of, read_string, read_chunk, chunks_of, read_chunks}
+use Rattle.cbor_diag.specs.mirror.NotationReading.{byte_string_of, read_byte_string, text_string_of, read_text_string}
+use Rattle.cbor_diag.specs.mirror.NotationReading.{core_of, read_core, read_item}
 use Rattle.cbor_diag.proofs.notation.Pieces.{pieces_go, pieces_stop}
 
 -- the first is TooDeep, or both are one answer
 abbrev pub Grows : {X : Type 0} → Result X Error → Result X Error → Type 0
 Grows few many = (few ≡ Err refusal.TooDeep) ⊎ (few ≡ many)
 
-pub grows_then : {X Y : Type 0} (few many : Result X Error) (f g : X → Result Y Error) → Grows few many → ((x : X) → Grows (f x) (g x)) → Grows (few >>= f) (many >>= g)
+pub grows_then : {X Y : Type 0} (few many : Result X Error) (f g : X → Result Y Error) → Grows few many
+    → ((x : X) → Grows (f x) (g x)) → Grows (few >>= f) (many >>= g)
 grows_then (Ok x) many f g (inl e) then = cc e
 grows_then {Y} (Ok x) many f g (inr e) then = subst (λ (r : Result _ Error). Grows {X = Y} (f x) (r >>= g)) e (then x)
 grows_then (Err d) many f g (inl e) then = let d_is : d ≡ refusal.TooDeep = cc e in inl (ap Err d_is)
-grows_then {Y} (Err d) many f g (inr e) then = subst (λ (r : Result _ Error). Grows {X = Y} (Err d) (r >>= g)) e (inr refl)
+grows_then {Y} (Err d) many f g (inr e) then =
+    subst (λ (r : Result _ Error). Grows {X = Y} (Err d) (r >>= g)) e (inr refl)
 
 -- what follows a step that reads no item
-pub grows_on : {X Y : Type 0} (r : Result X Error) (f g : X → Result Y Error) → ((x : X) → Grows (f x) (g x)) → Grows (r >>= f) (r >>= g)
+pub grows_on : {X Y : Type 0} (r : Result X Error) (f g : X → Result Y Error) → ((x : X) → Grows (f x) (g x))
+    → Grows (r >>= f) (r >>= g)
 grows_on r f g then = grows_then r r f g (inr refl) then
 
 -- what is made of what was read
-pub grows_made : {X Y : Type 0} (few many : Result X Error) (f : X → Result Y Error) → Grows few many → Grows (few >>= f) (many >>= f)
+pub grows_made : {X Y : Type 0} (few many : Result X Error) (f : X → Result Y Error) → Grows few many
+    → Grows (few >>= f) (many >>= f)
 grows_made few many f grows = grows_then few many f f grows (λ x. inr refl)
 
 pub grows_more : {X : Type 0} (few more most : Result X Error) → Grows few more → Grows more most → Grows few most
@@ -38,20 +50,25 @@ grows_more few more most (inr e) (inr d) = inr (e ∙ d)
 -- ---- lists
 
 module _ {X : Type 0} (few many : List ℕ → Read X) (grows : (text : List ℕ) → Grows (few text) (many text)) where
-  more_members_grow : (n close : ℕ) (text : List ℕ) (end : Option (List ℕ)) → ((t : List ℕ) → Grows (members_from few close n t) (members_from many close n t))
+  more_members_grow : (n close : ℕ) (text : List ℕ) (end : Option (List ℕ))
+      → ((t : List ℕ) → Grows (members_from few close n t) (members_from many close n t))
       → Grows (more_members (members_from few close n) text end) (more_members (members_from many close n) text end)
   more_members_grow n close text (Some rest) others = inr refl
-  more_members_grow n close text None others = grows_on (or_refused (after_byte 44 text)) (members_from few close n) (members_from many close n) others
+  more_members_grow n close text None others =
+      grows_on (or_refused (after_byte 44 text)) (members_from few close n) (members_from many close n) others
 
-  members_from_grow : (close n : ℕ) (text : List ℕ) → Grows (members_from few close n text) (members_from many close n text)
+  members_from_grow : (close n : ℕ) (text : List ℕ)
+      → Grows (members_from few close n text) (members_from many close n text)
   unfolding members_from
   members_from_grow close zero text = inr refl
   members_from_grow close (suc n) text =
       grows_then (few text) (many text) _ _ (grows text) (λ x.
-      grows_made (more_members (members_from few close n) x.1 (after_end close x.1)) (more_members (members_from many close n) x.1 (after_end close x.1)) _
+      grows_made (more_members (members_from few close n) x.1 (after_end close x.1))
+      (more_members (members_from many close n) x.1 (after_end close x.1)) _
       (more_members_grow n close x.1 (after_end close x.1) (members_from_grow close n)))
 
-  members_or_end_grow : (close : ℕ) (text : List ℕ) (end : Option (List ℕ)) → Grows (members_or_end few close text end) (members_or_end many close text end)
+  members_or_end_grow : (close : ℕ) (text : List ℕ) (end : Option (List ℕ))
+      → Grows (members_or_end few close text end) (members_or_end many close text end)
   members_or_end_grow close text (Some rest) = inr refl
   members_or_end_grow close text None = members_from_grow close (suc (length text)) text
 
@@ -61,7 +78,8 @@ module _ {X : Type 0} (few many : List ℕ → Read X) (grows : (text : List ℕ
 
 -- ---- items
 
-no_pieces : (read : List ℕ → Read Item) (texts : Bool) (text : List ℕ) → read_pieces read texts zero text ≡ Err refusal.Notation
+no_pieces : (read : List ℕ → Read Item) (texts : Bool) (text : List ℕ)
+    → read_pieces read texts zero text ≡ Err refusal.Notation
 unfolding read_pieces
 no_pieces read texts text = refl
 
@@ -72,14 +90,18 @@ module _ (few many : List ℕ → Read Item) (grows : (text : List ℕ) → Grow
       grows_on (or_refused (after_byte 58 k.1)) _ _ (λ rest. grows_made (few rest) (many rest) _ (grows rest)))
 
   array_grows : (text : List ℕ) → Grows (read_array few text) (read_array many text)
-  array_grows text = let rest = (read_length text).1 in grows_made (read_members few 93 rest) (read_members many 93 rest) _ (members_grow few many grows 93 rest)
+  array_grows text = let rest = (read_length text).1 in grows_made (read_members few 93 rest)
+      (read_members many 93 rest) _ (members_grow few many grows 93 rest)
 
   map_grows : (text : List ℕ) → Grows (read_map few text) (read_map many text)
-  map_grows text = let rest = (read_length text).1 in grows_made (read_members (read_pair few) 125 rest) (read_members (read_pair many) 125 rest) _ (members_grow (read_pair few) (read_pair many) pair_grows 125 rest)
+  map_grows text = let rest = (read_length text).1 in grows_made (read_members (read_pair few) 125 rest)
+      (read_members (read_pair many) 125 rest) _ (members_grow (read_pair few) (read_pair many) pair_grows 125 rest)
 
   embedded_grows : (text : List ℕ) → Grows (read_embedded few text) (read_embedded many text)
   embedded_grows text =
-      grows_on (or_refused (after_byte 60 text)) _ _ (λ first. grows_made (read_members few 62 first) (read_members many 62 first) _ (members_grow few many grows 62 first))
+      grows_on (or_refused (after_byte 60 text)) _ _
+      (λ first. grows_made (read_members few 62 first) (read_members many 62 first) _
+      (members_grow few many grows 62 first))
 
   piece_of_grows : (s : Start) (text : List ℕ) → Grows (piece_of few s text) (piece_of many s text)
   piece_of_grows start.Angle text = embedded_grows text
@@ -90,21 +112,26 @@ module _ (few many : List ℕ → Read Item) (grows : (text : List ℕ) → Grow
   piece_grows [] = inr refl
   piece_grows (b ∷ text) = piece_of_grows (start_of b) text
 
-  pieces_grow : (texts : Bool) (n : ℕ) (text : List ℕ) → Grows (read_pieces few texts n text) (read_pieces many texts n text)
+  pieces_grow : (texts : Bool) (n : ℕ) (text : List ℕ)
+      → Grows (read_pieces few texts n text) (read_pieces many texts n text)
   pieces_grow texts zero text = inr (no_pieces few texts text ∙ sym (no_pieces many texts text))
   pieces_grow texts (suc n) text =
       elim (cases_Bool (begins_piece texts (first_start text))) [
         | inl e ↦
             rw (pieces_go few texts n text e, pieces_go many texts n text e)
             (grows_then (read_piece few text) (read_piece many text) _ _ (piece_grows text) (λ x.
-            grows_made (read_pieces few texts n (skip_blank x.1)) (read_pieces many texts n (skip_blank x.1)) _ (pieces_grow texts n (skip_blank x.1))))
+            grows_made (read_pieces few texts n (skip_blank x.1)) (read_pieces many texts n (skip_blank x.1)) _
+            (pieces_grow texts n (skip_blank x.1))))
         | inr e ↦ inr (pieces_stop few texts n text e ∙ sym (pieces_stop many texts n text e))
       ]
 
-  string_of_grows : (kind : StringKind) (text : List ℕ) (begins : Bool) → Grows (string_of few kind text begins) (string_of many kind text begins)
+  string_of_grows : (kind : StringKind) (text : List ℕ) (begins : Bool)
+      → Grows (string_of few kind text begins) (string_of many kind text begins)
   string_of_grows kind text false = inr refl
   string_of_grows kind text true =
-      grows_made (read_pieces few (may_have_texts kind) (suc (length text)) text) (read_pieces many (may_have_texts kind) (suc (length text)) text) _ (pieces_grow (may_have_texts kind) (suc (length text)) text)
+      grows_made (read_pieces few (may_have_texts kind) (suc (length text)) text)
+      (read_pieces many (may_have_texts kind) (suc (length text)) text) _
+      (pieces_grow (may_have_texts kind) (suc (length text)) text)
 
   string_grows : (kind : StringKind) (text : List ℕ) → Grows (read_string few kind text) (read_string many kind text)
   unfolding read_string
@@ -115,20 +142,27 @@ module _ (few many : List ℕ → Read Item) (grows : (text : List ℕ) → Grow
 
   chunks_of_grow : (text : List ℕ) (s : Start) → Grows (chunks_of few text s) (chunks_of many text s)
   chunks_of_grow text start.Quote =
-      grows_made (read_members (read_chunk few text_kind) 41 text) (read_members (read_chunk many text_kind) 41 text) _ (members_grow (read_chunk few text_kind) (read_chunk many text_kind) (chunk_grows text_kind) 41 text)
+      grows_made (read_members (read_chunk few text_kind) 41 text) (read_members (read_chunk many text_kind) 41 text) _
+      (members_grow (read_chunk few text_kind) (read_chunk many text_kind) (chunk_grows text_kind) 41 text)
   chunks_of_grow text _ =
-      grows_made (read_members (read_chunk few bytes_kind) 41 text) (read_members (read_chunk many bytes_kind) 41 text) _ (members_grow (read_chunk few bytes_kind) (read_chunk many bytes_kind) (chunk_grows bytes_kind) 41 text)
+      grows_made (read_members (read_chunk few bytes_kind) 41 text) (read_members (read_chunk many bytes_kind) 41 text)
+      _ (members_grow (read_chunk few bytes_kind) (read_chunk many bytes_kind) (chunk_grows bytes_kind) 41 text)
 
   chunks_grow : (text : List ℕ) → Grows (read_chunks few text) (read_chunks many text)
-  chunks_grow text = grows_on (or_refused (after_byte 95 text)) _ _ (λ opened. chunks_of_grow (skip_blank opened) (first_start (skip_blank opened)))
+  chunks_grow text = grows_on (or_refused (after_byte 95 text)) _ _
+      (λ opened. chunks_of_grow (skip_blank opened) (first_start (skip_blank opened)))
 
-  byte_string_of_grows : (text : List ℕ) (empty : Option (List ℕ)) → Grows (byte_string_of few text empty) (byte_string_of many text empty)
+  byte_string_of_grows : (text : List ℕ) (empty : Option (List ℕ))
+      → Grows (byte_string_of few text empty) (byte_string_of many text empty)
   byte_string_of_grows text (Some rest) = inr refl
-  byte_string_of_grows text None = grows_made (read_string few bytes_kind text) (read_string many bytes_kind text) _ (string_grows bytes_kind text)
+  byte_string_of_grows text None = grows_made (read_string few bytes_kind text) (read_string many bytes_kind text) _
+      (string_grows bytes_kind text)
 
-  text_string_of_grows : (text : List ℕ) (empty : Option (List ℕ)) → Grows (text_string_of few text empty) (text_string_of many text empty)
+  text_string_of_grows : (text : List ℕ) (empty : Option (List ℕ))
+      → Grows (text_string_of few text empty) (text_string_of many text empty)
   text_string_of_grows text (Some rest) = inr refl
-  text_string_of_grows text None = grows_made (read_string few text_kind text) (read_string many text_kind text) _ (string_grows text_kind text)
+  text_string_of_grows text None = grows_made (read_string few text_kind text) (read_string many text_kind text) _
+      (string_grows text_kind text)
 
   bytes_grow : (text : List ℕ) → Grows (read_byte_string few text) (read_byte_string many text)
   bytes_grow text = byte_string_of_grows text (after_word (codes "''_") text)
@@ -136,7 +170,8 @@ module _ (few many : List ℕ → Read Item) (grows : (text : List ℕ) → Grow
   text_grows : (text : List ℕ) → Grows (read_text_string few text) (read_text_string many text)
   text_grows text = text_string_of_grows text (after_word (codes "\"\"_") text)
 
-  integer_or_tag_grows : (n : ℕ) (w : IntegerWidth) (text : List ℕ) (inner : Option (List ℕ)) → Grows (integer_or_tag few n w text inner) (integer_or_tag many n w text inner)
+  integer_or_tag_grows : (n : ℕ) (w : IntegerWidth) (text : List ℕ) (inner : Option (List ℕ))
+      → Grows (integer_or_tag few n w text inner) (integer_or_tag many n w text inner)
   integer_or_tag_grows n w text None = inr refl
   integer_or_tag_grows n w text (Some inner) = grows_made (few inner) (many inner) _ (grows inner)
 
@@ -169,11 +204,14 @@ pub item_grows : (left : ℕ) (text : List ℕ) → Grows (read_item left text) 
 unfolding read_item
 item_grows zero text = inl refl
 item_grows (suc left) text =
-    grows_made (read_core (read_item left) (skip_blank text)) (read_core (read_item (suc left)) (skip_blank text)) _ (core_grows (read_item left) (read_item (suc left)) (item_grows left) (skip_blank text))
+    grows_made (read_core (read_item left) (skip_blank text)) (read_core (read_item (suc left)) (skip_blank text)) _
+    (core_grows (read_item left) (read_item (suc left)) (item_grows left) (skip_blank text))
 
 -- and any number of levels more
 pub levels_grow : (left more : ℕ) (text : List ℕ) → Grows (read_item left text) (read_item (more + left) text)
 levels_grow left zero text = inr (ap (λ (n : ℕ). read_item n text) (omega arith))
 levels_grow left (suc more) text =
-    grows_more (read_item left text) (read_item (more + left) text) (read_item (suc more + left) text) (levels_grow left more text)
-    (subst (λ (n : ℕ). Grows (read_item (more + left) text) (read_item n text)) (omega arith) (item_grows (more + left) text))
+    grows_more (read_item left text) (read_item (more + left) text) (read_item (suc more + left) text)
+    (levels_grow left more text)
+    (subst (λ (n : ℕ). Grows (read_item (more + left) text) (read_item n text)) (omega arith)
+    (item_grows (more + left) text))

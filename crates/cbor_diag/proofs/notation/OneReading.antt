@@ -11,12 +11,16 @@ use Rattle.cbor_diag.proofs.notation.Again.{item_whole}
 use Rattle.cbor_diag.proofs.notation.Levels.{Grows, levels_grow}
 
 pub levels_more : (left limit : ℕ) (text : List ℕ) → left ≤ limit → Grows (read_item left text) (read_item limit text)
-levels_more left limit text le = subst (λ (n : ℕ). Grows (read_item left text) (read_item n text)) (omega arith) (levels_grow left (limit - left) text)
+levels_more left limit text le = subst (λ (n : ℕ). Grows (read_item left text) (read_item n text)) (omega arith)
+    (levels_grow left (limit - left) text)
 
-same_item : (few many : ℕ) (text : List ℕ) (i j : Item) → Reads few text i → Reads many text j → Grows (read_item few text) (read_item many text) → i ≡ j
-same_item few many text i j is is_too (inl e) = let never : ◌≡◌ {A = Read Item} (Ok (i, [])) (Err refusal.TooDeep) = sym (item_whole few text i is) ∙ e in cc never
+same_item : (few many : ℕ) (text : List ℕ) (i j : Item) → Reads few text i → Reads many text j
+    → Grows (read_item few text) (read_item many text) → i ≡ j
+same_item few many text i j is is_too (inl e) = let never : ◌≡◌ {A = Read Item} (Ok (i, [])) (Err refusal.TooDeep) =
+    sym (item_whole few text i is) ∙ e in cc never
 same_item few many text i j is is_too (inr e) =
-    let both : ◌≡◌ {A = Read Item} (Ok (i, [])) (Ok (j, [])) = sym (item_whole few text i is) ∙ (e ∙ item_whole many text j is_too) in
+    let both : ◌≡◌ {A = Read Item} (Ok (i, [])) (Ok (j, [])) = sym (item_whole few text i is)
+    ∙ (e ∙ item_whole many text j is_too) in
     let one : ◌≡◌ {A = Item × List ℕ} (i, []) (j, []) = cc both in
     ap (λ (x : Item × List ℕ). x.0) one
 
@@ -29,20 +33,25 @@ one_reading limit other text i j is is_too =
     ]
 
 -- what one limit reads is read under any other, or is TooDeep there
-pub read_or_too_deep : (limit other : ℕ) (text : List ℕ) (i : Item) → Reads other text i → (notation_of limit text ≡ Err refusal.TooDeep) ⊎ (notation_of limit text ≡ Ok i)
+pub read_or_too_deep : (limit other : ℕ) (text : List ℕ) (i : Item) → Reads other text i
+    → (notation_of limit text ≡ Err refusal.TooDeep) ⊎ (notation_of limit text ≡ Ok i)
 read_or_too_deep limit other text i is =
     elim (cases_lt other limit) [
       | inl more ↦ above (levels_more other limit text (omega arith))
       | inr le ↦ below (levels_more limit other text le)
     ]
   where
-    found : read_item limit text ≡ Ok (i, []) → (notation_of limit text ≡ Err refusal.TooDeep) ⊎ (notation_of limit text ≡ Ok i)
+    found : read_item limit text ≡ Ok (i, []) → (notation_of limit text ≡ Err refusal.TooDeep)
+        ⊎ (notation_of limit text ≡ Ok i)
     found read = inr (rw read refl)
 
-    above : Grows (read_item other text) (read_item limit text) → (notation_of limit text ≡ Err refusal.TooDeep) ⊎ (notation_of limit text ≡ Ok i)
-    above (inl e) = let never : ◌≡◌ {A = Read Item} (Ok (i, [])) (Err refusal.TooDeep) = sym (item_whole other text i is) ∙ e in absurd (cc never)
+    above : Grows (read_item other text) (read_item limit text) → (notation_of limit text ≡ Err refusal.TooDeep)
+        ⊎ (notation_of limit text ≡ Ok i)
+    above (inl e) = let never : ◌≡◌ {A = Read Item} (Ok (i, [])) (Err refusal.TooDeep) =
+        sym (item_whole other text i is) ∙ e in absurd (cc never)
     above (inr e) = found (sym e ∙ item_whole other text i is)
 
-    below : Grows (read_item limit text) (read_item other text) → (notation_of limit text ≡ Err refusal.TooDeep) ⊎ (notation_of limit text ≡ Ok i)
+    below : Grows (read_item limit text) (read_item other text) → (notation_of limit text ≡ Err refusal.TooDeep)
+        ⊎ (notation_of limit text ≡ Ok i)
     below (inl e) = inl (rw e refl)
     below (inr e) = found (e ∙ item_whole other text i is)

@@ -1,5 +1,6 @@
 -- The pieces of strings: each notation of bytes is read again.
-use Rattle.std.proofs.Common.{◌≡◌, ◌≢◌, ℕ, zero, suc, ◌<◌, Bool, true, false, not, List, [], ◌∷◌, ◌++◌, length, codes, Option, Some, Ok, refl, sym, ap, ◌∙◌, subst, inl, inr, arith}
+use Rattle.std.proofs.Common.{◌≡◌, ◌≢◌, ℕ, zero, suc, ◌<◌, Bool, true, false, not, List, [], ◌∷◌, ◌++◌, length, codes}
+use Rattle.std.proofs.Common.{Option, Some, Ok, refl, sym, ap, ◌∙◌, subst, inl, inr, arith}
 use Rattle.std.proofs.lemmas.Bool.{not-true}
 use Rattle.std.proofs.lemmas.List.{append_assoc, append-nil, length-append}
 use Rattle.cbor_notes.specs.Token.{in_quotes, DigitsBetween}
@@ -11,9 +12,13 @@ use Rattle.cbor_diag.specs.View.{items_of}
 use Rattle.cbor_diag.specs.Bytes.{StringKind, bytes_kind, text_kind}
 use Rattle.cbor_diag.specs.Written.{encoded_items}
 use Rattle.cbor_diag.specs.Reading.{Read, ◌>>=◌}
-use Rattle.cbor_diag.specs.Notation.{IsBlank, QuotedBy, DigitsIn, Notation, in_base16, in_base32, in_base32hex, in_base64, as_text, as_items, PieceOf, Joined, one, more, list_of, Listed}
-use Rattle.cbor_diag.specs.mirror.NotationReading.{or_refused, skip_blank, start_of, first_start, begins_piece, read_piece, read_pieces, read_decoded, base16_bytes, base16_of, base32_of, base32hex_of, base64_of, may_have_texts}
-use Rattle.cbor_diag.proofs.notation.Ends.{holds_of, Begins, begins_append, begins_more, item_ends, core_starts, notation_starts, Follows, follows_passed, Starts, starts_passed}
+use Rattle.cbor_diag.specs.Notation.{IsBlank, QuotedBy, DigitsIn, Notation, in_base16, in_base32, in_base32hex}
+use Rattle.cbor_diag.specs.Notation.{in_base64, as_text, as_items, PieceOf, Joined, one, more, list_of, Listed}
+use Rattle.cbor_diag.specs.mirror.NotationReading.{or_refused, skip_blank, start_of, first_start, begins_piece}
+use Rattle.cbor_diag.specs.mirror.NotationReading.{read_piece, read_pieces, read_decoded, base16_bytes, base16_of}
+use Rattle.cbor_diag.specs.mirror.NotationReading.{base32_of, base32hex_of, base64_of, may_have_texts}
+use Rattle.cbor_diag.proofs.notation.Ends.{holds_of, Begins, begins_append, begins_more, item_ends, core_starts}
+use Rattle.cbor_diag.proofs.notation.Ends.{notation_starts, Follows, follows_passed, Starts, starts_passed}
 use Rattle.cbor_diag.proofs.notation.Lists.{ReadsAgain, listed_again}
 use Rattle.cbor_diag.proofs.notation.Decoded.{base32_again, base32hex_again, url_safe_again, standard_again}
 
@@ -24,10 +29,13 @@ items_again no_items = refl
 items_again (item i is) = ap (item i) (items_again is)
 
 -- a text between quotes, and what is behind its first quote
-pub quoted_parts : (quote : ℕ) (text content rest : List ℕ) → QuotedBy quote text content → text ++ rest ≡ quote ∷ (in_quotes quote content ++ quote ∷ rest)
-quoted_parts quote text content rest is = ap (λ (t : List ℕ). t ++ rest) is ∙ ap (λ (t : List ℕ). quote ∷ t) (append_assoc (in_quotes quote content) (quote ∷ []) rest)
+pub quoted_parts : (quote : ℕ) (text content rest : List ℕ) → QuotedBy quote text content
+    → text ++ rest ≡ quote ∷ (in_quotes quote content ++ quote ∷ rest)
+quoted_parts quote text content rest is = ap (λ (t : List ℕ). t ++ rest) is
+    ∙ ap (λ (t : List ℕ). quote ∷ t) (append_assoc (in_quotes quote content) (quote ∷ []) rest)
 
-pub quoted_again : (quote : ℕ) (content rest : List ℕ) → quote ≢ 92 → or_refused (unquoted quote false (in_quotes quote content ++ quote ∷ rest)) ≡ Ok (content, rest)
+pub quoted_again : (quote : ℕ) (content rest : List ℕ) → quote ≢ 92
+    → or_refused (unquoted quote false (in_quotes quote content ++ quote ∷ rest)) ≡ Ok (content, rest)
 quoted_again quote content rest other = ap or_refused (unquoted-in_quotes quote content rest other)
 
 pub apostrophe : ◌≢◌ {A = ℕ} 39 92
@@ -37,63 +45,84 @@ pub quotation_mark : ◌≢◌ {A = ℕ} 34 92
 quotation_mark = omega arith
 
 -- digits behind an opened quote
-decoded_again : (comments : Bool) (decode : List ℕ → Option (List ℕ)) (content digits bytes rest : List ℕ) → DigitsBetween comments content digits → decode digits ≡ Some bytes
+decoded_again : (comments : Bool) (decode : List ℕ → Option (List ℕ)) (content digits bytes rest : List ℕ)
+    → DigitsBetween comments content digits → decode digits ≡ Some bytes
     → read_decoded comments decode (content ++ 39 ∷ rest) ≡ Ok (bytes, rest)
-decoded_again comments decode content digits bytes rest between is = rw (digits_of-DigitsBetween comments content digits rest between, is) refl
+decoded_again comments decode content digits bytes rest between is =
+    rw (digits_of-DigitsBetween comments content digits rest between, is) refl
 
-digits_parts : (comments : Bool) (prefix text digits rest : List ℕ) → (is : DigitsIn comments prefix text digits) → text ++ rest ≡ prefix ++ (is.0 ++ 39 ∷ rest)
+digits_parts : (comments : Bool) (prefix text digits rest : List ℕ) → (is : DigitsIn comments prefix text digits)
+    → text ++ rest ≡ prefix ++ (is.0 ++ 39 ∷ rest)
 digits_parts comments prefix text digits rest is =
-    ap (λ (t : List ℕ). t ++ rest) is.1 ∙ (append_assoc prefix (is.0 ++ codes "'") rest ∙ ap (λ (t : List ℕ). prefix ++ t) (append_assoc is.0 (codes "'") rest))
+    ap (λ (t : List ℕ). t ++ rest) is.1 ∙ (append_assoc prefix (is.0 ++ codes "'") rest
+    ∙ ap (λ (t : List ℕ). prefix ++ t) (append_assoc is.0 (codes "'") rest))
 
 module _ (Reads : List ℕ → Item → Type 0) (read : List ℕ → Read Item) (it : ReadsAgain Reads read) where
-  h_again : (content digits bytes rest : List ℕ) → DigitsBetween true content digits → base16_of digits ≡ Some bytes → read_piece read (codes "h'" ++ (content ++ 39 ∷ rest)) ≡ Ok (bytes, rest)
+  h_again : (content digits bytes rest : List ℕ) → DigitsBetween true content digits → base16_of digits ≡ Some bytes
+      → read_piece read (codes "h'" ++ (content ++ 39 ∷ rest)) ≡ Ok (bytes, rest)
   unfolding read_piece start_of
   h_again content digits bytes rest between is = decoded_again true base16_of content digits bytes rest between is
 
-  h32_again : (content digits bytes rest : List ℕ) → DigitsBetween true content digits → base32hex_of digits ≡ Some bytes → read_piece read (codes "h32'" ++ (content ++ 39 ∷ rest)) ≡ Ok (bytes, rest)
+  h32_again : (content digits bytes rest : List ℕ) → DigitsBetween true content digits
+      → base32hex_of digits ≡ Some bytes → read_piece read (codes "h32'" ++ (content ++ 39 ∷ rest)) ≡ Ok (bytes, rest)
   unfolding read_piece start_of
   h32_again content digits bytes rest between is = decoded_again true base32hex_of content digits bytes rest between is
 
-  b32_again : (content digits bytes rest : List ℕ) → DigitsBetween true content digits → base32_of digits ≡ Some bytes → read_piece read (codes "b32'" ++ (content ++ 39 ∷ rest)) ≡ Ok (bytes, rest)
+  b32_again : (content digits bytes rest : List ℕ) → DigitsBetween true content digits → base32_of digits ≡ Some bytes
+      → read_piece read (codes "b32'" ++ (content ++ 39 ∷ rest)) ≡ Ok (bytes, rest)
   unfolding read_piece start_of
   b32_again content digits bytes rest between is = decoded_again true base32_of content digits bytes rest between is
 
-  b64_again : (content digits bytes rest : List ℕ) → DigitsBetween false content digits → base64_of digits ≡ Some bytes → read_piece read (codes "b64'" ++ (content ++ 39 ∷ rest)) ≡ Ok (bytes, rest)
+  b64_again : (content digits bytes rest : List ℕ) → DigitsBetween false content digits → base64_of digits ≡ Some bytes
+      → read_piece read (codes "b64'" ++ (content ++ 39 ∷ rest)) ≡ Ok (bytes, rest)
   unfolding read_piece start_of
   b64_again content digits bytes rest between is = decoded_again false base64_of content digits bytes rest between is
 
-  apostrophes_again : (content rest : List ℕ) → read_piece read (39 ∷ (in_quotes 39 content ++ 39 ∷ rest)) ≡ Ok (content, rest)
+  apostrophes_again : (content rest : List ℕ)
+      → read_piece read (39 ∷ (in_quotes 39 content ++ 39 ∷ rest)) ≡ Ok (content, rest)
   unfolding read_piece start_of
   apostrophes_again content rest = quoted_again 39 content rest apostrophe
 
-  quotes_again : (content rest : List ℕ) → read_piece read (34 ∷ (in_quotes 34 content ++ 34 ∷ rest)) ≡ Ok (content, rest)
+  quotes_again : (content rest : List ℕ) → read_piece read (34 ∷ (in_quotes 34 content ++ 34 ∷ rest))
+      ≡ Ok (content, rest)
   unfolding read_piece start_of
   quotes_again content rest = quoted_again 34 content rest quotation_mark
 
-  embedded_again : (is : Items) (text rest : List ℕ) → Listed Reads (codes "<<") (codes ">>") text (list_of is) → read_piece read (text ++ rest) ≡ Ok (encoded_items is, rest)
+  embedded_again : (is : Items) (text rest : List ℕ) → Listed Reads (codes "<<") (codes ">>") text (list_of is)
+      → read_piece read (text ++ rest) ≡ Ok (encoded_items is, rest)
   unfolding read_piece start_of
   embedded_again is text rest listed =
       let l = listed_again Reads read it 62 (codes ">") refl (list_of is) (codes "<<") text rest listed in
       ap (read_piece read) l.0 ∙ rw (l.1, items_again is) refl
 
-  notation_again : (text bytes rest : List ℕ) → Notation Reads text bytes → read_piece read (text ++ rest) ≡ Ok (bytes, rest)
+  notation_again : (text bytes rest : List ℕ) → Notation Reads text bytes
+      → read_piece read (text ++ rest) ≡ Ok (bytes, rest)
   notation_again text bytes rest (in_base16 digits is decodes) =
-      ap (read_piece read) (digits_parts true (codes "h'") text digits rest is) ∙ h_again is.0 digits bytes rest is.2 (ap base16_bytes decodes)
+      ap (read_piece read) (digits_parts true (codes "h'") text digits rest is)
+      ∙ h_again is.0 digits bytes rest is.2 (ap base16_bytes decodes)
   notation_again text bytes rest (in_base32 digits is all encodes) =
-      ap (read_piece read) (digits_parts true (codes "b32'") text digits rest is) ∙ b32_again is.0 digits bytes rest is.2 (ap base32_of encodes ∙ base32_again bytes all)
+      ap (read_piece read) (digits_parts true (codes "b32'") text digits rest is)
+      ∙ b32_again is.0 digits bytes rest is.2 (ap base32_of encodes ∙ base32_again bytes all)
   notation_again text bytes rest (in_base32hex digits is all encodes) =
-      ap (read_piece read) (digits_parts true (codes "h32'") text digits rest is) ∙ h32_again is.0 digits bytes rest is.2 (ap base32hex_of encodes ∙ base32hex_again bytes all)
+      ap (read_piece read) (digits_parts true (codes "h32'") text digits rest is)
+      ∙ h32_again is.0 digits bytes rest is.2 (ap base32hex_of encodes ∙ base32hex_again bytes all)
   notation_again text bytes rest (in_base64 digits is all (inl encodes)) =
-      ap (read_piece read) (digits_parts false (codes "b64'") text digits rest is) ∙ b64_again is.0 digits bytes rest is.2 (ap base64_of encodes ∙ url_safe_again bytes all)
+      ap (read_piece read) (digits_parts false (codes "b64'") text digits rest is)
+      ∙ b64_again is.0 digits bytes rest is.2 (ap base64_of encodes ∙ url_safe_again bytes all)
   notation_again text bytes rest (in_base64 digits is all (inr encodes)) =
-      ap (read_piece read) (digits_parts false (codes "b64'") text digits rest is) ∙ b64_again is.0 digits bytes rest is.2 (ap base64_of encodes ∙ standard_again bytes all)
-  notation_again text bytes rest (as_text is) = ap (read_piece read) (quoted_parts 39 text bytes rest is) ∙ apostrophes_again bytes rest
-  notation_again text bytes rest (as_items is listed encodes) = embedded_again is text rest listed ∙ ap (λ (b : List ℕ). Ok (b, rest)) (sym encodes)
+      ap (read_piece read) (digits_parts false (codes "b64'") text digits rest is)
+      ∙ b64_again is.0 digits bytes rest is.2 (ap base64_of encodes ∙ standard_again bytes all)
+  notation_again text bytes rest (as_text is) = ap (read_piece read) (quoted_parts 39 text bytes rest is)
+      ∙ apostrophes_again bytes rest
+  notation_again text bytes rest (as_items is listed encodes) = embedded_again is text rest listed
+      ∙ ap (λ (b : List ℕ). Ok (b, rest)) (sym encodes)
 
-  pub piece_again : (kind : StringKind) (text bytes rest : List ℕ) → PieceOf kind Reads text bytes → read_piece read (text ++ rest) ≡ Ok (bytes, rest)
+  pub piece_again : (kind : StringKind) (text bytes rest : List ℕ) → PieceOf kind Reads text bytes
+      → read_piece read (text ++ rest) ≡ Ok (bytes, rest)
   piece_again bytes_kind text bytes rest is = notation_again text bytes rest is
   piece_again text_kind text bytes rest (inr is) = notation_again text bytes rest is
-  piece_again text_kind text bytes rest (inl is) = ap (read_piece read) (quoted_parts 34 text bytes rest is) ∙ quotes_again bytes rest
+  piece_again text_kind text bytes rest (inl is) = ap (read_piece read) (quoted_parts 34 text bytes rest is)
+      ∙ quotes_again bytes rest
 
 -- ---- several pieces
 
@@ -111,15 +140,19 @@ module _ (Reads : List ℕ → Item → Type 0) where
   notation_begins text bytes (as_text is) = subst (Begins notation_starts) (sym is) refl
   notation_begins text bytes (as_items is listed encodes) = subst (Begins notation_starts) (sym listed.1) refl
 
-  pub piece_begins : (kind : StringKind) (text bytes : List ℕ) → PieceOf kind Reads text bytes → Begins (piece_starts kind) text
+  pub piece_begins : (kind : StringKind) (text bytes : List ℕ) → PieceOf kind Reads text bytes
+      → Begins (piece_starts kind) text
   piece_begins bytes_kind text bytes is = notation_begins text bytes is
-  piece_begins text_kind text bytes (inr is) = begins_more notation_starts (piece_starts text_kind) text refl (notation_begins text bytes is)
+  piece_begins text_kind text bytes (inr is) =
+      begins_more notation_starts (piece_starts text_kind) text refl (notation_begins text bytes is)
   piece_begins text_kind text bytes (inl is) = subst (Begins (piece_starts text_kind)) (sym is) refl
 
-  pub joined_begins : (kind : StringKind) (text bytes : List ℕ) → Joined (PieceOf kind Reads) text bytes → Begins (piece_starts kind) text
+  pub joined_begins : (kind : StringKind) (text bytes : List ℕ) → Joined (PieceOf kind Reads) text bytes
+      → Begins (piece_starts kind) text
   joined_begins kind text bytes (one is) = piece_begins kind text bytes is
   joined_begins kind text bytes (more first blank rest bytes_first bytes_rest text_is bytes_is is is_blank then) =
-      subst (Begins (piece_starts kind)) (sym text_is) (begins_append (piece_starts kind) first (blank ++ rest) (piece_begins kind first bytes_first is))
+      subst (Begins (piece_starts kind)) (sym text_is)
+      (begins_append (piece_starts kind) first (blank ++ rest) (piece_begins kind first bytes_first is))
 
 pub piece_starts_core : (kind : StringKind) (text : List ℕ) → Begins (piece_starts kind) text → Starts text
 piece_starts_core bytes_kind text is = begins_more (piece_starts bytes_kind) core_starts text refl is
@@ -130,7 +163,8 @@ begins_length bytes [] is = absurd is
 begins_length bytes (b ∷ text) is = omega arith
 
 -- where a piece begins the pieces go on, and before what follows an item they end
-goes_on : (kind : StringKind) (text : List ℕ) → Begins (piece_starts kind) text → begins_piece (may_have_texts kind) (first_start text) ≡ true
+goes_on : (kind : StringKind) (text : List ℕ) → Begins (piece_starts kind) text
+    → begins_piece (may_have_texts kind) (first_start text) ≡ true
 unfolding start_of
 goes_on kind [] is = absurd is
 goes_on bytes_kind (b ∷ text) is = holds_of (λ c. begins_piece false (start_of c)) (piece_starts bytes_kind) b refl is
@@ -139,40 +173,61 @@ goes_on text_kind (b ∷ text) is = holds_of (λ c. begins_piece true (start_of 
 ends_there : (texts : Bool) (text : List ℕ) → Follows text → begins_piece texts (first_start text) ≡ false
 unfolding start_of
 ends_there texts [] follows = refl
-ends_there true (b ∷ text) follows = not-true (begins_piece true (start_of b)) (holds_of (λ c. not (begins_piece true (start_of c))) item_ends b refl follows)
-ends_there false (b ∷ text) follows = not-true (begins_piece false (start_of b)) (holds_of (λ c. not (begins_piece false (start_of c))) item_ends b refl follows)
+ends_there true (b ∷ text) follows = not-true (begins_piece true (start_of b))
+    (holds_of (λ c. not (begins_piece true (start_of c))) item_ends b refl follows)
+ends_there false (b ∷ text) follows = not-true (begins_piece false (start_of b))
+    (holds_of (λ c. not (begins_piece false (start_of c))) item_ends b refl follows)
 
-pub pieces_go : (read : List ℕ → Read Item) (texts : Bool) (n : ℕ) (text : List ℕ) → begins_piece texts (first_start text) ≡ true
-    → read_pieces read texts (suc n) text ≡ (read_piece read text >>= λ x. read_pieces read texts n (skip_blank x.1) >>= λ xs. Ok (x.0 ++ xs.0, xs.1))
+pub pieces_go : (read : List ℕ → Read Item) (texts : Bool) (n : ℕ) (text : List ℕ)
+    → begins_piece texts (first_start text) ≡ true
+    → read_pieces read texts (suc n) text ≡ (read_piece read text >>= λ x. read_pieces read texts n (skip_blank x.1)
+    >>= λ xs. Ok (x.0 ++ xs.0, xs.1))
 unfolding read_pieces
 pieces_go read texts n text e = rw (e, read_pieces) refl
 
-pub pieces_stop : (read : List ℕ → Read Item) (texts : Bool) (n : ℕ) (text : List ℕ) → begins_piece texts (first_start text) ≡ false → read_pieces read texts (suc n) text ≡ Ok ([], text)
+pub pieces_stop : (read : List ℕ → Read Item) (texts : Bool) (n : ℕ) (text : List ℕ)
+    → begins_piece texts (first_start text) ≡ false → read_pieces read texts (suc n) text ≡ Ok ([], text)
 unfolding read_pieces
 pieces_stop read texts n text e = rw (e, read_pieces) refl
 
 module _ (Reads : List ℕ → Item → Type 0) (read : List ℕ → Read Item) (it : ReadsAgain Reads read) where
-  pub joined_again : (kind : StringKind) (n : ℕ) (text bytes after rest : List ℕ) → length text < n → IsBlank after → Follows rest → Joined (PieceOf kind Reads) text bytes
+  pub joined_again : (kind : StringKind) (n : ℕ) (text bytes after rest : List ℕ) → length text < n → IsBlank after
+      → Follows rest → Joined (PieceOf kind Reads) text bytes
       → read_pieces read (may_have_texts kind) n (text ++ (after ++ rest)) ≡ Ok (bytes, rest)
   joined_again kind zero text bytes after rest lt is_blank follows is = absurd (omega arith)
-  joined_again kind (suc zero) text bytes after rest lt is_blank follows is = absurd (omega (arith, begins_length (piece_starts kind) text (joined_begins Reads kind text bytes is)))
+  joined_again kind (suc zero) text bytes after rest lt is_blank follows is =
+      absurd (omega (arith, begins_length (piece_starts kind) text (joined_begins Reads kind text bytes is)))
   joined_again kind (suc (suc n)) text bytes after rest lt is_blank follows (one is) =
       rw (
-        pieces_go read (may_have_texts kind) (suc n) (text ++ (after ++ rest)) (goes_on kind (text ++ (after ++ rest)) (begins_append (piece_starts kind) text (after ++ rest) (piece_begins Reads kind text bytes is))),
+        pieces_go read (may_have_texts kind) (suc n) (text ++ (after ++ rest))
+            (goes_on kind (text ++ (after ++ rest))
+            (begins_append (piece_starts kind) text (after ++ rest) (piece_begins Reads kind text bytes is))),
         piece_again Reads read it kind text bytes (after ++ rest) is,
         follows_passed after rest is_blank follows,
         pieces_stop read (may_have_texts kind) n rest (ends_there (may_have_texts kind) rest follows),
         append-nil bytes,
       ) refl
-  joined_again kind (suc (suc n)) text bytes after rest lt is_blank follows (more first blank others bytes_first bytes_rest text_is bytes_is is blank_is then) =
+  joined_again kind (suc (suc n)) text bytes after rest lt is_blank follows
+      (more first blank others bytes_first bytes_rest text_is bytes_is is blank_is then) =
       let tail : List ℕ = others ++ (after ++ rest) in
-      let whole : text ++ (after ++ rest) ≡ first ++ (blank ++ tail) = ap (λ (t : List ℕ). t ++ (after ++ rest)) text_is ∙ (append_assoc first (blank ++ others) (after ++ rest) ∙ ap (λ (t : List ℕ). first ++ t) (append_assoc blank others (after ++ rest))) in
+      let whole : text ++ (after ++ rest) ≡ first ++ (blank ++ tail) = ap (λ (t : List ℕ). t ++ (after ++ rest)) text_is
+      ∙ (append_assoc first (blank ++ others) (after ++ rest)
+      ∙ ap (λ (t : List ℕ). first ++ t) (append_assoc blank others (after ++ rest))) in
       let begins = piece_begins Reads kind first bytes_first is in
-      let starts : Starts tail = piece_starts_core kind tail (begins_append (piece_starts kind) others (after ++ rest) (joined_begins Reads kind others bytes_rest then)) in
-      let shorter : length others < suc n = omega (arith, ap length text_is, length-append first (blank ++ others), length-append blank others, begins_length (piece_starts kind) first begins) in
+      let starts : Starts tail = piece_starts_core kind tail
+      (begins_append (piece_starts kind) others (after ++ rest)
+      (joined_begins Reads kind others bytes_rest then)) in
+      let shorter : length others < suc n = omega (
+        arith,
+        ap length text_is,
+        length-append first (blank ++ others),
+        length-append blank others,
+        begins_length (piece_starts kind) first begins,
+      ) in
       rw (
         whole,
-        pieces_go read (may_have_texts kind) (suc n) (first ++ (blank ++ tail)) (goes_on kind (first ++ (blank ++ tail)) (begins_append (piece_starts kind) first (blank ++ tail) begins)),
+        pieces_go read (may_have_texts kind) (suc n) (first ++ (blank ++ tail))
+            (goes_on kind (first ++ (blank ++ tail)) (begins_append (piece_starts kind) first (blank ++ tail) begins)),
         piece_again Reads read it kind first bytes_first (blank ++ tail) is,
         starts_passed blank tail blank_is starts,
         joined_again kind (suc n) others bytes_rest after rest shorter is_blank follows then,

@@ -1,5 +1,6 @@
 -- Hex digits that stand with no blanks between them.
-use Rattle.std.proofs.Common.{◌≡◌, ℕ, ◌+◌, ◌<◌, true, List, [], ◌∷◌, ◌++◌, length, get_or, take, drop, IsTrue, Result, Ok, Err, sym, ap, ◌∙◌, arith, Some, ◌-◌}
+use Rattle.std.proofs.Common.{◌≡◌, ℕ, ◌+◌, ◌<◌, true, List, [], ◌∷◌, ◌++◌, length, get_or, take, drop, IsTrue, Result}
+use Rattle.std.proofs.Common.{Ok, Err, sym, ap, ◌∙◌, arith, Some, ◌-◌}
 use Rattle.std.specs.List.{AllByRecursion, list_all}
 use Rattle.std.proofs.lemmas.Bool.{and_parts}
 use Rattle.std.proofs.lemmas.Bool.Decides.{nat_tests}
@@ -31,11 +32,16 @@ decodes bytes (Ok other) is = cc is
 decodes bytes (Err e) is = cc is
 
 -- what decodes before a quote are the digits up to it
-pub plain_digits : (text bytes : List ℕ) (end : ℕ) → end < length text → get_or text end 0 ≡ 39 → base16_of (take end text) ≡ Some bytes → read_decoded true base16_of text ≡ Ok (bytes, take (length text - (end + 1)) (drop (end + 1) text))
+pub plain_digits : (text bytes : List ℕ) (end : ℕ) → end < length text → get_or text end 0 ≡ 39
+    → base16_of (take end text) ≡ Some bytes
+    → read_decoded true base16_of text ≡ Ok (bytes, take (length text - (end + 1)) (drop (end + 1) text))
 plain_digits text bytes end within quote is =
     let ds = take end text in
     let rest = drop (end + 1) text in
-    let parts : text ≡ ds ++ 39 ∷ rest = sym (take-append-drop end text) ∙ ap (λ (t : List ℕ). ds ++ t) (from_byte text end 39 within quote) in
+    let parts : text ≡ ds ++ 39 ∷ rest = sym (take-append-drop end text)
+    ∙ ap (λ (t : List ℕ). ds ++ t) (from_byte text end 39 within quote) in
     let all = list_all-from_AllPass is_hex_digit ds (decode_of-ok ds bytes (decodes bytes (decode_of ds) is)).1 in
     let found = digits_found true text ds ds rest parts (between true ds (hex_digits ds all)) in
-    ap (λ r. or_refused r >>= λ x. or_refused (base16_of x.0) >>= λ bytes. Ok (bytes, x.1)) found ∙ ap (λ r. or_refused r >>= λ bytes. Ok (bytes, rest)) is ∙ ap (λ rest. Ok (bytes, rest)) (sym (take_rest text (end + 1)))
+    ap (λ r. or_refused r >>= λ x. or_refused (base16_of x.0) >>= λ bytes. Ok (bytes, x.1)) found
+    ∙ ap (λ r. or_refused r >>= λ bytes. Ok (bytes, rest)) is
+    ∙ ap (λ rest. Ok (bytes, rest)) (sym (take_rest text (end + 1)))

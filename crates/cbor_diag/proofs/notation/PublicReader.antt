@@ -38,11 +38,13 @@ error_of : (e d : Error) (read : Result Item Error) → read ≡ Err e → read 
 error_of e d read is other = let same : ◌≡◌ {A = Result Item Error} (Err e) (Err d) = sym is ∙ other in cc same
 
 module _ (limit : ℕ) (text : List ℕ) where
-  pub text_is : (r : Result DataItem Error) → Gives view r (notation_of limit text) → IfOk r (λ x. Reads limit text (view x))
+  pub text_is : (r : Result DataItem Error) → Gives view r (notation_of limit text)
+      → IfOk r (λ x. Reads limit text (view x))
   text_is (Ok x) h = subst (IsAnswered limit text) h (notation_sound limit text)
   text_is (Err e) h = tt
 
-  pub gave_text : (r : Result DataItem Error) (i : Item) → Gives view r (notation_of limit text) → Reads limit text i → GaveItem r i
+  pub gave_text : (r : Result DataItem Error) (i : Item) → Gives view r (notation_of limit text) → Reads limit text i
+      → GaveItem r i
   gave_text (Ok x) i h is = item_of (view x) i (notation_of limit text) h (notation_again limit text i is)
   gave_text (Err e) i h is =
       elim (failed e (notation_of limit text) h) [
@@ -50,11 +52,14 @@ module _ (limit : ℕ) (text : List ℕ) where
         | inr other ↦ absurd (no_both i e (notation_of limit text) (notation_again limit text i is) other)
       ]
 
-  pub only_item : (r : Result DataItem Error) → Gives view r (notation_of limit text) → IfOk r (λ x. (other : ℕ) (j : Item) → Reads other text j → j ≡ view x)
-  only_item (Ok x) h = λ other j is. one_reading other limit text j (view x) is (subst (IsAnswered limit text) h (notation_sound limit text))
+  pub only_item : (r : Result DataItem Error) → Gives view r (notation_of limit text)
+      → IfOk r (λ x. (other : ℕ) (j : Item) → Reads other text j → j ≡ view x)
+  only_item (Ok x) h = λ other j is. one_reading other limit text j (view x) is
+      (subst (IsAnswered limit text) h (notation_sound limit text))
   only_item (Err e) h = tt
 
-  pub larger_limit : (r : Result DataItem Error) (larger : ℕ) (i : Item) → Gives view r (notation_of limit text) → Reads larger text i → GaveOrTooDeep limit text r i
+  pub larger_limit : (r : Result DataItem Error) (larger : ℕ) (i : Item) → Gives view r (notation_of limit text)
+      → Reads larger text i → GaveOrTooDeep limit text r i
   larger_limit (Ok x) larger i h is =
       elim (read_or_too_deep limit larger text i is) [
         | inl deep ↦ absurd (no_both (view x) refusal.TooDeep (notation_of limit text) h deep)
@@ -64,12 +69,16 @@ module _ (limit : ℕ) (text : List ℕ) where
       elim (failed e (notation_of limit text) h) [
         | inl memory ↦ inl memory
         | inr other ↦ elim (read_or_too_deep limit larger text i is) [
-          | inl deep ↦ inr (error_of e refusal.TooDeep (notation_of limit text) other deep, λ read. no_both i refusal.TooDeep (notation_of limit text) (notation_again limit text i read) deep)
+          | inl deep ↦ inr (
+            error_of e refusal.TooDeep (notation_of limit text) other deep,
+            λ read. no_both i refusal.TooDeep (notation_of limit text) (notation_again limit text i read) deep,
+          )
           | inr found ↦ absurd (no_both i e (notation_of limit text) found other)
         ]
       ]
 
-pub text_refused : (text : List ℕ) (r : Result DataItem Error) → Gives view r (notation_of deepest text) → RefusedSo r (IsNoNotation text)
+pub text_refused : (text : List ℕ) (r : Result DataItem Error) → Gives view r (notation_of deepest text)
+    → RefusedSo r (IsNoNotation text)
 text_refused text (Ok x) h = tt
 text_refused text (Err e) h =
     elim (failed e (notation_of deepest text) h) [
@@ -88,5 +97,6 @@ text_refused text (Err e) h =
 pub is_read : (limit : ℕ) (text : List ℕ) (i : Item) → notation_of limit text ≡ Ok i → Reads limit text i
 is_read limit text i e = subst (IsAnswered limit text) e (notation_sound limit text)
 
-pub not_read : (limit : ℕ) (text : List ℕ) (e : Error) → notation_of limit text ≡ Err e → (i : Item) → ¬ (Reads limit text i)
+pub not_read : (limit : ℕ) (text : List ℕ) (e : Error) → notation_of limit text ≡ Err e → (i : Item)
+    → ¬ (Reads limit text i)
 not_read limit text e refused i is = no_both i e (notation_of limit text) (notation_again limit text i is) refused

@@ -5,7 +5,8 @@ use Rattle.std.specs.Str.{IsUtf8}
 use Rattle.std.specs.String.{string_bytes, string_len}
 use Rattle.std.specs.String.Boundary.{IsSplitPoint}
 use Rattle.std.specs.declared.string.String.{String}
-use Rattle.std.proofs.Common.{◌≡◌, ℕ, ◌≤◌, List, ◌++◌, length, take, drop, refl, ap, sym, subst, ◌∙◌, append_assoc, arith}
+use Rattle.std.proofs.Common.{◌≡◌, ℕ, ◌≤◌, List, ◌++◌, length, take, drop, refl, ap, sym, subst, ◌∙◌, append_assoc}
+use Rattle.std.proofs.Common.{arith}
 use Rattle.std.proofs.Math.Seq.{take-append_seam, take-length}
 use Rattle.std.proofs.lemmas.List.{length-take, take-append-drop}
 use Rattle.std.proofs.lemmas.Str.{IsCharBoundary-from_take, IsUtf8-string_bytes}
@@ -18,11 +19,13 @@ begins old text new is = ap (take (length old)) is ∙ take-append_seam old text
 earlier : (old text new : List ℕ) → StartsWith new (old ++ text) → StartsWith new old
 earlier old text new h =
     let rest = drop (length (old ++ text)) new in
-    begins old (text ++ rest) new (sym (take-append-drop (length (old ++ text)) new) ∙ ap (λ x. x ++ rest) h ∙ append_assoc old text rest)
+    begins old (text ++ rest) new (sym (take-append-drop (length (old ++ text)) new) ∙ ap (λ x. x ++ rest) h
+    ∙ append_assoc old text rest)
 
 pub begins_through : (old mid new : List ℕ) → StartsWith new mid → StartsWith mid old → StartsWith new old
 begins_through old mid new h g =
-    let parts : mid ≡ old ++ drop (length old) mid = sym (take-append-drop (length old) mid) ∙ ap (λ x. x ++ drop (length old) mid) g in
+    let parts : mid ≡ old ++ drop (length old) mid = sym (take-append-drop (length old) mid)
+    ∙ ap (λ x. x ++ drop (length old) mid) g in
     earlier old (drop (length old) mid) new (subst (λ x. StartsWith new x) parts h)
 
 -- after one call more, and after two calls
@@ -40,7 +43,8 @@ begins_two old mid a b new p q = begins_still old mid b new (begins old a mid p)
 
 -- For `grind`, which picks a lemma up at the first call in its conclusion that mentions every variable. So these
 -- state that call first.
-pub begins_earlier : (old text new : List ℕ) → StartsWith new (old ++ text) → (take (length (old ++ text)) new ≡ take (length (old ++ text)) new) × StartsWith new old
+pub begins_earlier : (old text new : List ℕ) → StartsWith new (old ++ text)
+    → (take (length (old ++ text)) new ≡ take (length (old ++ text)) new) × StartsWith new old
 begins_earlier old text new h = (refl, earlier old text new h)
 
 pub front_and_rest : (n : ℕ) (xs : List ℕ) → (take n xs ≡ take n xs) × (take n xs ++ drop n xs ≡ xs)
@@ -59,25 +63,31 @@ appends_of (Ok x) old new text h = h
 appends_of (Err e) old new text h = ap (take (length old)) h ∙ take-length old
 
 -- a call that appends the same, said in another way
-pub appends_as : {T E : Type 0} (r : Result T E) (old new text other : List ℕ) → (new ≡ old ++ text → new ≡ old ++ other) → Appends r old new text → Appends r old new other
+pub appends_as : {T E : Type 0} (r : Result T E) (old new text other : List ℕ)
+    → (new ≡ old ++ text → new ≡ old ++ other) → Appends r old new text → Appends r old new other
 appends_as (Ok x) old new text other f h = f h
 appends_as (Err e) old new text other f h = h
 
 -- the last of several calls that append
-pub appends_last : {T E : Type 0} (r : Result T E) (old mid new text all : List ℕ) → StartsWith mid old → (new ≡ mid ++ text → new ≡ old ++ all) → Appends r mid new text → Appends r old new all
+pub appends_last : {T E : Type 0} (r : Result T E) (old mid new text all : List ℕ) → StartsWith mid old
+    → (new ≡ mid ++ text → new ≡ old ++ all) → Appends r mid new text → Appends r old new all
 appends_last (Ok x) old mid new text all begun f h = f h
 appends_last (Err e) old mid new text all begun f h = begins_through old mid new h begun
 
 -- the last of two
-pub appends_after : {T E : Type 0} (r : Result T E) (old mid new a b : List ℕ) → mid ≡ old ++ a → Appends r mid new b → Appends r old new (a ++ b)
+pub appends_after : {T E : Type 0} (r : Result T E) (old mid new a b : List ℕ) → mid ≡ old ++ a → Appends r mid new b
+    → Appends r old new (a ++ b)
 appends_after r old mid new a b is h =
     appends_last r old mid new b (a ++ b) (begins old a mid is) (λ e. e ∙ ap (λ x. x ++ b) is ∙ append_assoc old a b) h
 
 -- A text that begins with another can be cut back to it.
-pub cut_back : {Z : Type 0} (old new : String Z) (n : ℕ) → n ≡ string_len old → StartsWith (string_bytes new) (string_bytes old) → IsSplitPoint (string_bytes new) n × (take n (string_bytes new) ≡ string_bytes old)
+pub cut_back : {Z : Type 0} (old new : String Z) (n : ℕ) → n ≡ string_len old
+    → StartsWith (string_bytes new) (string_bytes old)
+    → IsSplitPoint (string_bytes new) n × (take n (string_bytes new) ≡ string_bytes old)
 cut_back old new n len h =
     let is : n ≡ length (string_bytes old) = omega (arith, len, old.bytes.ok.0) in
     let cut : take n (string_bytes new) ≡ string_bytes old = rw is h in
     let within : n ≤ length (string_bytes new) = omega (arith, ap length cut, length-take n (string_bytes new), is) in
-    let boundary = IsCharBoundary-from_take (string_bytes new) n (IsUtf8-string_bytes new) within (subst IsUtf8 (sym cut) (IsUtf8-string_bytes old)) in
+    let boundary = IsCharBoundary-from_take (string_bytes new) n (IsUtf8-string_bytes new) within
+    (subst IsUtf8 (sym cut) (IsUtf8-string_bytes old)) in
     ((boundary.0, λ _. boundary.1), cut)

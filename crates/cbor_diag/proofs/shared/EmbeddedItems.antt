@@ -1,5 +1,6 @@
 -- Embedded items: what a reader answers is what `embedded` and `sequence` say.
-use Rattle.std.proofs.Common.{◌≡◌, ◌≢◌, ℕ, zero, suc, ◌+◌, ◌-◌, ◌<◌, ◌≤◌, List, [], ◌∷◌, ◌++◌, length, take, drop, Some, None, Ok, Err, refl, sym, ap, subst, ◌∙◌, arith}
+use Rattle.std.proofs.Common.{◌≡◌, ◌≢◌, ℕ, zero, suc, ◌+◌, ◌-◌, ◌<◌, ◌≤◌, List, [], ◌∷◌, ◌++◌, length, take, drop, Some}
+use Rattle.std.proofs.Common.{None, Ok, Err, refl, sym, ap, subst, ◌∙◌, arith}
 use Rattle.std.proofs.lemmas.List.{append-nil, length-append, length-drop, length-take, nil_from_length}
 use Rattle.cbor_diag.specs.declared.error.Error.{Error}
 use Rattle.cbor_diag.specs.declared.error.Error.TheVariants as refusal
@@ -9,7 +10,8 @@ use Rattle.cbor_diag.specs.View.{view, items_view}
 use Rattle.cbor_diag.specs.Bytes.{any, Spells, SpellsItems}
 use Rattle.cbor_diag.specs.Answer.{spelled, cut, fault, IsOutcome, HasOutcome, HasAnswer, IsRefused}
 use Rattle.cbor_diag.specs.Reading.{Read, read_item}
-use Rattle.cbor_diag.specs.Embedded.{if_whole, embedded_at, before, and_then, sequence_of, sequence_at, EmbedsExactly, RejectsExactly}
+use Rattle.cbor_diag.specs.Embedded.{if_whole, embedded_at, before, and_then, sequence_of, sequence_at, EmbedsExactly}
+use Rattle.cbor_diag.specs.Embedded.{RejectsExactly}
 use Rattle.cbor_diag.specs.Refused.{Cut}
 use Rattle.cbor_diag.specs.WellFormed.{WellFormed, WellFormedItems}
 use Rattle.cbor_diag.proofs.bytes.Heads.{IsBytes, IsBytes-drop, IsBytes-take}
@@ -22,22 +24,29 @@ use Rattle.cbor_diag.proofs.notation.ChunkLoops.{joined, joined-none, item_joins
 
 -- ---- one item
 
-pub whole_item : (level : ℕ) (b : List ℕ) (i : Item) → level ≤ 129 → Spells any level b i → embedded_at (129 - level) b ≡ Some i
+pub whole_item : (level : ℕ) (b : List ℕ) (i : Item) → level ≤ 129 → Spells any level b i
+    → embedded_at (129 - level) b ≡ Some i
 whole_item level b i le s =
-    ap if_whole (ap (read_item (129 - level)) (sym (append-nil b)) ∙ item_again level (129 - level) b i [] (omega arith) s)
+    ap if_whole (ap (read_item (129 - level)) (sym (append-nil b))
+    ∙ item_again level (129 - level) b i [] (omega arith) s)
 
 bytes_after : (i : Item) (r : List ℕ) → r ≢ [] → if_whole (Ok (i, r)) ≡ None
 bytes_after i [] h = absurd (h refl)
 bytes_after i (x ∷ r) h = refl
 
-pub no_whole_item : (level : ℕ) (b : List ℕ) (e : Error) → level ≤ 129 → IsRefused level b e → embedded_at (129 - level) b ≡ None
+pub no_whole_item : (level : ℕ) (b : List ℕ) (e : Error) → level ≤ 129 → IsRefused level b e
+    → embedded_at (129 - level) b ≡ None
 no_whole_item level b refusal.CutShort le h = ap if_whole (outcome_reads level (129 - level) b cut (omega arith) h)
-no_whole_item level b refusal.Head le h = ap if_whole (outcome_reads level (129 - level) b (fault refusal.Head) (omega arith) h)
-no_whole_item level b refusal.Utf8 le h = ap if_whole (outcome_reads level (129 - level) b (fault refusal.Utf8) (omega arith) h)
-no_whole_item level b refusal.TooDeep le h = ap if_whole (outcome_reads level (129 - level) b (fault refusal.TooDeep) (omega arith) h)
+no_whole_item level b refusal.Head le h = ap if_whole
+    (outcome_reads level (129 - level) b (fault refusal.Head) (omega arith) h)
+no_whole_item level b refusal.Utf8 le h = ap if_whole
+    (outcome_reads level (129 - level) b (fault refusal.Utf8) (omega arith) h)
+no_whole_item level b refusal.TooDeep le h =
+    ap if_whole (outcome_reads level (129 - level) b (fault refusal.TooDeep) (omega arith) h)
 no_whole_item level b refusal.Remaining le h =
     let more : drop h.1 b ≢ [] = λ e. omega (arith, length-drop h.1 b, ap length e, h.2) in
-    ap if_whole (outcome_reads level (129 - level) b (spelled h.0 h.1) (omega arith) (omega (arith, h.2), h.3)) ∙ bytes_after h.0 (drop h.1 b) more
+    ap if_whole (outcome_reads level (129 - level) b (spelled h.0 h.1) (omega arith) (omega (arith, h.2), h.3))
+    ∙ bytes_after h.0 (drop h.1 b) more
 no_whole_item level b refusal.Memory le h = absurd h
 no_whole_item level b refusal.OddHex le h = absurd h
 no_whole_item level b refusal.BadHex le h = absurd h
@@ -51,9 +60,11 @@ abbrev pub onto : Items → Items × List ℕ → Items × List ℕ
 onto is s = (joined is s.0, s.1)
 
 -- an item more was read
-pub sequence_more : (left steps used : ℕ) (vs : List DataItem) (v : DataItem) (b : List ℕ) (whole : Items × List ℕ) → read_item left b ≡ Ok (view v, drop used b) → length b ≤ steps → 1 ≤ used → used ≤ length b
+pub sequence_more : (left steps used : ℕ) (vs : List DataItem) (v : DataItem) (b : List ℕ) (whole : Items × List ℕ)
+    → read_item left b ≡ Ok (view v, drop used b) → length b ≤ steps → 1 ≤ used → used ≤ length b
     → onto (items_view vs) (sequence_of (read_item left) steps b) ≡ whole
-    → (m : ℕ) × (length (drop used b) ≤ m) × (onto (items_view (vs ++ v ∷ [])) (sequence_of (read_item left) m (drop used b)) ≡ whole)
+    → (m : ℕ) × (length (drop used b) ≤ m) × (onto (items_view (vs ++ v ∷ []))
+    (sequence_of (read_item left) m (drop used b)) ≡ whole)
 unfolding sequence_of
 sequence_more left zero used vs v b whole e enough some within h = absurd (omega arith)
 sequence_more left (suc m) used vs v b whole e enough some within h =
@@ -62,7 +73,8 @@ sequence_more left (suc m) used vs v b whole e enough some within h =
     (m, omega (arith, length-drop used b), ap (λ is. (is, s.1)) (sym (item_joins vs v s.0)) ∙ here)
 
 -- no item more can be read
-pub sequence_end : (left steps : ℕ) (is : Items) (b : List ℕ) (e : Error) (whole : Items × List ℕ) → read_item left b ≡ Err e
+pub sequence_end : (left steps : ℕ) (is : Items) (b : List ℕ) (e : Error) (whole : Items × List ℕ)
+    → read_item left b ≡ Err e
     → onto is (sequence_of (read_item left) steps b) ≡ whole → (is, b) ≡ whole
 unfolding sequence_of
 sequence_end left zero is b e whole ends h = ap (λ js. (js, b)) (sym (joined-none is)) ∙ h
@@ -71,18 +83,21 @@ sequence_end left (suc n) is b e whole ends h =
     ap (λ js. (js, b)) (sym (joined-none is)) ∙ here
 
 -- the front of an input is at fault, where a reader refuses it for another reason than memory
-pub fault_is : (level : ℕ) (b : List ℕ) (e : Error) → e ≢ refusal.Memory → HasOutcome level b (Err e) → IsOutcome level b (fault e)
+pub fault_is : (level : ℕ) (b : List ℕ) (e : Error) → e ≢ refusal.Memory → HasOutcome level b (Err e)
+    → IsOutcome level b (fault e)
 fault_is level b refusal.Memory other h = absurd (other refl)
 fault_is level b _ other h = h
 
 -- a whole input is refused, where a reader refuses it for another reason than memory
-pub refused_is : (level : ℕ) (b : List ℕ) (e : Error) → e ≢ refusal.Memory → HasAnswer level b (Err e) → IsRefused level b e
+pub refused_is : (level : ℕ) (b : List ℕ) (e : Error) → e ≢ refusal.Memory → HasAnswer level b (Err e)
+    → IsRefused level b e
 refused_is level b refusal.Memory other h = absurd (other refl)
 refused_is level b _ other h = h
 
 -- ---- what the loop over a sequence keeps
 
-well_push : (level : ℕ) (vs : List DataItem) (v : DataItem) → WellFormedItems level (items_view vs) → WellFormed level (view v) → WellFormedItems level (items_view (vs ++ v ∷ []))
+well_push : (level : ℕ) (vs : List DataItem) (v : DataItem) → WellFormedItems level (items_view vs)
+    → WellFormed level (view v) → WellFormedItems level (items_view (vs ++ v ∷ []))
 well_push level [] v h w = (w, tt)
 well_push level (x ∷ vs) v h w = (h.0, well_push level vs v h.1 w)
 
@@ -97,22 +112,35 @@ pub record SoFar (level : ℕ) (vs : List DataItem) (b : List ℕ) (whole : Item
 pub at_first : (level : ℕ) (b : List ℕ) → IsBytes b → SoFar level [] b (sequence_at (129 - level) b)
 at_first level b fits = record { steps = length b; enough = omega arith; same = refl; well_formed = tt; bytes = fits }
 
-pub one_more : (level used : ℕ) (vs : List DataItem) (v : DataItem) (b : List ℕ) (whole : Items × List ℕ) → level ≤ 129 → IsOutcome level b (spelled (view v) used) → SoFar level vs b whole
+pub one_more : (level used : ℕ) (vs : List DataItem) (v : DataItem) (b : List ℕ) (whole : Items × List ℕ) → level ≤ 129
+    → IsOutcome level b (spelled (view v) used) → SoFar level vs b whole
     → SoFar level (vs ++ v ∷ []) (drop used b) whole × (length (drop used b) < length b)
 one_more level used vs v b whole le h s =
     let within : used ≤ length b = h.0 in
     let some : 1 ≤ used = omega (arith, one_byte level (take used b) (view v) h.1, length-take used b) in
-    let more = sequence_more (129 - level) s.steps used vs v b whole (outcome_reads level (129 - level) b (spelled (view v) used) (omega arith) h) s.enough some within s.same in
-    let well = whole_well_formed level (take used b) (Ok v) (IsBytes-take used b s.bytes) h.1 in
-    (record { steps = more.0; enough = more.1; same = more.2; well_formed = well_push level vs v s.well_formed well; bytes = IsBytes-drop used b s.bytes }, omega (arith, length-drop used b))
+    let more = sequence_more (129 - level) s.steps used vs v b whole
+    (outcome_reads level (129 - level) b (spelled (view v) used) (omega arith) h) s.enough some within s.same in
+    let well = whole_well_formed level (take used b) (Ok v) (IsBytes-take used b s.bytes) h.1 in (
+      record {
+        steps = more.0;
+        enough = more.1;
+        same = more.2;
+        well_formed =
+            well_push level vs v s.well_formed well;
+        bytes = IsBytes-drop used b s.bytes;
+      },
+      omega (arith, length-drop used b),
+    )
 
-pub no_more : (level : ℕ) (vs : List DataItem) (b : List ℕ) (e : Error) (whole : Items × List ℕ) → read_item (129 - level) b ≡ Err e → SoFar level vs b whole → (items_view vs, b) ≡ whole
+pub no_more : (level : ℕ) (vs : List DataItem) (b : List ℕ) (e : Error) (whole : Items × List ℕ)
+    → read_item (129 - level) b ≡ Err e → SoFar level vs b whole → (items_view vs, b) ≡ whole
 no_more level vs b e whole ends s = sequence_end (129 - level) s.steps (items_view vs) b e whole ends s.same
 
 pub cut_ends : (level : ℕ) (b : List ℕ) → level ≤ 129 → Cut level b → read_item (129 - level) b ≡ Err refusal.CutShort
 cut_ends level b le h = outcome_reads level (129 - level) b cut (omega arith) h
 
-pub fault_ends : (level : ℕ) (b : List ℕ) (e : Error) → level ≤ 129 → IsOutcome level b (fault e) → read_item (129 - level) b ≡ Err e
+pub fault_ends : (level : ℕ) (b : List ℕ) (e : Error) → level ≤ 129 → IsOutcome level b (fault e)
+    → read_item (129 - level) b ≡ Err e
 fault_ends level b e le h = outcome_reads level (129 - level) b (fault e) (omega arith) h
 
 -- ---- what embedded items are, by the grammar
@@ -126,13 +154,16 @@ if_whole_is (Ok (i, [])) e h = ap (λ (x : Item). Ok (x, [])) (some_is i e h)
 if_whole_is (Ok (i, x ∷ r)) e h = absurd cc
 if_whole_is (Err f) e h = absurd cc
 
-pub embedded_spells : (level left : ℕ) (b : List ℕ) (e : Item) → level + left ≡ 129 → IsBytes b → embedded_at left b ≡ Some e → Spells any level b e
+pub embedded_spells : (level left : ℕ) (b : List ℕ) (e : Item) → level + left ≡ 129 → IsBytes b
+    → embedded_at left b ≡ Some e → Spells any level b e
 embedded_spells level left b e levels fits h =
     let s = item_takes level left b e [] levels fits (if_whole_is (read_item left b) e h) in
     subst (λ x. Spells any level x e) (sym (s.parts ∙ append-nil s.front)) s.spells
 
-pub spells_embedded : (level left : ℕ) (b : List ℕ) (e : Item) → level + left ≡ 129 → Spells any level b e → embedded_at left b ≡ Some e
-spells_embedded level left b e levels s = ap if_whole (ap (read_item left) (sym (append-nil b)) ∙ item_again level left b e [] levels s)
+pub spells_embedded : (level left : ℕ) (b : List ℕ) (e : Item) → level + left ≡ 129 → Spells any level b e
+    → embedded_at left b ≡ Some e
+spells_embedded level left b e levels s = ap if_whole
+    (ap (read_item left) (sym (append-nil b)) ∙ item_again level left b e [] levels s)
 
 -- The items of a sequence are spelled one after the other and then the rest follows, which begins with
 -- no item.
@@ -143,36 +174,58 @@ pub record Sequenced (level left : ℕ) (b : List ℕ) (s : Items × List ℕ) :
   pub rest_bytes : IsBytes s.1
 
 module _ (level left : ℕ) (levels : level + left ≡ 129) where
-  sequence_step : (n : ℕ) (b : List ℕ) → IsBytes b → ((r : List ℕ) → length r ≤ n → IsBytes r → Sequenced level left r (sequence_of (read_item left) n r)) → length b ≤ suc n
-      → (read : Read Item) → read_item left b ≡ read → Sequenced level left b (and_then (sequence_of (read_item left) n) b read)
+  sequence_step : (n : ℕ) (b : List ℕ) → IsBytes b
+      → ((r : List ℕ) → length r ≤ n → IsBytes r → Sequenced level left r (sequence_of (read_item left) n r))
+      → length b ≤ suc n
+      → (read : Read Item) → read_item left b ≡ read
+      → Sequenced level left b (and_then (sequence_of (read_item left) n) b read)
   sequence_step n b fits others enough (Ok (i, r)) e =
       let s = item_takes level left b i r levels fits e in
       let some = one_byte level s.front i s.spells in
       let more = others r (omega (arith, ap length s.parts, length-append s.front r)) s.rest_bytes in
-      record { spelled_so = (s.front, r, s.parts, s.spells, more.spelled_so); error = more.error; ends = more.ends; rest_bytes = more.rest_bytes }
+      record {
+        spelled_so = (s.front, r, s.parts, s.spells, more.spelled_so);
+        error = more.error;
+        ends =
+            more.ends;
+        rest_bytes = more.rest_bytes;
+      }
   sequence_step n b fits others enough (Err f) e = record { spelled_so = refl; error = f; ends = e; rest_bytes = fits }
 
-  pub sequence_spells : (n : ℕ) (b : List ℕ) → length b ≤ n → IsBytes b → Sequenced level left b (sequence_of (read_item left) n b)
+  pub sequence_spells : (n : ℕ) (b : List ℕ) → length b ≤ n → IsBytes b
+      → Sequenced level left b (sequence_of (read_item left) n b)
   unfolding sequence_of
   sequence_spells zero b enough fits =
       let none : b ≡ [] = nil_from_length b (omega arith) in
-      record { spelled_so = refl; error = refusal.CutShort; ends = ap (read_item left) none ∙ item_nothing left; rest_bytes = fits }
+      record {
+        spelled_so = refl;
+        error = refusal.CutShort;
+        ends = ap (read_item left) none
+            ∙ item_nothing left;
+        rest_bytes = fits;
+      }
   sequence_spells (suc n) b enough fits = sequence_step n b fits (sequence_spells n) enough (read_item left b) refl
 
   -- Items that are spelled one after the other, and a rest that begins with no item, are read as such a sequence.
-  pub sequence_again : (n : ℕ) (is : Items) (b rest : List ℕ) (error : Error) → length b ≤ n → SpellsItems any level b is rest → read_item left rest ≡ Err error → sequence_of (read_item left) n b ≡ (is, rest)
+  pub sequence_again : (n : ℕ) (is : Items) (b rest : List ℕ) (error : Error) → length b ≤ n
+      → SpellsItems any level b is rest → read_item left rest ≡ Err error
+      → sequence_of (read_item left) n b ≡ (is, rest)
   unfolding sequence_of
   sequence_again zero no_items b rest error enough h ends = ap (λ (r : List ℕ). (no_items, r)) h
   sequence_again (suc n) no_items b rest error enough h ends = rw h (rw ends refl)
   sequence_again zero (item i is) b rest error enough h ends =
       absurd (omega (arith, one_byte level h.0 i h.3, ap length h.2, length-append h.0 h.1))
   sequence_again (suc n) (item i is) b rest error enough h ends =
-      let read : read_item left b ≡ Ok (i, h.1) = ap (read_item left) h.2 ∙ item_again level left h.0 i h.1 levels h.3 in
-      let more = sequence_again n is h.1 rest error (omega (arith, one_byte level h.0 i h.3, ap length h.2, length-append h.0 h.1)) h.4 ends in
+      let read : read_item left b ≡ Ok (i, h.1) = ap (read_item left) h.2
+      ∙ item_again level left h.0 i h.1 levels h.3 in
+      let more = sequence_again n is h.1 rest error
+      (omega (arith, one_byte level h.0 i h.3, ap length h.2, length-append h.0 h.1)) h.4 ends in
       rw read (ap (before i) more)
 
 -- no item stands before the rest of a sequence
-pub no_item_before : (level left : ℕ) → level + left ≡ 129 → (b : List ℕ) {s : Items × List ℕ} (x rest : List ℕ) (e : Item) → Sequenced level left b s → s.1 ≡ x ++ rest → Spells any level x e → ⊥
+pub no_item_before : (level left : ℕ) → level + left ≡ 129
+    → (b : List ℕ) {s : Items × List ℕ} (x rest : List ℕ) (e : Item) → Sequenced level left b s → s.1 ≡ x ++ rest
+    → Spells any level x e → ⊥
 no_item_before level left levels b x rest e sequenced parts s =
     let read = sym sequenced.ends ∙ ap (read_item left) parts ∙ item_again level left x e rest levels s in
     absurd cc
@@ -182,7 +235,10 @@ pub embeds_exactly : EmbedsExactly
 embeds_exactly level b from to fits =
     let read = sequence_spells level (129 - level) (omega arith) (length b) b (omega arith) fits in
     record {
-      one = λ e. (embedded_spells level (129 - level) b e (omega arith) fits, spells_embedded level (129 - level) b e (omega arith));
+      one = λ e. (
+        embedded_spells level (129 - level) b e (omega arith) fits,
+        spells_embedded level (129 - level) b e (omega arith),
+      );
       items = read.spelled_so;
       longest = λ x rest e parts s. no_item_before level (129 - level) (omega arith) _ x rest e read parts s;
     }

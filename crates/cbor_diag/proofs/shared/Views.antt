@@ -6,18 +6,23 @@ use Rattle.cbor_diag.specs.declared.syntax.Tag as declared
 use Rattle.cbor_diag.specs.declared.syntax.ByteString as byte_string
 use Rattle.cbor_diag.specs.declared.syntax.TextString as text_string
 use Rattle.cbor_diag.specs.declared.syntax.Simple as simple
-use Rattle.cbor_diag.specs.declared.syntax.DataItem.{DataItem, Integer, Negative, ByteString, TextString, IndefiniteByteString, IndefiniteTextString, Array, Map, Tag, Float, Simple, the_lemmas}
+use Rattle.cbor_diag.specs.declared.syntax.DataItem.{DataItem, Integer, Negative, ByteString, TextString}
+use Rattle.cbor_diag.specs.declared.syntax.DataItem.{IndefiniteByteString, IndefiniteTextString, Array, Map, Tag, Float}
+use Rattle.cbor_diag.specs.declared.syntax.DataItem.{Simple, the_lemmas}
 use Rattle.cbor_diag.specs.Item as spec
 use Rattle.cbor_diag.specs.Item.{item_count, pair_count}
 use Rattle.cbor_diag.specs.View.{view, items_view, pairs_view, byte_chunk, text_chunk}
 
-pub view-Array : (v : Vec DataItem Global) (w : Option IntegerWidth) → view (Array v w) ≡ spec.array (items_view v.items) w
+pub view-Array : (v : Vec DataItem Global) (w : Option IntegerWidth)
+    → view (Array v w) ≡ spec.array (items_view v.items) w
 view-Array v w = search (rules, the_lemmas)
 
-pub view-Map : (v : Vec (DataItem × DataItem) Global) (w : Option IntegerWidth) → view (Map v w) ≡ spec.map (pairs_view v.items) w
+pub view-Map : (v : Vec (DataItem × DataItem) Global) (w : Option IntegerWidth)
+    → view (Map v w) ≡ spec.map (pairs_view v.items) w
 view-Map v w = search (rules, the_lemmas)
 
-pub view-Tag : (t : declared.Tag) (w : IntegerWidth) (v : Box DataItem Global) → view (Tag t w v) ≡ spec.tagged t.0 w (view v.value)
+pub view-Tag : (t : declared.Tag) (w : IntegerWidth) (v : Box DataItem Global)
+    → view (Tag t w v) ≡ spec.tagged t.0 w (view v.value)
 view-Tag t w v = search (rules, the_lemmas)
 
 pub item_count_view : (vs : List DataItem) → item_count (items_view vs) ≡ length vs
@@ -40,10 +45,12 @@ view-ByteString s = search (rules, the_lemmas)
 pub view-TextString : (s : text_string.TextString) → view (TextString s) ≡ spec.atom (spec.text_string (text_chunk s))
 view-TextString s = search (rules, the_lemmas)
 
-pub view-IndefiniteByteString : (v : Vec byte_string.ByteString Global) → view (IndefiniteByteString v) ≡ spec.atom (spec.byte_chunks (map byte_chunk v.items))
+pub view-IndefiniteByteString : (v : Vec byte_string.ByteString Global)
+    → view (IndefiniteByteString v) ≡ spec.atom (spec.byte_chunks (map byte_chunk v.items))
 view-IndefiniteByteString v = search (rules, the_lemmas)
 
-pub view-IndefiniteTextString : (v : Vec text_string.TextString Global) → view (IndefiniteTextString v) ≡ spec.atom (spec.text_chunks (map text_chunk v.items))
+pub view-IndefiniteTextString : (v : Vec text_string.TextString Global)
+    → view (IndefiniteTextString v) ≡ spec.atom (spec.text_chunks (map text_chunk v.items))
 view-IndefiniteTextString v = search (rules, the_lemmas)
 
 pub view-Float : (n : ℕ) (w : FloatWidth) → view (Float n w) ≡ spec.atom (spec.float n w)

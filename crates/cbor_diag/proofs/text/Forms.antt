@@ -6,7 +6,8 @@ use Rattle.cbor_diag.specs.declared.encode.encoding.Encoding.{Encoding}
 use Rattle.cbor_diag.specs.Layout.{Pretty}
 use Rattle.cbor_diag.specs.ContainerStyle.{OneLine, MultiLine}
 use Rattle.cbor_diag.specs.Item as spec
-use Rattle.cbor_diag.specs.Item.{Chunk, integer, negative, byte_string, text_string, byte_chunks, text_chunks, float, simple, Item, atom, array, tagged}
+use Rattle.cbor_diag.specs.Item.{Chunk, integer, negative, byte_string, text_string, byte_chunks, text_chunks, float}
+use Rattle.cbor_diag.specs.Item.{simple, Item, atom, array, tagged}
 use Rattle.cbor_diag.specs.Estimate.{estimated_length, one_line_limit}
 use Rattle.cbor_diag.specs.Embedded.{sequence, sequence_at}
 use Rattle.cbor_diag.specs.WellFormed.{levels_left}
@@ -64,10 +65,12 @@ pub short_sequence : (level indent : ℕ) (e : Encoding) (w : IntegerWidth) (b :
     → sequence_size (sequence (level + 2) b.bytes) < one_line_limit
     → pretty e level indent (tagged 63 w (atom (byte_string b))) ≡ sequence_in_one_line e level indent w b.bytes
 short_sequence level indent e w b lt few =
-    sequence_is level indent e w b lt ∙ ap (λ l. sequence_laid_out l e level indent w b.bytes) (short indent (sequence_size (sequence (level + 2) b.bytes)) few)
+    sequence_is level indent e w b lt ∙ ap (λ l. sequence_laid_out l e level indent w b.bytes)
+    (short indent (sequence_size (sequence (level + 2) b.bytes)) few)
 
 pub long_sequence : (level indent : ℕ) (e : Encoding) (w : IntegerWidth) (b : Chunk) → level < 128
     → one_line_limit ≤ sequence_size (sequence (level + 2) b.bytes)
     → pretty e level indent (tagged 63 w (atom (byte_string b))) ≡ sequence_in_lines e level indent w b.bytes
 long_sequence level indent e w b lt many =
-    sequence_is level indent e w b lt ∙ ap (λ l. sequence_laid_out l e level indent w b.bytes) (tall indent (sequence_size (sequence (level + 2) b.bytes)) many)
+    sequence_is level indent e w b lt ∙ ap (λ l. sequence_laid_out l e level indent w b.bytes)
+    (tall indent (sequence_size (sequence (level + 2) b.bytes)) many)

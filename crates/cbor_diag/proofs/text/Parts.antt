@@ -85,9 +85,12 @@ sequence_shown write c l s out a b d e new p q r t u =
 
 -- ---- members
 
-pub items_rest : (write : Item → List ℕ) (vs : List DataItem) (i : ℕ) (v : DataItem) → i < length vs → v ≡ get_or vs i v → item_texts write (items_view (drop i vs)) ≡ write (view v) ∷ item_texts write (items_view (drop (i + 1) vs))
+pub items_rest : (write : Item → List ℕ) (vs : List DataItem) (i : ℕ) (v : DataItem) → i < length vs → v ≡ get_or vs i v
+    → item_texts write (items_view (drop i vs)) ≡ write (view v) ∷ item_texts write (items_view (drop (i + 1) vs))
 items_rest write vs i v here is = ap (λ ys. item_texts write (items_view ys)) (drop_here vs i v here is)
 
-pub pairs_rest : (write : Item → List ℕ) (between : List ℕ) (vs : List (DataItem × DataItem)) (i : ℕ) (v : DataItem × DataItem) → i < length vs → v ≡ get_or vs i v
-    → pair_texts write between (pairs_view (drop i vs)) ≡ (write (view v.0) ++ (between ++ write (view v.1))) ∷ pair_texts write between (pairs_view (drop (i + 1) vs))
+pub pairs_rest : (write : Item → List ℕ) (between : List ℕ) (vs : List (DataItem × DataItem)) (i : ℕ)
+    (v : DataItem × DataItem) → i < length vs → v ≡ get_or vs i v
+    → pair_texts write between (pairs_view (drop i vs)) ≡ (write (view v.0) ++ (between ++ write (view v.1)))
+    ∷ pair_texts write between (pairs_view (drop (i + 1) vs))
 pairs_rest write between vs i v here is = ap (λ ys. pair_texts write between (pairs_view ys)) (drop_here vs i v here is)

@@ -1,5 +1,6 @@
 -- Texts that are written piece by piece: escaped text, and members.
-use Rattle.std.proofs.Common.{◌≡◌, ℕ, ◌+◌, ◌<◌, ◌≤◌, Bool, true, false, eqb, List, [], ◌∷◌, ◌++◌, length, map, codes, None, get_or, take, drop, refl, sym, ap, ◌∙◌, append_assoc, arith}
+use Rattle.std.proofs.Common.{◌≡◌, ℕ, ◌+◌, ◌<◌, ◌≤◌, Bool, true, false, eqb, List, [], ◌∷◌, ◌++◌, length, map, codes}
+use Rattle.std.proofs.Common.{None, get_or, take, drop, refl, sym, ap, ◌∙◌, append_assoc, arith}
 use Rattle.std.specs.List.{flat_map, list_any}
 use Rattle.std.proofs.lemmas.List.{length-take, take_more, drop_more, drop-append-le, drop_at, append-nil}
 use Rattle.std.proofs.lemmas.Grind.{flat_map-append}
@@ -15,26 +16,38 @@ escaped_ascii b h = grind (arith, nat_tests)
 
 -- ---- escaped text: `out` is what is written, and the bytes from `done` to `place` are still to be written
 
-bytes_more : (s : List ℕ) (done place : ℕ) → done ≤ place → place < length s → drop done (take (place + 1) s) ≡ drop done (take place s) ++ get_or s place 0 ∷ []
+bytes_more : (s : List ℕ) (done place : ℕ) → done ≤ place → place < length s
+    → drop done (take (place + 1) s) ≡ drop done (take place s) ++ get_or s place 0 ∷ []
 bytes_more s done place order here =
-    ap (drop done) (take_more s place 0 here) ∙ drop-append-le done (take place s) (get_or s place 0 ∷ []) (omega (arith, length-take place s))
+    ap (drop done) (take_more s place 0 here)
+    ∙ drop-append-le done (take place s) (get_or s place 0 ∷ []) (omega (arith, length-take place s))
 
-escaped_more : (s : List ℕ) (place : ℕ) → place < length s → flat_map escaped (take (place + 1) s) ≡ flat_map escaped (take place s) ++ escaped (get_or s place 0)
+escaped_more : (s : List ℕ) (place : ℕ) → place < length s
+    → flat_map escaped (take (place + 1) s) ≡ flat_map escaped (take place s) ++ escaped (get_or s place 0)
 escaped_more s place here = ap (flat_map escaped) (take_more s place 0 here) ∙ simp (flat_map-append, append-nil)
 
-pub plain_more : (s : List ℕ) (done place : ℕ) (out old : List ℕ) → done ≤ place → place < length s → is_escaped (get_or s place 0) ≡ false
-    → out ++ drop done (take place s) ≡ old ++ flat_map escaped (take place s) → out ++ drop done (take (place + 1) s) ≡ old ++ flat_map escaped (take (place + 1) s)
+pub plain_more : (s : List ℕ) (done place : ℕ) (out old : List ℕ) → done ≤ place → place < length s
+    → is_escaped (get_or s place 0) ≡ false
+    → out ++ drop done (take place s) ≡ old ++ flat_map escaped (take place s)
+    → out ++ drop done (take (place + 1) s) ≡ old ++ flat_map escaped (take (place + 1) s)
 plain_more s done place out old order here plain h =
     let b : escaped (get_or s place 0) ≡ get_or s place 0 ∷ [] = rw plain refl in
-    rw (bytes_more s done place order here, escaped_more s place here, b) (sym (append_assoc out (drop done (take place s)) (get_or s place 0 ∷ [])) ∙ ap (λ x. x ++ get_or s place 0 ∷ []) h ∙ append_assoc old (flat_map escaped (take place s)) (get_or s place 0 ∷ []))
+    rw (bytes_more s done place order here, escaped_more s place here, b)
+    (sym (append_assoc out (drop done (take place s)) (get_or s place 0 ∷ []))
+    ∙ ap (λ x. x ++ get_or s place 0 ∷ []) h
+    ∙ append_assoc old (flat_map escaped (take place s)) (get_or s place 0 ∷ []))
 
-pub special_more : (s : List ℕ) (done place : ℕ) (out old plain out' : List ℕ) → done ≤ place → place < length s → is_escaped (get_or s place 0) ≡ true
+pub special_more : (s : List ℕ) (done place : ℕ) (out old plain out' : List ℕ) → done ≤ place → place < length s
+    → is_escaped (get_or s place 0) ≡ true
     → plain ≡ drop done (take place s) → out' ≡ (out ++ plain) ++ 92 ∷ []
-    → out ++ drop done (take place s) ≡ old ++ flat_map escaped (take place s) → out' ++ drop place (take (place + 1) s) ≡ old ++ flat_map escaped (take (place + 1) s)
+    → out ++ drop done (take place s) ≡ old ++ flat_map escaped (take place s)
+    → out' ++ drop place (take (place + 1) s) ≡ old ++ flat_map escaped (take (place + 1) s)
 special_more s done place out old plain out' order here special is written h =
     let b : escaped (get_or s place 0) ≡ 92 ∷ get_or s place 0 ∷ [] = rw special refl in
-    let last : drop place (take (place + 1) s) ≡ get_or s place 0 ∷ [] = ap (drop place) (take_more s place 0 here) ∙ drop_at (take place s) (get_or s place 0 ∷ []) place (omega (arith, length-take place s)) in
-    rw (last, escaped_more s place here, b, written, is) (ap (λ x. (x ++ 92 ∷ []) ++ get_or s place 0 ∷ []) h ∙ simp append_assoc)
+    let last : drop place (take (place + 1) s) ≡ get_or s place 0 ∷ [] = ap (drop place) (take_more s place 0 here)
+    ∙ drop_at (take place s) (get_or s place 0 ∷ []) place (omega (arith, length-take place s)) in
+    rw (last, escaped_more s place here, b, written, is) (ap (λ x. (x ++ 92 ∷ []) ++ get_or s place 0 ∷ []) h
+    ∙ simp append_assoc)
 
 -- a text without such bytes is written as it is
 pub plain_text : (s : List ℕ) → list_any is_escaped s ≡ false → flat_map escaped s ≡ s
@@ -48,7 +61,8 @@ plain_text (b ∷ bs) h =
 -- ---- members
 
 -- what is left of a list begins with the item at hand
-pub drop_here : {X : Type 0} (xs : List X) (i : ℕ) (x : X) → i < length xs → x ≡ get_or xs i x → drop i xs ≡ x ∷ drop (i + 1) xs
+pub drop_here : {X : Type 0} (xs : List X) (i : ℕ) (x : X) → i < length xs → x ≡ get_or xs i x
+    → drop i xs ≡ x ∷ drop (i + 1) xs
 drop_here xs i x here is = drop_more xs i x here ∙ ap (λ y. y ∷ drop (i + 1) xs) (sym is)
 
 -- what is still to be written of the members: the first of all has no comma before it

@@ -1,9 +1,12 @@
 -- Counted reading, one step after the other.
-use Rattle.std.proofs.Common.{◌≡◌, ℕ, zero, suc, ◌+◌, ◌-◌, ◌<◌, ◌≤◌, List, [], ◌∷◌, ◌++◌, length, Option, Some, None, Ok, Err, refl, sym, ap, ◌∙◌, arith}
+use Rattle.std.proofs.Common.{◌≡◌, ℕ, zero, suc, ◌+◌, ◌-◌, ◌<◌, ◌≤◌, List, [], ◌∷◌, ◌++◌, length, Option, Some, None}
+use Rattle.std.proofs.Common.{Ok, Err, refl, sym, ap, ◌∙◌, arith}
 use Rattle.cbor_diag.specs.declared.error.Error.{Error}
 use Rattle.cbor_diag.specs.Item.{Item}
 use Rattle.cbor_diag.specs.Reading.{Read, read_head}
-use Rattle.cbor_diag.specs.mirror.Counting.{Counted, later, go_on, ◌>>-◌, Frame, put, after_end, closed, close_or, goes_on, read_parts, opened, read_part, counted_item, closing, resume, deliver}
+use Rattle.cbor_diag.specs.mirror.Counting.{Counted, later, go_on, ◌>>-◌, Frame, put, after_end, closed, close_or}
+use Rattle.cbor_diag.specs.mirror.Counting.{goes_on, read_parts, opened, read_part, counted_item, closing, resume}
+use Rattle.cbor_diag.specs.mirror.Counting.{deliver}
 
 -- ---- turns before
 
@@ -13,25 +16,31 @@ later_later j k c = let e : j + (k + c.0) ≡ (j + k) + c.0 = omega arith in ap 
 pub later_none : {X : Type 0} (c : Counted X) → later 0 c ≡ c
 later_none c = let e : 0 + c.0 ≡ c.0 = omega arith in ap (λ n. (n, c.1)) e
 
-go_later : {A B : Type 0} (k n : ℕ) (r : Read A) (f : A × List ℕ → Counted B) → go_on (k + n) r f ≡ later k (go_on n r f)
+go_later : {A B : Type 0} (k n : ℕ) (r : Read A) (f : A × List ℕ → Counted B)
+    → go_on (k + n) r f ≡ later k (go_on n r f)
 go_later k n (Ok x) f = sym (later_later k n (f x))
 go_later k n (Err e) f = refl
 
-pub then_later : {A B : Type 0} (k : ℕ) (c : Counted A) (f : A × List ℕ → Counted B) → (later k c >>- f) ≡ later k (c >>- f)
+pub then_later : {A B : Type 0} (k : ℕ) (c : Counted A) (f : A × List ℕ → Counted B)
+    → (later k c >>- f) ≡ later k (c >>- f)
 then_later k c f = go_later k c.0 c.1 f
 
-go_then : {A B C : Type 0} (n : ℕ) (r : Read A) (f : A × List ℕ → Counted B) (g : B × List ℕ → Counted C) → (go_on n r f >>- g) ≡ go_on n r (λ x. f x >>- g)
+go_then : {A B C : Type 0} (n : ℕ) (r : Read A) (f : A × List ℕ → Counted B) (g : B × List ℕ → Counted C)
+    → (go_on n r f >>- g) ≡ go_on n r (λ x. f x >>- g)
 go_then n (Ok x) f g = then_later n (f x) g
 go_then n (Err e) f g = refl
 
-pub then_then : {A B C : Type 0} (c : Counted A) (f : A × List ℕ → Counted B) (g : B × List ℕ → Counted C) → ((c >>- f) >>- g) ≡ (c >>- λ x. f x >>- g)
+pub then_then : {A B C : Type 0} (c : Counted A) (f : A × List ℕ → Counted B) (g : B × List ℕ → Counted C)
+    → ((c >>- f) >>- g) ≡ (c >>- λ x. f x >>- g)
 then_then c f g = go_then c.0 c.1 f g
 
-go_same : {A B : Type 0} (n : ℕ) (r : Read A) (f g : A × List ℕ → Counted B) → ((x : A × List ℕ) → r ≡ Ok x → f x ≡ g x) → go_on n r f ≡ go_on n r g
+go_same : {A B : Type 0} (n : ℕ) (r : Read A) (f g : A × List ℕ → Counted B) → ((x : A × List ℕ) → r ≡ Ok x → f x ≡ g x)
+    → go_on n r f ≡ go_on n r g
 go_same n (Ok x) f g h = ap (later n) (h x refl)
 go_same n (Err e) f g h = refl
 
-pub then_same : {A B : Type 0} (c : Counted A) (f g : A × List ℕ → Counted B) → ((x : A × List ℕ) → c.1 ≡ Ok x → f x ≡ g x) → (c >>- f) ≡ (c >>- g)
+pub then_same : {A B : Type 0} (c : Counted A) (f g : A × List ℕ → Counted B)
+    → ((x : A × List ℕ) → c.1 ≡ Ok x → f x ≡ g x) → (c >>- f) ≡ (c >>- g)
 then_same c f g h = go_same c.0 c.1 f g h
 
 -- ---- what follows takes no turn back
@@ -54,7 +63,8 @@ pub deliver_grows : (left : ℕ) (outer : List Frame) (top : Option Frame) (c : 
     → c.0 ≤ (deliver left outer top c).0
 deliver_grows left outer None c = omega arith
 deliver_grows left outer (Some f) c =
-    let more : Item × List ℕ → Counted Item = λ i. read_parts (counted_item (left - 1 - length outer)) (put f i.0) i.1 in
+    let more : Item × List ℕ → Counted Item =
+    λ i. read_parts (counted_item (left - 1 - length outer)) (put f i.0) i.1 in
     omega (arith, then_grows c more, closing_grows (left - 1) outer (c >>- more))
 
 -- ---- each item and each part of a container takes a turn
@@ -74,7 +84,8 @@ unfolding goes_on
 parts_count left f b =
     let read : List ℕ → Counted Item = counted_item left in
     let more : Item × List ℕ → Counted Item = λ i. goes_on (length b) read (put f i.0) i.1 in
-    close_counts (closed f) (after_end f b) (read b >>- more) (omega (arith, item_counts left b, then_grows (read b) more))
+    close_counts (closed f) (after_end f b) (read b >>- more)
+    (omega (arith, item_counts left b, then_grows (read b) more))
 
 pub resume_counts : (left : ℕ) (outer : List Frame) (top : Option Frame) (b : List ℕ) → 1 ≤ (resume left outer top b).0
 resume_counts left outer None b = item_counts left b
@@ -89,44 +100,58 @@ abbrev pub Shortens : (List ℕ → Counted Item) → Type 0
 Shortens read = (b : List ℕ) (x : Item × List ℕ) → (read b).1 ≡ Ok x → length x.1 < length b
 
 -- more than there are bytes are enough
-pub enough : (read : List ℕ → Counted Item) → Shortens read → (n m : ℕ) (f : Frame) (b : List ℕ) → length b < n → length b < m → goes_on n read f b ≡ goes_on m read f b
+pub enough : (read : List ℕ → Counted Item) → Shortens read → (n m : ℕ) (f : Frame) (b : List ℕ) → length b < n
+    → length b < m → goes_on n read f b ≡ goes_on m read f b
 unfolding goes_on
 enough read short zero m f b lt gt = absurd (omega arith)
 enough read short (suc n) zero f b lt gt = absurd (omega arith)
 enough read short (suc n) (suc m) f b lt gt =
-    ap (close_or (closed f) (after_end f b)) (then_same (read b) _ _ (λ x e. let s = short b x e in enough read short n m (put f x.0) x.1 (omega arith) (omega arith)))
+    ap (close_or (closed f) (after_end f b))
+    (then_same (read b) _ _ (λ x e. let s =
+    short b x e in enough read short n m (put f x.0) x.1 (omega arith) (omega arith)))
 
-pub parts_step : (read : List ℕ → Counted Item) → Shortens read → (f : Frame) (b : List ℕ) → read_parts read f b ≡ close_or (closed f) (after_end f b) (read b >>- λ i. read_parts read (put f i.0) i.1)
+pub parts_step : (read : List ℕ → Counted Item) → Shortens read → (f : Frame) (b : List ℕ)
+    → read_parts read f b ≡ close_or (closed f) (after_end f b) (read b >>- λ i. read_parts read (put f i.0) i.1)
 unfolding goes_on
 parts_step read short f b =
-    ap (close_or (closed f) (after_end f b)) (then_same (read b) _ _ (λ x e. let s = short b x e in enough read short (length b) (suc (length x.1)) (put f x.0) x.1 (omega arith) (omega arith)))
+    ap (close_or (closed f) (after_end f b))
+    (then_same (read b) _ _ (λ x e. let s =
+    short b x e in enough read short (length b) (suc (length x.1)) (put f x.0) x.1 (omega arith) (omega arith)))
 
-pub parts_end : (read : List ℕ → Counted Item) → Shortens read → (f : Frame) (b after : List ℕ) (i : Item) → closed f ≡ Some i → after_end f b ≡ Some after → read_parts read f b ≡ (1, Ok (i, after))
+pub parts_end : (read : List ℕ → Counted Item) → Shortens read → (f : Frame) (b after : List ℕ) (i : Item)
+    → closed f ≡ Some i → after_end f b ≡ Some after → read_parts read f b ≡ (1, Ok (i, after))
 parts_end read short f b after i is ends = parts_step read short f b ∙ rw (is, ends) refl
 
 open_or : (o : Option Item) (e : Option (List ℕ)) (more : Counted Item) → e ≡ None → close_or o e more ≡ more
 open_or (Some i) e more none = rw none refl
 open_or None e more none = refl
 
-pub parts_more : (read : List ℕ → Counted Item) → Shortens read → (f : Frame) (b : List ℕ) → after_end f b ≡ None → read_parts read f b ≡ (read b >>- λ i. read_parts read (put f i.0) i.1)
+pub parts_more : (read : List ℕ → Counted Item) → Shortens read → (f : Frame) (b : List ℕ) → after_end f b ≡ None
+    → read_parts read f b ≡ (read b >>- λ i. read_parts read (put f i.0) i.1)
 parts_more read short f b none = parts_step read short f b ∙ open_or (closed f) (after_end f b) _ none
 
 -- ---- all containers that are open
 
-pub closing_later : (left : ℕ) (fs : List Frame) (k : ℕ) (c : Counted Item) → closing left fs (later k c) ≡ later k (closing left fs c)
+pub closing_later : (left : ℕ) (fs : List Frame) (k : ℕ) (c : Counted Item)
+    → closing left fs (later k c) ≡ later k (closing left fs c)
 unfolding closing
 closing_later left [] k c = refl
 closing_later left (f ∷ fs) k c =
-    ap (λ d. d >>- λ i. read_parts (counted_item left) (put f i.0) i.1) (closing_later (left - 1) fs k c) ∙ then_later k (closing (left - 1) fs c) _
+    ap (λ d. d >>- λ i. read_parts (counted_item left) (put f i.0) i.1) (closing_later (left - 1) fs k c)
+    ∙ then_later k (closing (left - 1) fs c) _
 
 pub closing_err : (left : ℕ) (fs : List Frame) (n : ℕ) (e : Error) → closing left fs (n, Err e) ≡ (n, Err e)
 unfolding closing
 closing_err left [] n e = refl
-closing_err left (f ∷ fs) n e = ap (λ d. d >>- λ i. read_parts (counted_item left) (put f i.0) i.1) (closing_err (left - 1) fs n e)
+closing_err left (f ∷ fs) n e = ap (λ d. d >>- λ i. read_parts (counted_item left) (put f i.0) i.1)
+    (closing_err (left - 1) fs n e)
 
-pub closing_append : (left : ℕ) (fs : List Frame) (f : Frame) (c : Counted Item) → closing left (fs ++ f ∷ []) c ≡ closing left fs (c >>- λ i. read_parts (counted_item (left - length fs)) (put f i.0) i.1)
+pub closing_append : (left : ℕ) (fs : List Frame) (f : Frame) (c : Counted Item)
+    → closing left (fs ++ f ∷ []) c ≡ closing left fs
+    (c >>- λ i. read_parts (counted_item (left - length fs)) (put f i.0) i.1)
 unfolding closing
-closing_append left [] f c = let e : left ≡ left - 0 = omega arith in ap (λ n. c >>- λ i. read_parts (counted_item n) (put f i.0) i.1) e
+closing_append left [] f c = let e : left ≡ left - 0 =
+    omega arith in ap (λ n. c >>- λ i. read_parts (counted_item n) (put f i.0) i.1) e
 closing_append left (g ∷ fs) f c =
     let e : left - 1 - length fs ≡ left - suc (length fs) = omega arith in
     ap (λ d. d >>- λ i. read_parts (counted_item left) (put g i.0) i.1) (closing_append (left - 1) fs f c
@@ -134,11 +159,14 @@ closing_append left (g ∷ fs) f c =
 
 -- ---- one turn
 
-pub deliver_later : (left : ℕ) (outer : List Frame) (top : Option Frame) (k : ℕ) (c : Counted Item) → deliver left outer top (later k c) ≡ later k (deliver left outer top c)
+pub deliver_later : (left : ℕ) (outer : List Frame) (top : Option Frame) (k : ℕ) (c : Counted Item)
+    → deliver left outer top (later k c) ≡ later k (deliver left outer top c)
 deliver_later left outer None k c = refl
 deliver_later left outer (Some f) k c =
-    ap (closing (left - 1) outer) (then_later k c (λ i. read_parts (counted_item (left - 1 - length outer)) (put f i.0) i.1)) ∙ closing_later (left - 1) outer k _
+    ap (closing (left - 1) outer) (then_later k c
+    (λ i. read_parts (counted_item (left - 1 - length outer)) (put f i.0) i.1)) ∙ closing_later (left - 1) outer k _
 
-pub deliver_err : (left : ℕ) (outer : List Frame) (top : Option Frame) (n : ℕ) (e : Error) → deliver left outer top (n, Err e) ≡ (n, Err e)
+pub deliver_err : (left : ℕ) (outer : List Frame) (top : Option Frame) (n : ℕ) (e : Error)
+    → deliver left outer top (n, Err e) ≡ (n, Err e)
 deliver_err left outer None n e = refl
 deliver_err left outer (Some f) n e = closing_err (left - 1) outer n e

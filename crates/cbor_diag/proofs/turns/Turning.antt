@@ -1,5 +1,6 @@
 -- What one turn does: it closes a container, or reads a head.
-use Rattle.std.proofs.Common.{◌≡◌, ℕ, zero, suc, ◌+◌, ◌-◌, ◌<◌, ◌≤◌, List, [], ◌∷◌, ◌++◌, length, Option, Some, None, Ok, refl, sym, ap, subst, ◌∙◌, arith}
+use Rattle.std.proofs.Common.{◌≡◌, ℕ, zero, suc, ◌+◌, ◌-◌, ◌<◌, ◌≤◌, List, [], ◌∷◌, ◌++◌, length, Option, Some, None}
+use Rattle.std.proofs.Common.{Ok, refl, sym, ap, subst, ◌∙◌, arith}
 use Rattle.std.specs.Prelude.{IsSome, option_and_then, option_to_list}
 use Rattle.std.proofs.lemmas.List.{length-append}
 use Rattle.cbor_diag.specs.declared.error.Error.{Error}
@@ -9,16 +10,21 @@ use Rattle.cbor_diag.specs.declared.parse.binary.head.ItemHead.TheVariants as it
 use Rattle.cbor_diag.specs.Item.{Item}
 use Rattle.cbor_diag.specs.Answer.{MayWantMemory}
 use Rattle.cbor_diag.specs.Reading.{Fails, HoldsContent, read_head}
-use Rattle.cbor_diag.specs.mirror.Counting.{Counted, later, go_on, ◌>>-◌, Stops, Frame, put, after_end, closed, read_parts, opened, read_atom, read_part, read_item_head, counted_item, closing, pushed, depth_of, resume, deliver, IsStack}
+use Rattle.cbor_diag.specs.mirror.Counting.{Counted, later, go_on, ◌>>-◌, Stops, Frame, put, after_end, closed}
+use Rattle.cbor_diag.specs.mirror.Counting.{read_parts, opened, read_atom, read_part, read_item_head, counted_item}
+use Rattle.cbor_diag.specs.mirror.Counting.{closing, pushed, depth_of, resume, deliver, IsStack}
 use Rattle.cbor_diag.proofs.bytes.Heads.{IsBytes}
 use Rattle.cbor_diag.proofs.bytes.Outcomes.{memory_opens}
-use Rattle.cbor_diag.proofs.turns.Counting.{later_later, later_none, parts_end, parts_more, closing_later, closing_append, deliver_later, deliver_err, deliver_grows, resume_counts}
+use Rattle.cbor_diag.proofs.turns.Counting.{later_later, later_none, parts_end, parts_more, closing_later}
+use Rattle.cbor_diag.proofs.turns.Counting.{closing_append, deliver_later, deliver_err, deliver_grows, resume_counts}
 use Rattle.cbor_diag.proofs.turns.ChunkLoops.{stops_go, stops_with, stops_later}
 use Rattle.cbor_diag.proofs.turns.Uncounted.{item_shortens}
 
 -- ---- a container that ends
 
-closes_in : (left : ℕ) (outer : List Frame) (top : Option Frame) (i : Item) (after : List ℕ) → IsStack outer top → closing (left - 1) (outer ++ option_to_list top) (1, Ok (i, after)) ≡ later 1 (deliver left outer top (0, Ok (i, after)))
+closes_in : (left : ℕ) (outer : List Frame) (top : Option Frame) (i : Item) (after : List ℕ) → IsStack outer top
+    → closing (left - 1) (outer ++ option_to_list top) (1, Ok (i, after))
+    ≡ later 1 (deliver left outer top (0, Ok (i, after)))
 unfolding closing
 closes_in left outer None i after bottom = ap (λ fs. closing (left - 1) (fs ++ []) (1, Ok (i, after))) bottom
 closes_in left outer (Some g) i after bottom =
@@ -26,11 +32,14 @@ closes_in left outer (Some g) i after bottom =
     closing_append (left - 1) outer g (1, Ok (i, after)) ∙ closing_later (left - 1) outer 1 next
     ∙ ap (later 1) (ap (closing (left - 1) outer) (sym (later_none next)))
 
-pub closes : (left : ℕ) (outer inner : List Frame) (top under : Option Frame) (b after : List ℕ) (i : Item) → Some after ≡ option_and_then (λ f. after_end f b) top → option_and_then closed top ≡ Some i → outer ≡ inner ++ option_to_list under → IsStack inner under
+pub closes : (left : ℕ) (outer inner : List Frame) (top under : Option Frame) (b after : List ℕ) (i : Item)
+    → Some after ≡ option_and_then (λ f. after_end f b) top → option_and_then closed top ≡ Some i
+    → outer ≡ inner ++ option_to_list under → IsStack inner under
     → resume left outer top b ≡ later 1 (deliver left inner under (0, Ok (i, after)))
 closes left outer inner None under b after i ends is parts bottom = absurd cc
 closes left outer inner (Some f) under b after i ends is parts bottom =
-    ap (closing (left - 1) outer) (parts_end (counted_item (left - 1 - length outer)) (item_shortens (left - 1 - length outer)) f b after i is (sym ends))
+    ap (closing (left - 1) outer) (parts_end (counted_item (left - 1 - length outer))
+    (item_shortens (left - 1 - length outer)) f b after i is (sym ends))
     ∙ ap (λ fs. closing (left - 1) fs (1, Ok (i, after))) parts ∙ closes_in left inner under i after bottom
 
 -- a turn in which memory ran out
@@ -40,7 +49,9 @@ turn_wants left t outer top b = omega (arith, resume_counts left outer top b)
 
 -- ---- a head that is wanted
 
-pub wants : (left : ℕ) (outer : List Frame) (top : Option Frame) (b : List ℕ) → None ≡ option_and_then (λ f. after_end f b) top → resume left outer top b ≡ deliver left outer top (counted_item (left - depth_of outer top) b)
+pub wants : (left : ℕ) (outer : List Frame) (top : Option Frame) (b : List ℕ)
+    → None ≡ option_and_then (λ f. after_end f b) top
+    → resume left outer top b ≡ deliver left outer top (counted_item (left - depth_of outer top) b)
 wants left outer None b none = let e : left ≡ left - 0 = omega arith in ap (λ n. counted_item n b) e
 wants left outer (Some f) b none =
     let e : left - 1 - length outer ≡ left - suc (length outer) = omega arith in
@@ -62,25 +73,38 @@ head_stops e zero b h = too_deep e b h
 head_stops e (suc left) b h = stops_go e 1 (read_head b) (λ x. read_part (counted_item left) (opened x.0) x.0 x.1) h
 
 -- a part that is read, with the turns before it
-pub later_deliver : (left : ℕ) (outer : List Frame) (top : Option Frame) (t : ℕ) (c : Counted Item) → later t (deliver left outer top (later 1 c)) ≡ deliver left outer top (later (t + 1) c)
-later_deliver left outer top t c = sym (deliver_later left outer top t (later 1 c)) ∙ ap (deliver left outer top) (later_later t 1 c)
+pub later_deliver : (left : ℕ) (outer : List Frame) (top : Option Frame) (t : ℕ) (c : Counted Item)
+    → later t (deliver left outer top (later 1 c)) ≡ deliver left outer top (later (t + 1) c)
+later_deliver left outer top t c = sym (deliver_later left outer top t (later 1 c))
+    ∙ ap (deliver left outer top) (later_later t 1 c)
 
-pub wanted_stops : (e : Error) (left t : ℕ) (outer : List Frame) (top : Option Frame) (b : List ℕ) → None ≡ option_and_then (λ f. after_end f b) top → Fails e (read_item_head (left - depth_of outer top) b) → Stops e (t + 1) (later t (resume left outer top b))
+pub wanted_stops : (e : Error) (left t : ℕ) (outer : List Frame) (top : Option Frame) (b : List ℕ)
+    → None ≡ option_and_then (λ f. after_end f b) top → Fails e (read_item_head (left - depth_of outer top) b)
+    → Stops e (t + 1) (later t (resume left outer top b))
 wanted_stops e left t outer top b none h =
     let head = head_stops e (left - depth_of outer top) b h in
     let read : Counted Item = counted_item (left - depth_of outer top) b in
     let err = λ (d : Error). deliver_err left outer top 1 d in
     let all = stops_with e 1 read (deliver left outer top) err (deliver_grows left outer top) head in
-    rw (wants left outer top b none) (stops_later e t 1 (deliver left outer top (counted_item (left - depth_of outer top) b)) all)
+    rw (wants left outer top b none) (stops_later e t 1
+    (deliver left outer top (counted_item (left - depth_of outer top) b)) all)
 
 -- the head was there, and so was a level for it
-pub head_opens : (left : ℕ) (b : List ℕ) (h : ItemHead) (rest : List ℕ) → read_item_head left b ≡ Ok (h, rest) → (l : ℕ) × (left ≡ suc l) × (read_head b ≡ Ok (h, rest)) × (counted_item left b ≡ later 1 (read_part (counted_item l) (opened h) h rest))
+pub head_opens : (left : ℕ) (b : List ℕ) (h : ItemHead) (rest : List ℕ) → read_item_head left b ≡ Ok (h, rest)
+    → (l : ℕ) × (left ≡ suc l) × (read_head b ≡ Ok (h, rest))
+    × (counted_item left b ≡ later 1 (read_part (counted_item l) (opened h) h rest))
 unfolding counted_item
 head_opens zero [] h rest e = absurd cc
 head_opens zero (first ∷ b) h rest e = absurd cc
-head_opens (suc left) b h rest e = (left, refl, e, ap (λ r. go_on 1 r (λ x. read_part (counted_item left) (opened x.0) x.0 x.1)) e)
+head_opens (suc left) b h rest e = (
+  left,
+  refl,
+  e,
+  ap (λ r. go_on 1 r (λ x. read_part (counted_item left) (opened x.0) x.0 x.1)) e,
+)
 
-pub wanted_opens : (left : ℕ) (b : List ℕ) (h : ItemHead) (rest : List ℕ) → IsBytes b → read_item_head left b ≡ Ok (h, rest) → HoldsContent h → MayWantMemory b
+pub wanted_opens : (left : ℕ) (b : List ℕ) (h : ItemHead) (rest : List ℕ) → IsBytes b
+    → read_item_head left b ≡ Ok (h, rest) → HoldsContent h → MayWantMemory b
 wanted_opens left b h rest fits e holds = memory_opens b rest h fits (head_opens left b h rest e).2 holds
 
 pub opened_holds : (h : ItemHead) (f : Frame) → opened h ≡ Some f → HoldsContent h
@@ -101,38 +125,52 @@ some_holds h e = absurd cc
 
 -- ---- a container that is opened
 
-pub pushed_depth : (outer : List Frame) (top : Option Frame) → IsStack outer top → length (pushed outer top) ≡ depth_of outer top
+pub pushed_depth : (outer : List Frame) (top : Option Frame) → IsStack outer top
+    → length (pushed outer top) ≡ depth_of outer top
 pushed_depth outer None bottom = ap length bottom
 pushed_depth outer (Some f) bottom = omega (arith, length-append outer (f ∷ []))
 
-deliver_opened : (left l : ℕ) (outer : List Frame) (top : Option Frame) (g : Frame) (rest : List ℕ) → IsStack outer top → left - depth_of outer top ≡ suc l → deliver left outer top (read_parts (counted_item l) g rest) ≡ resume left (pushed outer top) (Some g) rest
+deliver_opened : (left l : ℕ) (outer : List Frame) (top : Option Frame) (g : Frame) (rest : List ℕ) → IsStack outer top
+    → left - depth_of outer top ≡ suc l → deliver left outer top (read_parts (counted_item l) g rest)
+    ≡ resume left (pushed outer top) (Some g) rest
 unfolding closing
 deliver_opened left l outer None g rest bottom levels =
     let e : l ≡ left - 1 - 0 = omega arith in
-    ap (λ n. read_parts (counted_item n) g rest) e ∙ ap (λ fs. closing (left - 1) fs (read_parts (counted_item (left - 1 - length fs)) g rest)) (sym bottom)
+    ap (λ n. read_parts (counted_item n) g rest) e
+    ∙ ap (λ fs. closing (left - 1) fs (read_parts (counted_item (left - 1 - length fs)) g rest)) (sym bottom)
 deliver_opened left l outer (Some f) g rest bottom levels =
     let e : l ≡ left - 1 - length (outer ++ f ∷ []) = omega (arith, length-append outer (f ∷ [])) in
-    ap (λ n. closing (left - 1) outer (read_parts (counted_item n) g rest >>- λ i. read_parts (counted_item (left - 1 - length outer)) (put f i.0) i.1)) e
+    ap (λ n. closing (left - 1) outer (read_parts (counted_item n) g rest >>- λ i. read_parts
+    (counted_item (left - 1 - length outer)) (put f i.0) i.1)) e
     ∙ sym (closing_append (left - 1) outer f (read_parts (counted_item (left - 1 - length (outer ++ f ∷ []))) g rest))
 
-pub opens : (left t : ℕ) (outer : List Frame) (top : Option Frame) (b : List ℕ) (h : ItemHead) (g : Frame) (rest : List ℕ) → IsStack outer top → None ≡ option_and_then (λ f. after_end f b) top → read_item_head (left - depth_of outer top) b ≡ Ok (h, rest) → opened h ≡ Some g
+pub opens : (left t : ℕ) (outer : List Frame) (top : Option Frame) (b : List ℕ) (h : ItemHead) (g : Frame)
+    (rest : List ℕ) → IsStack outer top → None ≡ option_and_then (λ f. after_end f b) top
+    → read_item_head (left - depth_of outer top) b ≡ Ok (h, rest) → opened h ≡ Some g
     → later t (resume left outer top b) ≡ later (t + 1) (resume left (pushed outer top) (Some g) rest)
 opens left t outer top b h g rest bottom none e is =
     let o = head_opens (left - depth_of outer top) b h rest e in
-    let read : counted_item (left - depth_of outer top) b ≡ later 1 (read_parts (counted_item o.0) g rest) = o.3 ∙ ap (λ x. later 1 (read_part (counted_item o.0) x h rest)) is in
+    let read : counted_item (left - depth_of outer top) b ≡ later 1 (read_parts (counted_item o.0) g rest) = o.3
+    ∙ ap (λ x. later 1 (read_part (counted_item o.0) x h rest)) is in
     ap (later t) (wants left outer top b none ∙ ap (deliver left outer top) read ∙ deliver_later left outer top 1 _)
     ∙ later_later t 1 _ ∙ ap (later (t + 1)) (deliver_opened left o.0 outer top g rest bottom o.1)
 
 -- ---- an item without parts
 
-atom_read : (left t : ℕ) (outer : List Frame) (top : Option Frame) (b : List ℕ) (h : ItemHead) (rest : List ℕ) → None ≡ option_and_then (λ f. after_end f b) top → read_item_head (left - depth_of outer top) b ≡ Ok (h, rest) → opened h ≡ None
+atom_read : (left t : ℕ) (outer : List Frame) (top : Option Frame) (b : List ℕ) (h : ItemHead) (rest : List ℕ)
+    → None ≡ option_and_then (λ f. after_end f b) top → read_item_head (left - depth_of outer top) b ≡ Ok (h, rest)
+    → opened h ≡ None
     → later t (resume left outer top b) ≡ deliver left outer top (later (t + 1) (read_atom h rest))
 atom_read left t outer top b h rest none e is =
     let o = head_opens (left - depth_of outer top) b h rest e in
-    let read : counted_item (left - depth_of outer top) b ≡ later 1 (read_atom h rest) = o.3 ∙ ap (λ x. later 1 (read_part (counted_item o.0) x h rest)) is in
-    ap (later t) (wants left outer top b none ∙ ap (deliver left outer top) read) ∙ later_deliver left outer top t (read_atom h rest)
+    let read : counted_item (left - depth_of outer top) b ≡ later 1 (read_atom h rest) = o.3
+    ∙ ap (λ x. later 1 (read_part (counted_item o.0) x h rest)) is in
+    ap (later t) (wants left outer top b none ∙ ap (deliver left outer top) read)
+    ∙ later_deliver left outer top t (read_atom h rest)
 
-pub atom_stops : (error : Error) (left t n : ℕ) (outer : List Frame) (top : Option Frame) (b : List ℕ) (h : ItemHead) (rest : List ℕ) → None ≡ option_and_then (λ f. after_end f b) top → read_item_head (left - depth_of outer top) b ≡ Ok (h, rest) → opened h ≡ None
+pub atom_stops : (error : Error) (left t n : ℕ) (outer : List Frame) (top : Option Frame) (b : List ℕ) (h : ItemHead)
+    (rest : List ℕ) → None ≡ option_and_then (λ f. after_end f b) top
+    → read_item_head (left - depth_of outer top) b ≡ Ok (h, rest) → opened h ≡ None
     → Stops error n (later (t + 1) (read_atom h rest)) → Stops error n (later t (resume left outer top b))
 atom_stops error left t n outer top b h rest none e is stops =
     let read : Counted Item = later (t + 1) (read_atom h rest) in
@@ -140,14 +178,20 @@ atom_stops error left t n outer top b h rest none e is stops =
     let all = stops_with error n read (deliver left outer top) err (deliver_grows left outer top) stops in
     subst (Stops error n) (sym (atom_read left t outer top b h rest none e is)) all
 
-pub atom_whole : (left t n : ℕ) (outer : List Frame) (top : Option Frame) (b : List ℕ) (h : ItemHead) (rest : List ℕ) (i : Item) (after : List ℕ) → None ≡ option_and_then (λ f. after_end f b) top → read_item_head (left - depth_of outer top) b ≡ Ok (h, rest) → opened h ≡ None
-    → later (t + 1) (read_atom h rest) ≡ (n, Ok (i, after)) → later t (resume left outer top b) ≡ later n (deliver left outer top (0, Ok (i, after)))
+pub atom_whole : (left t n : ℕ) (outer : List Frame) (top : Option Frame) (b : List ℕ) (h : ItemHead) (rest : List ℕ)
+    (i : Item) (after : List ℕ) → None ≡ option_and_then (λ f. after_end f b) top
+    → read_item_head (left - depth_of outer top) b ≡ Ok (h, rest) → opened h ≡ None
+    → later (t + 1) (read_atom h rest) ≡ (n, Ok (i, after))
+    → later t (resume left outer top b) ≡ later n (deliver left outer top (0, Ok (i, after)))
 atom_whole left t n outer top b h rest i after none e is whole =
     let m : n ≡ n + 0 = omega arith in
-    atom_read left t outer top b h rest none e is ∙ ap (deliver left outer top) (whole ∙ ap (λ k. (k, Ok (i, after))) m) ∙ deliver_later left outer top n (0, Ok (i, after))
+    atom_read left t outer top b h rest none e is ∙ ap (deliver left outer top) (whole ∙ ap (λ k. (k, Ok (i, after))) m)
+    ∙ deliver_later left outer top n (0, Ok (i, after))
 
 -- a level is left for what was opened
-pub opened_level : (left : ℕ) (outer inner : List Frame) (top under : Option Frame) (b : List ℕ) (h : ItemHead) (g : Frame) (rest : List ℕ) → IsStack outer top → read_item_head (left - depth_of outer top) b ≡ Ok (h, rest) → inner ≡ pushed outer top → under ≡ Some g → depth_of inner under ≤ left
+pub opened_level : (left : ℕ) (outer inner : List Frame) (top under : Option Frame) (b : List ℕ) (h : ItemHead)
+    (g : Frame) (rest : List ℕ) → IsStack outer top → read_item_head (left - depth_of outer top) b ≡ Ok (h, rest)
+    → inner ≡ pushed outer top → under ≡ Some g → depth_of inner under ≤ left
 opened_level left outer inner top under b h g rest bottom e parts is =
     let o = head_opens (left - depth_of outer top) b h rest e in
     let d = pushed_depth outer top bottom in
@@ -157,5 +201,7 @@ pub some_depth : (outer : List Frame) (top : Option Frame) → IsSome top → 0 
 some_depth outer None h = absurd cc
 some_depth outer (Some f) h = omega arith
 
-pub opened_depth : (outer inner : List Frame) (top under : Option Frame) (g : Frame) → IsStack outer top → inner ≡ pushed outer top → under ≡ Some g → depth_of inner under ≡ depth_of outer top + 1
-opened_depth outer inner top under g bottom parts is = rw (is, parts) (let d = pushed_depth outer top bottom in omega arith)
+pub opened_depth : (outer inner : List Frame) (top under : Option Frame) (g : Frame) → IsStack outer top
+    → inner ≡ pushed outer top → under ≡ Some g → depth_of inner under ≡ depth_of outer top + 1
+opened_depth outer inner top under g bottom parts is =
+    rw (is, parts) (let d = pushed_depth outer top bottom in omega arith)

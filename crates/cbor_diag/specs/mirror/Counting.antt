@@ -1,7 +1,8 @@
 -- Reading as in `specs/Reading.antt`, with its turns counted and over a stack of open containers, as the
 -- code of `parse/binary.rt` goes: what is open is what is left to do with the next item. No public clause
 -- names it: proofs/ shows that it reads the same, and that its turns are those of `specs/Turns.antt`.
-use Rattle.std.specs.Prelude.{◌≡◌, ℕ, zero, suc, ◌+◌, ◌-◌, ◌≤◌, List, [], ◌∷◌, ◌++◌, length, Option, Some, None, Result, Ok, Err}
+use Rattle.std.specs.Prelude.{◌≡◌, ℕ, zero, suc, ◌+◌, ◌-◌, ◌≤◌, List, [], ◌∷◌, ◌++◌, length, Option, Some, None, Result}
+use Rattle.std.specs.Prelude.{Ok, Err}
 use Rattle.cbor_diag.specs.declared.syntax.IntegerWidth.{IntegerWidth}
 use Rattle.cbor_diag.specs.declared.error.Error.{Error}
 use Rattle.cbor_diag.specs.declared.error.Error.TheVariants as refusal
@@ -147,7 +148,8 @@ read_atom (item_head.Bytes n w) b = (0, read_content bytes_kind n w b >>= λ c. 
 read_atom (item_head.Text n w) b = (0, read_content text_kind n w b >>= λ c. Ok (atom (text_string c.0), c.1))
 read_atom (item_head.Float bits w) b = (0, Ok (atom (float bits w), b))
 read_atom (item_head.Simple n) b = (0, Ok (atom (simple n), b))
-read_atom item_head.OpenBytes b = counted_chunks (length b) bytes_kind b >>- λ cs. (0, Ok (atom (byte_chunks cs.0), cs.1))
+read_atom item_head.OpenBytes b = counted_chunks (length b) bytes_kind b >>- λ cs.
+    (0, Ok (atom (byte_chunks cs.0), cs.1))
 read_atom item_head.OpenText b = counted_chunks (length b) text_kind b >>- λ cs. (0, Ok (atom (text_chunks cs.0), cs.1))
 read_atom _ b = (0, Err refusal.Head)
 

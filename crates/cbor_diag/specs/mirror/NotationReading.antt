@@ -1,7 +1,9 @@
 -- Reading notation from left to right, as the code of `parse/notation.rt` does: a function from a text to a
 -- value and the rest, or the first refusal. No public clause names it: proofs/ shows that it agrees with
 -- `Reads`.
-use Rattle.std.specs.Prelude.{ℕ, zero, suc, ◌+◌, ◌-◌, ◌*◌, ◌/◌, ◌%◌, ◌^◌, List, [], ◌∷◌, ◌++◌, length, take, drop, map, position, codes, Option, Some, None, option_and_then, unwrap_or, Result, Ok, Err, Bool, true, false, not, nat_lt, nat_le, nat_eq, bytes_eq, ◌==◌, ◌&&◌, ◌||◌, if◌then◌else◌}
+use Rattle.std.specs.Prelude.{ℕ, zero, suc, ◌+◌, ◌-◌, ◌*◌, ◌/◌, ◌%◌, ◌^◌, List, [], ◌∷◌, ◌++◌, length, take, drop, map}
+use Rattle.std.specs.Prelude.{position, codes, Option, Some, None, option_and_then, unwrap_or, Result, Ok, Err, Bool}
+use Rattle.std.specs.Prelude.{true, false, not, nat_lt, nat_le, nat_eq, bytes_eq, ◌==◌, ◌&&◌, ◌||◌, if◌then◌else◌}
 use Rattle.std.specs.List.{starts_with, before_first, list_all}
 use Rattle.std.specs.Char.{digit_value}
 use Rattle.std.specs.Str.{is_utf8}
@@ -22,7 +24,8 @@ use Rattle.cbor_diag.specs.declared.error.Error.TheVariants as refusal
 use Rattle.cbor_diag.specs.declared.parse.notation.start.Start.{Start}
 use Rattle.cbor_diag.specs.declared.parse.notation.start.Start.TheVariants as start
 use Rattle.cbor_diag.specs.Item as spec
-use Rattle.cbor_diag.specs.Item.{Chunk, integer, negative, byte_string, text_string, byte_chunks, text_chunks, float, simple, Item, atom, array, tagged}
+use Rattle.cbor_diag.specs.Item.{Chunk, integer, negative, byte_string, text_string, byte_chunks, text_chunks, float}
+use Rattle.cbor_diag.specs.Item.{simple, Item, atom, array, tagged}
 use Rattle.cbor_diag.specs.View.{items_of, pairs_of}
 use Rattle.cbor_diag.specs.Bytes.{StringKind, bytes_kind, text_kind}
 use Rattle.cbor_diag.specs.Reading.{Read, ◌>>=◌}
@@ -54,7 +57,8 @@ after_word word text = if starts_with nat_eq text word then Some (drop (length w
 -- the value of one digit of a base or more
 abbrev pub numeral : ℕ → List ℕ → Option ℕ
 numeral radix [] = None
-numeral radix (d ∷ ds) = if list_all (λ c. nat_lt (digit_value c) radix) (d ∷ ds) then Some (digits_value radix (d ∷ ds)) else None
+numeral radix (d ∷ ds) = if list_all (λ c. nat_lt (digit_value c) radix) (d ∷ ds)
+    then Some (digits_value radix (d ∷ ds)) else None
 
 -- the longest number at the front
 abbrev pub read_number : List ℕ → Read (ℕ × Option ℕ)
@@ -71,7 +75,8 @@ past_width _ = 2 ^ 64
 -- a number and its width, where it fits it
 abbrev pub with_width : ℕ → Option ℕ → Result (ℕ × IntegerWidth) Error
 with_width n None = if nat_lt n (2 ^ 64) then Ok (n, number_width n None) else Err refusal.Notation
-with_width n (Some indicator) = if nat_lt n (past_width (width_of indicator)) then Ok (n, width_of indicator) else Err refusal.PastWidth
+with_width n (Some indicator) = if nat_lt n (past_width (width_of indicator)) then Ok (n, width_of indicator)
+    else Err refusal.PastWidth
 
 -- the number that is encoded for a negative one
 abbrev pub negative_number : ℕ → Option ℕ → Result (ℕ × IntegerWidth) Error
@@ -103,7 +108,8 @@ read_integer read text = read_unsigned_number text >>= λ n. integer_or_tag read
 
 -- the text behind the close of a list, where one or more whitespace characters stand before it
 abbrev pub after_space : ℕ → List ℕ → Option (List ℕ)
-after_space close text = option_and_then (λ spaces. if nat_lt 0 spaces then after_byte close (drop spaces text) else None) (position (λ b. not (is_whitespace b)) text)
+after_space close text = option_and_then (λ spaces. if nat_lt 0 spaces then after_byte close (drop spaces text)
+    else None) (position (λ b. not (is_whitespace b)) text)
 
 -- the text behind what closes a list, where that stands here: the byte, or a last comma, whitespace and it
 abbrev pub after_end : ℕ → List ℕ → Option (List ℕ)
@@ -119,7 +125,8 @@ more_members read text None = or_refused (after_byte 44 text) >>= read
 -- text has more than it has bytes.
 unfoldable pub members_from : {X : Type 0} → (List ℕ → Read X) → ℕ → ℕ → List ℕ → Read (List X)
 members_from read close zero text = Err refusal.Notation
-members_from read close (suc n) text = read text >>= λ x. more_members (members_from read close n) x.1 (after_end close x.1) >>= λ xs. Ok (x.0 ∷ xs.0, xs.1)
+members_from read close (suc n) text = read text >>= λ x. more_members (members_from read close n) x.1
+    (after_end close x.1) >>= λ xs. Ok (x.0 ∷ xs.0, xs.1)
 
 abbrev pub members_or_end : {X : Type 0} → (List ℕ → Read X) → ℕ → List ℕ → Option (List ℕ) → Read (List X)
 members_or_end read close text (Some rest) = Ok ([], rest)
@@ -131,7 +138,8 @@ read_members read close text = let first = skip_blank text in members_or_end rea
 
 -- a key, `:` and its value
 abbrev pub read_pair : (List ℕ → Read Item) → List ℕ → Read (Item × Item)
-read_pair read text = read text >>= λ k. or_refused (after_byte 58 k.1) >>= λ rest. read rest >>= λ v. Ok ((k.0, v.0), v.1)
+read_pair read text = read text >>= λ k. or_refused (after_byte 58 k.1) >>= λ rest. read rest
+    >>= λ v. Ok ((k.0, v.0), v.1)
 
 -- whether a list is of indefinite length, which a `_` says, and the text behind that
 abbrev pub length_of : List ℕ → Option (List ℕ) → Option IntegerWidth × List ℕ
@@ -142,10 +150,12 @@ abbrev pub read_length : List ℕ → Option IntegerWidth × List ℕ
 read_length text = length_of text (after_byte 95 text)
 
 abbrev pub read_array : (List ℕ → Read Item) → List ℕ → Read Item
-read_array read text = let opened = read_length text in read_members read 93 opened.1 >>= λ is. Ok (array (items_of is.0) opened.0, is.1)
+read_array read text = let opened = read_length text in read_members read 93 opened.1
+    >>= λ is. Ok (array (items_of is.0) opened.0, is.1)
 
 abbrev pub read_map : (List ℕ → Read Item) → List ℕ → Read Item
-read_map read text = let opened = read_length text in read_members (read_pair read) 125 opened.1 >>= λ ps. Ok (spec.map (pairs_of ps.0) opened.0, ps.1)
+read_map read text = let opened = read_length text in read_members (read_pair read) 125 opened.1
+    >>= λ ps. Ok (spec.map (pairs_of ps.0) opened.0, ps.1)
 
 -- Strings
 
@@ -160,10 +170,12 @@ value_in alphabet digit = unwrap_or (position (λ c. c == digit) alphabet) 0
 
 -- the whole bytes of digits of five bits each, eight digits at a time
 abbrev pub bytes_of_fives : List ℕ → List ℕ
-bytes_of_fives values = take (5 * length values / 8) (base32.places 256 5 (number_from_digits 32 values * 32 ^ (8 - length values)))
+bytes_of_fives values = take (5 * length values / 8)
+    (base32.places 256 5 (number_from_digits 32 values * 32 ^ (8 - length values)))
 
 unfoldable pub from_fives : List ℕ → List ℕ
-from_fives (a ∷ b ∷ c ∷ d ∷ e ∷ f ∷ g ∷ h ∷ values) = bytes_of_fives (a ∷ b ∷ c ∷ d ∷ e ∷ f ∷ g ∷ h ∷ []) ++ from_fives values
+from_fives (a ∷ b ∷ c ∷ d ∷ e ∷ f ∷ g ∷ h ∷ values) = bytes_of_fives (a ∷ b ∷ c ∷ d ∷ e ∷ f ∷ g ∷ h ∷ [])
+    ++ from_fives values
 from_fives values = bytes_of_fives values
 
 -- the whole bytes of digits of six bits each, four digits at a time
@@ -178,10 +190,12 @@ abbrev pub unpadded : List ℕ → List ℕ
 unpadded digits = before_first (λ d. d == 61) digits
 
 unfoldable pub base32_of : List ℕ → Option (List ℕ)
-base32_of digits = if_encoded base32.base32 digits (from_fives (map (value_in (codes "ABCDEFGHIJKLMNOPQRSTUVWXYZ234567")) (unpadded digits)))
+base32_of digits = if_encoded base32.base32 digits
+    (from_fives (map (value_in (codes "ABCDEFGHIJKLMNOPQRSTUVWXYZ234567")) (unpadded digits)))
 
 unfoldable pub base32hex_of : List ℕ → Option (List ℕ)
-base32hex_of digits = if_encoded base32.base32hex digits (from_fives (map (value_in (codes "0123456789ABCDEFGHIJKLMNOPQRSTUV")) (unpadded digits)))
+base32hex_of digits = if_encoded base32.base32hex digits
+    (from_fives (map (value_in (codes "0123456789ABCDEFGHIJKLMNOPQRSTUV")) (unpadded digits)))
 
 -- the value of a digit in either alphabet of base 64
 abbrev pub six_bits : ℕ → ℕ
@@ -209,24 +223,29 @@ base16_of digits = base16_bytes (decode_of digits)
 
 -- what the digits behind an opened quote are the encoding of
 abbrev pub read_decoded : Bool → (List ℕ → Option (List ℕ)) → List ℕ → Read (List ℕ)
-read_decoded comments decode text = or_refused (digits_of comments text) >>= λ x. or_refused (decode x.0) >>= λ bytes. Ok (bytes, x.1)
+read_decoded comments decode text = or_refused (digits_of comments text) >>= λ x. or_refused (decode x.0)
+    >>= λ bytes. Ok (bytes, x.1)
 
 -- one notation of two that begin with the same letter, by the word that follows
-abbrev pub either_word : {X : Type 0} → Option (List ℕ) → (List ℕ → Result X Error) → Option (List ℕ) → (List ℕ → Result X Error) → Result X Error
+abbrev pub either_word : {X : Type 0} → Option (List ℕ) → (List ℕ → Result X Error) → Option (List ℕ)
+    → (List ℕ → Result X Error) → Result X Error
 either_word (Some rest) first other second = first rest
 either_word None first (Some rest) second = second rest
 either_word None first None second = Err refusal.Notation
 
 -- `h'..'` or `h32'..'`, and `b32'..'` or `b64'..'`, behind the letter
 abbrev pub h_notation : List ℕ → Read (List ℕ)
-h_notation text = either_word (after_word (codes "'") text) (read_decoded true base16_of) (after_word (codes "32'") text) (read_decoded true base32hex_of)
+h_notation text = either_word (after_word (codes "'") text) (read_decoded true base16_of)
+    (after_word (codes "32'") text) (read_decoded true base32hex_of)
 
 abbrev pub b_notation : List ℕ → Read (List ℕ)
-b_notation text = either_word (after_word (codes "32'") text) (read_decoded true base32_of) (after_word (codes "64'") text) (read_decoded false base64_of)
+b_notation text = either_word (after_word (codes "32'") text) (read_decoded true base32_of)
+    (after_word (codes "64'") text) (read_decoded false base64_of)
 
 -- items behind the first `<` of `<<`, and their encodings
 abbrev pub read_embedded : (List ℕ → Read Item) → List ℕ → Read (List ℕ)
-read_embedded read text = or_refused (after_byte 60 text) >>= λ first. read_members read 62 first >>= λ is. or_refused (after_byte 62 is.1) >>= λ rest. Ok (encoded_items (items_of is.0), rest)
+read_embedded read text = or_refused (after_byte 60 text) >>= λ first. read_members read 62 first
+    >>= λ is. or_refused (after_byte 62 is.1) >>= λ rest. Ok (encoded_items (items_of is.0), rest)
 
 -- what begins with this byte
 unfoldable pub start_of : ℕ → Start
@@ -279,7 +298,8 @@ unfoldable pub read_pieces : (List ℕ → Read Item) → Bool → ℕ → List 
 read_pieces read texts zero text = Err refusal.Notation
 read_pieces read texts (suc n) text =
     elim (begins_piece texts (first_start text)) [
-      | true ↦ (read_piece read text >>= λ x. read_pieces read texts n (skip_blank x.1) >>= λ xs. Ok (x.0 ++ xs.0, xs.1))
+      | true ↦ (read_piece read text >>= λ x. read_pieces read texts n (skip_blank x.1)
+          >>= λ xs. Ok (x.0 ++ xs.0, xs.1))
       | false ↦ Ok ([], text)
     ]
 
@@ -296,11 +316,13 @@ may_have_texts text_kind = true
 -- the content of a string, which is UTF-8 in a text string
 abbrev pub checked : StringKind → List ℕ → Result Chunk Error
 checked bytes_kind content = Ok (record { bytes = content; width = Unknown })
-checked text_kind content = if is_utf8 content then Ok (record { bytes = content; width = Unknown }) else Err refusal.Utf8
+checked text_kind content = if is_utf8 content then Ok (record { bytes = content; width = Unknown })
+    else Err refusal.Utf8
 
 abbrev pub string_of : (List ℕ → Read Item) → StringKind → List ℕ → Bool → Read Chunk
 string_of read kind text false = Err refusal.Notation
-string_of read kind text true = read_pieces read (may_have_texts kind) (suc (length text)) text >>= λ x. checked kind x.0 >>= λ c. Ok (c, x.1)
+string_of read kind text true = read_pieces read (may_have_texts kind) (suc (length text)) text
+    >>= λ x. checked kind x.0 >>= λ c. Ok (c, x.1)
 
 -- a string of definite length
 unfoldable pub read_string : (List ℕ → Read Item) → StringKind → List ℕ → Read Chunk
@@ -311,10 +333,12 @@ abbrev pub read_chunk : (List ℕ → Read Item) → StringKind → List ℕ →
 read_chunk read kind text = read_string read kind (skip_blank text)
 
 abbrev pub read_byte_chunks : (List ℕ → Read Item) → List ℕ → Read Item
-read_byte_chunks read text = read_members (read_chunk read bytes_kind) 41 text >>= λ cs. Ok (atom (byte_chunks cs.0), cs.1)
+read_byte_chunks read text = read_members (read_chunk read bytes_kind) 41 text
+    >>= λ cs. Ok (atom (byte_chunks cs.0), cs.1)
 
 abbrev pub read_text_chunks : (List ℕ → Read Item) → List ℕ → Read Item
-read_text_chunks read text = read_members (read_chunk read text_kind) 41 text >>= λ cs. Ok (atom (text_chunks cs.0), cs.1)
+read_text_chunks read text = read_members (read_chunk read text_kind) 41 text
+    >>= λ cs. Ok (atom (text_chunks cs.0), cs.1)
 
 -- the kind of an indefinite string, by the first byte of its first chunk
 abbrev pub chunks_of : (List ℕ → Read Item) → List ℕ → Start → Read Item
@@ -323,7 +347,8 @@ chunks_of read text _ = read_byte_chunks read text
 
 -- an indefinite string behind its parenthesis
 abbrev pub read_chunks : (List ℕ → Read Item) → List ℕ → Read Item
-read_chunks read text = or_refused (after_byte 95 text) >>= λ opened. let first = skip_blank opened in chunks_of read first (first_start first)
+read_chunks read text = or_refused (after_byte 95 text) >>= λ opened. let first =
+    skip_blank opened in chunks_of read first (first_start first)
 
 -- an indefinite byte string of no chunks, or a byte string
 abbrev pub byte_string_of : (List ℕ → Read Item) → List ℕ → Option (List ℕ) → Read Item
@@ -355,10 +380,12 @@ read_text_string read text = text_string_of read text (after_word (codes "\"\"_"
 
 -- the value in the parentheses of a simple value, where it is decimal digits and below 256
 abbrev pub simple_value : ℕ → List ℕ → Result ℕ Error
-simple_value n digits = if list_all (λ c. nat_lt (digit_value c) 10) digits && nat_lt n 256 then Ok n else Err refusal.Notation
+simple_value n digits = if list_all (λ c. nat_lt (digit_value c) 10) digits && nat_lt n 256 then Ok n
+    else Err refusal.Notation
 
 abbrev pub read_simple : List ℕ → Read Item
-read_simple text = read_number text >>= λ x. simple_value x.0.0 (take (length text - length x.1) text) >>= λ n. or_refused (after_byte 41 x.1) >>= λ rest. Ok (atom (simple n), rest)
+read_simple text = read_number text >>= λ x. simple_value x.0.0 (take (length text - length x.1) text)
+    >>= λ n. or_refused (after_byte 41 x.1) >>= λ rest. Ok (atom (simple n), rest)
 
 -- the width of a float of so many hex digits
 abbrev pub float_of : ℕ → Option FloatWidth
@@ -371,7 +398,8 @@ float_of count =
 -- a float's hex digits, up to an apostrophe
 abbrev pub read_float : List ℕ → Read Item
 read_float text =
-    or_refused (position (λ b. b == 39) text) >>= λ count. or_refused (float_of count) >>= λ w. or_refused (numeral 16 (take count text)) >>= λ bits. Ok (atom (float bits w), drop (count + 1) text)
+    or_refused (position (λ b. b == 39) text) >>= λ count. or_refused (float_of count)
+    >>= λ w. or_refused (numeral 16 (take count text)) >>= λ bits. Ok (atom (float bits w), drop (count + 1) text)
 
 -- what stands behind a word, read so, where the text begins with it; and else the other
 abbrev pub or_else : Option (List ℕ) → (List ℕ → Read Item) → Read Item → Read Item

@@ -1,7 +1,8 @@
 -- Skipping over an item, as the code of `parse/binary/skip.rt` does, in the words of `specs/Reading.antt`:
 -- what reading answers, its value forgotten, and what is still to come in containers that are open. No
 -- public clause names it.
-use Rattle.std.specs.Prelude.{◌≡◌, ◌≢◌, ℕ, zero, suc, ◌-◌, List, [], ◌∷◌, ◌++◌, length, Option, Some, None, Result, Ok, Err}
+use Rattle.std.specs.Prelude.{◌≡◌, ◌≢◌, ℕ, zero, suc, ◌-◌, List, [], ◌∷◌, ◌++◌, length, Option, Some, None, Result, Ok}
+use Rattle.std.specs.Prelude.{Err}
 use Rattle.cbor_diag.specs.declared.syntax.IntegerWidth.{IntegerWidth}
 use Rattle.cbor_diag.specs.declared.error.Error.{Error}
 use Rattle.cbor_diag.specs.declared.error.Error.TheVariants.{CutShort}
@@ -19,7 +20,8 @@ use Rattle.cbor_diag.specs.declared.parse.binary.skip.to_come.ToCome.{ToCome}
 use Rattle.cbor_diag.specs.declared.parse.binary.skip.to_come.ToCome.TheVariants.{Items, Pairs, Value}
 use Rattle.cbor_diag.specs.WellFormed.{deepest}
 use Rattle.cbor_diag.specs.Bytes.{StringKind, bytes_kind, text_kind}
-use Rattle.cbor_diag.specs.Reading.{Read, ◌>>=◌, read_content, read_chunks, read_items, read_pairs, after_break, read_open_items}
+use Rattle.cbor_diag.specs.Reading.{Read, ◌>>=◌, read_content, read_chunks, read_items, read_pairs, after_break}
+use Rattle.cbor_diag.specs.Reading.{read_open_items}
 use Rattle.cbor_diag.specs.Reading.{read_open_pairs, read_body, read_item}
 
 -- ---- skipping

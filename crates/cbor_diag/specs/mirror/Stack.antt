@@ -1,5 +1,6 @@
 -- The containers that a `Frame` and a `Stack` are, in the words of `specs/Counting.antt`.
-use Rattle.std.specs.Prelude.{◌≡◌, ℕ, ◌+◌, ◌-◌, ◌*◌, ◌≤◌, vec_capacity, List, [], ◌∷◌, length, map, Option, Some, None, option_map, Ok}
+use Rattle.std.specs.Prelude.{◌≡◌, ℕ, ◌+◌, ◌-◌, ◌*◌, ◌≤◌, vec_capacity, List, [], ◌∷◌, length, map, Option, Some, None}
+use Rattle.std.specs.Prelude.{option_map, Ok}
 use Rattle.cbor_diag.specs.declared.parse.binary.frame.Length.{Length}
 use Rattle.cbor_diag.specs.declared.parse.binary.frame.Length.TheVariants.{Definite, Indefinite}
 use Rattle.cbor_diag.specs.declared.parse.binary.frame.Frame as code
@@ -7,7 +8,8 @@ use Rattle.cbor_diag.specs.declared.parse.binary.frame.Frame.TheVariants as code
 use Rattle.cbor_diag.specs.declared.parse.binary.stack.Stack.{Stack}
 use Rattle.cbor_diag.specs.Item.{Item}
 use Rattle.cbor_diag.specs.View.{view, items_view, pairs_view}
-use Rattle.cbor_diag.specs.mirror.Counting.{Wanted, so_many, to_break, Frame, items_in, pairs_in, value_of, tag_of, tagged_with, put, depth_of}
+use Rattle.cbor_diag.specs.mirror.Counting.{Wanted, so_many, to_break, Frame, items_in, pairs_in, value_of, tag_of}
+use Rattle.cbor_diag.specs.mirror.Counting.{tagged_with, put, depth_of}
 use Rattle.cbor_diag.specs.mirror.Counting.{Counted, resume, deliver}
 
 -- what is wanted of such a length where so many members are there

@@ -1,19 +1,22 @@
 //! Writes an item as bytes (RFC 7049 section 2), each byte once, at the end of one vector.
 //!
-//! What writes strings and containers isn't inlined where an item is told by its kind: it keeps values over
-//! calls, and room for these would be made for each integer, too.
+//! What writes strings and containers isn't inlined where an item is told by its kind: it keeps
+//! values over calls, and room for these would be made for each integer, too.
 #![tactic(auto, using(crate::proofs::shared::Appending::appending_steps))]
 
-ghost use Rattle.std.specs.Prelude.{◌≡◌, ◌++◌, if◌then◌else◌, ℕ, List, ◌↔◌, length, map, OnOk, OnErr, IfOk, IfErr};
+ghost use Rattle.std.specs.Prelude.{◌≡◌, ◌++◌, if◌then◌else◌, ℕ, List, ◌↔◌, length, map, OnOk};
+ghost use Rattle.std.specs.Prelude.{OnErr, IfOk, IfErr};
 ghost use Rattle.std.specs.List.{AllByRecursion};
 ghost use Rattle.cbor_diag.specs.Head.{FitsWidth, major_number};
 ghost use Rattle.cbor_diag.specs.mirror.Appends.{Appends};
 ghost use Rattle.cbor_diag.specs.View.{view, items_view, pairs_view, byte_chunk, text_chunk};
-ghost use Rattle.cbor_diag.specs.WellFormed.{WellFormed, WellFormedItems, WellFormedPairs, IsByteChunk, IsTextChunk};
+ghost use Rattle.cbor_diag.specs.WellFormed.{WellFormed, WellFormedItems, WellFormedPairs};
+ghost use Rattle.cbor_diag.specs.WellFormed.{IsByteChunk, IsTextChunk};
 ghost use Rattle.cbor_diag.specs.Facts.{IsItem, IsStrictItem, IsWellFormed};
 ghost use Rattle.cbor_diag.specs.Item as spec;
 ghost use Rattle.cbor_diag.specs.Item.{Item};
-ghost use Rattle.cbor_diag.specs.Written.{encoded, resolve, encoded_items, encoded_pairs, encoded_chunk, encoded_chunks};
+ghost use Rattle.cbor_diag.specs.Written.{encoded, resolve, encoded_items, encoded_pairs};
+ghost use Rattle.cbor_diag.specs.Written.{encoded_chunk, encoded_chunks};
 
 use super::head::{push_close, push_float, push_head, push_open, push_simple};
 use crate::error::Error;
@@ -193,8 +196,8 @@ fn push_pairs(out: &mut Vec<u8>, pairs: &Vec<(DataItem, DataItem)>) -> Result<()
 }
 
 impl DataItem {
-    /// The item in bytes. An open width is the shortest that fits, an open float width 64 bits, and a
-    /// simple value below 24 takes one byte; indefinite lengths stay so (RFC 7049 section 2).
+    /// The item in bytes. An open width is the shortest that fits, an open float width 64 bits, and
+    /// a simple value below 24 takes one byte; indefinite lengths stay so (RFC 7049 section 2).
     ///
     /// The item has to be well formed, which `is_well_formed` tells. Refuses with `Memory` alone.
     pub fn to_bytes(&self, alloc: Global) -> crate::Result<Vec<u8>>
@@ -208,7 +211,8 @@ impl DataItem {
         ensures read_back { IfOk result (λ v. IsItem v.items (resolve (view self.now))) }
         // Two items are written alike exactly where they are the same but for open widths.
         ensures alike { (other : Item) → IsWellFormed other
-            → (encoded (view self.now) ≡ encoded other) ↔ (resolve (view self.now) ≡ resolve other) }
+            → (encoded (view self.now) ≡ encoded other)
+            ↔ (resolve (view self.now) ≡ resolve other) }
         ensures refused { IfErr result (λ e. e ≡ Error.Memory) }
     {
         let mut out = Vec::new(alloc);
@@ -218,8 +222,8 @@ impl DataItem {
 
     /// Appends what [`DataItem::to_bytes`] answers to `out`, for whoever has memory for it already.
     ///
-    /// The item has to be well formed, which `is_well_formed` tells. The only error is `Memory`, and after it
-    /// `out` is unchanged.
+    /// The item has to be well formed, which `is_well_formed` tells. The only error is `Memory`,
+    /// and after it `out` is unchanged.
     pub fn push_bytes(&self, out: &mut Vec<u8>) -> crate::Result<()>
         requires { IsWellFormed (view self.now) }
         ensures bytes { OnOk result (out.new.items ≡ out.old.items ++ encoded (view self.now)) }

@@ -1,7 +1,7 @@
 //! Writes an item as a dump: annotated hex.
 //!
-//! One recursion over the item hands its lines to a pass, one after the other. The first pass measures the
-//! column of the digits, and the second one writes each line at once.
+//! One recursion over the item hands its lines to a pass, one after the other. The first pass
+//! measures the column of the digits, and the second one writes each line at once.
 ghost use Rattle.std.specs.Prelude.{◌≡◌, ◌+◌, IfOk, IfErr};
 ghost use Rattle.std.specs.List.{AllByRecursion};
 ghost use Rattle.std.specs.String.{string_bytes};
@@ -31,23 +31,26 @@ use items::dump;
 use std::alloc::Global;
 
 impl DataItem {
-    /// The item as a dump: its bytes in hex, as `to_bytes` writes them, each line with a comment (docs/DUMP.md).
-    /// `parse_hex` reads it back, with open widths resolved.
+    /// The item as a dump: its bytes in hex, as `to_bytes` writes them, each line with a comment
+    /// (docs/DUMP.md). `parse_hex` reads it back, with open widths resolved.
     ///
     /// The item has to be well formed, as `is_well_formed` checks. The only error is `Memory`.
     pub fn to_hex(&self, alloc: Global) -> crate::Result<String>
         requires { IsWellFormed (view self.now) }
         ensures text { IfOk result (λ t. string_bytes t ≡ spec.dump (view self.now)) }
         // Without its comments the dump is the item's encoding in hex.
-        ensures digits { IfOk result (λ t. strip (string_bytes t) ≡ encode_lower (encoded (view self.now))) }
+        ensures digits { IfOk result (λ t. strip (string_bytes t)
+            ≡ encode_lower (encoded (view self.now))) }
         // So it is read back as the item with its open widths resolved.
         ensures read_back { IfOk result (λ t. IsHexOf (string_bytes t) (resolve (view self.now))) }
         // No comment has a line feed, whatever the item carries.
-        ensures one_line { AllByRecursion (λ line. Lacks 10 line.comment) (spec.lines (view self.now)) }
+        ensures one_line { AllByRecursion (λ line. Lacks 10 line.comment)
+            (spec.lines (view self.now)) }
         // The first `#` of every line stands in one column.
         ensures one_column { IfOk result (λ t.
             IsColumn (width_of (spec.lines (view self.now)) + 1) (string_bytes t)) }
-        // What is dumped as embedded items is exactly what the bytes spell, and else the note says why not.
+        // What is dumped as embedded items is exactly what the bytes spell, and else the note says
+        // why not.
         ensures embedded { EmbedsExactly }
         ensures not_embedded { RejectsExactly }
         ensures refused { IfErr result (λ e. e ≡ Error.Memory) }

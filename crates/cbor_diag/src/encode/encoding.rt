@@ -15,8 +15,8 @@ pub(crate) enum Encoding {
     Base64Url,
 }
 
-/// The encoding in which a dump shows byte strings below a tag: the tag's own (RFC 7049 section 2.4.4.2; base
-/// 16 below UUIDs and addresses, too), or the one outside.
+/// The encoding in which a dump shows byte strings below a tag: the tag's own (RFC 7049 section
+/// 2.4.4.2; base 16 below UUIDs and addresses, too), or the one outside.
 pub(crate) fn encoding_below(tag: Tag, outside: Option<Encoding>) -> Option<Encoding>
     ensures { result ≡ spec.encoding_below tag.0 outside }
 {

@@ -1,4 +1,5 @@
-//! Heads as they are written (RFC 7049 section 2), and the opening byte and the break in their place.
+//! Heads as they are written (RFC 7049 section 2), and the opening byte and the break in their
+//! place.
 #![tactic(auto, using(crate::proofs::shared::Appending::appending_steps))]
 
 ghost use Rattle.cbor_diag.specs.mirror.Appends.{Appends};
@@ -115,7 +116,8 @@ pub(crate) fn push_simple(out: &mut Vec<u8>, value: u8) -> Result<(), AllocError
     Ok(())
 }
 
-/// Writes what stands before the members of a container: a head with their count, or an opening byte.
+/// Writes what stands before the members of a container: a head with their count, or an opening
+/// byte.
 pub(crate) fn push_open(
     out: &mut Vec<u8>,
     major: Major,

@@ -11,16 +11,20 @@ mod skip;
 mod stack;
 mod strings;
 
-ghost use Rattle.std.specs.Prelude.{◌≡◌, ◌≢◌, ℕ, ◌+◌, ◌-◌, ◌*◌, ◌^◌, ◌<◌, ◌≤◌, List, ◌++◌, length, take, ◌↔◌, IfOk, IfErr, IfSome, OnOk, option_map};
+ghost use Rattle.std.specs.Prelude.{◌≡◌, ◌≢◌, ℕ, ◌+◌, ◌-◌, ◌*◌, ◌^◌, ◌<◌, ◌≤◌, List, ◌++◌, length};
+ghost use Rattle.std.specs.Prelude.{take, ◌↔◌, IfOk, IfErr, IfSome, OnOk, option_map};
 ghost use Rattle.cbor_diag.specs.Item.{Item};
 ghost use Rattle.cbor_diag.specs.View.{view};
 ghost use Rattle.cbor_diag.specs.WellFormed.{deepest, levels_left};
 ghost use Rattle.cbor_diag.specs.Written.{encoded};
-ghost use Rattle.cbor_diag.specs.Answer.{Outcome, spelled, HasOutcome, HasAnswer, Gave, GaveItem, GaveRefusal, RefusedSo, MayWantMemory, HasTurns, size};
+ghost use Rattle.cbor_diag.specs.Answer.{Outcome, spelled, HasOutcome, HasAnswer, Gave, GaveItem};
+ghost use Rattle.cbor_diag.specs.Answer.{GaveRefusal, RefusedSo, MayWantMemory, HasTurns, size};
 ghost use Rattle.cbor_diag.specs.Turns.{item_turns, cut_spent, fault_spent};
-ghost use Rattle.cbor_diag.specs.Facts.{IsItem, IsStrictItem, BeginsWithItem, IsCut, HasFault, IsNoItem, BeginsSo, BeginsInOneWay, IsWellFormed};
+ghost use Rattle.cbor_diag.specs.Facts.{IsItem, IsStrictItem, BeginsWithItem, IsCut, HasFault};
+ghost use Rattle.cbor_diag.specs.Facts.{IsNoItem, BeginsSo, BeginsInOneWay, IsWellFormed};
 ghost use Rattle.cbor_diag.specs.Reading.{Gives, HoldsContent, no_level_left};
-ghost use Rattle.cbor_diag.specs.mirror.Counting.{Runs, Stops, IsStack, later, read_item_head, read_atom, counted_item};
+ghost use Rattle.cbor_diag.specs.mirror.Counting.{Runs, Stops, IsStack, later, read_item_head};
+ghost use Rattle.cbor_diag.specs.mirror.Counting.{read_atom, counted_item};
 ghost use Rattle.cbor_diag.specs.mirror.Stack.{outer_of, top_of, depth, resumed, resumed_with};
 
 use crate::error::{Error, Result};

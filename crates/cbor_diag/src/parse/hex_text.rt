@@ -2,7 +2,8 @@
 //!
 //! The lines are gone through once: comments are skipped, and what is kept is gathered and then
 //! decoded.
-ghost use Rattle.std.specs.Prelude.{◌≡◌, ◌≢◌, ◌<◌, ◌≤◌, ◌++◌, ◌%◌, ◌⊎◌, ◌==◌, length, take, drop, slice_index, IfOk, IfErr, OnOk, Ok};
+ghost use Rattle.std.specs.Prelude.{◌≡◌, ◌≢◌, ◌<◌, ◌≤◌, ◌++◌, ◌%◌, ◌⊎◌, ◌==◌, length, take, drop};
+ghost use Rattle.std.specs.Prelude.{slice_index, IfOk, IfErr, OnOk, Ok};
 ghost use Rattle.std.specs.List.{AllPass, after_first};
 ghost use Rattle.std.specs.Str.Lines.{strip_carriage_return};
 ghost use Rattle.hex.specs.Hex.{decode_of, is_hex_digit};
@@ -128,7 +129,8 @@ fn decode(alloc: Global, digits: Vec<u8>) -> crate::Result<Vec<u8>>
     ensures bytes { IfOk result (λ bytes. decode_of digits.items ≡ Ok bytes.items) }
     ensures refused { IfErr result (λ e. (e ≡ Error.Memory)
         ⊎ (e ≡ Error.OddHex) × (length digits.items % 2 ≡ 1)
-        ⊎ (e ≡ Error.BadHex) × (length digits.items % 2 ≡ 0) × ¬ (AllPass is_hex_digit digits.items)) }
+        ⊎ (e ≡ Error.BadHex) × (length digits.items % 2 ≡ 0)
+        × ¬ (AllPass is_hex_digit digits.items)) }
 {
     match hex::decode(alloc, digits) {
         Ok(bytes) => Ok(bytes),

@@ -18,13 +18,15 @@ mod word;
 ghost use Rattle.std.specs.Prelude.{◌≡◌, ◌-◌, ◌≤◌, ℕ, length, map, IfOk};
 ghost use Rattle.cbor_diag.specs.Answer.{GaveItem, RefusedSo};
 ghost use Rattle.cbor_diag.specs.View.{view, items_view, pairs_view};
-ghost use Rattle.cbor_diag.specs.WellFormed.{deepest, levels_left, WellFormed, WellFormedItems, WellFormedPairs};
+ghost use Rattle.cbor_diag.specs.WellFormed.{deepest, levels_left, WellFormed, WellFormedItems};
+ghost use Rattle.cbor_diag.specs.WellFormed.{WellFormedPairs};
 ghost use Rattle.cbor_diag.specs.Facts.{IsWellFormed};
 ghost use Rattle.cbor_diag.specs.Item.{Item};
 ghost use Rattle.cbor_diag.specs.Notation.{IsNotation, ReadsUnder};
 ghost use Rattle.cbor_diag.specs.NotationRefused.{IsNoNotation, GaveOrTooDeep};
 ghost use Rattle.cbor_diag.specs.Reading.{Gives};
-ghost use Rattle.cbor_diag.specs.mirror.NotationReading.{read_core, read_integer, read_item, read_members, notation_of, read_pair};
+ghost use Rattle.cbor_diag.specs.mirror.NotationReading.{read_core, read_integer, read_item};
+ghost use Rattle.cbor_diag.specs.mirror.NotationReading.{read_members, notation_of, read_pair};
 
 use crate::error::{Error, Result};
 use crate::syntax::{DEEPEST, DataItem, Tag};

@@ -2,7 +2,8 @@
 //! itself.
 ghost use Rattle.std.specs.Prelude.{◌≡◌, ◌↔◌, IsTrue, map};
 ghost use Rattle.cbor_diag.specs.Item as spec;
-ghost use Rattle.cbor_diag.specs.Item.{atom, integer, negative, float, byte_string, text_string, byte_chunks, text_chunks, array, tagged};
+ghost use Rattle.cbor_diag.specs.Item.{atom, integer, negative, float, byte_string, text_string};
+ghost use Rattle.cbor_diag.specs.Item.{byte_chunks, text_chunks, array, tagged};
 ghost use Rattle.std.specs.Cmp.{on_equiv, partial_equiv_from_equiv};
 ghost use Rattle.cbor_diag.specs.View.{view, items_view, pairs_view, byte_chunk, text_chunk};
 ghost use Rattle.cbor_diag.specs.Same.{same_item};

@@ -3,7 +3,8 @@ ghost use Rattle.std.specs.Prelude.{◌↔◌, IsTrue, map};
 ghost use Rattle.std.specs.List.{AllByRecursion};
 ghost use Rattle.cbor_diag.specs.View.{view, items_view, pairs_view, byte_chunk, text_chunk};
 ghost use Rattle.cbor_diag.specs.Facts.{IsWellFormed};
-ghost use Rattle.cbor_diag.specs.WellFormed.{WellFormed, WellFormedItems, WellFormedPairs, IsByteChunk, IsTextChunk};
+ghost use Rattle.cbor_diag.specs.WellFormed.{WellFormed, WellFormedItems, WellFormedPairs};
+ghost use Rattle.cbor_diag.specs.WellFormed.{IsByteChunk, IsTextChunk};
 
 use super::width::count_fits;
 use super::{ByteString, DEEPEST, DataItem, TextString};
@@ -106,9 +107,9 @@ fn pairs_well_formed(pairs: &Vec<(DataItem, DataItem)>, level: u8) -> bool
 }
 
 impl DataItem {
-    /// Whether the item is well formed, that is, has an encoding: each number, tag, length and count
-    /// fits the width stated for it, the bits of each float fit theirs, and no item stands deeper
-    /// than level 128, where the outermost stands at level 1.
+    /// Whether the item is well formed, that is, has an encoding: each number, tag, length and
+    /// count fits the width stated for it, the bits of each float fit theirs, and no item stands
+    /// deeper than level 128, where the outermost stands at level 1.
     ///
     /// It takes no memory, and looks at nothing below level 129.
     pub fn is_well_formed(&self) -> bool

@@ -6,7 +6,8 @@ use Rattle.cbor_diag.specs.Examples.{small}
 use Rattle.cbor_diag.proofs.examples.cut.Goals as goal
 
 pub returns-clause-head : goal.returns-clause-head
-returns-clause-head c = in_chunk bytes_kind (88 ∷ []) (omega arith) ([], 88 ∷ [], refl, refl) (inl (refl, cut_head 0 (omega arith) refl (omega arith)))
+returns-clause-head c = in_chunk bytes_kind (88 ∷ []) (omega arith) ([], 88 ∷ [], refl, refl)
+    (inl (refl, cut_head 0 (omega arith) refl (omega arith)))
 
 pub returns-clause-content : goal.returns-clause-content
 returns-clause-content c = in_content text_kind (omega arith) (3, Zero, (omega arith, 255 ∷ [], refl, omega arith))
@@ -15,5 +16,6 @@ returns-clause-content c = in_content text_kind (omega arith) (3, Zero, (omega a
 pub returns-clause-value : goal.returns-clause-value
 returns-clause-value c =
     in_part part [] (omega arith)
-    (in_map 1 1 Zero (1 ∷ []) (omega arith, 1 ∷ [], refl, refl) (1 ∷ [], [], small 1, refl, (omega arith, (omega arith, [], refl, refl)), refl) (omega arith))
+    (in_map 1 1 Zero (1 ∷ []) (omega arith, 1 ∷ [], refl, refl)
+    (1 ∷ [], [], small 1, refl, (omega arith, (omega arith, [], refl, refl)), refl) (omega arith))
     (nothing (omega arith))

@@ -4,7 +4,8 @@ use Rattle.std.proofs.lemmas.Bool.{false≢true}
 use Rattle.std.specs.Str.{chars, is_utf8}
 use Rattle.cbor_diag.specs.declared.syntax.IntegerWidth.TheVariants.{Zero}
 use Rattle.cbor_diag.specs.Bytes.{bytes_kind}
-use Rattle.cbor_diag.specs.Refused.{no_length, part, at_open_value, no_chunk, too_deep, bad_head, bad_text, bad_chunk_head, bad_part}
+use Rattle.cbor_diag.specs.Refused.{no_length, part, at_open_value, no_chunk, too_deep, bad_head, bad_text}
+use Rattle.cbor_diag.specs.Refused.{bad_chunk_head, bad_part}
 use Rattle.cbor_diag.specs.Examples.{small}
 use Rattle.cbor_diag.proofs.shared.Utf8.{utf8_passes}
 use Rattle.cbor_diag.proofs.examples.faults.Goals as goal
@@ -16,8 +17,21 @@ returns-clause-stray c = bad_head (omega arith) (no_length refl (inr (omega arit
 pub returns-clause-value : goal.returns-clause-value
 returns-clause-value c =
     bad_part part (0xff ∷ []) (omega arith)
-    (at_open_value 1 (1 ∷ 2 ∷ 3 ∷ []) refl
-    (1 ∷ [], 2 ∷ 3 ∷ [], small 1, refl, (omega arith, (omega arith, [], refl, refl)), (2 ∷ [], 3 ∷ [], small 2, refl, (omega arith, (omega arith, [], refl, refl)), (3 ∷ [], [], small 3, refl, (omega arith, (omega arith, [], refl, refl)), refl))))
+    (at_open_value 1 (1 ∷ 2 ∷ 3 ∷ []) refl (
+      1 ∷ [],
+      2 ∷ 3 ∷ [],
+      small 1,
+      refl,
+      (omega arith, (omega arith, [], refl, refl)),
+      (
+        2 ∷ [],
+        3 ∷ [],
+        small 2,
+        refl,
+        (omega arith, (omega arith, [], refl, refl)),
+        (3 ∷ [], [], small 3, refl, (omega arith, (omega arith, [], refl, refl)), refl),
+      ),
+    ))
     tt
     (bad_head (omega arith) (no_length refl (inr (omega arith))))
 
@@ -28,12 +42,25 @@ fails = refl
 
 pub returns-clause-text : goal.returns-clause-text
 returns-clause-text c =
-    bad_text (omega arith) (1, Zero, (omega arith, 0xff ∷ [], refl, (0xff ∷ [], [], refl, refl, λ h. false≢true (sym fails ∙ utf8_passes (0xff ∷ []) h))))
+    bad_text (omega arith) (
+      1,
+      Zero,
+      (
+        omega arith,
+        0xff ∷ [],
+        refl,
+        (0xff ∷ [], [], refl, refl, λ h. false≢true (sym fails ∙ utf8_passes (0xff ∷ []) h)),
+      ),
+    )
 
 pub returns-clause-chunk : goal.returns-clause-chunk
 returns-clause-chunk c =
-    bad_chunk_head bytes_kind (0x61 ∷ []) (omega arith)
-    (record { bytes = 1 ∷ []; width = Zero } ∷ [], 0x41 ∷ 1 ∷ 0x61 ∷ [], refl, (tt, (omega arith, 1 ∷ 0x61 ∷ [], refl, (0x61 ∷ [], refl, refl))))
+    bad_chunk_head bytes_kind (0x61 ∷ []) (omega arith) (
+      record { bytes = 1 ∷ []; width = Zero } ∷ [],
+      0x41 ∷ 1 ∷ 0x61 ∷ [],
+      refl,
+      (tt, (omega arith, 1 ∷ 0x61 ∷ [], refl, (0x61 ∷ [], refl, refl))),
+    )
     (no_chunk (λ e. omega arith) (λ h. omega arith))
 
 pub returns-clause-deep : goal.returns-clause-deep

@@ -13,9 +13,31 @@ address_is_ascii = search arith
 
 pub returns-clause-tagged : goal.returns-clause-tagged
 returns-clause-tagged c =
-    let address = IsUtf8-from_ascii (codes "https://example.com") (ascii_at (codes "https://example.com") address_is_ascii) in
-    (omega arith, (omega arith, 0x73 ∷ codes "https://example.com", refl, (omega arith, (address, (omega arith, codes "https://example.com", refl, ([], refl, refl))))))
+    let address = IsUtf8-from_ascii (codes "https://example.com")
+    (ascii_at (codes "https://example.com") address_is_ascii) in (
+      omega arith,
+      (
+        omega arith,
+        0x73 ∷ codes "https://example.com",
+        refl,
+        (omega arith, (address, (omega arith, codes "https://example.com", refl, ([], refl, refl)))),
+      ),
+    )
 
 pub returns-clause-broken : goal.returns-clause-broken
-returns-clause-broken c =
-    (omega arith, (1 ∷ 2 ∷ 255 ∷ [], refl, (1 ∷ [], 2 ∷ [], 255 ∷ [], refl, (omega arith, (omega arith, [], refl, refl)), (omega arith, (omega arith, [], refl, refl)), refl)))
+returns-clause-broken c = (
+  omega arith,
+  (
+    1 ∷ 2 ∷ 255 ∷ [],
+    refl,
+    (
+      1 ∷ [],
+      2 ∷ [],
+      255 ∷ [],
+      refl,
+      (omega arith, (omega arith, [], refl, refl)),
+      (omega arith, (omega arith, [], refl, refl)),
+      refl,
+    ),
+  ),
+)

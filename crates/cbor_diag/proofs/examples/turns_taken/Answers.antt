@@ -15,7 +15,22 @@ returns-clause-nothing c = (nothing (omega arith), refl)
 pub returns-clause-member : goal.returns-clause-member
 returns-clause-member c =
     let cut : Cut 1 (0x82 ∷ 0x81 ∷ 1 ∷ []) = in_part part [] (omega arith)
-    (in_array 2 1 Zero (0x81 ∷ 1 ∷ []) (omega arith, 0x81 ∷ 1 ∷ [], refl, refl) (0x81 ∷ 1 ∷ [], [], array (item (small 1) no_items) (Some Zero), refl, (omega arith, (omega arith, 1 ∷ [], refl, (1 ∷ [], [], refl, (omega arith, (omega arith, [], refl, refl)), refl))), refl) (omega arith))
+    (in_array 2 1 Zero (0x81 ∷ 1 ∷ []) (omega arith, 0x81 ∷ 1 ∷ [], refl, refl) (
+      0x81 ∷ 1 ∷ [],
+      [],
+      array (item (small 1) no_items) (Some Zero),
+      refl,
+      (
+        omega arith,
+        (
+          omega arith,
+          1 ∷ [],
+          refl,
+          (1 ∷ [], [], refl, (omega arith, (omega arith, [], refl, refl)), refl),
+        ),
+      ),
+      refl,
+    ) (omega arith))
     (nothing (omega arith)) in
     (cut, refl)
 
@@ -23,8 +38,11 @@ deep : (n level : ℕ) → level + n ≡ 129 → (f : Fault level (nested_bytes 
 deep zero level levels = (too_deep (omega arith), refl)
 deep (suc n) level levels =
     let f = deep n (level + 1) (omega arith) in
-    let sum : 1 + fault_spent f.0 ≡ suc n = omega (arith, f.1) in
-    (bad_part part (nested_bytes n) (omega arith) (in_array 1 0 Zero [] (omega arith, nested_bytes n, refl, refl) refl (omega arith)) tt f.0, sum)
+    let sum : 1 + fault_spent f.0 ≡ suc n = omega (arith, f.1) in (
+      bad_part part (nested_bytes n) (omega arith)
+          (in_array 1 0 Zero [] (omega arith, nested_bytes n, refl, refl) refl (omega arith)) tt f.0,
+      sum,
+    )
 
 pub returns-clause-too_deep : goal.returns-clause-too_deep
 returns-clause-too_deep c = deep 128 1 (omega arith)

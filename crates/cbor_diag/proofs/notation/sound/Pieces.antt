@@ -1,5 +1,7 @@
 -- Strings of one piece or more, and chunks of them.
-use Rattle.std.proofs.Common.{◌≡◌, ℕ, zero, suc, Bool, true, false, cond, ◌==◌, ◌&&◌, nat_le, List, [], ◌∷◌, ◌++◌, length, Ok, Err, refl, sym, ap, subst, ◌∙◌, append_assoc, append-nil, ◌⊎◌, inl, inr, arith}
+use Rattle.std.proofs.Common.{◌≡◌, ℕ, zero, suc, Bool, true, false, cond, ◌==◌, ◌&&◌, nat_le, List, [], ◌∷◌, ◌++◌}
+use Rattle.std.proofs.Common.{length, Ok, Err, refl, sym, ap, subst, ◌∙◌, append_assoc, append-nil, ◌⊎◌, inl, inr}
+use Rattle.std.proofs.Common.{arith}
 use Rattle.std.specs.Str.{is_utf8, IsUtf8}
 use Rattle.std.proofs.lemmas.Bool.{cases_eq, eq-eqb, ne_eqb}
 use Rattle.std.proofs.lemmas.List.Sums.{sum_by-cons}
@@ -18,10 +20,15 @@ use Rattle.cbor_diag.specs.View.{items_of}
 use Rattle.cbor_diag.specs.Bytes.{StringKind, bytes_kind, text_kind}
 use Rattle.cbor_diag.specs.Reading.{Read, ◌>>=◌}
 use Rattle.cbor_diag.specs.Written.{encoded_items}
-use Rattle.cbor_diag.specs.Notation.{IsBlank, Blanked, Members, QuotedBy, Notation, as_text, as_items, PieceOf, Joined, one, more, StringOf}
-use Rattle.cbor_diag.specs.mirror.NotationReading.{or_refused, skip_blank, after_byte, read_members, h_notation, b_notation, read_embedded, start_of, first_start, begins_piece, piece_of, read_piece, read_pieces, begins_string, may_have_texts, checked, string_of, read_string, read_chunk}
+use Rattle.cbor_diag.specs.Notation.{IsBlank, Blanked, Members, QuotedBy, Notation, as_text, as_items, PieceOf, Joined}
+use Rattle.cbor_diag.specs.Notation.{one, more, StringOf}
+use Rattle.cbor_diag.specs.mirror.NotationReading.{or_refused, skip_blank, after_byte, read_members, h_notation}
+use Rattle.cbor_diag.specs.mirror.NotationReading.{b_notation, read_embedded, start_of, first_start, begins_piece}
+use Rattle.cbor_diag.specs.mirror.NotationReading.{piece_of, read_piece, read_pieces, begins_string, may_have_texts}
+use Rattle.cbor_diag.specs.mirror.NotationReading.{checked, string_of, read_string, read_chunk}
 use Rattle.cbor_diag.specs.NotationRefused.{MayRefuse, HoldsByte}
-use Rattle.cbor_diag.proofs.notation.sound.Steps.{a_test, Sound, moved, moved_in, weaker, sound_then, sound_map, sound_check, sound_option, sound_refused, after_byte_is}
+use Rattle.cbor_diag.proofs.notation.sound.Steps.{a_test, Sound, moved, moved_in, weaker, sound_then, sound_map}
+use Rattle.cbor_diag.proofs.notation.sound.Steps.{sound_check, sound_option, sound_refused, after_byte_is}
 use Rattle.cbor_diag.proofs.notation.sound.Lists.{members_sound}
 use Rattle.cbor_diag.proofs.notation.sound.Strings.{list_of-items_of, members_more, h_sound, b_sound}
 
@@ -71,7 +78,11 @@ start_is b =
                                                     (elim (cases_eq b 104) [
                                                       | inl is ↦ rw (eq-eqb b 104 is) is
                                                       | inr no104 ↦ rw (ne_eqb b 104 no104)
-                                                          (elim (cases_eq b 123) [ inl is ↦ rw (eq-eqb b 123 is) is | inr no123 ↦ rw (ne_eqb b 123 no123) tt ])
+                                                          (elim (cases_eq b 123) [
+                                                            | inl is ↦ rw (eq-eqb b 123 is) is
+                                                            | inr no123 ↦ rw
+                                                                (ne_eqb b 123 no123) tt
+                                                          ])
                                                     ])
                                               ])
                                         ])
@@ -86,18 +97,34 @@ start_is b =
 abbrev pub Trailed : (List ℕ → Type 0) → List ℕ → Type 0
 Trailed Is front = (core blank : List ℕ) × (front ≡ core ++ blank) × Is core × IsBlank blank
 
-module _ (left : ℕ) (R : List ℕ → Item → Type 0) (read : List ℕ → Read Item) (sound : (text : List ℕ) → Sound left R text (read text)) (blank_more : (before text : List ℕ) (i : Item) → IsBlank before → R text i → R (before ++ text) i) where
+module _ (left : ℕ) (R : List ℕ → Item → Type 0) (read : List ℕ → Read Item) (sound : (text : List ℕ)
+    → Sound left R text (read text)) (blank_more : (before text : List ℕ) (i : Item) → IsBlank before → R text i
+    → R (before ++ text) i) where
   -- behind the first `<`
   embedded_sound : (text : List ℕ) → Sound left (λ g bytes. Notation R (60 ∷ g) bytes) text (read_embedded read text)
   embedded_sound text =
-      sound_option left (λ g bytes. Notation R (60 ∷ g) bytes) text (after_byte 60 text) (λ first. read_members read 62 first >>= λ is. or_refused (after_byte 62 is.1) >>= λ rest. Ok (encoded_items (items_of is.0), rest))
+      sound_option left (λ g bytes. Notation R (60 ∷ g) bytes) text (after_byte 60 text)
+      (λ first. read_members read 62 first >>= λ is. or_refused (after_byte 62 is.1)
+      >>= λ rest. Ok (encoded_items (items_of is.0), rest))
       (λ first opened.
-      moved left (λ g bytes. Notation R (60 ∷ g) bytes) text (60 ∷ []) first (read_members read 62 first >>= λ is. or_refused (after_byte 62 is.1) >>= λ rest. Ok (encoded_items (items_of is.0), rest)) (after_byte_is 60 text first opened)
-      (sound_then left (Members R (62 ∷ [])) (λ g bytes. Notation R (60 ∷ 60 ∷ g) bytes) first (read_members read 62 first) (λ is. or_refused (after_byte 62 is.1) >>= λ rest. Ok (encoded_items (items_of is.0), rest)) (members_sound left R 62 read sound blank_more first)
+      moved left (λ g bytes. Notation R (60 ∷ g) bytes) text (60 ∷ []) first
+      (read_members read 62 first >>= λ is. or_refused (after_byte 62 is.1)
+      >>= λ rest. Ok (encoded_items (items_of is.0), rest)) (after_byte_is 60 text first opened)
+      (sound_then left (Members R (62 ∷ [])) (λ g bytes. Notation R (60 ∷ 60 ∷ g) bytes) first
+      (read_members read 62 first) (λ is. or_refused (after_byte 62 is.1)
+      >>= λ rest. Ok (encoded_items (items_of is.0), rest)) (members_sound left R 62 read sound blank_more first)
       (λ is front rest at members.
-      sound_option left (λ g bytes. Notation R (60 ∷ 60 ∷ (front ++ g)) bytes) rest (after_byte 62 rest) (λ last. Ok (encoded_items (items_of is), last))
-      (λ last closed.
-      (62 ∷ [], after_byte_is 62 rest last closed, as_items (items_of is) (front ++ 62 ∷ [], refl, rw (list_of-items_of is) (members_more R (62 ∷ []) (62 ∷ []) front is members)) refl)))))
+      sound_option left (λ g bytes. Notation R (60 ∷ 60 ∷ (front ++ g)) bytes) rest (after_byte 62 rest)
+      (λ last. Ok (encoded_items (items_of is), last))
+      (λ last closed. (
+        62 ∷ [],
+        after_byte_is 62 rest last closed,
+        as_items (items_of is) (
+          front ++ 62 ∷ [],
+          refl,
+          rw (list_of-items_of is) (members_more R (62 ∷ []) (62 ∷ []) front is members),
+        ) refl,
+      )))))
 
   -- a piece, which begins with the byte that it was told by
   abbrev PieceFrom : StringKind → ℕ → List ℕ → List ℕ → Type 0
@@ -107,33 +134,60 @@ module _ (left : ℕ) (R : List ℕ → Item → Type 0) (read : List ℕ → Re
   in_kind bytes_kind g bytes h = h
   in_kind text_kind g bytes h = inr h
 
-  quoted_piece : (kind : StringKind) (g bytes : List ℕ) → may_have_texts kind ≡ true → QuotedBy 34 g bytes → PieceOf kind R g bytes
+  quoted_piece : (kind : StringKind) (g bytes : List ℕ) → may_have_texts kind ≡ true → QuotedBy 34 g bytes
+      → PieceOf kind R g bytes
   quoted_piece bytes_kind g bytes texts h = absurd cc
   quoted_piece text_kind g bytes texts h = inl h
 
-  piece_sound : (kind : StringKind) (b : ℕ) (text : List ℕ) (s : Start) → StartIs s b → begins_piece (may_have_texts kind) s ≡ true → Sound (suc left) (PieceFrom kind b) (b ∷ text) (piece_of read s text)
+  piece_sound : (kind : StringKind) (b : ℕ) (text : List ℕ) (s : Start) → StartIs s b
+      → begins_piece (may_have_texts kind) s ≡ true
+      → Sound (suc left) (PieceFrom kind b) (b ∷ text) (piece_of read s text)
   piece_sound kind b text start.Quote is begins =
       sound_refused (suc left) (PieceFrom kind b) (b ∷ text) (unquoted 34 false text)
       (λ x e.
-      let q = in_quotes-unquoted 34 text x e in
-      (b ∷ (in_quotes 34 x.0 ++ 34 ∷ []), ap (λ (z : List ℕ). b ∷ z) (q ∙ sym (append_assoc (in_quotes 34 x.0) (34 ∷ []) x.1)), ((quoted_piece kind (b ∷ (in_quotes 34 x.0 ++ 34 ∷ [])) x.0 begins (ap (λ (z : ℕ). z ∷ (in_quotes 34 x.0 ++ 34 ∷ [])) is), in_quotes 34 x.0 ++ 34 ∷ [], refl))))
+      let q = in_quotes-unquoted 34 text x e in (
+        b ∷ (in_quotes 34 x.0 ++ 34 ∷ []),
+        ap (λ (z : List ℕ). b ∷ z)
+            (q ∙ sym (append_assoc (in_quotes 34 x.0) (34 ∷ []) x.1)),
+        ((
+          quoted_piece kind (b ∷ (in_quotes 34 x.0 ++ 34 ∷ [])) x.0 begins
+              (ap (λ (z : ℕ). z ∷ (in_quotes 34 x.0 ++ 34 ∷ [])) is),
+          in_quotes 34 x.0 ++ 34 ∷ [],
+          refl,
+        )),
+      ))
   piece_sound kind b text start.Apostrophe is begins =
       sound_refused (suc left) (PieceFrom kind b) (b ∷ text) (unquoted 39 false text)
       (λ x e.
-      let q = in_quotes-unquoted 39 text x e in
-      (b ∷ (in_quotes 39 x.0 ++ 39 ∷ []), ap (λ (z : List ℕ). b ∷ z) (q ∙ sym (append_assoc (in_quotes 39 x.0) (39 ∷ []) x.1)), ((in_kind kind (b ∷ (in_quotes 39 x.0 ++ 39 ∷ [])) x.0 (as_text (ap (λ (z : ℕ). z ∷ (in_quotes 39 x.0 ++ 39 ∷ [])) is)), in_quotes 39 x.0 ++ 39 ∷ [], refl))))
+      let q = in_quotes-unquoted 39 text x e in (
+        b ∷ (in_quotes 39 x.0 ++ 39 ∷ []),
+        ap (λ (z : List ℕ). b ∷ z)
+            (q ∙ sym (append_assoc (in_quotes 39 x.0) (39 ∷ []) x.1)),
+        ((
+          in_kind kind (b ∷ (in_quotes 39 x.0 ++ 39 ∷ [])) x.0
+              (as_text (ap (λ (z : ℕ). z ∷ (in_quotes 39 x.0 ++ 39 ∷ [])) is)),
+          in_quotes 39 x.0 ++ 39 ∷ [],
+          refl,
+        )),
+      ))
   piece_sound kind b text start.Angle is begins =
       moved_in left (PieceFrom kind b) (b ∷ text) [] b text (read_embedded read text) refl (rw is refl)
-      (weaker left (λ g bytes. Notation R (60 ∷ g) bytes) (λ g bytes. PieceFrom kind b (b ∷ g) bytes) text (read_embedded read text)
-      (λ g bytes h. (in_kind kind (b ∷ g) bytes (subst (λ (z : ℕ). Notation R (z ∷ g) bytes) (sym is) h), g, refl)) (embedded_sound text))
+      (weaker left (λ g bytes. Notation R (60 ∷ g) bytes) (λ g bytes. PieceFrom kind b (b ∷ g) bytes) text
+      (read_embedded read text)
+      (λ g bytes h. (in_kind kind (b ∷ g) bytes (subst (λ (z : ℕ). Notation R (z ∷ g) bytes) (sym is) h), g, refl))
+      (embedded_sound text))
   piece_sound kind b text start.LetterB is begins =
       moved (suc left) (PieceFrom kind b) (b ∷ text) (b ∷ []) text (b_notation text) refl
-      (weaker (suc left) (λ g bytes. Notation R (98 ∷ g) bytes) (λ g bytes. PieceFrom kind b (b ∷ g) bytes) text (b_notation text)
-      (λ g bytes h. (in_kind kind (b ∷ g) bytes (subst (λ (z : ℕ). Notation R (z ∷ g) bytes) (sym is) h), g, refl)) (b_sound R (suc left) text))
+      (weaker (suc left) (λ g bytes. Notation R (98 ∷ g) bytes) (λ g bytes. PieceFrom kind b (b ∷ g) bytes) text
+      (b_notation text)
+      (λ g bytes h. (in_kind kind (b ∷ g) bytes (subst (λ (z : ℕ). Notation R (z ∷ g) bytes) (sym is) h), g, refl))
+      (b_sound R (suc left) text))
   piece_sound kind b text start.LetterH is begins =
       moved (suc left) (PieceFrom kind b) (b ∷ text) (b ∷ []) text (h_notation text) refl
-      (weaker (suc left) (λ g bytes. Notation R (104 ∷ g) bytes) (λ g bytes. PieceFrom kind b (b ∷ g) bytes) text (h_notation text)
-      (λ g bytes h. (in_kind kind (b ∷ g) bytes (subst (λ (z : ℕ). Notation R (z ∷ g) bytes) (sym is) h), g, refl)) (h_sound R (suc left) text))
+      (weaker (suc left) (λ g bytes. Notation R (104 ∷ g) bytes) (λ g bytes. PieceFrom kind b (b ∷ g) bytes) text
+      (h_notation text)
+      (λ g bytes h. (in_kind kind (b ∷ g) bytes (subst (λ (z : ℕ). Notation R (z ∷ g) bytes) (sym is) h), g, refl))
+      (h_sound R (suc left) text))
   piece_sound kind b text start.Parenthesis is begins = tt
   piece_sound kind b text start.Minus is begins = tt
   piece_sound kind b text start.Digit is begins = tt
@@ -145,12 +199,14 @@ module _ (left : ℕ) (R : List ℕ → Item → Type 0) (read : List ℕ → Re
 
   -- some pieces with blanks between them, the first of which begins with this byte, and a blank
   abbrev SomePieces : StringKind → ℕ → List ℕ → List ℕ → Type 0
-  SomePieces kind b front content = (core blank tail : List ℕ) × (front ≡ core ++ blank) × Joined (PieceOf kind R) core content × IsBlank blank × (core ≡ b ∷ tail)
+  SomePieces kind b front content = (core blank tail : List ℕ) × (front ≡ core ++ blank)
+      × Joined (PieceOf kind R) core content × IsBlank blank × (core ≡ b ∷ tail)
 
   abbrev Pieces : StringKind → List ℕ → List ℕ → Type 0
   Pieces kind front content = ((front ≡ []) × (content ≡ [])) ⊎ ((b : ℕ) × SomePieces kind b front content)
 
-  joined_pieces : (kind : StringKind) (b : ℕ) (piece blank bytes g more_bytes : List ℕ) → PieceFrom kind b piece bytes → IsBlank blank → Pieces kind g more_bytes → SomePieces kind b (piece ++ (blank ++ g)) (bytes ++ more_bytes)
+  joined_pieces : (kind : StringKind) (b : ℕ) (piece blank bytes g more_bytes : List ℕ) → PieceFrom kind b piece bytes
+      → IsBlank blank → Pieces kind g more_bytes → SomePieces kind b (piece ++ (blank ++ g)) (bytes ++ more_bytes)
   joined_pieces kind b piece blank bytes g more_bytes p is (inl none) =
       (piece, blank, p.1, rw (none.0, append-nil blank) refl, rw (none.1, append-nil bytes) (one p.0), is, p.2)
   joined_pieces kind b piece blank bytes g more_bytes p is (inr next) =
@@ -167,34 +223,48 @@ module _ (left : ℕ) (R : List ℕ → Item → Type 0) (read : List ℕ → Re
 
   -- the pieces from here on, by whether one begins here
   abbrev by_test : StringKind → ℕ → ℕ → List ℕ → Bool → Read (List ℕ)
-  by_test kind n b text true = piece_of read (start_of b) text >>= λ x. read_pieces read (may_have_texts kind) n (skip_blank x.1) >>= λ xs. Ok (x.0 ++ xs.0, xs.1)
+  by_test kind n b text true = piece_of read (start_of b) text
+      >>= λ x. read_pieces read (may_have_texts kind) n (skip_blank x.1) >>= λ xs. Ok (x.0 ++ xs.0, xs.1)
   by_test kind n b text false = Ok ([], b ∷ text)
 
-  pieces_by_test : (kind : StringKind) (n b : ℕ) (text : List ℕ) (t : Bool) → begins_piece (may_have_texts kind) (start_of b) ≡ t → read_pieces read (may_have_texts kind) (suc n) (b ∷ text) ≡ by_test kind n b text t
+  pieces_by_test : (kind : StringKind) (n b : ℕ) (text : List ℕ) (t : Bool)
+      → begins_piece (may_have_texts kind) (start_of b) ≡ t
+      → read_pieces read (may_have_texts kind) (suc n) (b ∷ text) ≡ by_test kind n b text t
   unfolding read_pieces read_piece
   pieces_by_test kind n b text true is = rw (is, read_pieces) refl
   pieces_by_test kind n b text false is = rw (is, read_pieces) refl
 
-  some_pieces : (kind : StringKind) (n b : ℕ) (text : List ℕ) → ((rest : List ℕ) → Sound (suc left) (Pieces kind) rest (read_pieces read (may_have_texts kind) n rest)) → begins_piece (may_have_texts kind) (start_of b) ≡ true
+  some_pieces : (kind : StringKind) (n b : ℕ) (text : List ℕ)
+      → ((rest : List ℕ) → Sound (suc left) (Pieces kind) rest (read_pieces read (may_have_texts kind) n rest))
+      → begins_piece (may_have_texts kind) (start_of b) ≡ true
       → Sound (suc left) (SomePieces kind b) (b ∷ text) (read_pieces read (may_have_texts kind) (suc n) (b ∷ text))
   some_pieces kind n b text later begins =
       subst (Sound (suc left) (SomePieces kind b) (b ∷ text)) (sym (pieces_by_test kind n b text true begins))
-      (sound_then (suc left) (PieceFrom kind b) (SomePieces kind b) (b ∷ text) (piece_of read (start_of b) text) (λ x. read_pieces read (may_have_texts kind) n (skip_blank x.1) >>= λ xs. Ok (x.0 ++ xs.0, xs.1)) (piece_sound kind b text (start_of b) (start_is b) begins)
+      (sound_then (suc left) (PieceFrom kind b) (SomePieces kind b) (b ∷ text) (piece_of read (start_of b) text)
+      (λ x. read_pieces read (may_have_texts kind) n (skip_blank x.1) >>= λ xs. Ok (x.0 ++ xs.0, xs.1))
+      (piece_sound kind b text (start_of b) (start_is b) begins)
       (λ bytes piece rest at p.
       let blank = blank_left true rest in
-      moved (suc left) (λ g content. SomePieces kind b (piece ++ g) content) rest blank.0 (skip_blank rest) (read_pieces read (may_have_texts kind) n (skip_blank rest) >>= λ xs. Ok (bytes ++ xs.0, xs.1)) blank.1
-      (sound_map (suc left) (Pieces kind) (λ g content. SomePieces kind b (piece ++ (blank.0 ++ g)) content) (skip_blank rest) (read_pieces read (may_have_texts kind) n (skip_blank rest)) (λ xs. bytes ++ xs) (later (skip_blank rest))
+      moved (suc left) (λ g content. SomePieces kind b (piece ++ g) content) rest blank.0 (skip_blank rest)
+      (read_pieces read (may_have_texts kind) n (skip_blank rest) >>= λ xs. Ok (bytes ++ xs.0, xs.1)) blank.1
+      (sound_map (suc left) (Pieces kind) (λ g content. SomePieces kind b (piece ++ (blank.0 ++ g)) content)
+      (skip_blank rest) (read_pieces read (may_have_texts kind) n (skip_blank rest)) (λ xs. bytes ++ xs)
+      (later (skip_blank rest))
       (λ g content h. joined_pieces kind b piece blank.0 bytes g content p blank.2 h))))
 
-  pieces_sound : (kind : StringKind) (n : ℕ) (text : List ℕ) → Sound (suc left) (Pieces kind) text (read_pieces read (may_have_texts kind) n text)
+  pieces_sound : (kind : StringKind) (n : ℕ) (text : List ℕ)
+      → Sound (suc left) (Pieces kind) text (read_pieces read (may_have_texts kind) n text)
   unfolding read_pieces
   pieces_sound kind zero text = tt
   pieces_sound kind (suc n) [] = ([], refl, inl (refl, refl))
   pieces_sound kind (suc n) (b ∷ text) =
       elim (a_test (begins_piece (may_have_texts kind) (start_of b))) [
-        | inl begins ↦ weaker (suc left) (SomePieces kind b) (Pieces kind) (b ∷ text) (read_pieces read (may_have_texts kind) (suc n) (b ∷ text)) (λ front content h. inr (b, h)) (some_pieces kind n b text (pieces_sound kind n) begins)
+        | inl begins ↦ weaker (suc left) (SomePieces kind b) (Pieces kind) (b ∷ text)
+            (read_pieces read (may_have_texts kind) (suc n) (b ∷ text)) (λ front content h. inr (b, h))
+            (some_pieces kind n b text (pieces_sound kind n) begins)
         | inr other ↦
-            subst (Sound (suc left) (Pieces kind) (b ∷ text)) (sym (pieces_by_test kind n b text false other)) ([], refl, inl (refl, refl))
+            subst (Sound (suc left) (Pieces kind) (b ∷ text)) (sym (pieces_by_test kind n b text false other))
+            ([], refl, inl (refl, refl))
       ]
 
   -- ---- strings
@@ -226,12 +296,14 @@ module _ (left : ℕ) (R : List ℕ → Item → Type 0) (read : List ℕ → Re
   piece_start start.Brace h = h
   piece_start start.Other h = h
 
-  string_begins : (kind : StringKind) (b : ℕ) → begins_string kind (start_of b) ≡ true → begins_piece (may_have_texts kind) (start_of b) ≡ true
+  string_begins : (kind : StringKind) (b : ℕ) → begins_string kind (start_of b) ≡ true
+      → begins_piece (may_have_texts kind) (start_of b) ≡ true
   string_begins bytes_kind b h = h
   string_begins text_kind b h = piece_start (start_of b) h
 
   -- its content is UTF-8, or it is refused so
-  utf8_ok : (content : List ℕ) (c : Chunk) → checked text_kind content ≡ Ok c → (c ≡ record { bytes = content; width = Unknown }) × IsUtf8 content
+  utf8_ok : (content : List ℕ) (c : Chunk) → checked text_kind content ≡ Ok c
+      → (c ≡ record { bytes = content; width = Unknown }) × IsUtf8 content
   utf8_ok content c e =
       elim (a_test (is_utf8 content)) [
         | inl this ↦
@@ -241,17 +313,31 @@ module _ (left : ℕ) (R : List ℕ → Item → Type 0) (read : List ℕ → Re
         | inr other ↦ absurd (cc (rw other at e))
       ]
 
-  checked_ok : (kind : StringKind) (b : ℕ) (front content : List ℕ) (c : Chunk) → begins_string kind (start_of b) ≡ true → SomePieces kind b front content → checked kind content ≡ Ok c → Trailed (λ core. StringOf kind R core c) front
+  checked_ok : (kind : StringKind) (b : ℕ) (front content : List ℕ) (c : Chunk) → begins_string kind (start_of b) ≡ true
+      → SomePieces kind b front content → checked kind content ≡ Ok c → Trailed (λ core. StringOf kind R core c) front
   checked_ok bytes_kind b front content c begins pieces e =
       let made : Chunk = record { bytes = content; width = Unknown } in
-      let is : made ≡ c = cc in
-      (pieces.0, pieces.1, pieces.3, subst (λ (d : Chunk). StringOf bytes_kind R pieces.0 d) is (refl, tt, pieces.4, tt), pieces.5)
+      let is : made ≡ c = cc in (
+        pieces.0,
+        pieces.1,
+        pieces.3,
+        subst (λ (d : Chunk). StringOf bytes_kind R pieces.0 d) is
+            (refl, tt, pieces.4, tt),
+        pieces.5,
+      )
   checked_ok text_kind b front content c begins pieces e =
       let u = utf8_ok content c e in
-      let quote : b ≡ 34 = quote_start (start_of b) b (start_is b) begins in
-      (pieces.0, pieces.1, pieces.3, subst (λ (d : Chunk). StringOf text_kind R pieces.0 d) (sym u.0) (refl, (pieces.2, pieces.6 ∙ ap (λ (z : ℕ). z ∷ pieces.2) quote), pieces.4, u.1), pieces.5)
+      let quote : b ≡ 34 = quote_start (start_of b) b (start_is b) begins in (
+        pieces.0,
+        pieces.1,
+        pieces.3,
+        subst (λ (d : Chunk). StringOf text_kind R pieces.0 d) (sym u.0)
+            (refl, (pieces.2, pieces.6 ∙ ap (λ (z : ℕ). z ∷ pieces.2) quote), pieces.4, u.1),
+        pieces.5,
+      )
 
-  checked_odd : (kind : StringKind) (b : ℕ) (text content : List ℕ) (e : Error) → begins_string kind (start_of b) ≡ true → checked kind content ≡ Err e → MayRefuse (suc left) (b ∷ text) e
+  checked_odd : (kind : StringKind) (b : ℕ) (text content : List ℕ) (e : Error) → begins_string kind (start_of b) ≡ true
+      → checked kind content ≡ Err e → MayRefuse (suc left) (b ∷ text) e
   checked_odd bytes_kind b text content e begins is = absurd cc
   checked_odd text_kind b text content e begins is =
       elim (a_test (is_utf8 content)) [
@@ -263,17 +349,20 @@ module _ (left : ℕ) (R : List ℕ → Item → Type 0) (read : List ℕ → Re
             subst (MayRefuse (suc left) (b ∷ text)) same (subst (λ (z : ℕ). HoldsByte 34 (z ∷ text)) (sym quote) held)
       ]
 
-  of_test : (kind : StringKind) (text : List ℕ) (t : Bool) → begins_string kind (first_start text) ≡ t → Sound (suc left) (λ g c. Trailed (λ core. StringOf kind R core c) g) text (string_of read kind text t)
+  of_test : (kind : StringKind) (text : List ℕ) (t : Bool) → begins_string kind (first_start text) ≡ t
+      → Sound (suc left) (λ g c. Trailed (λ core. StringOf kind R core c) g) text (string_of read kind text t)
   of_test kind text false is = tt
   of_test bytes_kind [] true is = absurd cc
   of_test text_kind [] true is = absurd cc
   of_test kind (b ∷ text) true is =
-      sound_check (suc left) (SomePieces kind b) (λ g c. Trailed (λ core. StringOf kind R core c) g) (b ∷ text) (read_pieces read (may_have_texts kind) (suc (length (b ∷ text))) (b ∷ text)) (checked kind)
+      sound_check (suc left) (SomePieces kind b) (λ g c. Trailed (λ core. StringOf kind R core c) g) (b ∷ text)
+      (read_pieces read (may_have_texts kind) (suc (length (b ∷ text))) (b ∷ text)) (checked kind)
       (some_pieces kind (length (b ∷ text)) b text (pieces_sound kind (length (b ∷ text))) (string_begins kind b is))
       (λ front content c pieces ok. checked_ok kind b front content c is pieces ok)
       (λ front rest content e at pieces odd. checked_odd kind b text content e is odd)
 
-  pub string_sound : (kind : StringKind) (text : List ℕ) → Sound (suc left) (λ g c. Trailed (λ core. StringOf kind R core c) g) text (read_string read kind text)
+  pub string_sound : (kind : StringKind) (text : List ℕ)
+      → Sound (suc left) (λ g c. Trailed (λ core. StringOf kind R core c) g) text (read_string read kind text)
   unfolding read_string
   string_sound kind text = of_test kind text (begins_string kind (first_start text)) refl
 
@@ -282,14 +371,27 @@ module _ (left : ℕ) (R : List ℕ → Item → Type 0) (read : List ℕ → Re
   trailed_blanked : (blank g : List ℕ) (Is : List ℕ → Type 0) → IsBlank blank → Trailed Is g → Blanked Is (blank ++ g)
   trailed_blanked blank g Is is t = (blank, t.0, t.1, ap (λ (z : List ℕ). blank ++ z) t.2, is, t.3, t.4)
 
-  pub chunk_sound : (kind : StringKind) (text : List ℕ) → Sound (suc left) (λ g c. Blanked (λ core. StringOf kind R core c) g) text (read_chunk read kind text)
+  pub chunk_sound : (kind : StringKind) (text : List ℕ)
+      → Sound (suc left) (λ g c. Blanked (λ core. StringOf kind R core c) g) text (read_chunk read kind text)
   chunk_sound kind text =
       let blank = blank_left true text in
-      moved (suc left) (λ g c. Blanked (λ core. StringOf kind R core c) g) text blank.0 (skip_blank text) (read_string read kind (skip_blank text)) blank.1
-      (weaker (suc left) (λ g c. Trailed (λ core. StringOf kind R core c) g) (λ g c. Blanked (λ core. StringOf kind R core c) (blank.0 ++ g)) (skip_blank text) (read_string read kind (skip_blank text))
-      (λ g c t. trailed_blanked blank.0 g (λ core. StringOf kind R core c) blank.2 t) (string_sound kind (skip_blank text)))
+      moved (suc left) (λ g c. Blanked (λ core. StringOf kind R core c) g) text blank.0 (skip_blank text)
+      (read_string read kind (skip_blank text)) blank.1
+      (weaker (suc left) (λ g c. Trailed (λ core. StringOf kind R core c) g)
+      (λ g c. Blanked (λ core. StringOf kind R core c) (blank.0 ++ g)) (skip_blank text)
+      (read_string read kind (skip_blank text))
+      (λ g c t. trailed_blanked blank.0 g (λ core. StringOf kind R core c) blank.2 t)
+      (string_sound kind (skip_blank text)))
 
 -- a blank before what may stand behind blanks
-pub blanked_more : (Is : List ℕ → Type 0) (before text : List ℕ) → IsBlank before → Blanked Is text → Blanked Is (before ++ text)
-blanked_more Is before text is h =
-    (before ++ h.0, h.1, h.2, ap (λ (z : List ℕ). before ++ z) h.3 ∙ sym (append_assoc before h.0 (h.1 ++ h.2)), Blank-append is h.4, h.5, h.6)
+pub blanked_more : (Is : List ℕ → Type 0) (before text : List ℕ) → IsBlank before → Blanked Is text
+    → Blanked Is (before ++ text)
+blanked_more Is before text is h = (
+  before ++ h.0,
+  h.1,
+  h.2,
+  ap (λ (z : List ℕ). before ++ z) h.3 ∙ sym (append_assoc before h.0 (h.1 ++ h.2)),
+  Blank-append is h.4,
+  h.5,
+  h.6,
+)

@@ -1,5 +1,6 @@
 -- Strings: notations of bytes, pieces, chunks.
-use Rattle.std.proofs.Common.{◌≡◌, ℕ, Bool, true, false, List, [], ◌∷◌, ◌++◌, codes, map, Option, Some, None, Result, Ok, Err, refl, sym, ap, subst, ◌∙◌, append_assoc, ◌⊎◌, inl, inr}
+use Rattle.std.proofs.Common.{◌≡◌, ℕ, Bool, true, false, List, [], ◌∷◌, ◌++◌, codes, map, Option, Some, None, Result}
+use Rattle.std.proofs.Common.{Ok, Err, refl, sym, ap, subst, ◌∙◌, append_assoc, ◌⊎◌, inl, inr}
 use Rattle.hex.specs.declared.error.FromHexError.{FromHexError}
 use Rattle.hex.specs.Hex.{decode_of}
 use Rattle.cbor_notes.specs.AreBytes.{AreBytes}
@@ -10,8 +11,12 @@ use Rattle.cbor_notes.proofs.tokens.Spaced.{DigitsBetween-digits_of}
 use Rattle.cbor_diag.specs.Item.{Item}
 use Rattle.cbor_diag.specs.View.{items_of}
 use Rattle.cbor_diag.specs.Reading.{Read, ◌>>=◌}
-use Rattle.cbor_diag.specs.Notation.{Closes, Further, Members, list_of, DigitsIn, Notation, in_base16, in_base32, in_base32hex, in_base64}
-use Rattle.cbor_diag.specs.mirror.NotationReading.{or_refused, after_word, if_encoded, from_fives, from_sixes, six_bits, value_in, unpadded, base32_of, base32hex_of, either, base64_of, base16_bytes, base16_of, read_decoded, either_word, h_notation, b_notation}
+use Rattle.cbor_diag.specs.Notation.{Closes, Further, Members, list_of, DigitsIn, Notation, in_base16, in_base32}
+use Rattle.cbor_diag.specs.Notation.{in_base32hex, in_base64}
+use Rattle.cbor_diag.specs.mirror.NotationReading.{or_refused, after_word, if_encoded, from_fives, from_sixes, six_bits}
+use Rattle.cbor_diag.specs.mirror.NotationReading.{value_in, unpadded, base32_of, base32hex_of, either, base64_of}
+use Rattle.cbor_diag.specs.mirror.NotationReading.{base16_bytes, base16_of, read_decoded, either_word, h_notation}
+use Rattle.cbor_diag.specs.mirror.NotationReading.{b_notation}
 use Rattle.cbor_diag.proofs.notation.sound.Steps.{none_some, Sound, moved, sound_option, after_word_is}
 use Rattle.cbor_diag.proofs.notation.sound.Digits.{fives_are_bytes, sixes_are_bytes, encoded_so}
 
@@ -24,42 +29,72 @@ list_of-items_of (i ∷ is) = ap (λ (js : List Item). i ∷ js) (list_of-items_
 -- a list with more behind its close
 closes_more : (close more text : List ℕ) → Closes close text → Closes (close ++ more) (text ++ more)
 closes_more close more text (inl is) = inl (ap (λ (z : List ℕ). z ++ more) is)
-closes_more close more text (inr last) = inr (last.0, ap (λ (z : List ℕ). z ++ more) last.1 ∙ ap (λ (z : List ℕ). 44 ∷ z) (append_assoc last.0 close more), last.2)
+closes_more close more text (inr last) = inr (
+  last.0,
+  ap (λ (z : List ℕ). z ++ more) last.1 ∙ ap (λ (z : List ℕ). 44 ∷ z) (append_assoc last.0 close more),
+  last.2,
+)
 
-further_more : {X : Type 0} (Member : List ℕ → X → Type 0) (close more text : List ℕ) (xs : List X) → Further Member close text xs → Further Member (close ++ more) (text ++ more) xs
+further_more : {X : Type 0} (Member : List ℕ → X → Type 0) (close more text : List ℕ) (xs : List X)
+    → Further Member close text xs → Further Member (close ++ more) (text ++ more) xs
 further_more Member close more text [] h = closes_more close more text h
-further_more Member close more text (x ∷ xs) h =
-    (h.0, h.1 ++ more, ap (λ (z : List ℕ). z ++ more) h.2 ∙ ap (λ (z : List ℕ). 44 ∷ z) (append_assoc h.0 h.1 more), h.3, further_more Member close more h.1 xs h.4)
+further_more Member close more text (x ∷ xs) h = (
+  h.0,
+  h.1 ++ more,
+  ap (λ (z : List ℕ). z ++ more) h.2 ∙ ap (λ (z : List ℕ). 44 ∷ z) (append_assoc h.0 h.1 more),
+  h.3,
+  further_more Member close more h.1 xs h.4,
+)
 
-pub members_more : {X : Type 0} (Member : List ℕ → X → Type 0) (close more text : List ℕ) (xs : List X) → Members Member close text xs → Members Member (close ++ more) (text ++ more) xs
-members_more Member close more text [] h = (h.0, h.1 ++ more, ap (λ (z : List ℕ). z ++ more) h.2 ∙ append_assoc h.0 h.1 more, h.3, closes_more close more h.1 h.4)
-members_more Member close more text (x ∷ xs) h = (h.0, h.1 ++ more, ap (λ (z : List ℕ). z ++ more) h.2 ∙ append_assoc h.0 h.1 more, h.3, further_more Member close more h.1 xs h.4)
+pub members_more : {X : Type 0} (Member : List ℕ → X → Type 0) (close more text : List ℕ) (xs : List X)
+    → Members Member close text xs → Members Member (close ++ more) (text ++ more) xs
+members_more Member close more text [] h = (
+  h.0,
+  h.1 ++ more,
+  ap (λ (z : List ℕ). z ++ more) h.2 ∙ append_assoc h.0 h.1 more,
+  h.3,
+  closes_more close more h.1 h.4,
+)
+members_more Member close more text (x ∷ xs) h = (
+  h.0,
+  h.1 ++ more,
+  ap (λ (z : List ℕ). z ++ more) h.2 ∙ append_assoc h.0 h.1 more,
+  h.3,
+  further_more Member close more h.1 xs h.4,
+)
 
 -- ---- digits
 
 module _ (R : List ℕ → Item → Type 0) where
-  base16_so : (digits bytes : List ℕ) (r : Result (List ℕ) FromHexError) → decode_of digits ≡ r → base16_bytes r ≡ Some bytes → decode_of digits ≡ Ok bytes
-  base16_so digits bytes (Ok out) is e = let same : out ≡ bytes = cc in is ∙ ap (λ (z : List ℕ). let r : Result (List ℕ) FromHexError = Ok z in r) same
+  base16_so : (digits bytes : List ℕ) (r : Result (List ℕ) FromHexError) → decode_of digits ≡ r
+      → base16_bytes r ≡ Some bytes → decode_of digits ≡ Ok bytes
+  base16_so digits bytes (Ok out) is e = let same : out ≡ bytes = cc in is
+      ∙ ap (λ (z : List ℕ). let r : Result (List ℕ) FromHexError = Ok z in r) same
   base16_so digits bytes (Err f) is e = absurd (none_some bytes e)
 
-  from_base16 : (text digits bytes : List ℕ) → DigitsIn true (codes "h'") text digits → base16_of digits ≡ Some bytes → Notation R text bytes
+  from_base16 : (text digits bytes : List ℕ) → DigitsIn true (codes "h'") text digits → base16_of digits ≡ Some bytes
+      → Notation R text bytes
   from_base16 text digits bytes within e = in_base16 digits within (base16_so digits bytes (decode_of digits) refl e)
 
-  from_base32 : (text digits bytes : List ℕ) → DigitsIn true (codes "b32'") text digits → base32_of digits ≡ Some bytes → Notation R text bytes
+  from_base32 : (text digits bytes : List ℕ) → DigitsIn true (codes "b32'") text digits → base32_of digits ≡ Some bytes
+      → Notation R text bytes
   unfolding base32_of
   from_base32 text digits bytes within e =
       let values = map (value_in (codes "ABCDEFGHIJKLMNOPQRSTUVWXYZ234567")) (unpadded digits) in
       let so = encoded_so base32.base32 digits (from_fives values) bytes e in
       in_base32 digits within (subst AreBytes so.0 (fives_are_bytes values)) (sym so.1 ∙ ap base32.base32 so.0)
 
-  from_base32hex : (text digits bytes : List ℕ) → DigitsIn true (codes "h32'") text digits → base32hex_of digits ≡ Some bytes → Notation R text bytes
+  from_base32hex : (text digits bytes : List ℕ) → DigitsIn true (codes "h32'") text digits
+      → base32hex_of digits ≡ Some bytes → Notation R text bytes
   unfolding base32hex_of
   from_base32hex text digits bytes within e =
       let values = map (value_in (codes "0123456789ABCDEFGHIJKLMNOPQRSTUV")) (unpadded digits) in
       let so = encoded_so base32.base32hex digits (from_fives values) bytes e in
       in_base32hex digits within (subst AreBytes so.0 (fives_are_bytes values)) (sym so.1 ∙ ap base32.base32hex so.0)
 
-  either_so : (digits tried bytes : List ℕ) (first : Option (List ℕ)) → if_encoded base64.url_safe digits tried ≡ first → either first (if_encoded base64.standard digits tried) ≡ Some bytes → (tried ≡ bytes) × ((base64.url_safe tried ≡ digits) ⊎ (base64.standard tried ≡ digits))
+  either_so : (digits tried bytes : List ℕ) (first : Option (List ℕ)) → if_encoded base64.url_safe digits tried ≡ first
+      → either first (if_encoded base64.standard digits tried) ≡ Some bytes
+      → (tried ≡ bytes) × ((base64.url_safe tried ≡ digits) ⊎ (base64.standard tried ≡ digits))
   either_so digits tried bytes (Some out) is e =
       let so = encoded_so base64.url_safe digits tried bytes (is ∙ e) in
       (so.0, inl so.1)
@@ -67,7 +102,8 @@ module _ (R : List ℕ → Item → Type 0) where
       let so = encoded_so base64.standard digits tried bytes e in
       (so.0, inr so.1)
 
-  from_base64 : (text digits bytes : List ℕ) → DigitsIn false (codes "b64'") text digits → base64_of digits ≡ Some bytes → Notation R text bytes
+  from_base64 : (text digits bytes : List ℕ) → DigitsIn false (codes "b64'") text digits → base64_of digits ≡ Some bytes
+      → Notation R text bytes
   unfolding base64_of
   from_base64 text digits bytes within e =
       let tried = from_sixes (map six_bits (unpadded digits)) in
@@ -79,30 +115,49 @@ module _ (R : List ℕ → Item → Type 0) where
       ])
 
   -- behind the opened quote of a notation
-  decoded_sound : (levels : ℕ) (comments : Bool) (decode : List ℕ → Option (List ℕ)) (word : List ℕ) → ((text digits bytes : List ℕ) → DigitsIn comments word text digits → decode digits ≡ Some bytes → Notation R text bytes)
-      → (text : List ℕ) → Sound levels (λ g bytes. Notation R (word ++ g) bytes) text (read_decoded comments decode text)
+  decoded_sound : (levels : ℕ) (comments : Bool) (decode : List ℕ → Option (List ℕ)) (word : List ℕ)
+      → ((text digits bytes : List ℕ) → DigitsIn comments word text digits → decode digits ≡ Some bytes
+      → Notation R text bytes)
+      → (text : List ℕ) → Sound levels (λ g bytes. Notation R (word ++ g) bytes) text
+      (read_decoded comments decode text)
   decoded_sound levels comments decode word makes text =
-      sound_option levels (λ g bytes. Notation R (word ++ g) bytes) text (digits_of comments text) (λ x. or_refused (decode x.0) >>= λ bytes. Ok (bytes, x.1))
+      sound_option levels (λ g bytes. Notation R (word ++ g) bytes) text (digits_of comments text)
+      (λ x. or_refused (decode x.0) >>= λ bytes. Ok (bytes, x.1))
       (λ x read.
       let d = DigitsBetween-digits_of comments text x read in
       sound_option levels (λ g bytes. Notation R (word ++ g) bytes) text (decode x.0) (λ bytes. Ok (bytes, x.1))
-      (λ bytes are. (d.0 ++ 39 ∷ [], d.1 ∙ sym (append_assoc d.0 (39 ∷ []) x.1), makes (word ++ (d.0 ++ 39 ∷ [])) x.0 bytes (d.0, refl, d.2) are)))
+      (λ bytes are. (
+        d.0 ++ 39 ∷ [],
+        d.1 ∙ sym (append_assoc d.0 (39 ∷ []) x.1),
+        makes (word ++ (d.0 ++ 39 ∷ [])) x.0 bytes (d.0, refl, d.2) are,
+      )))
 
-  either_sound : (levels : ℕ) (Is : List ℕ → List ℕ → Type 0) (text first second : List ℕ) (f g : List ℕ → Read (List ℕ))
-      → ((rest : List ℕ) → Sound levels (λ h bytes. Is (first ++ h) bytes) rest (f rest)) → ((rest : List ℕ) → Sound levels (λ h bytes. Is (second ++ h) bytes) rest (g rest))
-      → (o p : Option (List ℕ)) → after_word first text ≡ o → after_word second text ≡ p → Sound levels Is text (either_word o f p g)
-  either_sound levels Is text first second f g h k (Some rest) p e d = moved levels Is text first rest (f rest) (after_word_is first text rest e) (h rest)
-  either_sound levels Is text first second f g h k None (Some rest) e d = moved levels Is text second rest (g rest) (after_word_is second text rest d) (k rest)
+  either_sound : (levels : ℕ) (Is : List ℕ → List ℕ → Type 0) (text first second : List ℕ) (f g : List ℕ
+      → Read (List ℕ))
+      → ((rest : List ℕ) → Sound levels (λ h bytes. Is (first ++ h) bytes) rest (f rest))
+      → ((rest : List ℕ) → Sound levels (λ h bytes. Is (second ++ h) bytes) rest (g rest))
+      → (o p : Option (List ℕ)) → after_word first text ≡ o → after_word second text ≡ p
+      → Sound levels Is text (either_word o f p g)
+  either_sound levels Is text first second f g h k (Some rest) p e d =
+      moved levels Is text first rest (f rest) (after_word_is first text rest e) (h rest)
+  either_sound levels Is text first second f g h k None (Some rest) e d =
+      moved levels Is text second rest (g rest) (after_word_is second text rest d) (k rest)
   either_sound levels Is text first second f g h k None None e d = tt
 
-  pub h_sound : (levels : ℕ) (text : List ℕ) → Sound levels (λ g bytes. Notation R (104 ∷ g) bytes) text (h_notation text)
+  pub h_sound : (levels : ℕ) (text : List ℕ)
+      → Sound levels (λ g bytes. Notation R (104 ∷ g) bytes) text (h_notation text)
   h_sound levels text =
-      either_sound levels (λ g bytes. Notation R (104 ∷ g) bytes) text (codes "'") (codes "32'") (read_decoded true base16_of) (read_decoded true base32hex_of)
-      (decoded_sound levels true base16_of (codes "h'") from_base16) (decoded_sound levels true base32hex_of (codes "h32'") from_base32hex)
+      either_sound levels (λ g bytes. Notation R (104 ∷ g) bytes) text (codes "'") (codes "32'")
+      (read_decoded true base16_of) (read_decoded true base32hex_of)
+      (decoded_sound levels true base16_of (codes "h'") from_base16)
+      (decoded_sound levels true base32hex_of (codes "h32'") from_base32hex)
       (after_word (codes "'") text) (after_word (codes "32'") text) refl refl
 
-  pub b_sound : (levels : ℕ) (text : List ℕ) → Sound levels (λ g bytes. Notation R (98 ∷ g) bytes) text (b_notation text)
+  pub b_sound : (levels : ℕ) (text : List ℕ)
+      → Sound levels (λ g bytes. Notation R (98 ∷ g) bytes) text (b_notation text)
   b_sound levels text =
-      either_sound levels (λ g bytes. Notation R (98 ∷ g) bytes) text (codes "32'") (codes "64'") (read_decoded true base32_of) (read_decoded false base64_of)
-      (decoded_sound levels true base32_of (codes "b32'") from_base32) (decoded_sound levels false base64_of (codes "b64'") from_base64)
+      either_sound levels (λ g bytes. Notation R (98 ∷ g) bytes) text (codes "32'") (codes "64'")
+      (read_decoded true base32_of) (read_decoded false base64_of)
+      (decoded_sound levels true base32_of (codes "b32'") from_base32)
+      (decoded_sound levels false base64_of (codes "b64'") from_base64)
       (after_word (codes "32'") text) (after_word (codes "64'") text) refl refl

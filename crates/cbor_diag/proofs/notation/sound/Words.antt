@@ -1,5 +1,7 @@
 -- Numbers, tags, simple values and floats.
-use Rattle.std.proofs.Common.{◌≡◌, ℕ, zero, suc, ◌+◌, ◌-◌, ◌<◌, ◌^◌, true, not, ◌==◌, ◌&&◌, cond, nat_lt, List, [], ◌∷◌, ◌++◌, codes, length, take, drop, Option, Some, None, Result, Ok, Err, refl, sym, ap, subst, ◌∙◌, append_assoc, append-nil, length-append, ◌⊎◌, inl, inr, arith}
+use Rattle.std.proofs.Common.{◌≡◌, ℕ, zero, suc, ◌+◌, ◌-◌, ◌<◌, ◌^◌, true, not, ◌==◌, ◌&&◌, cond, nat_lt, List, [], ◌∷◌}
+use Rattle.std.proofs.Common.{◌++◌, codes, length, take, drop, Option, Some, None, Result, Ok, Err, refl, sym, ap}
+use Rattle.std.proofs.Common.{subst, ◌∙◌, append_assoc, append-nil, length-append, ◌⊎◌, inl, inr, arith}
 use Rattle.std.specs.List.{prefix_len, position, list_all}
 use Rattle.std.specs.Char.{digit_value}
 use Rattle.std.specs.Str.Parse.{AllDigits, digits_value}
@@ -15,16 +17,21 @@ use Rattle.cbor_notes.proofs.tokens.Numbers.{IsNumber-number_of}
 use Rattle.cbor_diag.specs.declared.error.Error.{Error}
 use Rattle.cbor_diag.specs.declared.error.Error.TheVariants as refusal
 use Rattle.cbor_diag.specs.declared.syntax.IntegerWidth.{IntegerWidth}
-use Rattle.cbor_diag.specs.declared.syntax.IntegerWidth.TheVariants.{Unknown, Zero, Eight, Sixteen, ThirtyTwo, SixtyFour}
+use Rattle.cbor_diag.specs.declared.syntax.IntegerWidth.TheVariants.{Unknown, Zero, Eight, Sixteen, ThirtyTwo}
+use Rattle.cbor_diag.specs.declared.syntax.IntegerWidth.TheVariants.{SixtyFour}
 use Rattle.cbor_diag.specs.declared.syntax.FloatWidth.{FloatWidth}
 use Rattle.cbor_diag.specs.declared.syntax.FloatWidth.TheVariants as float_width_of
 use Rattle.cbor_diag.specs.Item.{Item, atom, negative, float, simple, tagged}
 use Rattle.cbor_diag.specs.Head.{FitsWidth}
 use Rattle.cbor_diag.specs.Reading.{Read, ◌>>=◌}
 use Rattle.cbor_diag.specs.Notation.{width_of, number_width, HasWidth, NumberOf, NegativeOf, FloatDigits, Core}
-use Rattle.cbor_diag.specs.mirror.NotationReading.{or_refused, after_byte, after_word, numeral, read_number, past_width, with_width, negative_number, read_negative, read_tagged, integer_or_tag, read_integer, simple_value, read_simple, float_of, read_float, or_else, named, read_word}
+use Rattle.cbor_diag.specs.mirror.NotationReading.{or_refused, after_byte, after_word, numeral, read_number, past_width}
+use Rattle.cbor_diag.specs.mirror.NotationReading.{with_width, negative_number, read_negative, read_tagged}
+use Rattle.cbor_diag.specs.mirror.NotationReading.{integer_or_tag, read_integer, simple_value, read_simple, float_of}
+use Rattle.cbor_diag.specs.mirror.NotationReading.{read_float, or_else, named, read_word}
 use Rattle.cbor_diag.specs.NotationRefused.{MayRefuse, HoldsByte}
-use Rattle.cbor_diag.proofs.notation.sound.Steps.{none_some, a_test, Sound, moved, moved_in, sound_then, sound_option, after_byte_is, after_word_is}
+use Rattle.cbor_diag.proofs.notation.sound.Steps.{none_some, a_test, Sound, moved, moved_in, sound_then, sound_option}
+use Rattle.cbor_diag.proofs.notation.sound.Steps.{after_byte_is, after_word_is}
 
 -- ---- widths
 
@@ -68,28 +75,41 @@ sized_is n (Some i) =
 underscore : (front : List ℕ) (n i : ℕ) → IsNumber front n (Some i) → HoldsByte 95 front
 underscore front n i is =
     let u = behind_underscore front n i is in
-    rw u.2 (omega (arith, sum_by-append (λ x. cond (x == 95) 1 0) u.0 (95 ∷ u.1), sum_by-cons (λ x. cond (x == 95) 1 0) 95 u.1))
+    rw u.2 (omega (
+      arith,
+      sum_by-append (λ x. cond (x == 95) 1 0) u.0 (95 ∷ u.1),
+      sum_by-cons (λ x. cond (x == 95) 1 0) 95 u.1,
+    ))
 
 holds_left : (byte : ℕ) (text front rest : List ℕ) → text ≡ front ++ rest → HoldsByte byte front → HoldsByte byte text
 holds_left byte text front rest is h = rw is (omega (arith, sum_by-append (λ x. cond (x == byte) 1 0) front rest))
 
-odd_number : (levels : ℕ) (text front rest : List ℕ) (n : ℕ) (indicator : Option ℕ) (e : Error) → text ≡ front ++ rest → IsNumber front n indicator → OddNumber indicator e → MayRefuse levels text e
+odd_number : (levels : ℕ) (text front rest : List ℕ) (n : ℕ) (indicator : Option ℕ) (e : Error) → text ≡ front ++ rest
+    → IsNumber front n indicator → OddNumber indicator e → MayRefuse levels text e
 odd_number levels text front rest n indicator e is number (inl none) = rw none tt
 odd_number levels text front rest n indicator e is number (inr past) =
-    rw past.0 (holds_left 95 text front rest is (underscore front n past.1 (subst (λ (o : Option ℕ). IsNumber front n o) past.2 number)))
+    rw past.0 (holds_left 95 text front rest is
+    (underscore front n past.1 (subst (λ (o : Option ℕ). IsNumber front n o) past.2 number)))
 
 abbrev numbered_by : Option (ℕ × Option ℕ × List ℕ) → Read (ℕ × Option ℕ)
 numbered_by o = or_refused o >>= λ x. Ok ((x.0, x.1), x.2)
 
 -- what is made of a number and of what follows it
-module _ {A B : Type 0} (levels : ℕ) (Is : List ℕ → B → Type 0) (text : List ℕ) (size : ℕ → Option ℕ → List ℕ → Result A Error) (f : A → List ℕ → Read B)
-    (odd : (front rest : List ℕ) (n : ℕ) (indicator : Option ℕ) → text ≡ front ++ rest → IsNumber front n indicator → (e : Error) → size n indicator rest ≡ Err e → OddNumber indicator e)
-    (h : (front rest : List ℕ) (n : ℕ) (indicator : Option ℕ) → text ≡ front ++ rest → IsNumber front n indicator → (a : A) → size n indicator rest ≡ Ok a → Sound levels (λ g b. Is (front ++ g) b) rest (f a rest)) where
-  size_step : (front rest : List ℕ) (n : ℕ) (indicator : Option ℕ) → text ≡ front ++ rest → IsNumber front n indicator → (r : Result A Error) → size n indicator rest ≡ r → Sound levels Is text (r >>= λ a. f a rest)
-  size_step front rest n indicator is number (Ok a) e = moved levels Is text front rest (f a rest) is (h front rest n indicator is number a e)
-  size_step front rest n indicator is number (Err d) e = odd_number levels text front rest n indicator d is number (odd front rest n indicator is number d e)
+module _ {A B : Type 0} (levels : ℕ) (Is : List ℕ → B → Type 0) (text : List ℕ) (size : ℕ → Option ℕ → List ℕ
+    → Result A Error) (f : A → List ℕ → Read B)
+    (odd : (front rest : List ℕ) (n : ℕ) (indicator : Option ℕ) → text ≡ front ++ rest → IsNumber front n indicator
+    → (e : Error) → size n indicator rest ≡ Err e → OddNumber indicator e)
+    (h : (front rest : List ℕ) (n : ℕ) (indicator : Option ℕ) → text ≡ front ++ rest → IsNumber front n indicator
+    → (a : A) → size n indicator rest ≡ Ok a → Sound levels (λ g b. Is (front ++ g) b) rest (f a rest)) where
+  size_step : (front rest : List ℕ) (n : ℕ) (indicator : Option ℕ) → text ≡ front ++ rest → IsNumber front n indicator
+      → (r : Result A Error) → size n indicator rest ≡ r → Sound levels Is text (r >>= λ a. f a rest)
+  size_step front rest n indicator is number (Ok a) e =
+      moved levels Is text front rest (f a rest) is (h front rest n indicator is number a e)
+  size_step front rest n indicator is number (Err d) e =
+      odd_number levels text front rest n indicator d is number (odd front rest n indicator is number d e)
 
-  number_step : (o : Option (ℕ × Option ℕ × List ℕ)) → number_of text ≡ o → Sound levels Is text (numbered_by o >>= λ x. size x.0.0 x.0.1 x.1 >>= λ a. f a x.1)
+  number_step : (o : Option (ℕ × Option ℕ × List ℕ)) → number_of text ≡ o
+      → Sound levels Is text (numbered_by o >>= λ x. size x.0.0 x.0.1 x.1 >>= λ a. f a x.1)
   number_step None e = tt
   number_step (Some x) e =
       let number = IsNumber-number_of text x e in
@@ -110,41 +130,59 @@ module _ {A B : Type 0} (size : ℕ → Option ℕ → Result A Error) (f : A �
   tested_then rest (Ok a) = refl
   tested_then rest (Err e) = refl
 
-  number_tested : (o : Option (ℕ × Option ℕ × List ℕ)) → used (numbered_by o >>= λ x. tested x.1 (size x.0.0 x.0.1)) ≡ (numbered_by o >>= λ x. size x.0.0 x.0.1 >>= λ a. f a x.1)
+  number_tested : (o : Option (ℕ × Option ℕ × List ℕ))
+      → used (numbered_by o >>= λ x. tested x.1 (size x.0.0 x.0.1))
+      ≡ (numbered_by o >>= λ x. size x.0.0 x.0.1 >>= λ a. f a x.1)
   number_tested None = refl
   number_tested (Some x) = tested_then x.2 (size x.0 x.1)
 
 -- ---- integers and tags
 
-sized_ok : (n : ℕ) (indicator : Option ℕ) (x : ℕ × IntegerWidth) → with_width n indicator ≡ Ok x → (x.0 ≡ n) × HasWidth n indicator x.1
+sized_ok : (n : ℕ) (indicator : Option ℕ) (x : ℕ × IntegerWidth) → with_width n indicator ≡ Ok x
+    → (x.0 ≡ n) × HasWidth n indicator x.1
 sized_ok n indicator x e = subst (SizedSo n indicator) e (sized_is n indicator)
 
 sized_odd : (n : ℕ) (indicator : Option ℕ) (d : Error) → with_width n indicator ≡ Err d → OddNumber indicator d
 sized_odd n indicator d e = subst (SizedSo n indicator) e (sized_is n indicator)
 
-number_here : (front : List ℕ) (n : ℕ) (indicator : Option ℕ) (x : ℕ × IntegerWidth) → IsNumber front n indicator → (x.0 ≡ n) × HasWidth n indicator x.1 → NumberOf front x.0 x.1
+number_here : (front : List ℕ) (n : ℕ) (indicator : Option ℕ) (x : ℕ × IntegerWidth) → IsNumber front n indicator
+    → (x.0 ≡ n) × HasWidth n indicator x.1 → NumberOf front x.0 x.1
 number_here front n indicator x number h = rw h.0 (indicator, number, h.1)
 
-module _ (left : ℕ) (R : List ℕ → Item → Type 0) (read : List ℕ → Read Item) (sound : (text : List ℕ) → Sound left R text (read text)) where
-  or_tag : (front rest : List ℕ) (n : ℕ) (w : IntegerWidth) → NumberOf front n w → (o : Option (List ℕ)) → after_byte 40 rest ≡ o → Sound (suc left) (λ g i. Core R (front ++ g) i) rest (integer_or_tag read n w rest o)
-  or_tag front rest n w number None e = ([], refl, subst (λ (z : List ℕ). NumberOf z n w) (sym (append-nil front)) number)
+module _ (left : ℕ) (R : List ℕ → Item → Type 0) (read : List ℕ → Read Item) (sound : (text : List ℕ)
+    → Sound left R text (read text)) where
+  or_tag : (front rest : List ℕ) (n : ℕ) (w : IntegerWidth) → NumberOf front n w → (o : Option (List ℕ))
+      → after_byte 40 rest ≡ o → Sound (suc left) (λ g i. Core R (front ++ g) i) rest (integer_or_tag read n w rest o)
+  or_tag front rest n w number None e = (
+    [],
+    refl,
+    subst (λ (z : List ℕ). NumberOf z n w) (sym (append-nil front))
+        number,
+  )
   or_tag front rest n w number (Some inner) e =
-      moved_in left (λ g i. Core R (front ++ g) i) rest [] 40 inner (read_tagged read n w inner) (after_byte_is 40 rest inner e) refl
-      (sound_then left R (λ g i. Core R (front ++ 40 ∷ g) i) inner (read inner) (λ i. or_refused (after_byte 41 i.1) >>= λ after. Ok (tagged n w i.0, after)) (sound inner)
+      moved_in left (λ g i. Core R (front ++ g) i) rest [] 40 inner (read_tagged read n w inner)
+      (after_byte_is 40 rest inner e) refl
+      (sound_then left R (λ g i. Core R (front ++ 40 ∷ g) i) inner (read inner)
+      (λ i. or_refused (after_byte 41 i.1) >>= λ after. Ok (tagged n w i.0, after)) (sound inner)
       (λ i within after is reads.
-      sound_option left (λ g j. Core R (front ++ 40 ∷ (within ++ g)) j) after (after_byte 41 after) (λ last. Ok (tagged n w i, last))
+      sound_option left (λ g j. Core R (front ++ 40 ∷ (within ++ g)) j) after (after_byte 41 after)
+      (λ last. Ok (tagged n w i, last))
       (λ last closed. (41 ∷ [], after_byte_is 41 after last closed, (front, within, refl, number, reads)))))
 
   pub integer_sound : (text : List ℕ) → Sound (suc left) (Core R) text (read_integer read text)
   integer_sound text =
-      subst (Sound (suc left) (Core R) text) (sym (number_tested with_width (λ x rest. integer_or_tag read x.0 x.1 rest (after_byte 40 rest)) (number_of text)))
-      (sound_number (suc left) (Core R) text (λ n indicator rest. with_width n indicator) (λ x rest. integer_or_tag read x.0 x.1 rest (after_byte 40 rest))
+      subst (Sound (suc left) (Core R) text) (sym
+      (number_tested with_width (λ x rest. integer_or_tag read x.0 x.1 rest (after_byte 40 rest)) (number_of text)))
+      (sound_number (suc left) (Core R) text (λ n indicator rest. with_width n indicator)
+      (λ x rest. integer_or_tag read x.0 x.1 rest (after_byte 40 rest))
       (λ front rest n indicator is number e odd. sized_odd n indicator e odd)
-      (λ front rest n indicator is number x ok. or_tag front rest x.0 x.1 (number_here front n indicator x number (sized_ok n indicator x ok)) (after_byte 40 rest) refl))
+      (λ front rest n indicator is number x ok. or_tag front rest x.0 x.1
+      (number_here front n indicator x number (sized_ok n indicator x ok)) (after_byte 40 rest) refl))
 
   -- ---- negative integers
 
-  below_ok : (front : List ℕ) (n : ℕ) (indicator : Option ℕ) (x : ℕ × IntegerWidth) → IsNumber front n indicator → negative_number n indicator ≡ Ok x → NegativeOf (45 ∷ front) x.0 x.1
+  below_ok : (front : List ℕ) (n : ℕ) (indicator : Option ℕ) (x : ℕ × IntegerWidth) → IsNumber front n indicator
+      → negative_number n indicator ≡ Ok x → NegativeOf (45 ∷ front) x.0 x.1
   below_ok front zero indicator x number e = absurd cc
   below_ok front (suc n) indicator x number e =
       let ok = sized_ok n indicator x e in
@@ -159,10 +197,17 @@ module _ (left : ℕ) (R : List ℕ → Item → Type 0) (read : List ℕ → Re
   pub negative_sound : (text : List ℕ) → Sound (suc left) (λ g i. Core R (45 ∷ g) i) text (read_negative text)
   negative_sound text =
       let made : ℕ × IntegerWidth → List ℕ → Read Item = λ x rest. Ok (atom (negative x.0 x.1), rest) in
-      subst (Sound (suc left) (λ g i. Core R (45 ∷ g) i) text) (sym (number_tested negative_number made (number_of text)))
-      (sound_number (suc left) (λ g i. Core R (45 ∷ g) i) text (λ n indicator rest. negative_number n indicator) (λ x rest. Ok (atom (negative x.0 x.1), rest))
+      subst (Sound (suc left) (λ g i. Core R (45 ∷ g) i) text)
+      (sym (number_tested negative_number made (number_of text)))
+      (sound_number (suc left) (λ g i. Core R (45 ∷ g) i) text (λ n indicator rest. negative_number n indicator)
+      (λ x rest. Ok (atom (negative x.0 x.1), rest))
       (λ front rest n indicator is number e odd. below_odd n indicator e odd)
-      (λ front rest n indicator is number x ok. ([], refl, subst (λ (z : List ℕ). NegativeOf (45 ∷ z) x.0 x.1) (sym (append-nil front)) (below_ok front n indicator x number ok))))
+      (λ front rest n indicator is number x ok. (
+        [],
+        refl,
+        subst (λ (z : List ℕ). NegativeOf (45 ∷ z) x.0 x.1) (sym (append-nil front))
+            (below_ok front n indicator x number ok),
+      )))
 
   -- ---- simple values
 
@@ -172,17 +217,20 @@ module _ (left : ℕ) (R : List ℕ → Item → Type 0) (read : List ℕ → Re
       let parts = and_parts (nat_lt (digit_value d) radix) (list_all (λ c. nat_lt (digit_value c) radix) ds) h in
       (ltb-true (digit_value d) radix parts.0, all_digits radix ds parts.1)
 
-  simple_ok : (front : List ℕ) (n m : ℕ) (indicator : Option ℕ) → IsNumber front n indicator → simple_value n front ≡ Ok m → AreDigits 10 front m × (m < 256)
+  simple_ok : (front : List ℕ) (n m : ℕ) (indicator : Option ℕ) → IsNumber front n indicator
+      → simple_value n front ≡ Ok m → AreDigits 10 front m × (m < 256)
   simple_ok front n m indicator number e =
       elim (a_test (list_all (λ c. nat_lt (digit_value c) 10) front && nat_lt n 256)) [
         | inl this ↦
             let parts = and_parts (list_all (λ c. nat_lt (digit_value c) 10) front) (nat_lt n 256) this in
             let same : n ≡ m = cc (rw this at e) in
-            subst (λ (k : ℕ). AreDigits 10 front k × (k < 256)) same (decimal_number front n indicator number (all_digits 10 front parts.0), ltb-true n 256 parts.1)
+            subst (λ (k : ℕ). AreDigits 10 front k × (k < 256)) same
+            (decimal_number front n indicator number (all_digits 10 front parts.0), ltb-true n 256 parts.1)
         | inr other ↦ absurd (cc (rw other at e))
       ]
 
-  simple_odd : (front : List ℕ) (n : ℕ) (indicator : Option ℕ) (d : Error) → simple_value n front ≡ Err d → OddNumber indicator d
+  simple_odd : (front : List ℕ) (n : ℕ) (indicator : Option ℕ) (d : Error) → simple_value n front ≡ Err d
+      → OddNumber indicator d
   simple_odd front n indicator d e =
       elim (a_test (list_all (λ c. nat_lt (digit_value c) 10) front && nat_lt n 256)) [
         | inl this ↦ absurd (cc (rw this at e))
@@ -197,11 +245,20 @@ module _ (left : ℕ) (R : List ℕ → Item → Type 0) (read : List ℕ → Re
   -- behind `simple(`
   pub simple_sound : (text : List ℕ) → Sound (suc left) (λ g i. Core R (codes "simple(" ++ g) i) text (read_simple text)
   simple_sound text =
-      sound_number (suc left) (λ g i. Core R (codes "simple(" ++ g) i) text (λ n indicator rest. simple_value n (take (length text - length rest) text)) (λ n rest. or_refused (after_byte 41 rest) >>= λ last. Ok (atom (simple n), last))
-      (λ front rest n indicator is number e odd. let same = front_of text front rest is in simple_odd front n indicator e (rw same at odd))
+      sound_number (suc left) (λ g i. Core R (codes "simple(" ++ g) i) text
+      (λ n indicator rest. simple_value n (take (length text - length rest) text))
+      (λ n rest. or_refused (after_byte 41 rest) >>= λ last. Ok (atom (simple n), last))
+      (λ front rest n indicator is number e odd. let same =
+      front_of text front rest is in simple_odd front n indicator e (rw same at odd))
       (λ front rest n indicator is number m ok.
-      sound_option (suc left) (λ g i. Core R (codes "simple(" ++ (front ++ g)) i) rest (after_byte 41 rest) (λ last. Ok (atom (simple m), last))
-      (λ last closed. (41 ∷ [], after_byte_is 41 rest last closed, let same = front_of text front rest is in inr (front, refl, simple_ok front n m indicator number (rw same at ok)))))
+      sound_option (suc left) (λ g i. Core R (codes "simple(" ++ (front ++ g)) i) rest (after_byte 41 rest)
+      (λ last. Ok (atom (simple m), last))
+      (λ last closed. (
+        41 ∷ [],
+        after_byte_is 41 rest last closed,
+        let same =
+            front_of text front rest is in inr (front, refl, simple_ok front n m indicator number (rw same at ok)),
+      )))
 
   -- ---- floats
 
@@ -209,18 +266,28 @@ module _ (left : ℕ) (R : List ℕ → Item → Type 0) (read : List ℕ → Re
   numeral_is radix [] n e = absurd (none_some n e)
   numeral_is radix (d ∷ ds) n e =
       elim (a_test (list_all (λ c. nat_lt (digit_value c) radix) (d ∷ ds))) [
-        | inl this ↦ ((omega arith, all_digits radix (d ∷ ds) this), let same : Some (digits_value radix (d ∷ ds)) ≡ Some n = rw this at e in cc)
+        | inl this ↦ (
+          (omega arith, all_digits radix (d ∷ ds) this),
+          let same : Some (digits_value radix (d ∷ ds))
+              ≡ Some n = rw this at e in cc,
+        )
         | inr other ↦ absurd (none_some n (rw other at e))
       ]
 
   float_width : (count : ℕ) (w : FloatWidth) → float_of count ≡ Some w → FloatDigits w count
   float_width count w e =
       elim (cases_eq count 4) [
-        | inl four ↦ let same : Some float_width_of.Sixteen ≡ Some w = rw (eq-eqb count 4 four) at e in subst (λ (v : FloatWidth). FloatDigits v count) (let is : float_width_of.Sixteen ≡ w = cc in is) four
+        | inl four ↦ let same : Some float_width_of.Sixteen ≡ Some w =
+            rw (eq-eqb count 4 four) at e in subst (λ (v : FloatWidth). FloatDigits v count)
+            (let is : float_width_of.Sixteen ≡ w = cc in is) four
         | inr no4 ↦ elim (cases_eq count 8) [
-          | inl eight ↦ let same : Some float_width_of.ThirtyTwo ≡ Some w = rw (ne_eqb count 4 no4, eq-eqb count 8 eight) at e in subst (λ (v : FloatWidth). FloatDigits v count) (let is : float_width_of.ThirtyTwo ≡ w = cc in is) eight
+          | inl eight ↦ let same : Some float_width_of.ThirtyTwo ≡ Some w =
+              rw (ne_eqb count 4 no4, eq-eqb count 8 eight) at e in subst (λ (v : FloatWidth). FloatDigits v count)
+              (let is : float_width_of.ThirtyTwo ≡ w = cc in is) eight
           | inr no8 ↦ elim (cases_eq count 16) [
-            | inl sixteen ↦ let same : Some float_width_of.SixtyFour ≡ Some w = rw (ne_eqb count 4 no4, ne_eqb count 8 no8, eq-eqb count 16 sixteen) at e in subst (λ (v : FloatWidth). FloatDigits v count) (let is : float_width_of.SixtyFour ≡ w = cc in is) sixteen
+            | inl sixteen ↦ let same : Some float_width_of.SixtyFour ≡ Some w =
+                rw (ne_eqb count 4 no4, ne_eqb count 8 no8, eq-eqb count 16 sixteen) at e in subst
+                (λ (v : FloatWidth). FloatDigits v count) (let is : float_width_of.SixtyFour ≡ w = cc in is) sixteen
             | inr no16 ↦ absurd (none_some w (rw (ne_eqb count 4 no4, ne_eqb count 8 no8, ne_eqb count 16 no16) at e))
           ]
         ]
@@ -229,7 +296,8 @@ module _ (left : ℕ) (R : List ℕ → Item → Type 0) (read : List ℕ → Re
   abbrev before_apostrophe : List ℕ → ℕ
   before_apostrophe text = prefix_len (λ b. not (b == 39)) text
 
-  at_apostrophe : (text : List ℕ) → before_apostrophe text < length text → text ≡ take (before_apostrophe text) text ++ 39 ∷ drop (before_apostrophe text + 1) text
+  at_apostrophe : (text : List ℕ) → before_apostrophe text < length text
+      → text ≡ take (before_apostrophe text) text ++ 39 ∷ drop (before_apostrophe text + 1) text
   at_apostrophe [] h = absurd (omega arith)
   at_apostrophe (b ∷ text) h =
       elim (cases_eq b 39) [
@@ -243,7 +311,8 @@ module _ (left : ℕ) (R : List ℕ → Item → Type 0) (read : List ℕ → Re
             rw (e, one, two) (ap (λ (z : List ℕ). b ∷ z) (at_apostrophe text later))
       ]
 
-  position_is : (text : List ℕ) (count : ℕ) → position (λ b. b == 39) text ≡ Some count → (count < length text) × (text ≡ take count text ++ 39 ∷ drop (count + 1) text)
+  position_is : (text : List ℕ) (count : ℕ) → position (λ b. b == 39) text ≡ Some count
+      → (count < length text) × (text ≡ take count text ++ 39 ∷ drop (count + 1) text)
   position_is text count e =
       let n = before_apostrophe text in
       elim (a_test (nat_lt n (length text))) [
@@ -251,42 +320,58 @@ module _ (left : ℕ) (R : List ℕ → Item → Type 0) (read : List ℕ → Re
             let few = ltb-true n (length text) this in
             let same : Some n ≡ Some count = rw this at e in
             let is : n ≡ count = cc in
-            subst (λ (k : ℕ). (k < length text) × (text ≡ take k text ++ 39 ∷ drop (k + 1) text)) is (few, at_apostrophe text few)
+            subst (λ (k : ℕ). (k < length text) × (text ≡ take k text ++ 39 ∷ drop (k + 1) text)) is
+            (few, at_apostrophe text few)
         | inr other ↦ absurd (none_some count (rw other at e))
       ]
 
   -- behind `float'`
   pub float_sound : (text : List ℕ) → Sound (suc left) (λ g i. Core R (codes "float'" ++ g) i) text (read_float text)
   float_sound text =
-      sound_option (suc left) (λ g i. Core R (codes "float'" ++ g) i) text (position (λ b. b == 39) text) (λ count. or_refused (float_of count) >>= λ w. or_refused (numeral 16 (take count text)) >>= λ bits. Ok (atom (float bits w), drop (count + 1) text))
+      sound_option (suc left) (λ g i. Core R (codes "float'" ++ g) i) text (position (λ b. b == 39) text)
+      (λ count. or_refused (float_of count) >>= λ w. or_refused (numeral 16 (take count text))
+      >>= λ bits. Ok (atom (float bits w), drop (count + 1) text))
       (λ count at.
       let p = position_is text count at in
       let digits = take count text in
-      sound_option (suc left) (λ g i. Core R (codes "float'" ++ g) i) text (float_of count) (λ w. or_refused (numeral 16 digits) >>= λ bits. Ok (atom (float bits w), drop (count + 1) text))
+      sound_option (suc left) (λ g i. Core R (codes "float'" ++ g) i) text (float_of count)
+      (λ w. or_refused (numeral 16 digits) >>= λ bits. Ok (atom (float bits w), drop (count + 1) text))
       (λ w wide.
-      sound_option (suc left) (λ g i. Core R (codes "float'" ++ g) i) text (numeral 16 digits) (λ bits. Ok (atom (float bits w), drop (count + 1) text))
+      sound_option (suc left) (λ g i. Core R (codes "float'" ++ g) i) text (numeral 16 digits)
+      (λ bits. Ok (atom (float bits w), drop (count + 1) text))
       (λ bits are.
-      let long : length digits ≡ count = length-take-le count text (omega (arith, p.0)) in
-      (digits ++ 39 ∷ [], p.1 ∙ sym (append_assoc digits (39 ∷ []) (drop (count + 1) text)), (digits, refl, (numeral_is 16 digits bits are, rw long (float_width count w wide)))))))
+      let long : length digits ≡ count = length-take-le count text (omega (arith, p.0)) in (
+        digits ++ 39 ∷ [],
+        p.1 ∙ sym (append_assoc digits (39 ∷ []) (drop (count + 1) text)),
+        (digits, refl, (numeral_is 16 digits bits are, rw long (float_width count w wide))),
+      ))))
 
   -- ---- words
 
-  or_word : (Is : List ℕ → Item → Type 0) (text word : List ℕ) (f : List ℕ → Read Item) (other : Read Item) → ((rest : List ℕ) → Sound (suc left) (λ g i. Is (word ++ g) i) rest (f rest)) → Sound (suc left) Is text other
+  or_word : (Is : List ℕ → Item → Type 0) (text word : List ℕ) (f : List ℕ → Read Item) (other : Read Item)
+      → ((rest : List ℕ) → Sound (suc left) (λ g i. Is (word ++ g) i) rest (f rest)) → Sound (suc left) Is text other
       → (o : Option (List ℕ)) → after_word word text ≡ o → Sound (suc left) Is text (or_else o f other)
   or_word Is text word f other h k None e = k
-  or_word Is text word f other h k (Some rest) e = moved (suc left) Is text word rest (f rest) (after_word_is word text rest e) (h rest)
+  or_word Is text word f other h k (Some rest) e =
+      moved (suc left) Is text word rest (f rest) (after_word_is word text rest e) (h rest)
 
-  named_sound : (n : ℕ) (word rest : List ℕ) → Core R (word ++ []) (atom (simple n)) → Sound (suc left) (λ g i. Core R (word ++ g) i) rest (named n rest)
+  named_sound : (n : ℕ) (word rest : List ℕ) → Core R (word ++ []) (atom (simple n))
+      → Sound (suc left) (λ g i. Core R (word ++ g) i) rest (named n rest)
   named_sound n word rest is = ([], refl, is)
 
   pub word_sound : (text : List ℕ) → Sound (suc left) (Core R) text (read_word text)
   word_sound text =
-      or_word (Core R) text (codes "false") (named 20) _ (λ rest. named_sound 20 (codes "false") rest (inl (inl (refl, refl))))
-      (or_word (Core R) text (codes "true") (named 21) _ (λ rest. named_sound 21 (codes "true") rest (inl (inr (inl (refl, refl)))))
-      (or_word (Core R) text (codes "null") (named 22) _ (λ rest. named_sound 22 (codes "null") rest (inl (inr (inr (inl (refl, refl))))))
-      (or_word (Core R) text (codes "undefined") (named 23) _ (λ rest. named_sound 23 (codes "undefined") rest (inl (inr (inr (inr (refl, refl))))))
+      or_word (Core R) text (codes "false") (named 20) _
+      (λ rest. named_sound 20 (codes "false") rest (inl (inl (refl, refl))))
+      (or_word (Core R) text (codes "true") (named 21) _
+      (λ rest. named_sound 21 (codes "true") rest (inl (inr (inl (refl, refl)))))
+      (or_word (Core R) text (codes "null") (named 22) _
+      (λ rest. named_sound 22 (codes "null") rest (inl (inr (inr (inl (refl, refl))))))
+      (or_word (Core R) text (codes "undefined") (named 23) _
+      (λ rest. named_sound 23 (codes "undefined") rest (inl (inr (inr (inr (refl, refl))))))
       (or_word (Core R) text (codes "simple(") read_simple _ simple_sound
-      (or_word (Core R) text (codes "float'") read_float (Err refusal.Notation) float_sound tt (after_word (codes "float'") text) refl)
+      (or_word (Core R) text (codes "float'") read_float (Err refusal.Notation) float_sound tt
+      (after_word (codes "float'") text) refl)
       (after_word (codes "simple(") text) refl)
       (after_word (codes "undefined") text) refl)
       (after_word (codes "null") text) refl)

@@ -42,7 +42,8 @@ pub(super) enum Comment<'a> {
 impl Comment<'_> {
     /// Appends the comment to a text.
     pub(super) fn push(&self, out: &mut String) -> Result<(), AllocError>
-        ensures { OnOk result (string_bytes out.new ≡ string_bytes out.old ++ comment_text self.now) }
+        ensures { OnOk result (string_bytes out.new ≡ string_bytes out.old
+            ++ comment_text self.now) }
     {
         match self {
             Comment::Head(major, number) => push_head(out, *major, *number),
@@ -68,7 +69,8 @@ impl Comment<'_> {
 
 /// Appends what a head says with its number.
 fn push_head(out: &mut String, major: Major, number: u64) -> Result<(), AllocError>
-    ensures { OnOk result (string_bytes out.new ≡ string_bytes out.old ++ head_comment major number) }
+    ensures { OnOk result (string_bytes out.new ≡ string_bytes out.old
+        ++ head_comment major number) }
 {
     match major {
         Major::Unsigned => {
@@ -108,7 +110,8 @@ fn push_decimal(out: &mut String, number: u64) -> Result<(), AllocError>
 }
 
 fn push_float(out: &mut String, bytes: &[u8]) -> Result<(), AllocError>
-    ensures { OnOk result (string_bytes out.new ≡ string_bytes out.old ++ spec.float_comment bytes.now) }
+    ensures { OnOk result (string_bytes out.new ≡ string_bytes out.old
+        ++ spec.float_comment bytes.now) }
 {
     out.push_str("float(")?;
     push_hex(out, &bytes[bytes.len().min(1)..])?;
@@ -116,7 +119,8 @@ fn push_float(out: &mut String, bytes: &[u8]) -> Result<(), AllocError>
 }
 
 fn push_simple(out: &mut String, value: u8) -> Result<(), AllocError>
-    ensures { OnOk result (string_bytes out.new ≡ string_bytes out.old ++ spec.simple_comment value) }
+    ensures { OnOk result (string_bytes out.new ≡ string_bytes out.old
+        ++ spec.simple_comment value) }
 {
     let kind = match value {
         20 => "false, ",
@@ -147,7 +151,8 @@ fn push_counted(out: &mut String, major: Major, count: Option<u64>) -> Result<()
 
 /// Appends the name of a tag, if it has one, and a comma.
 fn push_name(out: &mut String, number: u64) -> Result<(), AllocError>
-    ensures { OnOk result (string_bytes out.new ≡ string_bytes out.old ++ spec.name_before (tag_name number)) }
+    ensures { OnOk result (string_bytes out.new ≡ string_bytes out.old
+        ++ spec.name_before (tag_name number)) }
 {
     match tag_name(number) {
         Some(name) => {

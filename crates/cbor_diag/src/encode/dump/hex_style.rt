@@ -29,7 +29,8 @@ impl HexStyle {
 
     /// Appends the digits to a text.
     pub(super) fn push(self, out: &mut String, bytes: &[u8]) -> Result<(), AllocError>
-        ensures { OnOk result (string_bytes out.new ≡ string_bytes out.old ++ style_hex self bytes.now) }
+        ensures { OnOk result (string_bytes out.new ≡ string_bytes out.old
+            ++ style_hex self bytes.now) }
     {
         match self {
             HexStyle::Head => push_head_hex(out, bytes),

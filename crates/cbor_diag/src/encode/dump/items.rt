@@ -55,7 +55,8 @@ impl Walk {
     }
 }
 
-/// The dump of an item at `level`, from 1 to 128: one pass measures the left column, and one writes the lines.
+/// The dump of an item at `level`, from 1 to 128: one pass measures the left column, and one writes
+/// the lines.
 #[cycle(walk)]
 pub(super) fn dump(alloc: Global, item: &DataItem, level: u8) -> Result<String, AllocError>
     requires level { 1 ≤ level }
@@ -100,9 +101,11 @@ fn dump_content(walk: &mut Walk, context: DumpContext, item: &DataItem) -> Resul
     requires context { IsContext context }
     requires well_formed { WellFormed context.level (view item.now) }
     requires takes { CanTake walk.old.lines.pass (spec.parts_lines
-        (spec.lines_at (129 - (context.level + 1))) (at_of context) walk.old.shared (view item.now)) }
+        (spec.lines_at (129 - (context.level + 1))) (at_of context) walk.old.shared
+        (view item.now)) }
     ensures took { OnOk result (Took walk.old.lines.pass walk.new.lines.pass (spec.parts_lines
-        (spec.lines_at (129 - (context.level + 1))) (at_of context) walk.old.shared (view item.now))) }
+        (spec.lines_at (129 - (context.level + 1))) (at_of context) walk.old.shared
+        (view item.now))) }
     ensures shared { OnOk result (walk.new.shared
         ≡ walk.old.shared + spec.shared_in (view item.now)) }
 {
@@ -194,7 +197,8 @@ fn dump_map(
     walk.lines.close(context.depth + 1, width)
 }
 
-/// How many values were shared when the value below a tag begins. No memory holds so many that they don't fit.
+/// How many values were shared when the value below a tag begins. No memory holds so many that they
+/// don't fit.
 fn shared_below(shared: u64, tag: Tag) -> Result<u64, AllocError>
     ensures { IfOk result (λ n. n ≡ spec.shared_from tag.0 shared) }
 {
@@ -214,9 +218,11 @@ fn dump_items(
     requires context { IsContext context }
     requires well_formed { WellFormedItems context.level (items_view items.now.items) }
     requires takes { CanTake walk.old.lines.pass (spec.items_lines
-        (spec.lines_at (129 - context.level) (at_of context)) walk.old.shared (items_view items.now.items)) }
+        (spec.lines_at (129 - context.level) (at_of context)) walk.old.shared
+        (items_view items.now.items)) }
     ensures took { OnOk result (Took walk.old.lines.pass walk.new.lines.pass (spec.items_lines
-        (spec.lines_at (129 - context.level) (at_of context)) walk.old.shared (items_view items.now.items))) }
+        (spec.lines_at (129 - context.level) (at_of context)) walk.old.shared
+        (items_view items.now.items))) }
     ensures shared { OnOk result (walk.new.shared
         ≡ walk.old.shared + spec.shared_in_items (items_view items.now.items)) }
 {
@@ -236,9 +242,11 @@ fn dump_pairs(
     requires context { IsContext context }
     requires well_formed { WellFormedPairs context.level (pairs_view pairs.now.items) }
     requires takes { CanTake walk.old.lines.pass (spec.pairs_lines
-        (spec.lines_at (129 - context.level) (at_of context)) walk.old.shared (pairs_view pairs.now.items)) }
+        (spec.lines_at (129 - context.level) (at_of context)) walk.old.shared
+        (pairs_view pairs.now.items)) }
     ensures took { OnOk result (Took walk.old.lines.pass walk.new.lines.pass (spec.pairs_lines
-        (spec.lines_at (129 - context.level) (at_of context)) walk.old.shared (pairs_view pairs.now.items))) }
+        (spec.lines_at (129 - context.level) (at_of context)) walk.old.shared
+        (pairs_view pairs.now.items))) }
     ensures shared { OnOk result (walk.new.shared
         ≡ walk.old.shared + spec.shared_in_pairs (pairs_view pairs.now.items)) }
 {
@@ -263,8 +271,8 @@ fn dump_notes(walk: &mut Walk, context: DumpContext, value: &DataItem) -> Result
     let Some(tag) = context.tag else {
         return Ok(());
     };
-    // Notes have no digits, so the pass that measures leaves them out: else an item that is embedded n times
-    // would be dumped 2 to the power of n times.
+    // Notes have no digits, so the pass that measures leaves them out: else an item that is
+    // embedded n times would be dumped 2 to the power of n times.
     if !walk.lines.pass.writes() {
         return Ok(());
     }
@@ -317,7 +325,8 @@ fn embedded_item(
     }
 }
 
-/// The notes of tag 63: the dumps of the items in the bytes, one after the other, and the error after them.
+/// The notes of tag 63: the dumps of the items in the bytes, one after the other, and the error
+/// after them.
 #[cycle(walk)]
 fn embedded_sequence(
     lines: &mut Lines,
@@ -327,7 +336,8 @@ fn embedded_sequence(
 ) -> Result<(), AllocError>
     requires context { IsContext context }
     requires level { context.level < 129 }
-    ensures { OnOk result (Took lines.old.pass lines.new.pass (flat_map (spec.note_lines context.depth)
+    ensures { OnOk result (Took lines.old.pass lines.new.pass
+        (flat_map (spec.note_lines context.depth)
         (spec.sequence_notes (129 - (context.level + 1))
         (spec.lines_at (129 - (context.level + 1)) spec.top 0)
         (sequence_at (129 - (context.level + 1)) bytes.now)))) }

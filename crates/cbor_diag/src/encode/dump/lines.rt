@@ -130,9 +130,11 @@ impl Lines {
     pub(super) fn container(&mut self, depth: usize, opening: Opening) -> Result<(), AllocError>
         requires fits { FitsCount opening.width opening.count }
         requires takes { CanTake self.old.pass (spec.container_line depth
-            (major_number opening.major) (major_word opening.major) opening.count opening.width ∷ []) }
+            (major_number opening.major) (major_word opening.major) opening.count opening.width
+            ∷ []) }
         ensures { OnOk result (Took self.old.pass self.new.pass (spec.container_line depth
-            (major_number opening.major) (major_word opening.major) opening.count opening.width ∷ [])) }
+            (major_number opening.major) (major_word opening.major) opening.count opening.width
+            ∷ [])) }
     {
         self.head.clear();
         push_open(&mut self.head, opening.major, opening.count, opening.width)?;
@@ -201,7 +203,8 @@ impl Lines {
     /// The elements of a typed array, a line for each.
     fn elements(&mut self, depth: usize, of: Elements, bytes: &[u8]) -> Result<(), AllocError>
         requires size { 0 < of.size }
-        requires takes { CanTake self.old.pass (spec.element_lines depth of.tag.0 of.size bytes.now) }
+        requires takes { CanTake self.old.pass
+            (spec.element_lines depth of.tag.0 of.size bytes.now) }
         ensures { OnOk result (Took self.old.pass self.new.pass
             (spec.element_lines depth of.tag.0 of.size bytes.now)) }
     {
@@ -214,13 +217,14 @@ impl Lines {
         Ok(())
     }
 
-    /// The content of a byte string, one deeper than the context: its elements where the tag above is that of a
-    /// typed array and the bytes are whole elements.
+    /// The content of a byte string, one deeper than the context: its elements where the tag above
+    /// is that of a typed array and the bytes are whole elements.
     fn tagged_content(&mut self, context: DumpContext, bytes: &[u8]) -> Result<(), AllocError>
         requires context { IsContext context }
         requires takes { CanTake self.old.pass (spec.tagged_lines (context.depth + 1)
             context.encoding (tag_number context.tag) bytes.now) }
-        ensures { OnOk result (Took self.old.pass self.new.pass (spec.tagged_lines (context.depth + 1)
+        ensures { OnOk result (Took self.old.pass self.new.pass
+            (spec.tagged_lines (context.depth + 1)
             context.encoding (tag_number context.tag) bytes.now)) }
     {
         let depth = context.depth + 1;

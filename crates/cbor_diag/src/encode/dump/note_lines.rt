@@ -17,7 +17,8 @@ impl Lines {
     /// A line of a note.
     pub(super) fn note_line(&mut self, depth: usize, text: &str) -> Result<(), AllocError>
         requires { depth < 140 }
-        ensures { OnOk result (Took self.old.pass self.new.pass (spec.note_line depth text.now ∷ [])) }
+        ensures { OnOk result (Took self.old.pass self.new.pass
+            (spec.note_line depth text.now ∷ [])) }
     {
         let comment = Comment::Note(text);
         self.pass.line(depth, HexStyle::Content, &[], &comment)

@@ -18,8 +18,9 @@ use encoded::{base64_note, url_note, uuid_note};
 use shared::{reference_note, shareable_note};
 use std::alloc::{AllocError, Global};
 
-/// What is said of a value right below a tag, where `known` values were shared before the tag: a text, and others
-/// that belong to it; none where there is no note. Tags 24 and 63 have theirs in the walk.
+/// What is said of a value right below a tag, where `known` values were shared before the tag: a
+/// text, and others that belong to it; none where there is no note. Tags 24 and 63 have theirs in
+/// the walk.
 #[tactic(auto, unfolding(crate::specs::Notes::value_note))]
 pub(super) fn value_note(
     alloc: Global,
@@ -27,7 +28,8 @@ pub(super) fn value_note(
     tag: Tag,
     value: &DataItem,
 ) -> Result<Vec<String>, AllocError>
-    ensures { IfOk result (λ texts. map string_bytes texts.items ≡ spec.value_note known tag.0 (view value.now)) }
+    ensures { IfOk result (λ texts. map string_bytes texts.items ≡ spec.value_note known tag.0
+        (view value.now)) }
 {
     match tag {
         Tag::DATETIME => one(alloc, datetime_note(alloc, value)?),
@@ -79,7 +81,8 @@ fn in_brackets(alloc: Global, word: &str, text: &str) -> Result<String, AllocErr
     Ok(note)
 }
 
-/// What is said of a typed array with elements of `size` bytes: why it is none. Elements speak for themselves.
+/// What is said of a typed array with elements of `size` bytes: why it is none. Elements speak for
+/// themselves.
 fn typed_array_note(alloc: Global, size: usize, value: &DataItem) -> Result<Vec<String>, AllocError>
     requires { 0 < size }
     ensures { IfOk result (λ texts. map string_bytes texts.items

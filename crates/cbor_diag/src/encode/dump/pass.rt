@@ -19,8 +19,8 @@ pub(crate) enum Pass {
 }
 
 impl Pass {
-    /// Takes a line at a depth: bytes, the style of their digits, and a comment. The only error is out of
-    /// memory.
+    /// Takes a line at a depth: bytes, the style of their digits, and a comment. The only error is
+    /// out of memory.
     pub(super) fn line(
         &mut self,
         depth: usize,

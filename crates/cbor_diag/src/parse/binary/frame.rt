@@ -1,8 +1,10 @@
 //! Open containers: what was read of them, and what they still need.
-ghost use Rattle.std.specs.Prelude.{◌≡◌, ◌≤◌, ℕ, Some, IsSome, IfSome, IfOk, IfErr, OnOk, option_map};
+ghost use Rattle.std.specs.Prelude.{◌≡◌, ◌≤◌, ℕ, Some, IsSome, IfSome, IfOk, IfErr, OnOk};
+ghost use Rattle.std.specs.Prelude.{option_map};
 ghost use Rattle.cbor_diag.specs.View.{view};
 ghost use Rattle.cbor_diag.specs.Reading.{after_break};
-ghost use Rattle.cbor_diag.specs.mirror.Counting.{put, after_end, wanted_end, width_of, closed, opened};
+ghost use Rattle.cbor_diag.specs.mirror.Counting.{put, after_end, wanted_end, width_of, closed};
+ghost use Rattle.cbor_diag.specs.mirror.Counting.{opened};
 ghost use Rattle.cbor_diag.specs.mirror.Stack.{wanted, frame, ReservesFew};
 
 use super::head::ItemHead;

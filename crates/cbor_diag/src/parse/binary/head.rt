@@ -3,7 +3,8 @@ ghost use Rattle.std.specs.Prelude.{◌≡◌, ◌<◌, ◌≤◌, length, IfOk}
 ghost use Rattle.std.specs.Int.{w8, w16, w32, w64};
 ghost use Rattle.cbor_diag.specs.Head.{FitsStated, major_number};
 ghost use Rattle.cbor_diag.specs.mirror.HeadErrors.{Finds, head_error};
-ghost use Rattle.cbor_diag.specs.Reading.{FitsInfo, read_number, read_info, numbered, unnumbered, simple_or_float, head_of, read_head};
+ghost use Rattle.cbor_diag.specs.Reading.{FitsInfo, read_number, read_info, numbered, unnumbered};
+ghost use Rattle.cbor_diag.specs.Reading.{simple_or_float, head_of, read_head};
 
 use crate::error::Error;
 use crate::syntax::major::Major;

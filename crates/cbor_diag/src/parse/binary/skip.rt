@@ -7,7 +7,8 @@ mod answer;
 mod outer;
 mod to_come;
 
-ghost use Rattle.std.specs.Prelude.{◌≡◌, ◌≢◌, ℕ, ◌+◌, ◌-◌, ◌<◌, ◌≤◌, List, ◌++◌, length, take, ◌↔◌, IsTrue, IsSome, None, IfOk, IfErr};
+ghost use Rattle.std.specs.Prelude.{◌≡◌, ◌≢◌, ℕ, ◌+◌, ◌-◌, ◌<◌, ◌≤◌, List, ◌++◌, length, take, ◌↔◌};
+ghost use Rattle.std.specs.Prelude.{IsTrue, IsSome, None, IfOk, IfErr};
 ghost use Rattle.cbor_diag.specs.declared.error.Error.{Error};
 ghost use Rattle.cbor_diag.specs.declared.syntax.IntegerWidth.{IntegerWidth};
 ghost use Rattle.cbor_diag.specs.Item.{Item};
@@ -17,7 +18,9 @@ ghost use Rattle.cbor_diag.specs.Head.{major_number};
 ghost use Rattle.cbor_diag.specs.Facts.{BeginsWithItem, IsCut, HasFault};
 ghost use Rattle.cbor_diag.specs.Extent.{IfItem, IfFault, FaultEnds, IsExtent};
 ghost use Rattle.cbor_diag.specs.mirror.HeadErrors.{head_error};
-ghost use Rattle.cbor_diag.specs.mirror.Skipping.{here, Goes, StopsSo, stop_of, kind_of, skip_content, skip_chunks, after_chunk, skip_item, skip_body, opened, begun};
+ghost use Rattle.cbor_diag.specs.mirror.Skipping.{here, Goes, StopsSo, stop_of, kind_of};
+ghost use Rattle.cbor_diag.specs.mirror.Skipping.{skip_content, skip_chunks, after_chunk};
+ghost use Rattle.cbor_diag.specs.mirror.Skipping.{skip_item, skip_body, opened, begun};
 
 use super::head::{HeadError, Info, ItemHead, read_head, read_info};
 use crate::error::Error;
@@ -293,7 +296,8 @@ pub fn extent(bytes: &[u8]) -> Extent
     ensures item_stays { IfItem result (λ n.
         (more : List ℕ) → (i : Item) × BeginsWithItem (bytes.now ++ more) i n) }
     ensures fault_stays { IfFault result (λ error end.
-        (more : List ℕ) → HasFault (bytes.now ++ more) error × FaultEnds (bytes.now ++ more) error end) }
+        (more : List ℕ) → HasFault (bytes.now ++ more) error
+        × FaultEnds (bytes.now ++ more) error end) }
 {
     begins(bytes)
 }

@@ -1,5 +1,6 @@
 //! The containers that are open while an item is read.
-ghost use Rattle.std.specs.Prelude.{◌≡◌, ◌++◌, [], Some, None, IsSome, IfOk, IfErr, OnOk, option_map, option_and_then, option_to_list};
+ghost use Rattle.std.specs.Prelude.{◌≡◌, ◌++◌, [], Some, None, IsSome, IfOk, IfErr, OnOk};
+ghost use Rattle.std.specs.Prelude.{option_map, option_and_then, option_to_list};
 ghost use Rattle.cbor_diag.specs.View.{view};
 ghost use Rattle.cbor_diag.specs.mirror.Counting.{after_end, closed, pushed, IsStack};
 ghost use Rattle.cbor_diag.specs.mirror.Stack.{frame, outer_of, top_of, depth, IsPutIn};

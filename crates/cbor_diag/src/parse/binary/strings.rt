@@ -4,7 +4,8 @@ ghost use Rattle.cbor_diag.specs.View.{byte_chunk, text_chunk};
 ghost use Rattle.cbor_diag.specs.Item.{Chunk};
 ghost use Rattle.cbor_diag.specs.Bytes.{StringKind, bytes_kind, text_kind, major_of};
 ghost use Rattle.cbor_diag.specs.Head.{major_number};
-ghost use Rattle.cbor_diag.specs.Reading.{Gives, split_at, read_content, read_chunk_length, read_chunk};
+ghost use Rattle.cbor_diag.specs.Reading.{Gives, split_at, read_content, read_chunk_length};
+ghost use Rattle.cbor_diag.specs.Reading.{read_chunk};
 ghost use Rattle.cbor_diag.specs.mirror.Counting.{Runs, counted_chunks};
 
 use super::head::{Info, read_info};
@@ -132,7 +133,8 @@ fn read_chunk<S: DefiniteString>(alloc: Global, bytes: &[u8]) -> Result<(Option<
     Ok((Some(chunk), rest))
 }
 
-/// The chunks of an indefinite string up to its break. Each of them takes a turn, and so does the break.
+/// The chunks of an indefinite string up to its break. Each of them takes a turn, and so does the
+/// break.
 pub(super) fn read_chunks<'a, S: DefiniteString>(
     alloc: Global,
     bytes: &'a [u8],

@@ -1,8 +1,11 @@
 //! What is between quotes: text with escapes, and digits with blanks.
-ghost use Rattle.std.specs.Prelude.{◌≡◌, ◌⊎◌, ◌<◌, length, true, false, option_map, IfOk, IfErr, IfSome, Some, None, Err};
+ghost use Rattle.std.specs.Prelude.{◌≡◌, ◌⊎◌, ◌<◌, length, true, false, option_map, IfOk, IfErr};
+ghost use Rattle.std.specs.Prelude.{IfSome, Some, None, Err};
 ghost use Rattle.cbor_diag.specs.Reading.{Gives};
 ghost use Rattle.cbor_notes.specs.TokenReading.{unquoted, digits_of};
-ghost use Rattle.cbor_diag.specs.mirror.NotationReading.{or_refused, base16_of, base32_of, base32hex_of, base64_of, read_decoded, h_notation, b_notation};
+ghost use Rattle.cbor_diag.specs.mirror.NotationReading.{or_refused, base16_of, base32_of};
+ghost use Rattle.cbor_diag.specs.mirror.NotationReading.{base32hex_of, base64_of, read_decoded};
+ghost use Rattle.cbor_diag.specs.mirror.NotationReading.{h_notation, b_notation};
 
 use super::scan::{after_byte, after_word};
 use crate::error::{Error, Result};

@@ -3,7 +3,9 @@ ghost use Rattle.std.specs.Prelude.{◌≡◌, ◌≢◌, ◌<◌, ℕ, length, 
 ghost use Rattle.cbor_notes.specs.Token.{capped};
 ghost use Rattle.cbor_diag.specs.Head.{FitsWidth};
 ghost use Rattle.cbor_diag.specs.Reading.{Gives};
-ghost use Rattle.cbor_diag.specs.mirror.NotationReading.{read_number, with_width, read_unsigned_number, read_negative_number};
+ghost use Rattle.cbor_diag.specs.mirror.NotationReading.{read_number, with_width};
+ghost use Rattle.cbor_diag.specs.mirror.NotationReading.{read_unsigned_number};
+ghost use Rattle.cbor_diag.specs.mirror.NotationReading.{read_negative_number};
 
 use crate::error::{Error, Result};
 use crate::syntax::IntegerWidth;
@@ -22,8 +24,8 @@ pub(super) fn read_number(text: &[u8]) -> Result<((u128, Option<u8>), &[u8])>
     }
 }
 
-/// A number with its width: the stated one; without an indicator `Zero` up to 23, and else unstated.
-/// It has to fit.
+/// A number with its width: the stated one; without an indicator `Zero` up to 23, and else
+/// unstated. It has to fit.
 fn with_width(number: u128, indicator: Option<u8>) -> Result<(u64, IntegerWidth)>
     ensures gives { Gives (λ x. (x.0, x.1)) result (with_width number indicator) }
     ensures fits { IfOk result (λ x. FitsWidth x.1 x.0) }

@@ -2,7 +2,9 @@
 ghost use Rattle.std.specs.Prelude.{◌≡◌, ◌⊎◌, ◌<◌, ◌≤◌, length, IfOk, IfSome, option_map};
 ghost use Rattle.cbor_notes.specs.Token.{is_whitespace};
 ghost use Rattle.cbor_diag.specs.Reading.{Gives};
-ghost use Rattle.cbor_diag.specs.mirror.NotationReading.{or_refused, skip_blank, after_byte, after_word, after_space, after_end, read_length};
+ghost use Rattle.cbor_diag.specs.mirror.NotationReading.{or_refused, skip_blank, after_byte};
+ghost use Rattle.cbor_diag.specs.mirror.NotationReading.{after_word, after_space, after_end};
+ghost use Rattle.cbor_diag.specs.mirror.NotationReading.{read_length};
 
 use crate::error::{Error, Result};
 use crate::syntax::IntegerWidth;

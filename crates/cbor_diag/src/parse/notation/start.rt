@@ -1,6 +1,7 @@
 //! What begins with which byte.
 ghost use Rattle.std.specs.Prelude.{◌≡◌, ◌≤◌, length};
-ghost use Rattle.cbor_diag.specs.mirror.NotationReading.{begins_piece, first_start, rest_of, start_of};
+ghost use Rattle.cbor_diag.specs.mirror.NotationReading.{begins_piece, first_start, rest_of};
+ghost use Rattle.cbor_diag.specs.mirror.NotationReading.{start_of};
 
 /// What an item, or a piece of a string, begins with.
 #[derive(Clone, Copy)]

@@ -3,16 +3,22 @@
 //! Most strings are one piece, a text without escapes or hex digits without blanks, and right after
 //! it a list goes on or closes. A fast path reads these straight into the item; all others are read
 //! piece by piece.
-ghost use Rattle.std.specs.Prelude.{◌≡◌, ◌-◌, ◌++◌, ◌<◌, ◌≤◌, ℕ, List, Some, suc, length, map, IfOk, IfSome, Ok, OnOk, true, false};
+ghost use Rattle.std.specs.Prelude.{◌≡◌, ◌-◌, ◌++◌, ◌<◌, ◌≤◌, ℕ, List, Some, suc, length, map};
+ghost use Rattle.std.specs.Prelude.{IfOk, IfSome, Ok, OnOk, true, false};
 ghost use Rattle.std.specs.List.{AllByRecursion};
 ghost use Rattle.cbor_diag.specs.declared.syntax.IntegerWidth.TheVariants.{Unknown};
 ghost use Rattle.cbor_diag.specs.View.{view, items_view, byte_chunk, text_chunk};
-ghost use Rattle.cbor_diag.specs.WellFormed.{levels_left, WellFormed, WellFormedItems, IsByteChunk, IsTextChunk};
+ghost use Rattle.cbor_diag.specs.WellFormed.{levels_left, WellFormed, WellFormedItems, IsByteChunk};
+ghost use Rattle.cbor_diag.specs.WellFormed.{IsTextChunk};
 ghost use Rattle.cbor_diag.specs.Bytes.{bytes_kind, text_kind};
 ghost use Rattle.cbor_diag.specs.Written.{encoded_items};
 ghost use Rattle.cbor_diag.specs.Item.{Item};
 ghost use Rattle.cbor_diag.specs.Reading.{Gives, Read};
-ghost use Rattle.cbor_diag.specs.mirror.NotationReading.{base16_of, read_byte_string, read_text_string, checked, read_chunk, read_chunks, read_embedded, ends_string, read_item, read_members, one_string, read_piece, read_pieces, read_string};
+ghost use Rattle.cbor_diag.specs.mirror.NotationReading.{base16_of, read_byte_string};
+ghost use Rattle.cbor_diag.specs.mirror.NotationReading.{read_text_string, checked, read_chunk};
+ghost use Rattle.cbor_diag.specs.mirror.NotationReading.{read_chunks, read_embedded, ends_string};
+ghost use Rattle.cbor_diag.specs.mirror.NotationReading.{read_item, read_members, one_string};
+ghost use Rattle.cbor_diag.specs.mirror.NotationReading.{read_piece, read_pieces, read_string};
 
 use super::content::{b_notation, base16, h_notation, read_plain, read_quoted};
 use super::read_items;

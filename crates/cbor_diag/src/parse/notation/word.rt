@@ -5,7 +5,8 @@ ghost use Rattle.std.specs.Char.{digit_value};
 ghost use Rattle.cbor_diag.specs.View.{view};
 ghost use Rattle.cbor_diag.specs.WellFormed.{deepest, WellFormed, FitsFloat};
 ghost use Rattle.cbor_diag.specs.Reading.{Gives};
-ghost use Rattle.cbor_diag.specs.mirror.NotationReading.{or_refused, numeral, named, read_simple, float_of, read_float, read_word};
+ghost use Rattle.cbor_diag.specs.mirror.NotationReading.{or_refused, numeral, named, read_simple};
+ghost use Rattle.cbor_diag.specs.mirror.NotationReading.{float_of, read_float, read_word};
 
 use super::number::read_number;
 use super::scan::{after_word, expect_byte};

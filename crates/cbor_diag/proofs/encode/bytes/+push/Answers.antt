@@ -1,4 +1,5 @@
-use Rattle.std.proofs.Common.{drop, drop-cons, suc, ◌∷◌, ◌≡◌, ℕ, List, ◌++◌, ap, sym, subst, ◌∙◌, append_assoc, arith, rules}
+use Rattle.std.proofs.Common.{drop, drop-cons, suc, ◌∷◌, ◌≡◌, ℕ, List, ◌++◌, ap, sym, subst, ◌∙◌, append_assoc, arith}
+use Rattle.std.proofs.Common.{rules}
 use Rattle.cbor_diag.specs.Item.{item_count, pair_count}
 use Rattle.cbor_diag.specs.View.{items_view, pairs_view}
 use Rattle.cbor_diag.specs.WellFormed.{WellFormedPairs, FitsCount}
@@ -8,8 +9,10 @@ use Rattle.cbor_diag.proofs.shared.Appending.{begins_still, begins_through, begi
 use Rattle.cbor_diag.proofs.shared.Views.{item_count_view, pair_count_view}
 use Rattle.cbor_diag.proofs.encode.bytes.+push.Goals as goal
 
-around : (out opening members closing all : List ℕ) → all ≡ (out ++ opening) ++ members → all ++ closing ≡ out ++ (opening ++ (members ++ closing))
-around out opening members closing all e = ap (λ x. x ++ closing) e ∙ append_assoc (out ++ opening) members closing ∙ append_assoc out opening (members ++ closing)
+around : (out opening members closing all : List ℕ) → all ≡ (out ++ opening) ++ members
+    → all ++ closing ≡ out ++ (opening ++ (members ++ closing))
+around out opening members closing all e = ap (λ x. x ++ closing) e ∙ append_assoc (out ++ opening) members closing
+    ∙ append_assoc out opening (members ++ closing)
 
 pub push_array-push_open-requires : goal.push_array-push_open-requires
 push_array-push_open-requires t c =
@@ -23,11 +26,16 @@ push_array-returns t c =
     let out = c.args.out.now.items in
     let members = encoded_items (items_view v.items) in
     let counted : item_count (items_view v.items) ≡ c.len.result = omega (arith, item_count_view v.items, v.ok.0) in
-    let opened : c.push_items.new.out.items ≡ (out ++ encoded_open 4 c.len.result c.args.width) ++ members = c.in_ok-push_items.ensures ∙ ap (λ x. x ++ members) c.in_ok-push_open.ensures in
-    let whole = around out (encoded_open 4 c.len.result c.args.width) members (encoded_close c.args.width) c.push_items.new.out.items opened in
-    let spelled = whole ∙ ap (λ n. out ++ (encoded_open 4 n c.args.width ++ (members ++ encoded_close c.args.width))) (sym counted) in
-    let begun = begins_two out c.push_open.new.out.items (encoded_open 4 c.len.result c.args.width) members c.push_items.new.out.items c.in_ok-push_open.ensures c.in_ok-push_items.ensures in
-    appends_last c.push_close.result out c.push_items.new.out.items c.push_close.new.out.items (encoded_close c.args.width) _ begun (λ e. e ∙ spelled) c.push_close.ensures
+    let opened : c.push_items.new.out.items ≡ (out ++ encoded_open 4 c.len.result c.args.width) ++ members =
+    c.in_ok-push_items.ensures ∙ ap (λ x. x ++ members) c.in_ok-push_open.ensures in
+    let whole = around out (encoded_open 4 c.len.result c.args.width) members (encoded_close c.args.width)
+    c.push_items.new.out.items opened in
+    let spelled = whole ∙ ap (λ n. out ++ (encoded_open 4 n c.args.width ++ (members ++ encoded_close c.args.width)))
+    (sym counted) in
+    let begun = begins_two out c.push_open.new.out.items (encoded_open 4 c.len.result c.args.width) members
+    c.push_items.new.out.items c.in_ok-push_open.ensures c.in_ok-push_items.ensures in
+    appends_last c.push_close.result out c.push_items.new.out.items c.push_close.new.out.items
+    (encoded_close c.args.width) _ begun (λ e. e ∙ spelled) c.push_close.ensures
 
 pub push_map-push_open-requires : goal.push_map-push_open-requires
 push_map-push_open-requires t c =
@@ -41,29 +49,39 @@ push_map-returns t c =
     let out = c.args.out.now.items in
     let members = encoded_pairs (pairs_view v.items) in
     let counted : pair_count (pairs_view v.items) ≡ c.len.result = omega (arith, pair_count_view v.items, v.ok.0) in
-    let opened : c.push_pairs.new.out.items ≡ (out ++ encoded_open 5 c.len.result c.args.width) ++ members = c.in_ok-push_pairs.ensures ∙ ap (λ x. x ++ members) c.in_ok-push_open.ensures in
-    let whole = around out (encoded_open 5 c.len.result c.args.width) members (encoded_close c.args.width) c.push_pairs.new.out.items opened in
-    let spelled = whole ∙ ap (λ n. out ++ (encoded_open 5 n c.args.width ++ (members ++ encoded_close c.args.width))) (sym counted) in
-    let begun = begins_two out c.push_open.new.out.items (encoded_open 5 c.len.result c.args.width) members c.push_pairs.new.out.items c.in_ok-push_open.ensures c.in_ok-push_pairs.ensures in
-    appends_last c.push_close.result out c.push_pairs.new.out.items c.push_close.new.out.items (encoded_close c.args.width) _ begun (λ e. e ∙ spelled) c.push_close.ensures
+    let opened : c.push_pairs.new.out.items ≡ (out ++ encoded_open 5 c.len.result c.args.width) ++ members =
+    c.in_ok-push_pairs.ensures ∙ ap (λ x. x ++ members) c.in_ok-push_open.ensures in
+    let whole = around out (encoded_open 5 c.len.result c.args.width) members (encoded_close c.args.width)
+    c.push_pairs.new.out.items opened in
+    let spelled = whole ∙ ap (λ n. out ++ (encoded_open 5 n c.args.width ++ (members ++ encoded_close c.args.width)))
+    (sym counted) in
+    let begun = begins_two out c.push_open.new.out.items (encoded_open 5 c.len.result c.args.width) members
+    c.push_pairs.new.out.items c.in_ok-push_open.ensures c.in_ok-push_pairs.ensures in
+    appends_last c.push_close.result out c.push_pairs.new.out.items c.push_close.new.out.items
+    (encoded_close c.args.width) _ begun (λ e. e ∙ spelled) c.push_close.ensures
 
 pub push_pairs-push_item-requires-in-pairs : goal.push_pairs-push_item-requires-in-pairs
 push_pairs-push_item-requires-in-pairs t c = (
   search (rules, the_lemmas),
   let all = c.deref-key-items.result.now in
       let i = c.pairs.key-index in
-      let here : drop i all ≡ c.pairs-item.result ∷ drop (suc i) all = drop-cons all i c.pairs-item.result c.pairs-test.true ∙ ap (λ p. p ∷ drop (suc i) all) (sym c.pairs-item.is) in
+      let here : drop i all ≡ c.pairs-item.result ∷ drop (suc i) all =
+      drop-cons all i c.pairs-item.result c.pairs-test.true
+      ∙ ap (λ p. p ∷ drop (suc i) all) (sym c.pairs-item.is) in
       let well = subst (λ ps. WellFormedPairs c.pairs.invariant.1 (pairs_view ps)) here c.pairs.invariant.2 in
       (c.pairs.invariant.1, well.1),
 )
 
 pub push_tagged-returns : goal.push_tagged-returns
 push_tagged-returns t c =
-    appends_after c.push_item.result c.args.out.now.items c.push_head.new.out.items c.push_item.new.out.items _ _ c.in_ok-push_head.ensures c.push_item.ensures
+    appends_after c.push_item.result c.args.out.now.items c.push_head.new.out.items c.push_item.new.out.items _ _
+    c.in_ok-push_head.ensures c.push_item.ensures
 
 pub push_pairs-returns-in_err-push_item-2 : goal.push_pairs-returns-in_err-push_item-2
 push_pairs-returns-in_err-push_item-2 t c =
     let out = c.args.out.now.items in
-    let key = begins_still out c.pairs.out.items _ c.push_item.new.out.items c.pairs.invariant.3 c.in_ok-push_item.ensures in
-    let begun = begins_through out c.push_item.new.out.items c.push_item-in-pairs.new.out.items c.in_err-push_item-2.ensures key in
+    let key = begins_still out c.pairs.out.items _ c.push_item.new.out.items c.pairs.invariant.3
+    c.in_ok-push_item.ensures in
+    let begun = begins_through out c.push_item.new.out.items c.push_item-in-pairs.new.out.items
+    c.in_err-push_item-2.ensures key in
     search (rules, begun)

@@ -10,5 +10,6 @@ use Rattle.cbor_diag.proofs.encode.bytes.push_byte_chunks.Given as goal
 abbrev pub invariant-chunks : goal.invariant-chunks
 invariant-chunks l =
     let rest = drop l.chunk-index l.chunks in
-    (l.out.items ++ (flat_map (encoded_chunk 2) (map byte_chunk rest) ++ break_byte ∷ []) ≡ l.fn.out.items ++ encoded_chunks 2 (map byte_chunk l.chunks)) × AllByRecursion IsByteChunk (map byte_chunk rest)
+    (l.out.items ++ (flat_map (encoded_chunk 2) (map byte_chunk rest) ++ break_byte ∷ []) ≡ l.fn.out.items
+    ++ encoded_chunks 2 (map byte_chunk l.chunks)) × AllByRecursion IsByteChunk (map byte_chunk rest)
     × StartsWith l.out.items l.fn.out.items

@@ -145,8 +145,10 @@ pub push_tagged-returns : goal.push_tagged-returns
 push_tagged-returns t c =
     let level = c.args.context.now.level in
     let context = context_view c.args.context.now in
-    let opening = c.in_ok-push.ensures.bytes ∙ ap (λ x. string_bytes c.push_number.new.out ++ x) (c.in_ok-push.ensures.ascii (omega arith)) in
-    let closing = c.in_ok-push-2.ensures.bytes ∙ ap (λ x. string_bytes c.push_item.new.out ++ x) (c.in_ok-push-2.ensures.ascii (omega arith)) in
+    let opening = c.in_ok-push.ensures.bytes
+    ∙ ap (λ x. string_bytes c.push_number.new.out ++ x) (c.in_ok-push.ensures.ascii (omega arith)) in
+    let closing = c.in_ok-push-2.ensures.bytes
+    ∙ ap (λ x. string_bytes c.push_item.new.out ++ x) (c.in_ok-push-2.ensures.ascii (omega arith)) in
     let writes = writes_inner c.below.result (level + 1) (below c.args.head.0.0 context) c.below.ensures.level
     c.below.ensures.context in
     let item = c.in_ok-push_item.ensures ∙ ap (λ f. string_bytes c.push.new.self ++ f (view c.args.value.now)) writes in
@@ -168,7 +170,8 @@ push_items-items-preserved t c =
     (sym (items_rest write all i v c.items-test.true c.item-item.is)) ∙ c.items.invariant.0 in
     let well = subst (λ vs. WellFormedItems c.inside-inner.result.level (items_view vs))
     (drop_here all i v c.items-test.true c.item-item.is) c.items.invariant.1 in
-    let begun = begins_after_member (string_bytes c.args.out.now) (string_bytes c.items.out) (string_bytes c.push_start.new.out)
+    let begun = begins_after_member (string_bytes c.args.out.now) (string_bytes c.items.out)
+    (string_bytes c.push_start.new.out)
     (string_bytes c.push_item.new.out) (string_bytes c.push_end.new.out) _ _ _ c.items.invariant.2
     c.in_ok-push_start.ensures c.in_ok-push_item.ensures c.in_ok-push_end.ensures in (
       member_more l c.items.first (write (view v)) rest (string_bytes c.items.out) (string_bytes c.push_start.new.out)
@@ -210,10 +213,16 @@ push_pairs-pairs-preserved t c =
     (sym (pairs_rest write (colon l) all i v c.pairs-test.true c.pairs-item.is)) ∙ c.pairs.invariant.0 in
     let well = subst (λ vs. WellFormedPairs c.inside-inner.result.level (pairs_view vs))
     (drop_here all i v c.pairs-test.true c.pairs-item.is) c.pairs.invariant.1 in
-    let begun = begins_after_member (string_bytes c.args.out.now) (string_bytes c.pairs.out) (string_bytes c.push_start.new.out)
+    let begun = begins_after_member (string_bytes c.args.out.now) (string_bytes c.pairs.out)
+    (string_bytes c.push_start.new.out)
     (string_bytes c.push_item-in-pairs.new.out) (string_bytes c.push_end.new.out) _ _ _ c.pairs.invariant.2
-    c.in_ok-push_start.ensures pair c.in_ok-push_end.ensures in
-    (member_more l c.pairs.first (write (view v.0) ++ (colon l ++ write (view v.1))) rest (string_bytes c.pairs.out) (string_bytes c.push_start.new.out) (string_bytes c.push_item-in-pairs.new.out) (string_bytes c.push_end.new.out) _ c.in_ok-push_start.ensures pair c.in_ok-push_end.ensures left, well.2, begun)
+    c.in_ok-push_start.ensures pair c.in_ok-push_end.ensures in (
+      member_more l c.pairs.first (write (view v.0) ++ (colon l ++ write (view v.1))) rest (string_bytes c.pairs.out)
+          (string_bytes c.push_start.new.out) (string_bytes c.push_item-in-pairs.new.out)
+          (string_bytes c.push_end.new.out) _ c.in_ok-push_start.ensures pair c.in_ok-push_end.ensures left,
+      well.2,
+      begun,
+    )
 
 pub push_pairs-returns : goal.push_pairs-returns
 push_pairs-returns t c =
@@ -241,14 +250,18 @@ push_sequence-returns t c =
     let write = write_below c.args.context.now.level in
     let l = style_view c.array_style-style.result in
     let found : Items × List ℕ = (items_view c.in_ok-items.items.items, c.in_ok-items.rest.now) in
-    let closing = c.in_ok-push.ensures.bytes ∙ ap (λ x. string_bytes c.push_closing.new.out ++ x) (c.in_ok-push.ensures.ascii (omega arith)) in
+    let closing = c.in_ok-push.ensures.bytes
+    ∙ ap (λ x. string_bytes c.push_closing.new.out ++ x) (c.in_ok-push.ensures.ascii (omega arith)) in
     let open_begun = begins_two out (string_bytes c.push_str.new.self) _ _ (string_bytes c.push_items.new.out)
     c.in_ok-push_str.ensures.bytes c.in_ok-push_items.ensures in
     let begun = begins_still out (string_bytes c.push_closing.new.out) _ (string_bytes c.push.new.self)
-    (begins_still out (string_bytes c.push_items.new.out) _ (string_bytes c.push_closing.new.out) open_begun c.in_ok-push_closing.ensures)
+    (begins_still out (string_bytes c.push_items.new.out) _ (string_bytes c.push_closing.new.out) open_begun
+    c.in_ok-push_closing.ensures)
     closing in
-    appends_last c.push_rest.result out (string_bytes c.push.new.self) (string_bytes c.push_rest.new.out) (rest_text context found.1) _ begun
-    (λ e. sequence_shown write context l found out (string_bytes c.push_str.new.self) (string_bytes c.push_items.new.out)
+    appends_last c.push_rest.result out (string_bytes c.push.new.self) (string_bytes c.push_rest.new.out)
+    (rest_text context found.1) _ begun
+    (λ e. sequence_shown write context l found out (string_bytes c.push_str.new.self)
+    (string_bytes c.push_items.new.out)
     (string_bytes c.push_closing.new.out) (string_bytes c.push.new.self) (string_bytes c.push_rest.new.out)
     c.in_ok-push_str.ensures.bytes c.in_ok-push_items.ensures c.in_ok-push_closing.ensures closing e
     ∙ ap (λ k. out ++ sequence_listed write context k found) c.array_style-style.ensures

@@ -2,4 +2,5 @@ use Rattle.cbor_diag.proofs.shared.Appending.{cut_back}
 use Rattle.cbor_diag.proofs.encode.notation.push_outermost.Goals as goal
 
 pub truncate-requires : goal.truncate-requires
-truncate-requires c = λ _. (cut_back c.args.out.now c.push_item.new.out c.len-start.result c.len-start.ensures c.in-Err.ensures).0
+truncate-requires c = λ _. (cut_back c.args.out.now c.push_item.new.out c.len-start.result c.len-start.ensures
+    c.in-Err.ensures).0

@@ -11,7 +11,8 @@ decreases-turns l = 2 * length l.rest + depth l.stack
 
 abbrev pub invariant-turns : goal.invariant-turns
 invariant-turns l = record {
-  so_far : later l.turns (resumed (deepest + 1 - l.level) l.stack l.rest) ≡ later l.initial.turns (counted_item (deepest + 1 - l.level) l.bytes);
+  so_far : later l.turns (resumed (deepest + 1 - l.level) l.stack l.rest)
+      ≡ later l.initial.turns (counted_item (deepest + 1 - l.level) l.bytes);
   bottom : IsStack (outer_of l.stack) (top_of l.stack);
   level : l.level + depth l.stack ≤ deepest + 1;
   falls : l.turns + 2 * length l.rest + depth l.stack ≤ l.initial.turns + 2 * length l.bytes;

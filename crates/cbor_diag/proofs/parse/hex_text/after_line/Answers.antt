@@ -7,7 +7,8 @@ use Rattle.cbor_diag.proofs.parse.hex_text.after_line.Goals as goal
 pub returns-in-Some : goal.returns-in-Some
 returns-in-Some c =
     take_rest c.args.text.now (c.in-Some.end + 1)
-    ∙ ap (λ (k : ℕ). drop (k + 1) c.args.text.now) (sym (found_at (λ b. b == 10) c.args.text.now c.in-Some.end c.in-Some.ensures))
+    ∙ ap (λ (k : ℕ). drop (k + 1) c.args.text.now)
+    (sym (found_at (λ b. b == 10) c.args.text.now c.in-Some.end c.in-Some.ensures))
 
 pub returns-in-None : goal.returns-in-None
 returns-in-None c =

@@ -4,13 +4,19 @@ use Rattle.cbor_diag.proofs.parse.hex_text.decode.Goals as goal
 
 pub unreachable-requires : goal.unreachable-requires
 unreachable-requires c =
-    sized_refused c.args.digits.items (rw c.in-Err-InvalidStringLength.field-0-is at c.in-Err-InvalidStringLength.ensures.err)
+    sized_refused c.args.digits.items (rw c.in-Err-InvalidStringLength.field-0-is at
+    c.in-Err-InvalidStringLength.ensures.err)
 
 pub returns-in-Err-OddLength-clause-refused : goal.returns-in-Err-OddLength-clause-refused
 returns-in-Err-OddLength-clause-refused c =
-    inr (inl (refl, odd_refused c.args.digits.items (rw c.in-Err-OddLength.field-0-is at c.in-Err-OddLength.ensures.err)))
+    inr (inl (
+      refl,
+      odd_refused c.args.digits.items
+          (rw c.in-Err-OddLength.field-0-is at c.in-Err-OddLength.ensures.err),
+    ))
 
 pub returns-in-Err-InvalidHexCharacter-clause-refused : goal.returns-in-Err-InvalidHexCharacter-clause-refused
 returns-in-Err-InvalidHexCharacter-clause-refused c =
-    let bad = bad_refused c.args.digits.items _ _ (rw c.in-Err-InvalidHexCharacter.field-0-is at c.in-Err-InvalidHexCharacter.ensures.err) in
+    let bad = bad_refused c.args.digits.items _ _
+    (rw c.in-Err-InvalidHexCharacter.field-0-is at c.in-Err-InvalidHexCharacter.ensures.err) in
     inr (inr (refl, bad.0, bad.1))

@@ -19,4 +19,5 @@ returns-in_err-bytes-clause-every_refusal c = λ e w.
 pub returns-clause-every_refusal : goal.returns-clause-every_refusal
 returns-clause-every_refusal c =
     let digits = c.in_ok-digits.ensures in
-    bytes_refused c.args.hex.now c.in_ok-bytes.bytes.items c.parse_bytes.result (rw digits at c.in_ok-bytes.ensures.bytes) (rw c.deref.ensures.value at c.parse_bytes.ensures.every_refusal)
+    bytes_refused c.args.hex.now c.in_ok-bytes.bytes.items c.parse_bytes.result
+    (rw digits at c.in_ok-bytes.ensures.bytes) (rw c.deref.ensures.value at c.parse_bytes.ensures.every_refusal)

@@ -3,7 +3,8 @@ use Rattle.cbor_diag.specs.HexText.{unspaced}
 use Rattle.cbor_diag.proofs.parse.hex_text.push_unspaced.Given as goal
 
 abbrev pub invariant-runs : goal.invariant-runs
-invariant-runs l = (l.out.items ++ unspaced l.rest ≡ l.fn.out.items ++ unspaced l.line) × (0 < length l.rest → slice_index l.rest 0 ≢ 32)
+invariant-runs l = (l.out.items ++ unspaced l.rest ≡ l.fn.out.items ++ unspaced l.line)
+    × (0 < length l.rest → slice_index l.rest 0 ≢ 32)
 
 abbrev pub decreases-runs : goal.decreases-runs
 decreases-runs l = length l.rest

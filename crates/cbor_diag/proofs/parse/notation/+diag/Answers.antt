@@ -1,4 +1,5 @@
-use Rattle.std.proofs.Common.{◌≡◌, ℕ, suc, ◌+◌, ◌-◌, ◌≤◌, ◌++◌, ◌∷◌, [], true, false, Ok, length, map, Some, sym, ap, subst, ◌∙◌, arith}
+use Rattle.std.proofs.Common.{◌≡◌, ℕ, suc, ◌+◌, ◌-◌, ◌≤◌, ◌++◌, ◌∷◌, [], true, false, Ok, length, map, Some, sym, ap}
+use Rattle.std.proofs.Common.{subst, ◌∙◌, arith}
 use Rattle.std.proofs.lemmas.Result.{err_from_is_err_and}
 use Rattle.std.proofs.lemmas.List.{map_push}
 use Rattle.cbor_diag.specs.declared.parse.notation.start.Start.TheVariants as start
@@ -9,10 +10,16 @@ use Rattle.cbor_diag.specs.View.{view, items_of, pairs_of, items_view, pairs_vie
 use Rattle.cbor_diag.specs.WellFormed.{IsByteChunk, IsTextChunk}
 use Rattle.cbor_diag.specs.Bytes.{bytes_kind, text_kind}
 use Rattle.cbor_diag.specs.Reading.{◌>>=◌, Fails}
-use Rattle.cbor_diag.specs.mirror.NotationReading.{skip_blank, after_end, read_negative_number, read_length, read_pair, read_chunk, read_item, read_core, read_members, read_pieces, checked, begins_piece, begins_string, read_string}
+use Rattle.cbor_diag.specs.mirror.NotationReading.{skip_blank, after_end, read_negative_number, read_length, read_pair}
+use Rattle.cbor_diag.specs.mirror.NotationReading.{read_chunk, read_item, read_core, read_members, read_pieces, checked}
+use Rattle.cbor_diag.specs.mirror.NotationReading.{begins_piece, begins_string, read_string}
 use Rattle.cbor_diag.proofs.notation.ChunkLoops.{Fails-bind}
-use Rattle.cbor_diag.proofs.notation.Loops.{members_closed, members_begin, member_fails, member_last, no_comma, member_more}
-use Rattle.cbor_diag.proofs.notation.Cores.{core_by, bytes_core, piece_by, no_piece, no_text, string_by, item_none, item_some, pieces_begin, pieces_end, piece_fails, piece_more, items_push, no_key, no_colon, no_value, pair_read, pair_view, pairs_push, all_push, array_well, map_well}
+use Rattle.cbor_diag.proofs.notation.Loops.{members_closed, members_begin, member_fails, member_last, no_comma}
+use Rattle.cbor_diag.proofs.notation.Loops.{member_more}
+use Rattle.cbor_diag.proofs.notation.Cores.{core_by, bytes_core, piece_by, no_piece, no_text, string_by, item_none}
+use Rattle.cbor_diag.proofs.notation.Cores.{item_some, pieces_begin, pieces_end, piece_fails, piece_more, items_push}
+use Rattle.cbor_diag.proofs.notation.Cores.{no_key, no_colon, no_value, pair_read, pair_view, pairs_push, all_push}
+use Rattle.cbor_diag.proofs.notation.Cores.{array_well, map_well}
 use Rattle.cbor_diag.proofs.shared.Views.{view-Array, view-Map, view-Negative}
 use Rattle.cbor_diag.proofs.parse.notation.+diag.Goals as goal
 
@@ -20,14 +27,17 @@ pub read_items-returns-in-Some-clause-gives : goal.read_items-returns-in-Some-cl
 read_items-returns-in-Some-clause-gives t c =
     let read = read_item (129 - c.args.level) in
     let close : ℕ = c.args.close in
-    let ended : after_end close (skip_blank c.args.text.now) ≡ Some c.in-Some.after.now = ap (after_end close) (sym c.after_blank-rest.ensures.gives) ∙ sym c.in-Some.ensures.gives in
+    let ended : after_end close (skip_blank c.args.text.now) ≡ Some c.in-Some.after.now =
+    ap (after_end close) (sym c.after_blank-rest.ensures.gives) ∙ sym c.in-Some.ensures.gives in
     rw c.new.ensures.items (members_closed read close c.args.text.now c.in-Some.after.now ended)
 
 pub read_items-items-init : goal.read_items-items-init
 read_items-items-init t c =
     let read = read_item (129 - c.args.level) in
     let close : ℕ = c.args.close in
-    let begun = members_begin read close c.args.text.now c.after_blank-rest.result.now (map view c.in_ok-items.items.items) (ap (map view) c.in_ok-items.ensures.items) c.after_blank-rest.ensures.gives (sym c.in_default.ensures.gives) in
+    let begun = members_begin read close c.args.text.now c.after_blank-rest.result.now
+    (map view c.in_ok-items.items.items) (ap (map view) c.in_ok-items.ensures.items)
+    c.after_blank-rest.ensures.gives (sym c.in_default.ensures.gives) in
     (begun.0, begun.1, begun.2, c.after_blank-rest.ensures.shorter, rw c.in_ok-items.ensures.items tt)
 
 pub read_items-returns-in_err-item-clause-gives : goal.read_items-returns-in_err-item-clause-gives
@@ -37,7 +47,8 @@ read_items-returns-in_err-item-clause-gives t c =
     let close : ℕ = c.args.close in
     let total = read_members read close c.args.text.now in
     let i = c.items.invariant in
-    rw (p.1, p.2) (member_fails read close (map view c.items.items.items) i.0 c.items.rest.now total i.1 i.2 c.in_err-item.field-0.0 c.in_err-item.ensures.gives)
+    rw (p.1, p.2) (member_fails read close (map view c.items.items.items) i.0 c.items.rest.now total i.1 i.2
+    c.in_err-item.field-0.0 c.in_err-item.ensures.gives)
 
 pub read_items-returns-in-Some-after_end-clause-gives : goal.read_items-returns-in-Some-after_end-clause-gives
 read_items-returns-in-Some-after_end-clause-gives t c =
@@ -46,8 +57,11 @@ read_items-returns-in-Some-after_end-clause-gives t c =
     let total = read_members read close c.args.text.now in
     let i = c.items.invariant in
     let held = c.items.items.items in
-    let pushed : map view c.push.new.self.items ≡ map view held ++ (view c.in_ok-item.item) ∷ [] = rw c.in_ok-push.ensures.items (map_push view held c.in_ok-item.item) in
-    rw pushed (member_last read close (map view held) i.0 c.items.rest.now total i.1 i.2 (view c.in_ok-item.item) c.in_ok-item.after.now c.in-Some-after_end.end.now c.in_ok-item.ensures.gives (sym c.in-Some-after_end.ensures.gives))
+    let pushed : map view c.push.new.self.items ≡ map view held ++ (view c.in_ok-item.item) ∷ [] =
+    rw c.in_ok-push.ensures.items (map_push view held c.in_ok-item.item) in
+    rw pushed (member_last read close (map view held) i.0 c.items.rest.now total i.1 i.2 (view c.in_ok-item.item)
+    c.in_ok-item.after.now c.in-Some-after_end.end.now c.in_ok-item.ensures.gives
+    (sym c.in-Some-after_end.ensures.gives))
 
 pub read_items-returns-in_err-rest-clause-gives : goal.read_items-returns-in_err-rest-clause-gives
 read_items-returns-in_err-rest-clause-gives t c =
@@ -56,7 +70,9 @@ read_items-returns-in_err-rest-clause-gives t c =
     let close : ℕ = c.args.close in
     let total = read_members read close c.args.text.now in
     let i = c.items.invariant in
-    rw (p.1, p.2) (no_comma read close (map view c.items.items.items) i.0 c.items.rest.now total i.1 i.2 (view c.in_ok-item.item) c.in_ok-item.after.now c.in_err-rest.field-0.0 c.in_ok-item.ensures.gives (sym c.in_default-after_end.ensures.gives) c.in_err-rest.ensures.gives)
+    rw (p.1, p.2) (no_comma read close (map view c.items.items.items) i.0 c.items.rest.now total i.1 i.2
+    (view c.in_ok-item.item) c.in_ok-item.after.now c.in_err-rest.field-0.0 c.in_ok-item.ensures.gives
+    (sym c.in_default-after_end.ensures.gives) c.in_err-rest.ensures.gives)
 
 pub read_items-items-preserved : goal.read_items-items-preserved
 read_items-items-preserved t c =
@@ -65,25 +81,39 @@ read_items-items-preserved t c =
     let total = read_members read close c.args.text.now in
     let i = c.items.invariant in
     let held = c.items.items.items in
-    let pushed : map view c.push.new.self.items ≡ map view held ++ (view c.in_ok-item.item) ∷ [] = rw c.in_ok-push.ensures.items (map_push view held c.in_ok-item.item) in
-    let next = member_more read close (map view held) i.0 c.items.rest.now total i.1 i.2 (view c.in_ok-item.item) c.in_ok-item.after.now c.in_ok-rest.rest.now c.in_ok-item.ensures.gives (sym c.in_default-after_end.ensures.gives) c.in_ok-rest.ensures.gives c.in_ok-item.ensures.shorter c.in_ok-rest.ensures.shorter in
-    (next.0, next.1, rw pushed next.2, omega (arith, c.in_ok-rest.ensures.shorter, c.in_ok-item.ensures.shorter), rw c.in_ok-push.ensures.items (items_push c.args.level held c.in_ok-item.item i.4 c.in_ok-item.ensures.well))
+    let pushed : map view c.push.new.self.items ≡ map view held ++ (view c.in_ok-item.item) ∷ [] =
+    rw c.in_ok-push.ensures.items (map_push view held c.in_ok-item.item) in
+    let next = member_more read close (map view held) i.0 c.items.rest.now total i.1 i.2 (view c.in_ok-item.item)
+    c.in_ok-item.after.now c.in_ok-rest.rest.now c.in_ok-item.ensures.gives
+    (sym c.in_default-after_end.ensures.gives) c.in_ok-rest.ensures.gives c.in_ok-item.ensures.shorter
+    c.in_ok-rest.ensures.shorter in (
+      next.0,
+      next.1,
+      rw pushed next.2,
+      omega (arith, c.in_ok-rest.ensures.shorter, c.in_ok-item.ensures.shorter),
+      rw c.in_ok-push.ensures.items (items_push c.args.level held c.in_ok-item.item i.4 c.in_ok-item.ensures.well),
+    )
 
 pub read_items-returns-in-Some-after_end-clause-well : goal.read_items-returns-in-Some-after_end-clause-well
-read_items-returns-in-Some-after_end-clause-well t c = rw c.in_ok-push.ensures.items (items_push c.args.level c.items.items.items c.in_ok-item.item c.items.invariant.4 c.in_ok-item.ensures.well)
+read_items-returns-in-Some-after_end-clause-well t c =
+    rw c.in_ok-push.ensures.items (items_push c.args.level c.items.items.items c.in_ok-item.item c.items.invariant.4
+    c.in_ok-item.ensures.well)
 
 pub read_pairs-returns-in-Some-clause-gives : goal.read_pairs-returns-in-Some-clause-gives
 read_pairs-returns-in-Some-clause-gives t c =
     let read = read_pair (read_item (129 - c.args.level)) in
     let close : ℕ = 125 in
-    let ended : after_end close (skip_blank c.args.text.now) ≡ Some c.in-Some.after.now = ap (after_end close) (sym c.after_blank-rest.ensures.gives) ∙ sym c.in-Some.ensures.gives in
+    let ended : after_end close (skip_blank c.args.text.now) ≡ Some c.in-Some.after.now =
+    ap (after_end close) (sym c.after_blank-rest.ensures.gives) ∙ sym c.in-Some.ensures.gives in
     rw c.new.ensures.items (members_closed read close c.args.text.now c.in-Some.after.now ended)
 
 pub read_pairs-pairs-init : goal.read_pairs-pairs-init
 read_pairs-pairs-init t c =
     let read = read_pair (read_item (129 - c.args.level)) in
     let close : ℕ = 125 in
-    let begun = members_begin read close c.args.text.now c.after_blank-rest.result.now (map pair_view c.in_ok-pairs.pairs.items) (ap (map pair_view) c.in_ok-pairs.ensures.items) c.after_blank-rest.ensures.gives (sym c.in_default.ensures.gives) in
+    let begun = members_begin read close c.args.text.now c.after_blank-rest.result.now
+    (map pair_view c.in_ok-pairs.pairs.items) (ap (map pair_view) c.in_ok-pairs.ensures.items)
+    c.after_blank-rest.ensures.gives (sym c.in_default.ensures.gives) in
     (begun.0, begun.1, begun.2, c.after_blank-rest.ensures.shorter, rw c.in_ok-pairs.ensures.items tt)
 
 pub read_pairs-returns-in_err-key-clause-gives : goal.read_pairs-returns-in_err-key-clause-gives
@@ -92,7 +122,8 @@ read_pairs-returns-in_err-key-clause-gives t c =
     let item = read_item (129 - c.args.level) in
     let total = read_members (read_pair item) 125 c.args.text.now in
     let i = c.pairs.invariant in
-    rw (p.1, p.2) (member_fails (read_pair item) 125 (map pair_view c.pairs.pairs.items) i.0 c.pairs.rest.now total i.1 i.2 c.in_err-key.field-0.0 (no_key item c.pairs.rest.now c.in_err-key.field-0.0 c.in_err-key.ensures.gives))
+    rw (p.1, p.2) (member_fails (read_pair item) 125 (map pair_view c.pairs.pairs.items) i.0 c.pairs.rest.now total i.1
+    i.2 c.in_err-key.field-0.0 (no_key item c.pairs.rest.now c.in_err-key.field-0.0 c.in_err-key.ensures.gives))
 
 pub read_pairs-returns-in_err-next-clause-gives : goal.read_pairs-returns-in_err-next-clause-gives
 read_pairs-returns-in_err-next-clause-gives t c =
@@ -100,7 +131,9 @@ read_pairs-returns-in_err-next-clause-gives t c =
     let item = read_item (129 - c.args.level) in
     let total = read_members (read_pair item) 125 c.args.text.now in
     let i = c.pairs.invariant in
-    rw (p.1, p.2) (member_fails (read_pair item) 125 (map pair_view c.pairs.pairs.items) i.0 c.pairs.rest.now total i.1 i.2 c.in_err-next.field-0.0 (no_colon item c.pairs.rest.now (view c.in_ok-key.key) c.in_ok-key.behind.now c.in_ok-key.ensures.gives c.in_err-next.field-0.0 c.in_err-next.ensures.gives))
+    rw (p.1, p.2) (member_fails (read_pair item) 125 (map pair_view c.pairs.pairs.items) i.0 c.pairs.rest.now total i.1
+    i.2 c.in_err-next.field-0.0 (no_colon item c.pairs.rest.now (view c.in_ok-key.key) c.in_ok-key.behind.now
+    c.in_ok-key.ensures.gives c.in_err-next.field-0.0 c.in_err-next.ensures.gives))
 
 pub read_pairs-returns-in_err-value-clause-gives : goal.read_pairs-returns-in_err-value-clause-gives
 read_pairs-returns-in_err-value-clause-gives t c =
@@ -108,7 +141,10 @@ read_pairs-returns-in_err-value-clause-gives t c =
     let item = read_item (129 - c.args.level) in
     let total = read_members (read_pair item) 125 c.args.text.now in
     let i = c.pairs.invariant in
-    rw (p.1, p.2) (member_fails (read_pair item) 125 (map pair_view c.pairs.pairs.items) i.0 c.pairs.rest.now total i.1 i.2 c.in_err-value.field-0.0 (no_value item c.pairs.rest.now (view c.in_ok-key.key) c.in_ok-key.behind.now c.in_ok-key.ensures.gives c.in_ok-next.next.now c.in_ok-next.ensures.gives c.in_err-value.field-0.0 c.in_err-value.ensures.gives))
+    rw (p.1, p.2) (member_fails (read_pair item) 125 (map pair_view c.pairs.pairs.items) i.0 c.pairs.rest.now total i.1
+    i.2 c.in_err-value.field-0.0 (no_value item c.pairs.rest.now (view c.in_ok-key.key) c.in_ok-key.behind.now
+    c.in_ok-key.ensures.gives c.in_ok-next.next.now c.in_ok-next.ensures.gives c.in_err-value.field-0.0
+    c.in_err-value.ensures.gives))
 
 pub read_pairs-returns-in-Some-after_end-clause-gives : goal.read_pairs-returns-in-Some-after_end-clause-gives
 read_pairs-returns-in-Some-after_end-clause-gives t c =
@@ -117,9 +153,13 @@ read_pairs-returns-in-Some-after_end-clause-gives t c =
     let i = c.pairs.invariant in
     let held = c.pairs.pairs.items in
     let p : DataItem × DataItem = (c.in_ok-key.key, c.in_ok-value.value) in
-    let read = pair_read item c.pairs.rest.now (view p.0) c.in_ok-key.behind.now c.in_ok-key.ensures.gives c.in_ok-next.next.now c.in_ok-next.ensures.gives (view p.1) c.in_ok-value.after.now c.in_ok-value.ensures.gives in
-    let pushed : map pair_view c.push.new.self.items ≡ map pair_view held ++ pair_view p ∷ [] = rw c.in_ok-push.ensures.items (map_push pair_view held p) in
-    rw pushed (member_last (read_pair item) 125 (map pair_view held) i.0 c.pairs.rest.now total i.1 i.2 (pair_view p) c.in_ok-value.after.now c.in-Some-after_end.end.now read (sym c.in-Some-after_end.ensures.gives))
+    let read = pair_read item c.pairs.rest.now (view p.0) c.in_ok-key.behind.now c.in_ok-key.ensures.gives
+    c.in_ok-next.next.now c.in_ok-next.ensures.gives (view p.1) c.in_ok-value.after.now
+    c.in_ok-value.ensures.gives in
+    let pushed : map pair_view c.push.new.self.items ≡ map pair_view held ++ pair_view p ∷ [] =
+    rw c.in_ok-push.ensures.items (map_push pair_view held p) in
+    rw pushed (member_last (read_pair item) 125 (map pair_view held) i.0 c.pairs.rest.now total i.1 i.2 (pair_view p)
+    c.in_ok-value.after.now c.in-Some-after_end.end.now read (sym c.in-Some-after_end.ensures.gives))
 
 pub read_pairs-returns-in_err-rest-clause-gives : goal.read_pairs-returns-in_err-rest-clause-gives
 read_pairs-returns-in_err-rest-clause-gives t c =
@@ -127,8 +167,12 @@ read_pairs-returns-in_err-rest-clause-gives t c =
     let item = read_item (129 - c.args.level) in
     let total = read_members (read_pair item) 125 c.args.text.now in
     let i = c.pairs.invariant in
-    let read = pair_read item c.pairs.rest.now (view c.in_ok-key.key) c.in_ok-key.behind.now c.in_ok-key.ensures.gives c.in_ok-next.next.now c.in_ok-next.ensures.gives (view c.in_ok-value.value) c.in_ok-value.after.now c.in_ok-value.ensures.gives in
-    rw (p.1, p.2) (no_comma (read_pair item) 125 (map pair_view c.pairs.pairs.items) i.0 c.pairs.rest.now total i.1 i.2 (view c.in_ok-key.key, view c.in_ok-value.value) c.in_ok-value.after.now c.in_err-rest.field-0.0 read (sym c.in_default-after_end.ensures.gives) c.in_err-rest.ensures.gives)
+    let read = pair_read item c.pairs.rest.now (view c.in_ok-key.key) c.in_ok-key.behind.now c.in_ok-key.ensures.gives
+    c.in_ok-next.next.now c.in_ok-next.ensures.gives (view c.in_ok-value.value) c.in_ok-value.after.now
+    c.in_ok-value.ensures.gives in
+    rw (p.1, p.2) (no_comma (read_pair item) 125 (map pair_view c.pairs.pairs.items) i.0 c.pairs.rest.now total i.1 i.2
+    (view c.in_ok-key.key, view c.in_ok-value.value) c.in_ok-value.after.now c.in_err-rest.field-0.0 read
+    (sym c.in_default-after_end.ensures.gives) c.in_err-rest.ensures.gives)
 
 pub read_pairs-pairs-preserved : goal.read_pairs-pairs-preserved
 read_pairs-pairs-preserved t c =
@@ -137,56 +181,86 @@ read_pairs-pairs-preserved t c =
     let i = c.pairs.invariant in
     let held = c.pairs.pairs.items in
     let p : DataItem × DataItem = (c.in_ok-key.key, c.in_ok-value.value) in
-    let read = pair_read item c.pairs.rest.now (view p.0) c.in_ok-key.behind.now c.in_ok-key.ensures.gives c.in_ok-next.next.now c.in_ok-next.ensures.gives (view p.1) c.in_ok-value.after.now c.in_ok-value.ensures.gives in
-    let shorter : length c.in_ok-value.after.now ≤ length c.pairs.rest.now = omega (arith, c.in_ok-key.ensures.shorter, c.in_ok-next.ensures.shorter, c.in_ok-value.ensures.shorter) in
-    let pushed : map pair_view c.push.new.self.items ≡ map pair_view held ++ pair_view p ∷ [] = rw c.in_ok-push.ensures.items (map_push pair_view held p) in
-    let next = member_more (read_pair item) 125 (map pair_view held) i.0 c.pairs.rest.now total i.1 i.2 (pair_view p) c.in_ok-value.after.now c.in_ok-rest.rest.now read (sym c.in_default-after_end.ensures.gives) c.in_ok-rest.ensures.gives shorter c.in_ok-rest.ensures.shorter in
-    (next.0, next.1, rw pushed next.2, omega (arith, c.in_ok-rest.ensures.shorter, shorter), rw c.in_ok-push.ensures.items (pairs_push c.args.level held p i.4 c.in_ok-key.ensures.well c.in_ok-value.ensures.well))
+    let read = pair_read item c.pairs.rest.now (view p.0) c.in_ok-key.behind.now c.in_ok-key.ensures.gives
+    c.in_ok-next.next.now c.in_ok-next.ensures.gives (view p.1) c.in_ok-value.after.now
+    c.in_ok-value.ensures.gives in
+    let shorter : length c.in_ok-value.after.now ≤ length c.pairs.rest.now =
+    omega (arith, c.in_ok-key.ensures.shorter, c.in_ok-next.ensures.shorter, c.in_ok-value.ensures.shorter) in
+    let pushed : map pair_view c.push.new.self.items ≡ map pair_view held ++ pair_view p ∷ [] =
+    rw c.in_ok-push.ensures.items (map_push pair_view held p) in
+    let next = member_more (read_pair item) 125 (map pair_view held) i.0 c.pairs.rest.now total i.1 i.2 (pair_view p)
+    c.in_ok-value.after.now c.in_ok-rest.rest.now read (sym c.in_default-after_end.ensures.gives)
+    c.in_ok-rest.ensures.gives shorter c.in_ok-rest.ensures.shorter in (
+      next.0,
+      next.1,
+      rw pushed next.2,
+      omega (arith, c.in_ok-rest.ensures.shorter, shorter),
+      rw c.in_ok-push.ensures.items (pairs_push c.args.level held p i.4 c.in_ok-key.ensures.well
+          c.in_ok-value.ensures.well),
+    )
 
 pub read_pairs-returns-in-Some-after_end-clause-well : goal.read_pairs-returns-in-Some-after_end-clause-well
-read_pairs-returns-in-Some-after_end-clause-well t c = rw c.in_ok-push.ensures.items (pairs_push c.args.level c.pairs.pairs.items (c.in_ok-key.key, c.in_ok-value.value) c.pairs.invariant.4 c.in_ok-key.ensures.well c.in_ok-value.ensures.well)
+read_pairs-returns-in-Some-after_end-clause-well t c =
+    rw c.in_ok-push.ensures.items (pairs_push c.args.level c.pairs.pairs.items (c.in_ok-key.key, c.in_ok-value.value)
+    c.pairs.invariant.4 c.in_ok-key.ensures.well c.in_ok-value.ensures.well)
 
 pub strings::read_byte_chunks-returns-in-Some-clause-gives : goal.strings::read_byte_chunks-returns-in-Some-clause-gives
 strings::read_byte_chunks-returns-in-Some-clause-gives t c =
     let read = read_chunk (read_item (129 - c.args.inner)) bytes_kind in
     let close : ℕ = 41 in
-    let ended : after_end close (skip_blank c.args.text.now) ≡ Some c.in-Some.after.now = ap (after_end close) (sym c.after_blank-rest.ensures.gives) ∙ sym c.in-Some.ensures.gives in
+    let ended : after_end close (skip_blank c.args.text.now) ≡ Some c.in-Some.after.now =
+    ap (after_end close) (sym c.after_blank-rest.ensures.gives) ∙ sym c.in-Some.ensures.gives in
     rw c.new-chunks.ensures.items (members_closed read close c.args.text.now c.in-Some.after.now ended)
 
 pub strings::read_byte_chunks-chunks-init : goal.strings::read_byte_chunks-chunks-init
 strings::read_byte_chunks-chunks-init t c =
     let read = read_chunk (read_item (129 - c.args.inner)) bytes_kind in
     let close : ℕ = 41 in
-    let begun = members_begin read close c.args.text.now c.after_blank-rest.result.now (map byte_chunk c.new-chunks.result.items) (ap (map byte_chunk) c.new-chunks.ensures.items) c.after_blank-rest.ensures.gives (sym c.in_default.ensures.gives) in
+    let begun = members_begin read close c.args.text.now c.after_blank-rest.result.now
+    (map byte_chunk c.new-chunks.result.items) (ap (map byte_chunk) c.new-chunks.ensures.items)
+    c.after_blank-rest.ensures.gives (sym c.in_default.ensures.gives) in
     (begun.0, begun.1, begun.2, c.after_blank-rest.ensures.shorter, rw c.new-chunks.ensures.items tt)
 
-pub strings::read_byte_chunks-returns-in_err-chunk-clause-gives : goal.strings::read_byte_chunks-returns-in_err-chunk-clause-gives
+pub strings::read_byte_chunks-returns-in_err-chunk-clause-gives :
+    goal.strings::read_byte_chunks-returns-in_err-chunk-clause-gives
 strings::read_byte_chunks-returns-in_err-chunk-clause-gives t c =
     let p = err_from_is_err_and c.from_residual.result c.from_residual.ensures.1 in
     let read = read_chunk (read_item (129 - c.args.inner)) bytes_kind in
     let close : ℕ = 41 in
     let total = read_members read close c.args.text.now in
     let i = c.chunks.invariant in
-    rw (p.1, p.2) (member_fails read close (map byte_chunk c.chunks.chunks.items) i.0 c.chunks.rest.now total i.1 i.2 c.in_err-chunk.field-0.0 (subst (λ b. Fails c.in_err-chunk.field-0.0 (read_string (read_item (129 - c.args.inner)) bytes_kind b)) c.after_blank.ensures.gives c.in_err-chunk.ensures.gives))
+    rw (p.1, p.2) (member_fails read close (map byte_chunk c.chunks.chunks.items) i.0 c.chunks.rest.now total i.1 i.2
+    c.in_err-chunk.field-0.0 (subst (λ b. Fails c.in_err-chunk.field-0.0
+    (read_string (read_item (129 - c.args.inner)) bytes_kind b)) c.after_blank.ensures.gives
+    c.in_err-chunk.ensures.gives))
 
-pub strings::read_byte_chunks-returns-in-Some-after_end-clause-gives : goal.strings::read_byte_chunks-returns-in-Some-after_end-clause-gives
+pub strings::read_byte_chunks-returns-in-Some-after_end-clause-gives :
+    goal.strings::read_byte_chunks-returns-in-Some-after_end-clause-gives
 strings::read_byte_chunks-returns-in-Some-after_end-clause-gives t c =
     let read = read_chunk (read_item (129 - c.args.inner)) bytes_kind in
     let close : ℕ = 41 in
     let total = read_members read close c.args.text.now in
     let i = c.chunks.invariant in
     let held = c.chunks.chunks.items in
-    let pushed : map byte_chunk c.push.new.self.items ≡ map byte_chunk held ++ (byte_chunk c.in_ok-chunk.chunk) ∷ [] = rw c.in_ok-push.ensures.items (map_push byte_chunk held c.in_ok-chunk.chunk) in
-    rw pushed (member_last read close (map byte_chunk held) i.0 c.chunks.rest.now total i.1 i.2 (byte_chunk c.in_ok-chunk.chunk) c.in_ok-chunk.after.now c.in-Some-after_end.end.now (ap (read_string (read_item (129 - c.args.inner)) bytes_kind) (sym c.after_blank.ensures.gives) ∙ c.in_ok-chunk.ensures.gives) (sym c.in-Some-after_end.ensures.gives))
+    let pushed : map byte_chunk c.push.new.self.items ≡ map byte_chunk held ++ (byte_chunk c.in_ok-chunk.chunk) ∷ [] =
+    rw c.in_ok-push.ensures.items (map_push byte_chunk held c.in_ok-chunk.chunk) in
+    rw pushed (member_last read close (map byte_chunk held) i.0 c.chunks.rest.now total i.1 i.2
+    (byte_chunk c.in_ok-chunk.chunk) c.in_ok-chunk.after.now c.in-Some-after_end.end.now
+    (ap (read_string (read_item (129 - c.args.inner)) bytes_kind) (sym c.after_blank.ensures.gives)
+    ∙ c.in_ok-chunk.ensures.gives) (sym c.in-Some-after_end.ensures.gives))
 
-pub strings::read_byte_chunks-returns-in_err-rest-clause-gives : goal.strings::read_byte_chunks-returns-in_err-rest-clause-gives
+pub strings::read_byte_chunks-returns-in_err-rest-clause-gives :
+    goal.strings::read_byte_chunks-returns-in_err-rest-clause-gives
 strings::read_byte_chunks-returns-in_err-rest-clause-gives t c =
     let p = err_from_is_err_and c.from_residual-in_err-rest.result c.from_residual-in_err-rest.ensures.1 in
     let read = read_chunk (read_item (129 - c.args.inner)) bytes_kind in
     let close : ℕ = 41 in
     let total = read_members read close c.args.text.now in
     let i = c.chunks.invariant in
-    rw (p.1, p.2) (no_comma read close (map byte_chunk c.chunks.chunks.items) i.0 c.chunks.rest.now total i.1 i.2 (byte_chunk c.in_ok-chunk.chunk) c.in_ok-chunk.after.now c.in_err-rest.field-0.0 (ap (read_string (read_item (129 - c.args.inner)) bytes_kind) (sym c.after_blank.ensures.gives) ∙ c.in_ok-chunk.ensures.gives) (sym c.in_default-after_end.ensures.gives) c.in_err-rest.ensures.gives)
+    rw (p.1, p.2) (no_comma read close (map byte_chunk c.chunks.chunks.items) i.0 c.chunks.rest.now total i.1 i.2
+    (byte_chunk c.in_ok-chunk.chunk) c.in_ok-chunk.after.now c.in_err-rest.field-0.0
+    (ap (read_string (read_item (129 - c.args.inner)) bytes_kind) (sym c.after_blank.ensures.gives)
+    ∙ c.in_ok-chunk.ensures.gives) (sym c.in_default-after_end.ensures.gives) c.in_err-rest.ensures.gives)
 
 pub strings::read_byte_chunks-chunks-preserved : goal.strings::read_byte_chunks-chunks-preserved
 strings::read_byte_chunks-chunks-preserved t c =
@@ -195,51 +269,79 @@ strings::read_byte_chunks-chunks-preserved t c =
     let total = read_members read close c.args.text.now in
     let i = c.chunks.invariant in
     let held = c.chunks.chunks.items in
-    let pushed : map byte_chunk c.push.new.self.items ≡ map byte_chunk held ++ (byte_chunk c.in_ok-chunk.chunk) ∷ [] = rw c.in_ok-push.ensures.items (map_push byte_chunk held c.in_ok-chunk.chunk) in
-    let next = member_more read close (map byte_chunk held) i.0 c.chunks.rest.now total i.1 i.2 (byte_chunk c.in_ok-chunk.chunk) c.in_ok-chunk.after.now c.in_ok-rest.rest.now (ap (read_string (read_item (129 - c.args.inner)) bytes_kind) (sym c.after_blank.ensures.gives) ∙ c.in_ok-chunk.ensures.gives) (sym c.in_default-after_end.ensures.gives) c.in_ok-rest.ensures.gives (omega (arith, c.in_ok-chunk.ensures.shorter, c.after_blank.ensures.shorter)) c.in_ok-rest.ensures.shorter in
-    (next.0, next.1, rw pushed next.2, omega (arith, c.in_ok-rest.ensures.shorter, c.in_ok-chunk.ensures.shorter, c.after_blank.ensures.shorter), rw pushed (all_push IsByteChunk (map byte_chunk held) (byte_chunk c.in_ok-chunk.chunk) i.4 c.in_ok-chunk.ensures.well))
+    let pushed : map byte_chunk c.push.new.self.items ≡ map byte_chunk held ++ (byte_chunk c.in_ok-chunk.chunk) ∷ [] =
+    rw c.in_ok-push.ensures.items (map_push byte_chunk held c.in_ok-chunk.chunk) in
+    let next = member_more read close (map byte_chunk held) i.0 c.chunks.rest.now total i.1 i.2
+    (byte_chunk c.in_ok-chunk.chunk) c.in_ok-chunk.after.now c.in_ok-rest.rest.now
+    (ap (read_string (read_item (129 - c.args.inner)) bytes_kind) (sym c.after_blank.ensures.gives)
+    ∙ c.in_ok-chunk.ensures.gives) (sym c.in_default-after_end.ensures.gives) c.in_ok-rest.ensures.gives
+    (omega (arith, c.in_ok-chunk.ensures.shorter, c.after_blank.ensures.shorter)) c.in_ok-rest.ensures.shorter in (
+      next.0,
+      next.1,
+      rw pushed next.2,
+      omega
+          (arith, c.in_ok-rest.ensures.shorter, c.in_ok-chunk.ensures.shorter, c.after_blank.ensures.shorter),
+      rw pushed (all_push IsByteChunk (map byte_chunk held) (byte_chunk c.in_ok-chunk.chunk) i.4
+          c.in_ok-chunk.ensures.well),
+    )
 
 pub strings::read_text_chunks-returns-in-Some-clause-gives : goal.strings::read_text_chunks-returns-in-Some-clause-gives
 strings::read_text_chunks-returns-in-Some-clause-gives t c =
     let read = read_chunk (read_item (129 - c.args.inner)) text_kind in
     let close : ℕ = 41 in
-    let ended : after_end close (skip_blank c.args.text.now) ≡ Some c.in-Some.after.now = ap (after_end close) (sym c.after_blank-rest.ensures.gives) ∙ sym c.in-Some.ensures.gives in
+    let ended : after_end close (skip_blank c.args.text.now) ≡ Some c.in-Some.after.now =
+    ap (after_end close) (sym c.after_blank-rest.ensures.gives) ∙ sym c.in-Some.ensures.gives in
     rw c.new-chunks.ensures.items (members_closed read close c.args.text.now c.in-Some.after.now ended)
 
 pub strings::read_text_chunks-chunks-init : goal.strings::read_text_chunks-chunks-init
 strings::read_text_chunks-chunks-init t c =
     let read = read_chunk (read_item (129 - c.args.inner)) text_kind in
     let close : ℕ = 41 in
-    let begun = members_begin read close c.args.text.now c.after_blank-rest.result.now (map text_chunk c.new-chunks.result.items) (ap (map text_chunk) c.new-chunks.ensures.items) c.after_blank-rest.ensures.gives (sym c.in_default.ensures.gives) in
+    let begun = members_begin read close c.args.text.now c.after_blank-rest.result.now
+    (map text_chunk c.new-chunks.result.items) (ap (map text_chunk) c.new-chunks.ensures.items)
+    c.after_blank-rest.ensures.gives (sym c.in_default.ensures.gives) in
     (begun.0, begun.1, begun.2, c.after_blank-rest.ensures.shorter, rw c.new-chunks.ensures.items tt)
 
-pub strings::read_text_chunks-returns-in_err-chunk-clause-gives : goal.strings::read_text_chunks-returns-in_err-chunk-clause-gives
+pub strings::read_text_chunks-returns-in_err-chunk-clause-gives :
+    goal.strings::read_text_chunks-returns-in_err-chunk-clause-gives
 strings::read_text_chunks-returns-in_err-chunk-clause-gives t c =
     let p = err_from_is_err_and c.from_residual.result c.from_residual.ensures.1 in
     let read = read_chunk (read_item (129 - c.args.inner)) text_kind in
     let close : ℕ = 41 in
     let total = read_members read close c.args.text.now in
     let i = c.chunks.invariant in
-    rw (p.1, p.2) (member_fails read close (map text_chunk c.chunks.chunks.items) i.0 c.chunks.rest.now total i.1 i.2 c.in_err-chunk.field-0.0 (subst (λ b. Fails c.in_err-chunk.field-0.0 (read_string (read_item (129 - c.args.inner)) text_kind b)) c.after_blank.ensures.gives c.in_err-chunk.ensures.gives))
+    rw (p.1, p.2) (member_fails read close (map text_chunk c.chunks.chunks.items) i.0 c.chunks.rest.now total i.1 i.2
+    c.in_err-chunk.field-0.0 (subst (λ b. Fails c.in_err-chunk.field-0.0
+    (read_string (read_item (129 - c.args.inner)) text_kind b)) c.after_blank.ensures.gives
+    c.in_err-chunk.ensures.gives))
 
-pub strings::read_text_chunks-returns-in-Some-after_end-clause-gives : goal.strings::read_text_chunks-returns-in-Some-after_end-clause-gives
+pub strings::read_text_chunks-returns-in-Some-after_end-clause-gives :
+    goal.strings::read_text_chunks-returns-in-Some-after_end-clause-gives
 strings::read_text_chunks-returns-in-Some-after_end-clause-gives t c =
     let read = read_chunk (read_item (129 - c.args.inner)) text_kind in
     let close : ℕ = 41 in
     let total = read_members read close c.args.text.now in
     let i = c.chunks.invariant in
     let held = c.chunks.chunks.items in
-    let pushed : map text_chunk c.push.new.self.items ≡ map text_chunk held ++ (text_chunk c.in_ok-chunk.chunk) ∷ [] = rw c.in_ok-push.ensures.items (map_push text_chunk held c.in_ok-chunk.chunk) in
-    rw pushed (member_last read close (map text_chunk held) i.0 c.chunks.rest.now total i.1 i.2 (text_chunk c.in_ok-chunk.chunk) c.in_ok-chunk.after.now c.in-Some-after_end.end.now (ap (read_string (read_item (129 - c.args.inner)) text_kind) (sym c.after_blank.ensures.gives) ∙ c.in_ok-chunk.ensures.gives) (sym c.in-Some-after_end.ensures.gives))
+    let pushed : map text_chunk c.push.new.self.items ≡ map text_chunk held ++ (text_chunk c.in_ok-chunk.chunk) ∷ [] =
+    rw c.in_ok-push.ensures.items (map_push text_chunk held c.in_ok-chunk.chunk) in
+    rw pushed (member_last read close (map text_chunk held) i.0 c.chunks.rest.now total i.1 i.2
+    (text_chunk c.in_ok-chunk.chunk) c.in_ok-chunk.after.now c.in-Some-after_end.end.now
+    (ap (read_string (read_item (129 - c.args.inner)) text_kind) (sym c.after_blank.ensures.gives)
+    ∙ c.in_ok-chunk.ensures.gives) (sym c.in-Some-after_end.ensures.gives))
 
-pub strings::read_text_chunks-returns-in_err-rest-clause-gives : goal.strings::read_text_chunks-returns-in_err-rest-clause-gives
+pub strings::read_text_chunks-returns-in_err-rest-clause-gives :
+    goal.strings::read_text_chunks-returns-in_err-rest-clause-gives
 strings::read_text_chunks-returns-in_err-rest-clause-gives t c =
     let p = err_from_is_err_and c.from_residual-in_err-rest.result c.from_residual-in_err-rest.ensures.1 in
     let read = read_chunk (read_item (129 - c.args.inner)) text_kind in
     let close : ℕ = 41 in
     let total = read_members read close c.args.text.now in
     let i = c.chunks.invariant in
-    rw (p.1, p.2) (no_comma read close (map text_chunk c.chunks.chunks.items) i.0 c.chunks.rest.now total i.1 i.2 (text_chunk c.in_ok-chunk.chunk) c.in_ok-chunk.after.now c.in_err-rest.field-0.0 (ap (read_string (read_item (129 - c.args.inner)) text_kind) (sym c.after_blank.ensures.gives) ∙ c.in_ok-chunk.ensures.gives) (sym c.in_default-after_end.ensures.gives) c.in_err-rest.ensures.gives)
+    rw (p.1, p.2) (no_comma read close (map text_chunk c.chunks.chunks.items) i.0 c.chunks.rest.now total i.1 i.2
+    (text_chunk c.in_ok-chunk.chunk) c.in_ok-chunk.after.now c.in_err-rest.field-0.0
+    (ap (read_string (read_item (129 - c.args.inner)) text_kind) (sym c.after_blank.ensures.gives)
+    ∙ c.in_ok-chunk.ensures.gives) (sym c.in_default-after_end.ensures.gives) c.in_err-rest.ensures.gives)
 
 pub strings::read_text_chunks-chunks-preserved : goal.strings::read_text_chunks-chunks-preserved
 strings::read_text_chunks-chunks-preserved t c =
@@ -248,52 +350,108 @@ strings::read_text_chunks-chunks-preserved t c =
     let total = read_members read close c.args.text.now in
     let i = c.chunks.invariant in
     let held = c.chunks.chunks.items in
-    let pushed : map text_chunk c.push.new.self.items ≡ map text_chunk held ++ (text_chunk c.in_ok-chunk.chunk) ∷ [] = rw c.in_ok-push.ensures.items (map_push text_chunk held c.in_ok-chunk.chunk) in
-    let next = member_more read close (map text_chunk held) i.0 c.chunks.rest.now total i.1 i.2 (text_chunk c.in_ok-chunk.chunk) c.in_ok-chunk.after.now c.in_ok-rest.rest.now (ap (read_string (read_item (129 - c.args.inner)) text_kind) (sym c.after_blank.ensures.gives) ∙ c.in_ok-chunk.ensures.gives) (sym c.in_default-after_end.ensures.gives) c.in_ok-rest.ensures.gives (omega (arith, c.in_ok-chunk.ensures.shorter, c.after_blank.ensures.shorter)) c.in_ok-rest.ensures.shorter in
-    (next.0, next.1, rw pushed next.2, omega (arith, c.in_ok-rest.ensures.shorter, c.in_ok-chunk.ensures.shorter, c.after_blank.ensures.shorter), rw pushed (all_push IsTextChunk (map text_chunk held) (text_chunk c.in_ok-chunk.chunk) i.4 c.in_ok-chunk.ensures.well))
+    let pushed : map text_chunk c.push.new.self.items ≡ map text_chunk held ++ (text_chunk c.in_ok-chunk.chunk) ∷ [] =
+    rw c.in_ok-push.ensures.items (map_push text_chunk held c.in_ok-chunk.chunk) in
+    let next = member_more read close (map text_chunk held) i.0 c.chunks.rest.now total i.1 i.2
+    (text_chunk c.in_ok-chunk.chunk) c.in_ok-chunk.after.now c.in_ok-rest.rest.now
+    (ap (read_string (read_item (129 - c.args.inner)) text_kind) (sym c.after_blank.ensures.gives)
+    ∙ c.in_ok-chunk.ensures.gives) (sym c.in_default-after_end.ensures.gives) c.in_ok-rest.ensures.gives
+    (omega (arith, c.in_ok-chunk.ensures.shorter, c.after_blank.ensures.shorter)) c.in_ok-rest.ensures.shorter in (
+      next.0,
+      next.1,
+      rw pushed next.2,
+      omega
+          (arith, c.in_ok-rest.ensures.shorter, c.in_ok-chunk.ensures.shorter, c.after_blank.ensures.shorter),
+      rw pushed (all_push IsTextChunk (map text_chunk held) (text_chunk c.in_ok-chunk.chunk) i.4
+          c.in_ok-chunk.ensures.well),
+    )
 
 pub read_core-returns-in-Digit-clause-gives : goal.read_core-returns-in-Digit-clause-gives
 read_core-returns-in-Digit-clause-gives t c =
     let read = read_item (129 - c.args.inner) in
-    rw (core_by read c.args.text.now c.split-start.result.1.now start.Digit (sym c.in-Digit.is ∙ c.split-start.ensures.start) c.split-start.ensures.rest) c.integer_or_tag.ensures.gives
+    rw (core_by read c.args.text.now c.split-start.result.1.now start.Digit
+    (sym c.in-Digit.is ∙ c.split-start.ensures.start) c.split-start.ensures.rest) c.integer_or_tag.ensures.gives
 
 pub read_core-returns-in_err-value-in-Minus-clause-gives : goal.read_core-returns-in_err-value-in-Minus-clause-gives
 read_core-returns-in_err-value-in-Minus-clause-gives t c =
     let p = err_from_is_err_and c.from_residual.result c.from_residual.ensures.1 in
     let read = read_item (129 - c.args.inner) in
-    rw (p.1, p.2, core_by read c.args.text.now c.split-start.result.1.now start.Minus (sym c.in-Minus.is ∙ c.split-start.ensures.start) c.split-start.ensures.rest) (Fails-bind c.in_err-value-in-Minus.field-0.0 (read_negative_number c.split-start.result.1.now) (λ n. Ok (atom (negative n.0.0 n.0.1), n.1)) c.in_err-value-in-Minus.ensures.gives)
+    rw (
+      p.1,
+      p.2,
+      core_by read c.args.text.now c.split-start.result.1.now start.Minus
+          (sym c.in-Minus.is ∙ c.split-start.ensures.start) c.split-start.ensures.rest,
+    )
+    (Fails-bind c.in_err-value-in-Minus.field-0.0 (read_negative_number c.split-start.result.1.now)
+    (λ n. Ok (atom (negative n.0.0 n.0.1), n.1)) c.in_err-value-in-Minus.ensures.gives)
 
 pub read_core-returns-in_ok-value-in-Minus-clause-gives : goal.read_core-returns-in_ok-value-in-Minus-clause-gives
 read_core-returns-in_ok-value-in-Minus-clause-gives t c =
     let read = read_item (129 - c.args.inner) in
-    core_by read c.args.text.now c.split-start.result.1.now start.Minus (sym c.in-Minus.is ∙ c.split-start.ensures.start) c.split-start.ensures.rest ∙ ap (λ r. r >>= λ n. Ok (atom (negative n.0.0 n.0.1), n.1)) c.in_ok-value-in-Minus.ensures.gives ∙ ap (λ i. Ok (i, c.in_ok-value-in-Minus.rest.now)) (sym (view-Negative c.in_ok-value-in-Minus.value c.in_ok-value-in-Minus.bitwidth))
+    core_by read c.args.text.now c.split-start.result.1.now start.Minus
+    (sym c.in-Minus.is ∙ c.split-start.ensures.start) c.split-start.ensures.rest
+    ∙ ap (λ r. r >>= λ n. Ok (atom (negative n.0.0 n.0.1), n.1)) c.in_ok-value-in-Minus.ensures.gives
+    ∙ ap (λ i. Ok (i, c.in_ok-value-in-Minus.rest.now))
+    (sym (view-Negative c.in_ok-value-in-Minus.value c.in_ok-value-in-Minus.bitwidth))
 
-pub read_core-returns-in_err-content-in-Bracket-clause-gives : goal.read_core-returns-in_err-content-in-Bracket-clause-gives
+pub read_core-returns-in_err-content-in-Bracket-clause-gives :
+    goal.read_core-returns-in_err-content-in-Bracket-clause-gives
 read_core-returns-in_err-content-in-Bracket-clause-gives t c =
-    let p = err_from_is_err_and c.from_residual-in_err-content-in-Bracket.result c.from_residual-in_err-content-in-Bracket.ensures.1 in
+    let p = err_from_is_err_and c.from_residual-in_err-content-in-Bracket.result
+    c.from_residual-in_err-content-in-Bracket.ensures.1 in
     let read = read_item (129 - c.args.inner) in
     let length_is = c.read_length-bitwidth.ensures.gives in
-    let failed = subst (λ b. Fails c.in_err-content-in-Bracket.field-0.0 (read_members read 93 b)) length_is.1 c.in_err-content-in-Bracket.ensures.gives in
-    rw (p.1, p.2, core_by read c.args.text.now c.split-start.result.1.now start.Bracket (sym c.in-Bracket.is ∙ c.split-start.ensures.start) c.split-start.ensures.rest) (Fails-bind c.in_err-content-in-Bracket.field-0.0 (read_members read 93 (read_length c.split-start.result.1.now).1) (λ is. Ok (array (items_of is.0) (read_length c.split-start.result.1.now).0, is.1)) failed)
+    let failed = subst (λ b. Fails c.in_err-content-in-Bracket.field-0.0 (read_members read 93 b)) length_is.1
+    c.in_err-content-in-Bracket.ensures.gives in
+    rw (
+      p.1,
+      p.2,
+      core_by read c.args.text.now c.split-start.result.1.now start.Bracket
+          (sym c.in-Bracket.is ∙ c.split-start.ensures.start) c.split-start.ensures.rest,
+    )
+    (Fails-bind c.in_err-content-in-Bracket.field-0.0
+    (read_members read 93 (read_length c.split-start.result.1.now).1)
+    (λ is. Ok (array (items_of is.0) (read_length c.split-start.result.1.now).0, is.1)) failed)
 
-pub read_core-returns-in_ok-content-in-Bracket-clause-gives : goal.read_core-returns-in_ok-content-in-Bracket-clause-gives
+pub read_core-returns-in_ok-content-in-Bracket-clause-gives :
+    goal.read_core-returns-in_ok-content-in-Bracket-clause-gives
 read_core-returns-in_ok-content-in-Bracket-clause-gives t c =
     let read = read_item (129 - c.args.inner) in
     let length_is = c.read_length-bitwidth.ensures.gives in
     let text = c.split-start.result.1.now in
     let found = ap (read_members read 93) (sym length_is.1) ∙ c.in_ok-content-in-Bracket.ensures.gives in
-    core_by read c.args.text.now c.split-start.result.1.now start.Bracket (sym c.in-Bracket.is ∙ c.split-start.ensures.start) c.split-start.ensures.rest ∙ ap (λ r. r >>= λ is. Ok (array (items_of is.0) (read_length text).0, is.1)) found ∙ ap (λ w. Ok (array (items_view c.in_ok-content-in-Bracket.content.items) w, c.in_ok-content-in-Bracket.rest.now)) (sym length_is.0) ∙ ap (λ i. Ok (i, c.in_ok-content-in-Bracket.rest.now)) (sym (view-Array c.in_ok-content-in-Bracket.content c.read_length-bitwidth.result.0))
+    core_by read c.args.text.now c.split-start.result.1.now start.Bracket
+    (sym c.in-Bracket.is ∙ c.split-start.ensures.start) c.split-start.ensures.rest
+    ∙ ap (λ r. r >>= λ is. Ok (array (items_of is.0) (read_length text).0, is.1)) found
+    ∙ ap (λ w. Ok (
+      array (items_view c.in_ok-content-in-Bracket.content.items) w,
+      c.in_ok-content-in-Bracket.rest.now,
+    )) (sym length_is.0)
+    ∙ ap (λ i. Ok (i, c.in_ok-content-in-Bracket.rest.now))
+    (sym (view-Array c.in_ok-content-in-Bracket.content c.read_length-bitwidth.result.0))
 
 pub read_core-returns-in_ok-content-in-Bracket-clause-well : goal.read_core-returns-in_ok-content-in-Bracket-clause-well
-read_core-returns-in_ok-content-in-Bracket-clause-well t c = array_well c.args.inner c.in_ok-content-in-Bracket.content c.read_length-bitwidth.result.0 (omega arith) (omega arith) c.read_length-bitwidth.ensures.unstated c.in_ok-content-in-Bracket.ensures.well
+read_core-returns-in_ok-content-in-Bracket-clause-well t c =
+    array_well c.args.inner c.in_ok-content-in-Bracket.content c.read_length-bitwidth.result.0 (omega arith)
+    (omega arith) c.read_length-bitwidth.ensures.unstated c.in_ok-content-in-Bracket.ensures.well
 
 pub read_core-returns-in_err-content-in-Brace-clause-gives : goal.read_core-returns-in_err-content-in-Brace-clause-gives
 read_core-returns-in_err-content-in-Brace-clause-gives t c =
-    let p = err_from_is_err_and c.from_residual-in_err-content-in-Brace.result c.from_residual-in_err-content-in-Brace.ensures.1 in
+    let p = err_from_is_err_and c.from_residual-in_err-content-in-Brace.result
+    c.from_residual-in_err-content-in-Brace.ensures.1 in
     let read = read_item (129 - c.args.inner) in
     let length_is = c.read_length-bitwidth-in-Brace.ensures.gives in
-    let failed = subst (λ b. Fails c.in_err-content-in-Brace.field-0.0 (read_members (read_pair read) 125 b)) length_is.1 c.in_err-content-in-Brace.ensures.gives in
-    rw (p.1, p.2, core_by read c.args.text.now c.split-start.result.1.now start.Brace (sym c.in-Brace.is ∙ c.split-start.ensures.start) c.split-start.ensures.rest) (Fails-bind c.in_err-content-in-Brace.field-0.0 (read_members (read_pair read) 125 (read_length c.split-start.result.1.now).1) (λ ps. Ok (spec.map (pairs_of ps.0) (read_length c.split-start.result.1.now).0, ps.1)) failed)
+    let failed = subst (λ b. Fails c.in_err-content-in-Brace.field-0.0 (read_members (read_pair read) 125 b))
+    length_is.1 c.in_err-content-in-Brace.ensures.gives in
+    rw (
+      p.1,
+      p.2,
+      core_by read c.args.text.now c.split-start.result.1.now start.Brace
+          (sym c.in-Brace.is ∙ c.split-start.ensures.start) c.split-start.ensures.rest,
+    )
+    (Fails-bind c.in_err-content-in-Brace.field-0.0
+    (read_members (read_pair read) 125 (read_length c.split-start.result.1.now).1)
+    (λ ps. Ok (spec.map (pairs_of ps.0) (read_length c.split-start.result.1.now).0, ps.1)) failed)
 
 pub read_core-returns-in_ok-content-in-Brace-clause-gives : goal.read_core-returns-in_ok-content-in-Brace-clause-gives
 read_core-returns-in_ok-content-in-Brace-clause-gives t c =
@@ -301,32 +459,49 @@ read_core-returns-in_ok-content-in-Brace-clause-gives t c =
     let length_is = c.read_length-bitwidth-in-Brace.ensures.gives in
     let text = c.split-start.result.1.now in
     let found = ap (read_members (read_pair read) 125) (sym length_is.1) ∙ c.in_ok-content-in-Brace.ensures.gives in
-    core_by read c.args.text.now c.split-start.result.1.now start.Brace (sym c.in-Brace.is ∙ c.split-start.ensures.start) c.split-start.ensures.rest ∙ ap (λ r. r >>= λ ps. Ok (spec.map (pairs_of ps.0) (read_length text).0, ps.1)) found ∙ ap (λ w. Ok (spec.map (pairs_view c.in_ok-content-in-Brace.content.items) w, c.in_ok-content-in-Brace.rest.now)) (sym length_is.0) ∙ ap (λ i. Ok (i, c.in_ok-content-in-Brace.rest.now)) (sym (view-Map c.in_ok-content-in-Brace.content c.read_length-bitwidth-in-Brace.result.0))
+    core_by read c.args.text.now c.split-start.result.1.now start.Brace
+    (sym c.in-Brace.is ∙ c.split-start.ensures.start) c.split-start.ensures.rest
+    ∙ ap (λ r. r >>= λ ps. Ok (spec.map (pairs_of ps.0) (read_length text).0, ps.1)) found
+    ∙ ap (λ w. Ok (
+      spec.map (pairs_view c.in_ok-content-in-Brace.content.items) w,
+      c.in_ok-content-in-Brace.rest.now,
+    )) (sym length_is.0)
+    ∙ ap (λ i. Ok (i, c.in_ok-content-in-Brace.rest.now))
+    (sym (view-Map c.in_ok-content-in-Brace.content c.read_length-bitwidth-in-Brace.result.0))
 
 pub read_core-returns-in_ok-content-in-Brace-clause-well : goal.read_core-returns-in_ok-content-in-Brace-clause-well
-read_core-returns-in_ok-content-in-Brace-clause-well t c = map_well c.args.inner c.in_ok-content-in-Brace.content c.read_length-bitwidth-in-Brace.result.0 (omega arith) (omega arith) c.read_length-bitwidth-in-Brace.ensures.unstated c.in_ok-content-in-Brace.ensures.well
+read_core-returns-in_ok-content-in-Brace-clause-well t c =
+    map_well c.args.inner c.in_ok-content-in-Brace.content c.read_length-bitwidth-in-Brace.result.0 (omega arith)
+    (omega arith) c.read_length-bitwidth-in-Brace.ensures.unstated c.in_ok-content-in-Brace.ensures.well
 
 pub read_core-returns-in-Parenthesis-clause-gives : goal.read_core-returns-in-Parenthesis-clause-gives
 read_core-returns-in-Parenthesis-clause-gives t c =
     let read = read_item (129 - c.args.inner) in
-    rw (core_by read c.args.text.now c.split-start.result.1.now start.Parenthesis (sym c.in-Parenthesis.is ∙ c.split-start.ensures.start) c.split-start.ensures.rest) c.read_chunks.ensures.gives
+    rw (core_by read c.args.text.now c.split-start.result.1.now start.Parenthesis
+    (sym c.in-Parenthesis.is ∙ c.split-start.ensures.start) c.split-start.ensures.rest) c.read_chunks.ensures.gives
 
 pub read_core-returns-in-Other-clause-gives : goal.read_core-returns-in-Other-clause-gives
 read_core-returns-in-Other-clause-gives t c =
     let read = read_item (129 - c.args.inner) in
-    rw (core_by read c.args.text.now c.split-start.result.1.now start.Other (sym c.in-Other.is ∙ c.split-start.ensures.start) c.split-start.ensures.rest) c.read_word.ensures.gives
+    rw (core_by read c.args.text.now c.split-start.result.1.now start.Other
+    (sym c.in-Other.is ∙ c.split-start.ensures.start) c.split-start.ensures.rest) c.read_word.ensures.gives
 
 pub read_core-returns-in-Apostrophe-clause-gives : goal.read_core-returns-in-Apostrophe-clause-gives
 read_core-returns-in-Apostrophe-clause-gives t c =
     let read = read_item (129 - c.args.inner) in
     let text = c.args.text.now in
     let begins = bytes_core read text c.split-start.result.1.now c.split-start.result.0 c.in-Apostrophe.is in
-    rw (core_by read text c.split-start.result.1.now c.split-start.result.0 c.split-start.ensures.start c.split-start.ensures.rest, begins) c.read_byte_item.ensures.gives
+    rw (
+      core_by read text c.split-start.result.1.now c.split-start.result.0 c.split-start.ensures.start
+          c.split-start.ensures.rest,
+      begins,
+    ) c.read_byte_item.ensures.gives
 
 pub read_core-returns-in-Quote-clause-gives : goal.read_core-returns-in-Quote-clause-gives
 read_core-returns-in-Quote-clause-gives t c =
     let read = read_item (129 - c.args.inner) in
-    rw (core_by read c.args.text.now c.split-start.result.1.now start.Quote (sym c.in-Quote.is ∙ c.split-start.ensures.start) c.split-start.ensures.rest) c.read_text_item.ensures.gives
+    rw (core_by read c.args.text.now c.split-start.result.1.now start.Quote
+    (sym c.in-Quote.is ∙ c.split-start.ensures.start) c.split-start.ensures.rest) c.read_text_item.ensures.gives
 
 pub read_item-returns-then-level-gt-DEEPEST-clause-gives : goal.read_item-returns-then-level-gt-DEEPEST-clause-gives
 read_item-returns-then-level-gt-DEEPEST-clause-gives t c = item_none (129 - c.args.level) c.args.text.now (omega arith)
@@ -335,49 +510,63 @@ pub read_item-returns-in_err-item-clause-gives : goal.read_item-returns-in_err-i
 read_item-returns-in_err-item-clause-gives t c =
     let p = err_from_is_err_and c.from_residual.result c.from_residual.ensures.1 in
     let read = read_item (129 - (c.args.level + 1)) in
-    let failed = subst (λ b. Fails c.in_err-item.field-0.0 (read_core read b)) c.after_blank.ensures.gives c.in_err-item.ensures.gives in
-    rw (p.1, p.2, item_some (129 - c.args.level) (129 - (c.args.level + 1)) c.args.text.now (omega arith)) (Fails-bind c.in_err-item.field-0.0 (read_core read (skip_blank c.args.text.now)) (λ i. Ok (i.0, skip_blank i.1)) failed)
+    let failed = subst (λ b. Fails c.in_err-item.field-0.0 (read_core read b)) c.after_blank.ensures.gives
+    c.in_err-item.ensures.gives in
+    rw (p.1, p.2, item_some (129 - c.args.level) (129 - (c.args.level + 1)) c.args.text.now (omega arith))
+    (Fails-bind c.in_err-item.field-0.0 (read_core read (skip_blank c.args.text.now))
+    (λ i. Ok (i.0, skip_blank i.1)) failed)
 
 pub read_item-returns-clause-gives : goal.read_item-returns-clause-gives
 read_item-returns-clause-gives t c =
     let read = read_item (129 - (c.args.level + 1)) in
     let found = ap (read_core read) (sym c.after_blank.ensures.gives) ∙ c.in_ok-item.ensures.gives in
-    item_some (129 - c.args.level) (129 - (c.args.level + 1)) c.args.text.now (omega arith) ∙ ap (λ r. r >>= λ i. Ok (i.0, skip_blank i.1)) found ∙ ap (λ b. Ok (view c.in_ok-item.item, b)) (sym c.after_blank-2.ensures.gives)
+    item_some (129 - c.args.level) (129 - (c.args.level + 1)) c.args.text.now (omega arith)
+    ∙ ap (λ r. r >>= λ i. Ok (i.0, skip_blank i.1)) found
+    ∙ ap (λ b. Ok (view c.in_ok-item.item, b)) (sym c.after_blank-2.ensures.gives)
 
 pub strings::read_piece-returns-in-Quote-clause-gives : goal.strings::read_piece-returns-in-Quote-clause-gives
 strings::read_piece-returns-in-Quote-clause-gives t c =
     let read = read_item (129 - c.args.inner) in
-    rw (piece_by read c.args.text.now c.split-start.result.1.now start.Quote (sym c.in-Quote.is ∙ c.split-start.ensures.start) c.split-start.ensures.rest) c.read_quoted.ensures.gives
+    rw (piece_by read c.args.text.now c.split-start.result.1.now start.Quote
+    (sym c.in-Quote.is ∙ c.split-start.ensures.start) c.split-start.ensures.rest) c.read_quoted.ensures.gives
 
 pub strings::read_piece-returns-in-Apostrophe-clause-gives : goal.strings::read_piece-returns-in-Apostrophe-clause-gives
 strings::read_piece-returns-in-Apostrophe-clause-gives t c =
     let read = read_item (129 - c.args.inner) in
-    rw (piece_by read c.args.text.now c.split-start.result.1.now start.Apostrophe (sym c.in-Apostrophe.is ∙ c.split-start.ensures.start) c.split-start.ensures.rest) c.read_quoted-in-Apostrophe.ensures.gives
+    rw (piece_by read c.args.text.now c.split-start.result.1.now start.Apostrophe
+    (sym c.in-Apostrophe.is ∙ c.split-start.ensures.start) c.split-start.ensures.rest)
+    c.read_quoted-in-Apostrophe.ensures.gives
 
 pub strings::read_piece-returns-in-Angle-clause-gives : goal.strings::read_piece-returns-in-Angle-clause-gives
 strings::read_piece-returns-in-Angle-clause-gives t c =
     let read = read_item (129 - c.args.inner) in
-    rw (piece_by read c.args.text.now c.split-start.result.1.now start.Angle (sym c.in-Angle.is ∙ c.split-start.ensures.start) c.split-start.ensures.rest) c.read_embedded.ensures.gives
+    rw (piece_by read c.args.text.now c.split-start.result.1.now start.Angle
+    (sym c.in-Angle.is ∙ c.split-start.ensures.start) c.split-start.ensures.rest) c.read_embedded.ensures.gives
 
 pub strings::read_piece-returns-in-LetterB-clause-gives : goal.strings::read_piece-returns-in-LetterB-clause-gives
 strings::read_piece-returns-in-LetterB-clause-gives t c =
     let read = read_item (129 - c.args.inner) in
-    rw (piece_by read c.args.text.now c.split-start.result.1.now start.LetterB (sym c.in-LetterB.is ∙ c.split-start.ensures.start) c.split-start.ensures.rest) c.b_notation.ensures.gives
+    rw (piece_by read c.args.text.now c.split-start.result.1.now start.LetterB
+    (sym c.in-LetterB.is ∙ c.split-start.ensures.start) c.split-start.ensures.rest) c.b_notation.ensures.gives
 
 pub strings::read_piece-returns-in-LetterH-clause-gives : goal.strings::read_piece-returns-in-LetterH-clause-gives
 strings::read_piece-returns-in-LetterH-clause-gives t c =
     let read = read_item (129 - c.args.inner) in
-    rw (piece_by read c.args.text.now c.split-start.result.1.now start.LetterH (sym c.in-LetterH.is ∙ c.split-start.ensures.start) c.split-start.ensures.rest) c.h_notation.ensures.gives
+    rw (piece_by read c.args.text.now c.split-start.result.1.now start.LetterH
+    (sym c.in-LetterH.is ∙ c.split-start.ensures.start) c.split-start.ensures.rest) c.h_notation.ensures.gives
 
 pub strings::read_piece-returns-in_default-clause-gives : goal.strings::read_piece-returns-in_default-clause-gives
 strings::read_piece-returns-in_default-clause-gives t c =
     let read = read_item (129 - c.args.inner) in
-    piece_by read c.args.text.now c.split-start.result.1.now c.split-start.result.0 c.split-start.ensures.start c.split-start.ensures.rest
-    ∙ no_piece read c.split-start.result.1.now c.split-start.result.0 c.in_default.not-Quote c.in_default.not-Apostrophe c.in_default.not-Angle c.in_default.not-LetterB c.in_default.not-LetterH
+    piece_by read c.args.text.now c.split-start.result.1.now c.split-start.result.0 c.split-start.ensures.start
+    c.split-start.ensures.rest
+    ∙ no_piece read c.split-start.result.1.now c.split-start.result.0 c.in_default.not-Quote c.in_default.not-Apostrophe
+    c.in_default.not-Angle c.in_default.not-LetterB c.in_default.not-LetterH
 
 pub strings::read_pieces-pieces-init : goal.strings::read_pieces-pieces-init
 strings::read_pieces-pieces-init t c =
-    let begun = pieces_begin (read_item (129 - c.args.inner)) c.args.texts c.args.text.now c.new-content.result.items c.new-content.ensures.items in
+    let begun = pieces_begin (read_item (129 - c.args.inner)) c.args.texts c.args.text.now c.new-content.result.items
+    c.new-content.ensures.items in
     (begun.0, begun.1, begun.2, omega arith)
 
 pub strings::read_pieces-returns-in_err-piece-clause-gives : goal.strings::read_pieces-returns-in_err-piece-clause-gives
@@ -386,56 +575,89 @@ strings::read_pieces-returns-in_err-piece-clause-gives t c =
     let read = read_item (129 - c.args.inner) in
     let i = c.pieces.invariant in
     let begins = sym (c.begins_piece.ensures ∙ ap (begins_piece c.args.texts) c.of.ensures) ∙ c.pieces-test.true in
-    rw (p.1, p.2) (piece_fails read c.args.texts c.pieces.content.items i.0 c.pieces.rest.now (read_pieces read c.args.texts (suc (length c.args.text.now)) c.args.text.now) i.1 i.2 c.in_err-piece.field-0.0 begins c.in_err-piece.ensures.gives)
+    rw (p.1, p.2) (piece_fails read c.args.texts c.pieces.content.items i.0 c.pieces.rest.now
+    (read_pieces read c.args.texts (suc (length c.args.text.now)) c.args.text.now) i.1 i.2 c.in_err-piece.field-0.0
+    begins c.in_err-piece.ensures.gives)
 
 pub strings::read_pieces-pieces-preserved : goal.strings::read_pieces-pieces-preserved
 strings::read_pieces-pieces-preserved t c =
     let read = read_item (129 - c.args.inner) in
     let i = c.pieces.invariant in
     let begins = sym (c.begins_piece.ensures ∙ ap (begins_piece c.args.texts) c.of.ensures) ∙ c.pieces-test.true in
-    let next = piece_more read c.args.texts c.pieces.content.items i.0 c.pieces.rest.now (read_pieces read c.args.texts (suc (length c.args.text.now)) c.args.text.now) i.1 i.2 c.in_ok-piece.piece.items c.in_ok-piece.after.now c.after_blank-rest.result.now begins c.in_ok-piece.ensures.gives c.after_blank-rest.ensures.gives c.in_ok-piece.ensures.shorter c.after_blank-rest.ensures.shorter in
-    (next.0, next.1, rw c.in_ok-append.ensures next.2, omega (arith, c.in_ok-piece.ensures.shorter, c.after_blank-rest.ensures.shorter))
+    let next = piece_more read c.args.texts c.pieces.content.items i.0 c.pieces.rest.now
+    (read_pieces read c.args.texts (suc (length c.args.text.now)) c.args.text.now) i.1 i.2 c.in_ok-piece.piece.items
+    c.in_ok-piece.after.now c.after_blank-rest.result.now begins c.in_ok-piece.ensures.gives
+    c.after_blank-rest.ensures.gives c.in_ok-piece.ensures.shorter c.after_blank-rest.ensures.shorter in (
+      next.0,
+      next.1,
+      rw c.in_ok-append.ensures next.2,
+      omega (arith, c.in_ok-piece.ensures.shorter, c.after_blank-rest.ensures.shorter),
+    )
 
 pub strings::read_pieces-returns-clause-gives : goal.strings::read_pieces-returns-clause-gives
 strings::read_pieces-returns-clause-gives t c =
     let read = read_item (129 - c.args.inner) in
     let i = c.pieces.invariant in
-    pieces_end read c.args.texts c.pieces.content.items i.0 c.pieces.rest.now (read_pieces read c.args.texts (suc (length c.args.text.now)) c.args.text.now) i.1 i.2 (sym (c.begins_piece.ensures ∙ ap (begins_piece c.args.texts) c.of.ensures) ∙ c.pieces-test.false)
+    pieces_end read c.args.texts c.pieces.content.items i.0 c.pieces.rest.now
+    (read_pieces read c.args.texts (suc (length c.args.text.now)) c.args.text.now) i.1 i.2
+    (sym (c.begins_piece.ensures ∙ ap (begins_piece c.args.texts) c.of.ensures) ∙ c.pieces-test.false)
 
-pub strings::read_byte_string-returns-then-not-begins_piece-clause-gives : goal.strings::read_byte_string-returns-then-not-begins_piece-clause-gives
-strings::read_byte_string-returns-then-not-begins_piece-clause-gives t c = string_by (read_item (129 - c.args.inner)) bytes_kind c.args.text.now false (sym (c.begins_piece.ensures ∙ ap (begins_piece false) c.of.ensures) ∙ c.if-not-begins_piece.true)
+pub strings::read_byte_string-returns-then-not-begins_piece-clause-gives :
+    goal.strings::read_byte_string-returns-then-not-begins_piece-clause-gives
+strings::read_byte_string-returns-then-not-begins_piece-clause-gives t c =
+    string_by (read_item (129 - c.args.inner)) bytes_kind c.args.text.now false
+    (sym (c.begins_piece.ensures ∙ ap (begins_piece false) c.of.ensures) ∙ c.if-not-begins_piece.true)
 
-pub strings::read_byte_string-returns-in_err-content-clause-gives : goal.strings::read_byte_string-returns-in_err-content-clause-gives
+pub strings::read_byte_string-returns-in_err-content-clause-gives :
+    goal.strings::read_byte_string-returns-in_err-content-clause-gives
 strings::read_byte_string-returns-in_err-content-clause-gives t c =
     let p = err_from_is_err_and c.from_residual.result c.from_residual.ensures.1 in
     let read = read_item (129 - c.args.inner) in
     let text = c.args.text.now in
-    rw (p.1, p.2, string_by read bytes_kind text true (sym (c.begins_piece.ensures ∙ ap (begins_piece false) c.of.ensures) ∙ c.if-not-begins_piece.false)) (Fails-bind c.in_err-content.field-0.0 (read_pieces read false (suc (length text)) text) (λ x. checked bytes_kind x.0 >>= λ k. Ok (k, x.1)) c.in_err-content.ensures.gives)
+    rw (
+      p.1,
+      p.2,
+      string_by read bytes_kind text true
+          (sym (c.begins_piece.ensures ∙ ap (begins_piece false) c.of.ensures) ∙ c.if-not-begins_piece.false),
+    )
+    (Fails-bind c.in_err-content.field-0.0 (read_pieces read false (suc (length text)) text)
+    (λ x. checked bytes_kind x.0 >>= λ k. Ok (k, x.1)) c.in_err-content.ensures.gives)
 
 pub strings::read_byte_string-returns-clause-gives : goal.strings::read_byte_string-returns-clause-gives
 strings::read_byte_string-returns-clause-gives t c =
     let read = read_item (129 - c.args.inner) in
-    string_by read bytes_kind c.args.text.now true (sym (c.begins_piece.ensures ∙ ap (begins_piece false) c.of.ensures) ∙ c.if-not-begins_piece.false)
+    string_by read bytes_kind c.args.text.now true (sym (c.begins_piece.ensures ∙ ap (begins_piece false) c.of.ensures)
+    ∙ c.if-not-begins_piece.false)
     ∙ ap (λ r. r >>= λ x. checked bytes_kind x.0 >>= λ k. Ok (k, x.1)) c.in_ok-content.ensures.gives
     ∙ ap (λ r. r >>= λ k. Ok (k, c.in_ok-content.rest.now)) (sym c.byte_string.ensures.gives)
 
-pub strings::read_text_string-returns-in_default-clause-gives : goal.strings::read_text_string-returns-in_default-clause-gives
-strings::read_text_string-returns-in_default-clause-gives t c = string_by (read_item (129 - c.args.inner)) text_kind c.args.text.now false (ap (begins_string text_kind) (sym c.of.ensures) ∙ no_text c.of.result c.in_default.not-Quote)
+pub strings::read_text_string-returns-in_default-clause-gives :
+    goal.strings::read_text_string-returns-in_default-clause-gives
+strings::read_text_string-returns-in_default-clause-gives t c =
+    string_by (read_item (129 - c.args.inner)) text_kind c.args.text.now false
+    (ap (begins_string text_kind) (sym c.of.ensures) ∙ no_text c.of.result c.in_default.not-Quote)
 
-pub strings::read_text_string-returns-in_err-content-clause-gives : goal.strings::read_text_string-returns-in_err-content-clause-gives
+pub strings::read_text_string-returns-in_err-content-clause-gives :
+    goal.strings::read_text_string-returns-in_err-content-clause-gives
 strings::read_text_string-returns-in_err-content-clause-gives t c =
     let p = err_from_is_err_and c.from_residual.result c.from_residual.ensures.1 in
     let read = read_item (129 - c.args.inner) in
     let text = c.args.text.now in
-    rw (p.1, p.2, string_by read text_kind text true (ap (begins_string text_kind) (sym c.in-Quote.ensures))) (Fails-bind c.in_err-content.field-0.0 (read_pieces read true (suc (length text)) text) (λ x. checked text_kind x.0 >>= λ k. Ok (k, x.1)) c.in_err-content.ensures.gives)
+    rw (p.1, p.2, string_by read text_kind text true (ap (begins_string text_kind) (sym c.in-Quote.ensures)))
+    (Fails-bind c.in_err-content.field-0.0 (read_pieces read true (suc (length text)) text)
+    (λ x. checked text_kind x.0 >>= λ k. Ok (k, x.1)) c.in_err-content.ensures.gives)
 
-pub strings::read_text_string-returns-in_err-text_string-clause-gives : goal.strings::read_text_string-returns-in_err-text_string-clause-gives
+pub strings::read_text_string-returns-in_err-text_string-clause-gives :
+    goal.strings::read_text_string-returns-in_err-text_string-clause-gives
 strings::read_text_string-returns-in_err-text_string-clause-gives t c =
-    let p = err_from_is_err_and c.from_residual-in_err-text_string.result c.from_residual-in_err-text_string.ensures.1 in
+    let p = err_from_is_err_and c.from_residual-in_err-text_string.result
+    c.from_residual-in_err-text_string.ensures.1 in
     let read = read_item (129 - c.args.inner) in
     let text = c.args.text.now in
-    let begun = string_by read text_kind text true (ap (begins_string text_kind) (sym c.in-Quote.ensures)) ∙ ap (λ r. r >>= λ x. checked text_kind x.0 >>= λ k. Ok (k, x.1)) c.in_ok-content.ensures.gives in
-    rw (p.1, p.2, begun) (Fails-bind c.in_err-text_string.field-0.0 (checked text_kind c.in_ok-content.content.items) (λ k. Ok (k, c.in_ok-content.rest.now)) c.in_err-text_string.ensures.gives)
+    let begun = string_by read text_kind text true (ap (begins_string text_kind) (sym c.in-Quote.ensures))
+    ∙ ap (λ r. r >>= λ x. checked text_kind x.0 >>= λ k. Ok (k, x.1)) c.in_ok-content.ensures.gives in
+    rw (p.1, p.2, begun) (Fails-bind c.in_err-text_string.field-0.0 (checked text_kind c.in_ok-content.content.items)
+    (λ k. Ok (k, c.in_ok-content.rest.now)) c.in_err-text_string.ensures.gives)
 
 pub strings::read_text_string-returns-clause-gives : goal.strings::read_text_string-returns-clause-gives
 strings::read_text_string-returns-clause-gives t c =

@@ -3,7 +3,8 @@ use Rattle.std.specs.List.{AllByRecursion}
 use Rattle.cbor_diag.specs.View.{view, items_view, pairs_view, byte_chunk, text_chunk}
 use Rattle.cbor_diag.specs.WellFormed.{WellFormedItems, WellFormedPairs, IsByteChunk, IsTextChunk}
 use Rattle.cbor_diag.specs.Bytes.{bytes_kind, text_kind}
-use Rattle.cbor_diag.specs.mirror.NotationReading.{read_item, read_pair, read_chunk, read_members, members_from, read_pieces}
+use Rattle.cbor_diag.specs.mirror.NotationReading.{read_item, read_pair, read_chunk, read_members, members_from}
+use Rattle.cbor_diag.specs.mirror.NotationReading.{read_pieces}
 use Rattle.cbor_diag.proofs.notation.ChunkLoops.{onto}
 use Rattle.cbor_diag.proofs.parse.notation.+diag.Given as goal
 
@@ -59,7 +60,9 @@ decreases-read_items-items l = length l.rest
 abbrev pub invariant-read_items-items : goal.invariant-read_items-items
 invariant-read_items-items l =
     let read = read_item (129 - l.level) in
-    (n : ℕ) × (length l.rest < n) × (onto (λ xs. map view l.items.items ++ xs) (members_from read l.close n l.rest) ≡ read_members read l.close l.text) × (length l.rest ≤ length l.text) × WellFormedItems l.level (items_view l.items.items)
+    (n : ℕ) × (length l.rest < n) × (onto (λ xs. map view l.items.items ++ xs) (members_from read l.close n l.rest)
+    ≡ read_members read l.close l.text) × (length l.rest ≤ length l.text)
+    × WellFormedItems l.level (items_view l.items.items)
 
 abbrev pub decreases-read_pairs-pairs : goal.decreases-read_pairs-pairs
 decreases-read_pairs-pairs l = length l.rest
@@ -67,7 +70,9 @@ decreases-read_pairs-pairs l = length l.rest
 abbrev pub invariant-read_pairs-pairs : goal.invariant-read_pairs-pairs
 invariant-read_pairs-pairs l =
     let read = read_pair (read_item (129 - l.level)) in
-    (n : ℕ) × (length l.rest < n) × (onto (λ xs. map (λ p. (view p.0, view p.1)) l.pairs.items ++ xs) (members_from read 125 n l.rest) ≡ read_members read 125 l.text) × (length l.rest ≤ length l.text) × WellFormedPairs l.level (pairs_view l.pairs.items)
+    (n : ℕ) × (length l.rest < n) × (onto (λ xs. map (λ p. (view p.0, view p.1)) l.pairs.items ++ xs)
+    (members_from read 125 n l.rest) ≡ read_members read 125 l.text) × (length l.rest ≤ length l.text)
+    × WellFormedPairs l.level (pairs_view l.pairs.items)
 
 abbrev pub decreases-strings::read_pieces-pieces : goal.decreases-strings::read_pieces-pieces
 decreases-strings::read_pieces-pieces l = length l.rest
@@ -75,7 +80,8 @@ decreases-strings::read_pieces-pieces l = length l.rest
 abbrev pub invariant-strings::read_pieces-pieces : goal.invariant-strings::read_pieces-pieces
 invariant-strings::read_pieces-pieces l =
     let read = read_item (129 - l.inner) in
-    (n : ℕ) × (length l.rest < n) × (onto (λ xs. l.content.items ++ xs) (read_pieces read l.texts n l.rest) ≡ read_pieces read l.texts (suc (length l.text)) l.text) × (length l.rest ≤ length l.text)
+    (n : ℕ) × (length l.rest < n) × (onto (λ xs. l.content.items ++ xs) (read_pieces read l.texts n l.rest)
+    ≡ read_pieces read l.texts (suc (length l.text)) l.text) × (length l.rest ≤ length l.text)
 
 abbrev pub decreases-strings::read_byte_chunks-chunks : goal.decreases-strings::read_byte_chunks-chunks
 decreases-strings::read_byte_chunks-chunks l = length l.rest
@@ -83,7 +89,9 @@ decreases-strings::read_byte_chunks-chunks l = length l.rest
 abbrev pub invariant-strings::read_byte_chunks-chunks : goal.invariant-strings::read_byte_chunks-chunks
 invariant-strings::read_byte_chunks-chunks l =
     let read = read_chunk (read_item (129 - l.inner)) bytes_kind in
-    (n : ℕ) × (length l.rest < n) × (onto (λ xs. map byte_chunk l.chunks.items ++ xs) (members_from read 41 n l.rest) ≡ read_members read 41 l.text) × (length l.rest ≤ length l.text) × AllByRecursion IsByteChunk (map byte_chunk l.chunks.items)
+    (n : ℕ) × (length l.rest < n) × (onto (λ xs. map byte_chunk l.chunks.items ++ xs) (members_from read 41 n l.rest)
+    ≡ read_members read 41 l.text) × (length l.rest ≤ length l.text)
+    × AllByRecursion IsByteChunk (map byte_chunk l.chunks.items)
 
 abbrev pub decreases-strings::read_text_chunks-chunks : goal.decreases-strings::read_text_chunks-chunks
 decreases-strings::read_text_chunks-chunks l = length l.rest
@@ -91,4 +99,6 @@ decreases-strings::read_text_chunks-chunks l = length l.rest
 abbrev pub invariant-strings::read_text_chunks-chunks : goal.invariant-strings::read_text_chunks-chunks
 invariant-strings::read_text_chunks-chunks l =
     let read = read_chunk (read_item (129 - l.inner)) text_kind in
-    (n : ℕ) × (length l.rest < n) × (onto (λ xs. map text_chunk l.chunks.items ++ xs) (members_from read 41 n l.rest) ≡ read_members read 41 l.text) × (length l.rest ≤ length l.text) × AllByRecursion IsTextChunk (map text_chunk l.chunks.items)
+    (n : ℕ) × (length l.rest < n) × (onto (λ xs. map text_chunk l.chunks.items ++ xs) (members_from read 41 n l.rest)
+    ≡ read_members read 41 l.text) × (length l.rest ≤ length l.text)
+    × AllByRecursion IsTextChunk (map text_chunk l.chunks.items)

@@ -8,7 +8,8 @@ pub returns-clause-every_item : goal.returns-clause-every_item
 returns-clause-every_item c = λ i is. gave_text 128 c.args.text.now c.whole_text.result i c.whole_text.ensures.gives is
 
 pub returns-clause-larger_limit : goal.returns-clause-larger_limit
-returns-clause-larger_limit c = λ limit i le is. larger_limit 128 c.args.text.now c.whole_text.result limit i c.whole_text.ensures.gives is
+returns-clause-larger_limit c = λ limit i le is. larger_limit 128 c.args.text.now c.whole_text.result limit i
+    c.whole_text.ensures.gives is
 
 pub returns-clause-one_item : goal.returns-clause-one_item
 returns-clause-one_item c = only_item 128 c.args.text.now c.whole_text.result c.whole_text.ensures.gives

@@ -27,7 +27,8 @@ pub returns-clause-read_back : goal.returns-clause-read_back
 returns-clause-read_back c =
     let i = view c.args.self.now in
     let written = c.in_ok-push_bytes.ensures.bytes ∙ ap (λ x. x ++ encoded i) c.new-out.ensures.items in
-    subst (λ x. Spells any 1 x (resolve i)) (sym written) (strict_any 1 (encoded i) (resolve i) (strict_encoded 1 i c.requires))
+    subst (λ x. Spells any 1 x (resolve i)) (sym written)
+    (strict_any 1 (encoded i) (resolve i) (strict_encoded 1 i c.requires))
 
 pub returns-clause-alike : goal.returns-clause-alike
 returns-clause-alike c =

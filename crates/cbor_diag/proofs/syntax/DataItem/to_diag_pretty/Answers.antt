@@ -30,7 +30,8 @@ returns-clause-one_line c = short_is
 pub returns-clause-lines : goal.returns-clause-lines
 returns-clause-lines c = long_is
 
-pub returns-in_err-push_diag_pretty-clause-sequence_one_line : goal.returns-in_err-push_diag_pretty-clause-sequence_one_line
+pub returns-in_err-push_diag_pretty-clause-sequence_one_line :
+    goal.returns-in_err-push_diag_pretty-clause-sequence_one_line
 returns-in_err-push_diag_pretty-clause-sequence_one_line c = short_sequence
 
 pub returns-in_err-push_diag_pretty-clause-sequence_lines : goal.returns-in_err-push_diag_pretty-clause-sequence_lines

@@ -35,18 +35,23 @@ returns-clause-one_line c = one_line (view c.args.self.now) c.requires
 pub returns-clause-one_column : goal.returns-clause-one_column
 returns-clause-one_column c =
     let all = lines (view c.args.self.now) in
-    subst (IsColumn (width_of all + 1)) (sym c.in_ok-dump.ensures) (one_column (width_of all) all (all_plain (view c.args.self.now) c.requires) (omega arith))
+    subst (IsColumn (width_of all + 1)) (sym c.in_ok-dump.ensures)
+    (one_column (width_of all) all (all_plain (view c.args.self.now) c.requires) (omega arith))
 
 pub returns-clause-digits : goal.returns-clause-digits
 returns-clause-digits c =
     let i = view c.args.self.now in
-    ap strip c.in_ok-dump.ensures ∙ digits_left (width_of (lines i)) (lines i) (all_plain i c.requires) ∙ item_are 128 1 top 0 i (omega arith) c.requires
+    ap strip c.in_ok-dump.ensures ∙ digits_left (width_of (lines i)) (lines i) (all_plain i c.requires)
+    ∙ item_are 128 1 top 0 i (omega arith) c.requires
 
 pub returns-clause-read_back : goal.returns-clause-read_back
 returns-clause-read_back c =
     let i = view c.args.self.now in
-    let bytes = is_bytes (encoded i) (item_bytes 1 i c.requires) in
-    (encoded i, ap decode_of (returns-clause-digits c) ∙ decode_of-encode_lower (encoded i) bytes, strict_any 1 (encoded i) (resolve i) (strict_encoded 1 i c.requires))
+    let bytes = is_bytes (encoded i) (item_bytes 1 i c.requires) in (
+      encoded i,
+      ap decode_of (returns-clause-digits c) ∙ decode_of-encode_lower (encoded i) bytes,
+      strict_any 1 (encoded i) (resolve i) (strict_encoded 1 i c.requires),
+    )
 
 pub returns-in_err-dump-clause-embedded : goal.returns-in_err-dump-clause-embedded
 returns-in_err-dump-clause-embedded c = embeds_exactly

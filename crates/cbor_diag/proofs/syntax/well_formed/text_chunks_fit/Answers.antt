@@ -8,5 +8,6 @@ use Rattle.cbor_diag.proofs.syntax.well_formed.text_chunks_fit.Goals as goal
 pub returns : goal.returns
 returns c =
     let chunks = c.args.chunks.now in
-    let cases = cases_from_all _ _ _ (λ s. IsTextChunk (text_chunk s)) (λ s. ¬ IsTextChunk (text_chunk s)) c.all.ensures.ran (YieldsList-from_slice chunks cc) (λ x q k. search rules) (λ x q k. search rules) in
+    let cases = cases_from_all _ _ _ (λ s. IsTextChunk (text_chunk s)) (λ s. ¬ IsTextChunk (text_chunk s))
+    c.all.ensures.ran (YieldsList-from_slice chunks cc) (λ x q k. search rules) (λ x q k. search rules) in
     all_tested IsTextChunk text_chunk chunks _ cases

@@ -1,5 +1,6 @@
 //! Network addresses (RFC 9164).
-ghost use Rattle.std.specs.Prelude.{ℕ, ◌≡◌, ◌≢◌, ◌++◌, List, codes, decimal, length, ◌==◌, Some, None, if◌then◌else◌, IfOk, OnOk, IfSome, IfNone};
+ghost use Rattle.std.specs.Prelude.{ℕ, ◌≡◌, ◌≢◌, ◌++◌, List, codes, decimal, length, ◌==◌, Some};
+ghost use Rattle.std.specs.Prelude.{None, if◌then◌else◌, IfOk, OnOk, IfSome, IfNone};
 ghost use Rattle.std.specs.String.{string_bytes};
 ghost use Rattle.cbor_diag.specs.Notes as spec;
 ghost use Rattle.cbor_diag.specs.View.{view, items_view};
@@ -21,7 +22,8 @@ pub(crate) enum Family {
 impl Family {
     /// What is said of the value of the family's tag.
     pub(super) fn note(self, alloc: Global, value: &DataItem) -> Result<String, AllocError>
-        ensures { IfOk result (λ note. string_bytes note ≡ spec.address_note self (view value.now)) }
+        ensures { IfOk result (λ note. string_bytes note ≡ spec.address_note self
+            (view value.now)) }
     {
         match value {
             DataItem::ByteString(bytes) => self.plain_address(alloc, &bytes.content),
@@ -53,8 +55,10 @@ impl Family {
     /// The text of an address, if the bytes are one.
     fn address_text(self, alloc: Global, bytes: &[u8]) -> Result<Option<String>, AllocError>
         ensures some { IfOk result (λ found. IfSome found (λ text.
-            (length bytes.now ≡ spec.family_size self) × (string_bytes text ≡ spec.address_text self bytes.now))) }
-        ensures none { IfOk result (λ found. IfNone found (length bytes.now ≢ spec.family_size self)) }
+            (length bytes.now ≡ spec.family_size self)
+            × (string_bytes text ≡ spec.address_text self bytes.now))) }
+        ensures none { IfOk result (λ found. IfNone found
+            (length bytes.now ≢ spec.family_size self)) }
     {
         match self {
             Family::IPv4 => match bytes.as_array() {
@@ -98,10 +102,11 @@ impl Family {
         }
     }
 
-    /// What is said of members: a prefix by its length and its bytes, or an address by its bytes and what
-    /// follows them.
+    /// What is said of members: a prefix by its length and its bytes, or an address by its bytes
+    /// and what follows them.
     fn members_note(self, alloc: Global, members: &[DataItem]) -> Result<String, AllocError>
-        ensures { IfOk result (λ note. string_bytes note ≡ spec.members_note self (items_view members.now)) }
+        ensures { IfOk result (λ note. string_bytes note ≡ spec.members_note self
+            (items_view members.now)) }
     {
         match members {
             [
@@ -119,7 +124,8 @@ impl Family {
         }
     }
 
-    /// What is said of the first bytes of an address, those behind them being zeros that are left away.
+    /// What is said of the first bytes of an address, those behind them being zeros that are left
+    /// away.
     fn prefix_note(self, alloc: Global, len: u64, bytes: &[u8]) -> Result<String, AllocError>
         ensures { IfOk result (λ note. string_bytes note ≡ spec.prefix_note self len bytes.now) }
     {
@@ -141,8 +147,8 @@ impl Family {
         }
     }
 
-    /// What is said of an address, given as text, and of what follows it: the length of its prefix or null, and
-    /// perhaps a zone.
+    /// What is said of an address, given as text, and of what follows it: the length of its prefix
+    /// or null, and perhaps a zone.
     fn interface_note(
         self,
         alloc: Global,
@@ -150,7 +156,8 @@ impl Family {
         rest: &[DataItem],
     ) -> Result<String, AllocError>
         ensures { (bytes : List ℕ) → string_bytes address ≡ spec.address_text self bytes
-            → IfOk result (λ note. string_bytes note ≡ spec.interface_note self bytes (items_view rest.now)) }
+            → IfOk result (λ note. string_bytes note ≡ spec.interface_note self bytes
+            (items_view rest.now)) }
     {
         match rest {
             [DataItem::Integer { value, .. }, zones @ ..] => {
@@ -212,7 +219,8 @@ impl Family {
         len: u64,
     ) -> Result<String, AllocError>
         ensures { (bytes : List ℕ) → string_bytes address ≡ spec.address_text self bytes
-            → IfOk result (λ note. string_bytes note ≡ spec.with_length self bytes len (Some None)) }
+            → IfOk result (λ note. string_bytes note ≡ spec.with_length self bytes len
+            (Some None)) }
     {
         let mut text = address;
         push_length(&mut text, len)?;
@@ -229,7 +237,8 @@ fn invalid_address(alloc: Global) -> Result<String, AllocError>
 
 /// Appends the length of a prefix to the text of an address.
 fn push_length(text: &mut String, len: u64) -> Result<(), AllocError>
-    ensures { OnOk result (string_bytes text.new ≡ string_bytes text.old ++ codes "/" ++ decimal len) }
+    ensures { OnOk result (string_bytes text.new ≡ string_bytes text.old ++ codes "/"
+        ++ decimal len) }
 {
     text.push('/')?;
     write!(text, "{len}")
@@ -248,7 +257,8 @@ fn first_zone(alloc: Global, zones: &[DataItem]) -> Result<Option<String>, Alloc
     ensures some { IfOk result (λ found. IfSome found
         (λ zone. spec.zone_at (items_view zones.now) ≡ Some (Some (string_bytes zone)))) }
     ensures none { IfOk result (λ found. IfNone found
-        (spec.zone_at (items_view zones.now) ≡ (if length zones.now == 0 then Some None else None))) }
+        (spec.zone_at (items_view zones.now)
+        ≡ (if length zones.now == 0 then Some None else None))) }
 {
     match zones {
         [DataItem::Integer { value, .. }, ..] => Ok(Some(value.to_string(alloc)?)),

@@ -60,7 +60,8 @@ pub(super) fn date_note(alloc: Global, value: &DataItem) -> Result<String, Alloc
 /// What is said of seconds since 1970, however many.
 fn moment_note(alloc: Global, seconds: i128) -> Result<String, AllocError>
     ensures { IfOk result (λ note. string_bytes note
-        ≡ spec.word_or (codes "datetime") (codes "offset is too large") (dates.datetime_of_epoch seconds)) }
+        ≡ spec.word_or (codes "datetime") (codes "offset is too large")
+        (dates.datetime_of_epoch seconds)) }
 {
     let text = moment_text(alloc, seconds)?;
     word_or(alloc, "datetime", "offset is too large", text)
@@ -68,7 +69,8 @@ fn moment_note(alloc: Global, seconds: i128) -> Result<String, AllocError>
 
 /// The moment that seconds since 1970 are, if the calendar has it.
 fn moment_text(alloc: Global, seconds: i128) -> Result<Option<String>, AllocError>
-    ensures { IfOk result (λ found. option_map string_bytes found ≡ dates.datetime_of_epoch seconds) }
+    ensures { IfOk result (λ found. option_map string_bytes found ≡ dates.datetime_of_epoch
+        seconds) }
 {
     match i64::try_from(seconds) {
         Ok(seconds) => datetime_of_epoch(alloc, seconds),
@@ -79,7 +81,8 @@ fn moment_text(alloc: Global, seconds: i128) -> Result<Option<String>, AllocErro
 /// What is said of days since 1970-01-01, however many.
 fn day_note(alloc: Global, days: i128) -> Result<String, AllocError>
     ensures { IfOk result (λ note. string_bytes note
-        ≡ spec.word_or (codes "date") (codes "date offset is too large for this tool") (dates.date_of_epoch days)) }
+        ≡ spec.word_or (codes "date") (codes "date offset is too large for this tool")
+        (dates.date_of_epoch days)) }
 {
     let text = day_text(alloc, days)?;
     word_or(

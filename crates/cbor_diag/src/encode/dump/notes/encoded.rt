@@ -26,13 +26,15 @@ pub(super) fn url_note(alloc: Global, value: &DataItem) -> Result<String, AllocE
     Ok(note)
 }
 
-/// What is said of a text in base 64, in the alphabet that is safe in URLs if `url` is set: what it encodes.
+/// What is said of a text in base 64, in the alphabet that is safe in URLs if `url` is set: what it
+/// encodes.
 pub(super) fn base64_note(
     alloc: Global,
     url: bool,
     value: &DataItem,
 ) -> Result<Vec<String>, AllocError>
-    ensures { IfOk result (λ texts. map string_bytes texts.items ≡ spec.base64_note url (view value.now)) }
+    ensures { IfOk result (λ texts. map string_bytes texts.items ≡ spec.base64_note url
+        (view value.now)) }
 {
     let name = base64_name(url);
     let DataItem::TextString(text) = value else {
@@ -70,7 +72,8 @@ fn joined(alloc: Global, front: &str, back: &str) -> Result<String, AllocError>
 
 /// What is said of a UUID: its fields, and its bytes in other bases.
 pub(super) fn uuid_note(alloc: Global, value: &DataItem) -> Result<Vec<String>, AllocError>
-    ensures { IfOk result (λ texts. map string_bytes texts.items ≡ spec.uuid_note (view value.now)) }
+    ensures { IfOk result (λ texts. map string_bytes texts.items
+        ≡ spec.uuid_note (view value.now)) }
 {
     let DataItem::ByteString(bytes) = value else {
         return words(alloc, "invalid type for uuid");

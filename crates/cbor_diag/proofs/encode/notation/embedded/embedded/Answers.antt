@@ -7,9 +7,11 @@ pub returns-in-Ok-clause-item : goal.returns-in-Ok-clause-item
 returns-in-Ok-clause-item c = sym (whole_item c.args.level c.args.bytes.now _ c.requires.to c.in-Ok.ensures.answer)
 
 pub returns-in-Ok-clause-well_formed : goal.returns-in-Ok-clause-well_formed
-returns-in-Ok-clause-well_formed c = whole_well_formed c.args.level c.args.bytes.now (Ok c.in-Ok.item) (λ i. omega (arith, c.type_inv.bytes i)) c.in-Ok.ensures.answer
+returns-in-Ok-clause-well_formed c = whole_well_formed c.args.level c.args.bytes.now (Ok c.in-Ok.item)
+    (λ i. omega (arith, c.type_inv.bytes i)) c.in-Ok.ensures.answer
 
 pub returns-in_default : goal.returns-in_default
 returns-in_default c =
-    let none = no_whole_item c.args.level c.args.bytes.now c.in-Err.error c.requires.to (refused_is c.args.level c.args.bytes.now c.in-Err.error c.in_default.not-Memory c.in-Err.ensures.answer) in
+    let none = no_whole_item c.args.level c.args.bytes.now c.in-Err.error c.requires.to
+    (refused_is c.args.level c.args.bytes.now c.in-Err.error c.in_default.not-Memory c.in-Err.ensures.answer) in
     record { item = sym none; well_formed = tt }

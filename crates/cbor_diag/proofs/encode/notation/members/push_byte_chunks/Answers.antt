@@ -14,10 +14,12 @@ pub chunks-preserved : goal.chunks-preserved
 chunks-preserved c =
     let all = c.args.chunks.now in
     let i = c.chunks.chunk-index in
-    let here : drop i all ≡ c.chunk-item.result ∷ drop (i + 1) all = drop_here all i c.chunk-item.result c.chunks-test.true c.chunk-item.is in
+    let here : drop i all ≡ c.chunk-item.result ∷ drop (i + 1) all =
+    drop_here all i c.chunk-item.result c.chunks-test.true c.chunk-item.is in
     let written = c.in_ok-push_quoted.ensures
     ∙ ap (λ b. string_bytes c.push_start.new.out ++ quoted c.args.context.now.encoding b) c.deref.ensures.value in
-    let begun = begins_after_member (string_bytes c.args.out.now) (string_bytes c.chunks.out) (string_bytes c.push_start.new.out)
+    let begun = begins_after_member (string_bytes c.args.out.now) (string_bytes c.chunks.out)
+    (string_bytes c.push_start.new.out)
     (string_bytes c.push_quoted.new.out) (string_bytes c.push_end.new.out) _ _ _ c.chunks.invariant.1
     c.in_ok-push_start.ensures c.in_ok-push_quoted.ensures c.in_ok-push_end.ensures in (
       member_more (style_view c.byte_chunks_style-style.result) c.chunks.first _ _ (string_bytes c.chunks.out)

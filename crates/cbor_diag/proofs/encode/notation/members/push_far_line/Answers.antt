@@ -9,10 +9,14 @@ use Rattle.cbor_diag.proofs.encode.notation.members.push_far_line.Goals as goal
 line_cut : (n : ℕ) → n ≤ 64 → slice_range {X = ℕ} (10 ∷ replicate 64 32) 0 (1 + n) ≡ 10 ∷ replicate n 32
 line_cut n h =
     let from_start : 1 + n - 0 ≡ suc n = omega arith in
-    ap (λ (k : ℕ). take k (10 ∷ replicate 64 32)) from_start ∙ ap (λ blanks. 10 ∷ blanks) (take-replicate {X = ℕ} n 64 32 h)
+    ap (λ (k : ℕ). take k (10 ∷ replicate 64 32)) from_start
+    ∙ ap (λ blanks. 10 ∷ blanks) (take-replicate {X = ℕ} n 64 32 h)
 
 pub range-requires-clause-end_boundary : goal.range-requires-clause-end_boundary
-range-requires-clause-end_boundary c = IsCharBoundary-from_ascii (10 ∷ replicate 64 32) (1 + c.min-near.result) (IsAscii-from_test (10 ∷ replicate 64 32) refl) (omega (arith, c.min-near.ensures))
+range-requires-clause-end_boundary c = IsCharBoundary-from_ascii (10 ∷ replicate 64 32) (1 + c.min-near.result)
+    (IsAscii-from_test (10 ∷ replicate 64 32) refl) (omega (arith, c.min-near.ensures))
 
 pub blanks-init : goal.blanks-init
-blanks-init c = c.in_ok-push_str.ensures.bytes ∙ ap (λ t. string_bytes c.args.out.now ++ t) (c.range.ensures.value ∙ line_cut c.min-near.result (omega (arith, c.min-near.ensures)))
+blanks-init c = c.in_ok-push_str.ensures.bytes
+    ∙ ap (λ t. string_bytes c.args.out.now ++ t)
+    (c.range.ensures.value ∙ line_cut c.min-near.result (omega (arith, c.min-near.ensures)))

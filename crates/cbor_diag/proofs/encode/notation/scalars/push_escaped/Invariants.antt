@@ -9,7 +9,8 @@ use Rattle.cbor_diag.proofs.encode.notation.scalars.push_escaped.Given as goal
 -- what is written, and the bytes from `done` on, are the escaped bytes so far
 abbrev pub invariant-bytes : goal.invariant-bytes
 invariant-bytes l = record {
-  written : string_bytes l.out ++ drop l.done (take l.place l.content) ≡ string_bytes l.fn.out ++ flat_map escaped (take l.place l.content);
+  written : string_bytes l.out ++ drop l.done (take l.place l.content) ≡ string_bytes l.fn.out
+      ++ flat_map escaped (take l.place l.content);
   begins : StartsWith (string_bytes l.out) (string_bytes l.fn.out);
   order : l.done ≤ l.place;
   boundary : IsCharBoundary l.content l.done;

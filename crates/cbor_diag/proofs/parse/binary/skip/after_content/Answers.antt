@@ -6,7 +6,8 @@ use Rattle.cbor_diag.proofs.extent.Skips.{content_cut, content_goes, content_sho
 use Rattle.cbor_diag.proofs.parse.binary.skip.after_content.Goals as goal
 
 pub returns-then-bytes-count-clause-stops : goal.returns-then-bytes-count-clause-stops
-returns-then-bytes-count-clause-stops c = λ w. content_cut (kind_of c.args.kind) c.args.count w c.args.bytes.now (omega arith)
+returns-then-bytes-count-clause-stops c = λ w. content_cut (kind_of c.args.kind) c.args.count w c.args.bytes.now
+    (omega arith)
 
 pub returns-then-may_hold-clause-goes : goal.returns-then-may_hold-clause-goes
 returns-then-may_hold-clause-goes c = λ w.
@@ -14,12 +15,16 @@ returns-then-may_hold-clause-goes c = λ w.
     let b = c.args.bytes.now in
     let e = c.split_at.ensures in
     let holds = subst (IsContent kind) e.front (c.may_hold.ensures.0 c.if-may_hold.true) in
-    subst (Goes (skip_content kind c.args.count w) here b) (sym e.back) (content_goes kind c.args.count w b (omega arith) holds)
+    subst (Goes (skip_content kind c.args.count w) here b) (sym e.back)
+    (content_goes kind c.args.count w b (omega arith) holds)
 
 pub returns-clause-stops : goal.returns-clause-stops
 returns-clause-stops c = λ w.
     let kind = kind_of c.args.kind in
     let b = c.args.bytes.now in
     let e = c.split_at.ensures in
-    let bad : ¬ (IsContent kind (take c.args.count b)) = λ holds. (let yes = c.may_hold.ensures.1 (subst (IsContent kind) (sym e.front) holds) in let no = c.if-may_hold.false in cc) in
-    subst (λ (r : List ℕ). Shows (skip_content kind c.args.count w) b Utf8 (length r)) (sym e.back) (content_shows kind c.args.count w b (omega arith) bad)
+    let bad : ¬ (IsContent kind (take c.args.count b)) =
+    λ holds. (let yes = c.may_hold.ensures.1 (subst (IsContent kind) (sym e.front) holds) in let no =
+    c.if-may_hold.false in cc) in
+    subst (λ (r : List ℕ). Shows (skip_content kind c.args.count w) b Utf8 (length r)) (sym e.back)
+    (content_shows kind c.args.count w b (omega arith) bad)

@@ -16,7 +16,8 @@ returns-in_default-pop-clause-goes c =
     let rest = c.turns.rest.now in
     let none = c.pop.ensures.none c.in_default-pop.is in
     let ends = last_ends top rest c.in-Some.after.now c.in-Some.ensures in
-    goes_then c.turns.invariant.goes (subst (λ (outer : List ToCome). Goes (skip_open outer top) here rest c.in-Some.after.now) (sym none) ends)
+    goes_then c.turns.invariant.goes (subst (λ (outer : List ToCome). Goes (skip_open outer top) here rest
+    c.in-Some.after.now) (sym none) ends)
 
 pub turns-preserved-in-Some : goal.turns-preserved-in-Some
 turns-preserved-in-Some c =
@@ -25,7 +26,11 @@ turns-preserved-in-Some c =
     let outer = c.pop.new.self in
     let open1 = c.in-Some-pop.«open» in
     let ends = open_ends outer open1 top rest c.in-Some.after.now c.in-Some.ensures in
-    record { goes = goes_then c.turns.invariant.goes (subst (λ (all : List ToCome). Goes (skip_open all top) (skip_open outer open1) rest c.in-Some.after.now) (sym c.in-Some-pop.ensures.some) ends) }
+    record {
+      goes = goes_then c.turns.invariant.goes
+          (subst (λ (all : List ToCome). Goes (skip_open all top) (skip_open outer open1) rest c.in-Some.after.now)
+          (sym c.in-Some-pop.ensures.some) ends);
+    }
 
 pub returns-in_err-parts-clause-stops : goal.returns-in_err-parts-clause-stops
 returns-in_err-parts-clause-stops c =
@@ -33,7 +38,8 @@ returns-in_err-parts-clause-stops c =
     let stop = c.in_err-parts.field-0.0 in
     let levels : c.from.result - c.len.result ≡ deepest - length c.turns.outer = omega arith in
     let part = subst (λ l. StopsSo (skip_item l) c.turns.rest.now stop) levels c.in_err-parts.ensures.stops in
-    rw (p.1, p.2) (stops_then stop c.turns.invariant.goes (part_stops c.turns.outer c.turns.top c.turns.rest.now stop c.in_default.ensures part))
+    rw (p.1, p.2) (stops_then stop c.turns.invariant.goes
+    (part_stops c.turns.outer c.turns.top c.turns.rest.now stop c.in_default.ensures part))
 
 pub turns-preserved-in-Some-parts : goal.turns-preserved-in-Some-parts
 turns-preserved-in-Some-parts c =
@@ -43,8 +49,10 @@ turns-preserved-in-Some-parts c =
     let after = c.in_ok-parts.after.now in
     let parts = c.in-Some-parts.parts in
     let levels : c.from.result - c.len.result ≡ deepest - length outer = omega arith in
-    let part = subst (λ l. Goes (skip_item l) (begun (l - 1) c.in_ok-parts.parts) rest after) levels c.in_ok-parts.ensures.goes in
-    let next = opens_goes outer top parts rest after c.in_default.ensures c.in_ok-parts.ensures.shorter (rw c.in-Some-parts.is at part) in
+    let part = subst (λ l. Goes (skip_item l) (begun (l - 1) c.in_ok-parts.parts) rest after) levels
+    c.in_ok-parts.ensures.goes in
+    let next = opens_goes outer top parts rest after c.in_default.ensures c.in_ok-parts.ensures.shorter
+    (rw c.in-Some-parts.is at part) in
     record { goes = goes_then c.turns.invariant.goes (rw (c.push.ensures, c.after_part-top.ensures) next) }
 
 pub turns-preserved : goal.turns-preserved
@@ -54,6 +62,8 @@ turns-preserved c =
     let rest = c.turns.rest.now in
     let after = c.in_ok-parts.after.now in
     let levels : c.from.result - c.len.result ≡ deepest - length outer = omega arith in
-    let part = subst (λ l. Goes (skip_item l) (begun (l - 1) c.in_ok-parts.parts) rest after) levels c.in_ok-parts.ensures.goes in
-    let next = whole_goes outer top rest after c.in_default.ensures c.in_ok-parts.ensures.shorter (rw c.in_default-parts.is at part) in
+    let part = subst (λ l. Goes (skip_item l) (begun (l - 1) c.in_ok-parts.parts) rest after) levels
+    c.in_ok-parts.ensures.goes in
+    let next = whole_goes outer top rest after c.in_default.ensures c.in_ok-parts.ensures.shorter
+    (rw c.in_default-parts.is at part) in
     record { goes = goes_then c.turns.invariant.goes (rw c.after_part-top.ensures next) }

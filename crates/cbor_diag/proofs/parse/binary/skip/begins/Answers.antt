@@ -3,10 +3,13 @@ use Rattle.cbor_diag.proofs.extent.Extents.{item_extent, cut_extent, fault_exten
 use Rattle.cbor_diag.proofs.parse.binary.skip.begins.Goals as goal
 
 pub returns-in-Ok : goal.returns-in-Ok
-returns-in-Ok c = item_extent c.args.bytes.now c.in-Ok.rest.now (λ i. omega (arith, c.type_inv.bytes i)) c.in-Ok.ensures.goes
+returns-in-Ok c = item_extent c.args.bytes.now c.in-Ok.rest.now (λ i. omega (arith, c.type_inv.bytes i))
+    c.in-Ok.ensures.goes
 
 pub returns-in-Err-Cut : goal.returns-in-Err-Cut
-returns-in-Err-Cut c = cut_extent c.args.bytes.now (λ i. omega (arith, c.type_inv.bytes i)) (rw c.in-Err-Cut.field-0-is at c.in-Err-Cut.ensures.stops)
+returns-in-Err-Cut c = cut_extent c.args.bytes.now (λ i. omega (arith, c.type_inv.bytes i))
+    (rw c.in-Err-Cut.field-0-is at c.in-Err-Cut.ensures.stops)
 
 pub returns-in-Err-Fault : goal.returns-in-Err-Fault
-returns-in-Err-Fault c = fault_extent c.args.bytes.now c.in-Err-Fault.error c.in-Err-Fault.after (λ i. omega (arith, c.type_inv.bytes i)) (rw c.in-Err-Fault.field-0-is at c.in-Err-Fault.ensures.stops)
+returns-in-Err-Fault c = fault_extent c.args.bytes.now c.in-Err-Fault.error c.in-Err-Fault.after
+    (λ i. omega (arith, c.type_inv.bytes i)) (rw c.in-Err-Fault.field-0-is at c.in-Err-Fault.ensures.stops)

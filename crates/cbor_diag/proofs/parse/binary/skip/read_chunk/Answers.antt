@@ -8,19 +8,23 @@ use Rattle.cbor_diag.specs.Reading.{◌>>=◌}
 use Rattle.cbor_diag.specs.mirror.HeadErrors.{head_error}
 use Rattle.cbor_diag.specs.mirror.Skipping.{here, Goes, Shows, StopsSo, stop_of, kind_of, skip_content, skip_chunks}
 use Rattle.cbor_diag.proofs.bytes.Heads.{IsBytes, IsBytes-rest}
-use Rattle.cbor_diag.proofs.extent.Skips.{goes_then, goes_within, stops_then, stops_within, break_goes, chunk_goes, kind_shows, indefinite_shows, info_stops, no_chunks, more_keeps, behind_first, first_is, at_first, fits_first, empty_is}
+use Rattle.cbor_diag.proofs.extent.Skips.{goes_then, goes_within, stops_then, stops_within, break_goes, chunk_goes}
+use Rattle.cbor_diag.proofs.extent.Skips.{kind_shows, indefinite_shows, info_stops, no_chunks, more_keeps, behind_first}
+use Rattle.cbor_diag.proofs.extent.Skips.{first_is, at_first, fits_first, empty_is}
 use Rattle.cbor_diag.proofs.parse.binary.skip.read_chunk.Goals as goal
 
 pub returns-in-empty-clause-stops : goal.returns-in-empty-clause-stops
 returns-in-empty-clause-stops c =
-    ap (skip_chunks (kind_of c.args.kind)) (empty_is c.args.bytes.now c.in-empty.len_below) ∙ no_chunks (kind_of c.args.kind)
+    ap (skip_chunks (kind_of c.args.kind)) (empty_is c.args.bytes.now c.in-empty.len_below)
+    ∙ no_chunks (kind_of c.args.kind)
 
 pub returns-in-255-clause-goes : goal.returns-in-255-clause-goes
 returns-in-255-clause-goes c =
     let b = c.args.bytes.now in
     let first : get_or b 0 0 ≡ break_byte = omega arith in
     let parts = first_is b c.in-255.len_at_least ∙ ap (λ (x : ℕ). x ∷ behind_first b) first in
-    subst (λ (x : List ℕ). Goes (skip_chunks (kind_of c.args.kind)) here x (behind_first b)) (sym parts) (break_goes (kind_of c.args.kind) (behind_first b))
+    subst (λ (x : List ℕ). Goes (skip_chunks (kind_of c.args.kind)) here x (behind_first b)) (sym parts)
+    (break_goes (kind_of c.args.kind) (behind_first b))
 
 pub returns-then-first-number-clause-stops : goal.returns-then-first-number-clause-stops
 returns-then-first-number-clause-stops c =
@@ -28,36 +32,44 @@ returns-then-first-number-clause-stops c =
     let kind = kind_of c.args.kind in
     let no_break : get_or b 0 0 ≢ break_byte = λ is. omega arith in
     let other : get_or b 0 0 / 32 ≢ major_of kind = λ is. omega arith in
-    at_first (λ (x : List ℕ). Shows (skip_chunks kind) x Head (length (behind_first b))) b c.in-len1-up.len_at_least (kind_shows kind (get_or b 0 0) (behind_first b) no_break other)
+    at_first (λ (x : List ℕ). Shows (skip_chunks kind) x Head (length (behind_first b))) b c.in-len1-up.len_at_least
+    (kind_shows kind (get_or b 0 0) (behind_first b) no_break other)
 
 pub returns-in_err-rest-in-Ok-Number-default-clause-stops : goal.returns-in_err-rest-in-Ok-Number-default-clause-stops
 returns-in_err-rest-in-Ok-Number-default-clause-stops c =
     let b = c.args.bytes.now in
     let kind = kind_of c.args.kind in
     let some = c.in-len1-up.len_at_least in
-    let fits : IsBytes (behind_first b) = IsBytes-rest (get_or b 0 0) (behind_first b) (fits_first b some (λ i. omega (arith, c.type_inv.bytes i))) in
+    let fits : IsBytes (behind_first b) = IsBytes-rest (get_or b 0 0) (behind_first b)
+    (fits_first b some (λ i. omega (arith, c.type_inv.bytes i))) in
     let no_break : get_or b 0 0 ≢ break_byte = λ is. omega arith in
     let major : get_or b 0 0 / 32 ≡ major_of kind = omega arith in
     let i = c.in-Ok-Number-default in
     let width = i.field-0-0-1 in
     let read = i.ensures.gives ∙ ap (λ (x : Info). Ok (x, i.rest.now)) i.field-0-0-is in
-    let head = at_first (λ (x : List ℕ). Goes (skip_chunks kind) (λ c. skip_content kind i.count width c >>= skip_chunks kind) x i.rest.now) b some (chunk_goes kind (get_or b 0 0) i.count width (behind_first b) i.rest.now fits no_break major read) in
+    let head = at_first (λ (x : List ℕ). Goes (skip_chunks kind)
+    (λ c. skip_content kind i.count width c >>= skip_chunks kind) x i.rest.now) b some
+    (chunk_goes kind (get_or b 0 0) i.count width (behind_first b) i.rest.now fits no_break major read) in
     let p = err_from_is_err_and c.from_residual.result c.from_residual.ensures.1 in
     let stop = c.in_err-rest-in-Ok-Number-default.field-0.0 in
-    rw (p.1, p.2) (stops_then stop head (stops_within (skip_content kind i.count width) i.rest.now stop (λ r. r >>= skip_chunks kind) (more_keeps kind) (c.in_err-rest-in-Ok-Number-default.ensures.stops width)))
+    rw (p.1, p.2) (stops_then stop head (stops_within (skip_content kind i.count width) i.rest.now stop
+    (λ r. r >>= skip_chunks kind) (more_keeps kind) (c.in_err-rest-in-Ok-Number-default.ensures.stops width)))
 
 pub returns-in_ok-rest-in-Ok-Number-default-clause-goes : goal.returns-in_ok-rest-in-Ok-Number-default-clause-goes
 returns-in_ok-rest-in-Ok-Number-default-clause-goes c =
     let b = c.args.bytes.now in
     let kind = kind_of c.args.kind in
     let some = c.in-len1-up.len_at_least in
-    let fits : IsBytes (behind_first b) = IsBytes-rest (get_or b 0 0) (behind_first b) (fits_first b some (λ i. omega (arith, c.type_inv.bytes i))) in
+    let fits : IsBytes (behind_first b) = IsBytes-rest (get_or b 0 0) (behind_first b)
+    (fits_first b some (λ i. omega (arith, c.type_inv.bytes i))) in
     let no_break : get_or b 0 0 ≢ break_byte = λ is. omega arith in
     let major : get_or b 0 0 / 32 ≡ major_of kind = omega arith in
     let i = c.in-Ok-Number-default in
     let width = i.field-0-0-1 in
     let read = i.ensures.gives ∙ ap (λ (x : Info). Ok (x, i.rest.now)) i.field-0-0-is in
-    let head = at_first (λ (x : List ℕ). Goes (skip_chunks kind) (λ c. skip_content kind i.count width c >>= skip_chunks kind) x i.rest.now) b some (chunk_goes kind (get_or b 0 0) i.count width (behind_first b) i.rest.now fits no_break major read) in
+    let head = at_first (λ (x : List ℕ). Goes (skip_chunks kind)
+    (λ c. skip_content kind i.count width c >>= skip_chunks kind) x i.rest.now) b some
+    (chunk_goes kind (get_or b 0 0) i.count width (behind_first b) i.rest.now fits no_break major read) in
     goes_then head (goes_within (λ r. r >>= skip_chunks kind) (c.in_ok-rest-in-Ok-Number-default.ensures.goes width))
 
 pub returns-in-Ok-Indefinite-default-clause-stops : goal.returns-in-Ok-Indefinite-default-clause-stops
@@ -65,12 +77,14 @@ returns-in-Ok-Indefinite-default-clause-stops c =
     let b = c.args.bytes.now in
     let kind = kind_of c.args.kind in
     let some = c.in-len1-up.len_at_least in
-    let fits : IsBytes (behind_first b) = IsBytes-rest (get_or b 0 0) (behind_first b) (fits_first b some (λ i. omega (arith, c.type_inv.bytes i))) in
+    let fits : IsBytes (behind_first b) = IsBytes-rest (get_or b 0 0) (behind_first b)
+    (fits_first b some (λ i. omega (arith, c.type_inv.bytes i))) in
     let no_break : get_or b 0 0 ≢ break_byte = λ is. omega arith in
     let major : get_or b 0 0 / 32 ≡ major_of kind = omega arith in
     let i = c.in-Ok-Indefinite-default in
     let read = i.ensures.gives ∙ ap (λ (x : Info). Ok (x, i.field-0-1.now)) i.field-0-0-is in
-    at_first (λ (x : List ℕ). Shows (skip_chunks kind) x Head (length (behind_first b))) b some (indefinite_shows kind (get_or b 0 0) (behind_first b) i.field-0-1.now fits no_break major read)
+    at_first (λ (x : List ℕ). Shows (skip_chunks kind) x Head (length (behind_first b))) b some
+    (indefinite_shows kind (get_or b 0 0) (behind_first b) i.field-0-1.now fits no_break major read)
 
 pub returns-in-Err-clause-stops : goal.returns-in-Err-clause-stops
 returns-in-Err-clause-stops c =
@@ -79,4 +93,6 @@ returns-in-Err-clause-stops c =
     let no_break : get_or b 0 0 ≢ break_byte = λ is. omega arith in
     let major : get_or b 0 0 / 32 ≡ major_of kind = omega arith in
     let error = head_error c.in-Err.error in
-    rw c.new.ensures (at_first (λ (x : List ℕ). StopsSo (skip_chunks kind) x (stop_of error (length (behind_first b)))) b c.in-len1-up.len_at_least (info_stops kind (get_or b 0 0) (behind_first b) error no_break major c.in-Err.ensures.gives))
+    rw c.new.ensures (at_first (λ (x : List ℕ). StopsSo (skip_chunks kind) x (stop_of error (length (behind_first b))))
+    b c.in-len1-up.len_at_least (info_stops kind (get_or b 0 0) (behind_first b) error no_break major
+    c.in-Err.ensures.gives))

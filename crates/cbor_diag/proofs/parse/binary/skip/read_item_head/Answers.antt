@@ -4,24 +4,29 @@ use Rattle.cbor_diag.specs.declared.parse.binary.head.ItemHead.{ItemHead}
 use Rattle.cbor_diag.specs.Reading.{read_head}
 use Rattle.cbor_diag.specs.mirror.HeadErrors.{head_error}
 use Rattle.cbor_diag.specs.mirror.Skipping.{Goes, Shows, StopsSo, stop_of, skip_item, skip_body}
-use Rattle.cbor_diag.proofs.extent.Skips.{head_goes, head_stops, break_shows, deep_shows, no_item, behind_first, first_is, at_first, fits_first, empty_is}
+use Rattle.cbor_diag.proofs.extent.Skips.{head_goes, head_stops, break_shows, deep_shows, no_item, behind_first}
+use Rattle.cbor_diag.proofs.extent.Skips.{first_is, at_first, fits_first, empty_is}
 use Rattle.cbor_diag.proofs.parse.binary.skip.read_item_head.Goals as goal
 
 pub returns-in_default-clause-stops : goal.returns-in_default-clause-stops
-returns-in_default-clause-stops c = ap (skip_item c.args.levels) (empty_is c.args.bytes.now c.in_default.len_below) ∙ no_item c.args.levels
+returns-in_default-clause-stops c = ap (skip_item c.args.levels) (empty_is c.args.bytes.now c.in_default.len_below)
+    ∙ no_item c.args.levels
 
 pub returns-then-levels-eq0-clause-stops : goal.returns-then-levels-eq0-clause-stops
 returns-then-levels-eq0-clause-stops c =
     let b = c.args.bytes.now in
-    at_first (λ (x : List ℕ). Shows (skip_item c.args.levels) x TooDeep (length (behind_first b))) b c.in-len1-up.len_at_least (deep_shows c.args.levels (get_or b 0 0) (behind_first b) (omega arith))
+    at_first (λ (x : List ℕ). Shows (skip_item c.args.levels) x TooDeep (length (behind_first b))) b
+    c.in-len1-up.len_at_least (deep_shows c.args.levels (get_or b 0 0) (behind_first b) (omega arith))
 
 pub returns-in-Break-clause-stops : goal.returns-in-Break-clause-stops
 returns-in-Break-clause-stops c =
     let b = c.args.bytes.now in
     let some = c.in-len1-up.len_at_least in
     let fits = fits_first b some (λ i. omega (arith, c.type_inv.bytes i)) in
-    let read = ap read_head (sym (first_is b some)) ∙ c.in-Ok.ensures.gives ∙ ap (λ (h : ItemHead). Ok (h, c.in-Ok.rest.now)) c.in-Break.is in
-    at_first (λ (x : List ℕ). Shows (skip_item c.args.levels) x Head (length (behind_first b))) b some (break_shows c.args.levels (get_or b 0 0) (behind_first b) c.in-Ok.rest.now (omega arith) fits read)
+    let read = ap read_head (sym (first_is b some)) ∙ c.in-Ok.ensures.gives
+    ∙ ap (λ (h : ItemHead). Ok (h, c.in-Ok.rest.now)) c.in-Break.is in
+    at_first (λ (x : List ℕ). Shows (skip_item c.args.levels) x Head (length (behind_first b))) b some
+    (break_shows c.args.levels (get_or b 0 0) (behind_first b) c.in-Ok.rest.now (omega arith) fits read)
 
 pub returns-in_default-head-clause-goes : goal.returns-in_default-head-clause-goes
 returns-in_default-head-clause-goes c =
@@ -29,7 +34,9 @@ returns-in_default-head-clause-goes c =
     let some = c.in-len1-up.len_at_least in
     let fits = fits_first b some (λ i. omega (arith, c.type_inv.bytes i)) in
     let read = ap read_head (sym (first_is b some)) ∙ c.in-Ok.ensures.gives in
-    at_first (λ (x : List ℕ). Goes (skip_item c.args.levels) (skip_body (c.args.levels - 1) c.in-Ok.head) x c.in-Ok.rest.now) b some (head_goes c.args.levels c.in-Ok.head (get_or b 0 0) (behind_first b) c.in-Ok.rest.now (omega arith) fits read)
+    at_first (λ (x : List ℕ). Goes (skip_item c.args.levels) (skip_body (c.args.levels - 1) c.in-Ok.head) x
+    c.in-Ok.rest.now) b some (head_goes c.args.levels c.in-Ok.head (get_or b 0 0) (behind_first b) c.in-Ok.rest.now
+    (omega arith) fits read)
 
 pub returns-in-Err-clause-stops : goal.returns-in-Err-clause-stops
 returns-in-Err-clause-stops c =
@@ -38,4 +45,6 @@ returns-in-Err-clause-stops c =
     let fits = fits_first b some (λ i. omega (arith, c.type_inv.bytes i)) in
     let error = head_error c.in-Err.error in
     let is = ap read_head (sym (first_is b some)) ∙ c.in-Err.ensures.gives in
-    rw c.new.ensures (at_first (λ (x : List ℕ). StopsSo (skip_item c.args.levels) x (stop_of error (length (behind_first b)))) b some (head_stops c.args.levels (get_or b 0 0) (behind_first b) error (omega arith) fits is))
+    rw c.new.ensures (at_first (λ (x : List ℕ). StopsSo (skip_item c.args.levels) x
+    (stop_of error (length (behind_first b)))) b some
+    (head_stops c.args.levels (get_or b 0 0) (behind_first b) error (omega arith) fits is))

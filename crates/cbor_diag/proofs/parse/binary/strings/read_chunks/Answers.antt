@@ -8,7 +8,9 @@ pub returns-in_err-chunk-clause-gives : goal.returns-in_err-chunk-clause-gives
 returns-in_err-chunk-clause-gives g c =
     let p = err_from_is_err_and c.from_residual.result c.from_residual.ensures.1 in
     let i = c.chunks.invariant in
-    rw (p.1, p.2, c.rise.ensures) (chunk_fails c.in_err-chunk.field-0.0 g.S.DefiniteString.kind (map g.S.DefiniteString.chunk c.chunks.chunks.items) c.chunks.turns i.bound c.chunks.rest.now _ i.enough c.in_err-chunk.ensures.gives i.so_far)
+    rw (p.1, p.2, c.rise.ensures) (chunk_fails c.in_err-chunk.field-0.0 g.S.DefiniteString.kind
+    (map g.S.DefiniteString.chunk c.chunks.chunks.items) c.chunks.turns i.bound c.chunks.rest.now _ i.enough
+    c.in_err-chunk.ensures.gives i.so_far)
 
 pub returns-in_err-push-clause-gives : goal.returns-in_err-push-clause-gives
 returns-in_err-push-clause-gives g c =
@@ -17,21 +19,28 @@ returns-in_err-push-clause-gives g c =
     let front = map g.S.DefiniteString.chunk c.chunks.chunks.items in
     let gave = rw c.in-Some.is at c.in_ok-chunk.ensures.gives in
     let wants =
-    chunk_wants g.S.DefiniteString.kind front c.chunks.turns i.bound c.chunks.rest.now (g.S.DefiniteString.chunk c.in-Some.chunk)
+    chunk_wants g.S.DefiniteString.kind front c.chunks.turns i.bound c.chunks.rest.now
+    (g.S.DefiniteString.chunk c.in-Some.chunk)
     c.in_ok-chunk.after.now _ gave c.in_ok-chunk.ensures.shorter i.enough i.so_far in
     rw (p.1, p.2, c.rise.ensures) wants
 
 pub returns-in_default-clause-gives : goal.returns-in_default-clause-gives
 returns-in_default-clause-gives g c =
     let i = c.chunks.invariant in
-    rw c.rise.ensures (no_more_chunk g.S.DefiniteString.kind (map g.S.DefiniteString.chunk c.chunks.chunks.items) c.chunks.turns i.bound c.chunks.rest.now c.in_ok-chunk.after.now _ (rw c.in_default.is at c.in_ok-chunk.ensures.gives) c.in_ok-chunk.ensures.shorter i.enough i.so_far)
+    rw c.rise.ensures (no_more_chunk g.S.DefiniteString.kind (map g.S.DefiniteString.chunk c.chunks.chunks.items)
+    c.chunks.turns i.bound c.chunks.rest.now c.in_ok-chunk.after.now _
+    (rw c.in_default.is at c.in_ok-chunk.ensures.gives) c.in_ok-chunk.ensures.shorter i.enough i.so_far)
 
 pub chunks-preserved : goal.chunks-preserved
 chunks-preserved g c =
     let i = c.chunks.invariant in
     let read = c.chunks.chunks.items in
-    let pushed : map g.S.DefiniteString.chunk c.push.new.self.items ≡ map g.S.DefiniteString.chunk read ++ g.S.DefiniteString.chunk c.in-Some.chunk ∷ [] = rw c.in_ok-push.ensures.items (map_push _ read c.in-Some.chunk) in
-    let next = more_chunk g.S.DefiniteString.kind (map g.S.DefiniteString.chunk read) c.chunks.turns i.bound c.chunks.rest.now (g.S.DefiniteString.chunk c.in-Some.chunk) c.in_ok-chunk.after.now _ (rw c.in-Some.is at c.in_ok-chunk.ensures.gives) c.in_ok-chunk.ensures.shorter i.enough i.so_far in
+    let pushed : map g.S.DefiniteString.chunk c.push.new.self.items ≡ map g.S.DefiniteString.chunk read
+    ++ g.S.DefiniteString.chunk c.in-Some.chunk ∷ [] =
+    rw c.in_ok-push.ensures.items (map_push _ read c.in-Some.chunk) in
+    let next = more_chunk g.S.DefiniteString.kind (map g.S.DefiniteString.chunk read) c.chunks.turns i.bound
+    c.chunks.rest.now (g.S.DefiniteString.chunk c.in-Some.chunk) c.in_ok-chunk.after.now _
+    (rw c.in-Some.is at c.in_ok-chunk.ensures.gives) c.in_ok-chunk.ensures.shorter i.enough i.so_far in
     record {
       bound = next.0;
       enough = next.1;

@@ -10,7 +10,9 @@ abbrev pub invariant-chunks : goal.invariant-chunks
 invariant-chunks g l = record {
   bound : ℕ;
   enough : length l.rest ≤ bound;
-  so_far : later l.turns (onto (map g.S.DefiniteString.chunk l.chunks.items) (counted_chunks bound g.S.DefiniteString.kind l.rest)) ≡ later l.initial.turns (counted_chunks (length l.bytes) g.S.DefiniteString.kind l.bytes);
+  so_far : later l.turns (onto (map g.S.DefiniteString.chunk l.chunks.items)
+      (counted_chunks bound g.S.DefiniteString.kind l.rest))
+      ≡ later l.initial.turns (counted_chunks (length l.bytes) g.S.DefiniteString.kind l.bytes);
   falls : l.turns + 2 * length l.rest ≤ l.initial.turns + 2 * length l.bytes;
   rises : l.initial.turns ≤ l.turns;
 }

@@ -9,4 +9,5 @@ returns-in-Some-2-clause-gives c =
     let end = c.in-Some.end in
     let found = c.in-Some.ensures in
     let decoded = rw c.in-Some-2.is at c.in_ok-bytes.ensures.gives in
-    plain_digits text c.in-Some-2.bytes.items end (omega (arith, found.0.high)) (eqb-true (get_or text end 0) 39 found.1) (sym decoded)
+    plain_digits text c.in-Some-2.bytes.items end (omega (arith, found.0.high))
+    (eqb-true (get_or text end 0) 39 found.1) (sym decoded)

@@ -8,7 +8,8 @@ pub returns-in-Some-clause-gives : goal.returns-in-Some-clause-gives
 returns-in-Some-clause-gives c =
     let found = rw c.in-Some.is at c.in_ok-digits.ensures.found in
     let text = c.args.text.now in
-    ap or_refused (digits_found c.args.comments text found.1.0 c.in-Some.digits.items (drop c.in-Some.end text) found.1.1 found.1.2) ∙ ap (λ rest. Ok (c.in-Some.digits.items, rest)) (sym (take_rest text c.in-Some.end))
+    ap or_refused (digits_found c.args.comments text found.1.0 c.in-Some.digits.items (drop c.in-Some.end text)
+    found.1.1 found.1.2) ∙ ap (λ rest. Ok (c.in-Some.digits.items, rest)) (sym (take_rest text c.in-Some.end))
 
 pub returns-in-None-clause-gives : goal.returns-in-None-clause-gives
 returns-in-None-clause-gives c =

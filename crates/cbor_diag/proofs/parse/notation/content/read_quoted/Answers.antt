@@ -8,7 +8,9 @@ pub returns-in-Some-clause-gives : goal.returns-in-Some-clause-gives
 returns-in-Some-clause-gives c =
     let found = rw c.in-Some.is at c.in_ok-content.ensures.found in
     let text = c.args.text.now in
-    ap or_refused (quoted_found c.args.quote text c.in-Some.content.items (drop c.in-Some.end text) (λ e. omega (arith, e, c.requires)) found.1) ∙ ap (λ rest. Ok (c.in-Some.content.items, rest)) (sym (take_rest text c.in-Some.end))
+    ap or_refused (quoted_found c.args.quote text c.in-Some.content.items (drop c.in-Some.end text)
+    (λ e. omega (arith, e, c.requires)) found.1)
+    ∙ ap (λ rest. Ok (c.in-Some.content.items, rest)) (sym (take_rest text c.in-Some.end))
 
 pub returns-in-None-clause-gives : goal.returns-in-None-clause-gives
 returns-in-None-clause-gives c =

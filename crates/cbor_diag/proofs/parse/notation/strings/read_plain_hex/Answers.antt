@@ -13,5 +13,6 @@ returns-then-ends_string-clause-gives c = λ read bytes is.
     let rest = take (length inner - (end + 1)) (drop (end + 1) inner) in
     let found = c.in_ok-end.ensures in
     let front = after_word_is (codes "h'") text inner (sym c.in_ok-inner.ensures.gives) in
-    let digits = plain_digits inner bytes end (omega (arith, found.0.high)) (eqb-true (get_or inner end 0) 39 found.1) is in
+    let digits = plain_digits inner bytes end (omega (arith, found.0.high)) (eqb-true (get_or inner end 0) 39 found.1)
+    is in
     plain_hex read text inner bytes rest front digits (sym c.ends_string.ensures ∙ c.if-ends_string.true)

@@ -7,4 +7,6 @@ pub returns-then-ends_string-clause-gives : goal.returns-then-ends_string-clause
 returns-then-ends_string-clause-gives c = λ read.
     let text = c.args.text.now in
     let inner = c.in_ok-inner.inner.now in
-    plain_text read text inner c.in_ok-content.content.now c.in_ok-content.rest.now (after_byte_is 34 text inner (sym c.in_ok-inner.ensures.gives)) c.in_ok-content.ensures.gives (sym c.ends_string.ensures ∙ c.if-ends_string.true)
+    plain_text read text inner c.in_ok-content.content.now c.in_ok-content.rest.now
+    (after_byte_is 34 text inner (sym c.in_ok-inner.ensures.gives)) c.in_ok-content.ensures.gives
+    (sym c.ends_string.ensures ∙ c.if-ends_string.true)

@@ -6,7 +6,16 @@ pub digits-init : goal.digits-init
 digits-init c = (numeral-hex_after c.args.digits.now c.if-is_empty.ensures, omega arith)
 
 pub overflow_mul-number : goal.overflow_mul-number
-overflow_mul-number c = omega (arith, room_for_digit c.digits.number c.digits.byte-index c.digits.invariant.1 (omega arith))
+overflow_mul-number c = omega (
+  arith,
+  room_for_digit c.digits.number c.digits.byte-index c.digits.invariant.1
+      (omega arith),
+)
 
 pub overflow_add-number : goal.overflow_add-number
-overflow_add-number c = omega (arith, room_for_digit c.digits.number c.digits.byte-index c.digits.invariant.1 (omega arith), c.in-Some.ensures.value)
+overflow_add-number c = omega (
+  arith,
+  room_for_digit c.digits.number c.digits.byte-index c.digits.invariant.1
+      (omega arith),
+  c.in-Some.ensures.value,
+)

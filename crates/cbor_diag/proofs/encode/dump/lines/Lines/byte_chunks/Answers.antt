@@ -16,7 +16,8 @@ byte_string-requires-clause-takes c =
     let chunk = byte_chunk c.chunk-item.result in
     let split = chunk_lines byte_chunk all i c.chunk-item.result c.chunk-item.is c.chunks-test.true lines end in
     subst (λ p. CanTake c.chunks.self.pass (byte_string_lines p chunk)) (sym c.inside-inner.ensures.at)
-    (part_here (flat_map lines (map byte_chunk (drop i all)) ++ end) (lines chunk) (flat_map lines (map byte_chunk (drop (i + 1) all)) ++ end)
+    (part_here (flat_map lines (map byte_chunk (drop i all)) ++ end) (lines chunk)
+    (flat_map lines (map byte_chunk (drop (i + 1) all)) ++ end)
     split c.chunks.self.pass c.chunks.invariant.0.1)
 
 pub chunks-preserved : goal.chunks-preserved
@@ -29,8 +30,12 @@ chunks-preserved c =
     let next = c.byte_string.new.self.pass in
     let chunk = byte_chunk c.chunk-item.result in
     let split = chunk_lines byte_chunk all i c.chunk-item.result c.chunk-item.is c.chunks-test.true lines end in
-    let took = subst (λ p. Took now next (byte_string_lines p chunk)) c.inside-inner.ensures.at c.in_ok-byte_string.ensures in (
-      part_left (flat_map lines (map byte_chunk (drop i all)) ++ end) (lines chunk) (flat_map lines (map byte_chunk (drop (i + 1) all)) ++ end)
-          split c.args.self.now.pass now next (byte_chunks_lines (at_of c.args.context) (map byte_chunk all)) took c.chunks.invariant.0,
-      chunks_after byte_chunk all i c.chunk-item.result c.chunk-item.is c.chunks-test.true IsByteChunk c.chunks.invariant.1,
+    let took = subst (λ p. Took now next (byte_string_lines p chunk)) c.inside-inner.ensures.at
+    c.in_ok-byte_string.ensures in (
+      part_left (flat_map lines (map byte_chunk (drop i all)) ++ end) (lines chunk)
+          (flat_map lines (map byte_chunk (drop (i + 1) all)) ++ end)
+          split c.args.self.now.pass now next (byte_chunks_lines (at_of c.args.context) (map byte_chunk all)) took
+          c.chunks.invariant.0,
+      chunks_after byte_chunk all i c.chunk-item.result c.chunk-item.is c.chunks-test.true IsByteChunk
+          c.chunks.invariant.1,
     )

@@ -10,6 +10,7 @@ use Rattle.cbor_diag.proofs.encode.dump.lines.Lines.byte_chunks.Given as goal
 abbrev pub invariant-chunks : goal.invariant-chunks
 invariant-chunks l =
     let chunks = map byte_chunk (drop l.chunk-index l.chunks) in
-    let left = flat_map (byte_string_lines (inside (at_of l.context))) chunks ++ break_line (l.context.depth + 1) ∷ [] in
+    let left = flat_map (byte_string_lines (inside (at_of l.context))) chunks ++ break_line (l.context.depth + 1)
+    ∷ [] in
     Left l.fn.self.pass l.self.pass left (byte_chunks_lines (at_of l.context) (map byte_chunk l.chunks))
     × AllByRecursion IsByteChunk chunks

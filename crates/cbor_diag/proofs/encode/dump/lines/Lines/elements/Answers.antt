@@ -29,4 +29,5 @@ elements-preserved c =
     let back = c.split_at.ensures.back ∙ ap (λ n. drop n rest) c.min.ensures in
     pieces_left (line_of c.args.depth c.args.of.tag.0) (element_cut size) (element_cuts size c.requires.size) rest
     c.split_at.result.0.now c.split_at.result.1.now some front back c.args.self.now.pass c.elements.self.pass
-    c.piece_line.new.self.pass (element_lines c.args.depth c.args.of.tag.0 size c.args.bytes.now) c.in_ok-piece_line.ensures c.elements.invariant
+    c.piece_line.new.self.pass (element_lines c.args.depth c.args.of.tag.0 size c.args.bytes.now)
+    c.in_ok-piece_line.ensures c.elements.invariant

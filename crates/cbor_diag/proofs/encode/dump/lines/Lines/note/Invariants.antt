@@ -7,5 +7,6 @@ use Rattle.cbor_diag.proofs.encode.dump.lines.Lines.note.Given as goal
 -- the texts that are left, and those that were taken, are the whole
 abbrev pub invariant-others : goal.invariant-others
 invariant-others l =
-    (taken step (held l.self.pass) (map (note_line (l.depth + 1)) (map string_bytes (drop l.text-index l.others))) ≡ taken step (held l.fn.self.pass) (note_lines l.depth (map string_bytes l.texts)))
+    (taken step (held l.self.pass) (map (note_line (l.depth + 1)) (map string_bytes (drop l.text-index l.others)))
+    ≡ taken step (held l.fn.self.pass) (note_lines l.depth (map string_bytes l.texts)))
     × (room l.self.pass ≡ room l.fn.self.pass)

@@ -9,7 +9,8 @@ use Rattle.cbor_diag.proofs.dump.NoteSteps.{note_takes}
 use Rattle.cbor_diag.proofs.encode.dump.lines.Lines.note_line.Goals as goal
 
 -- no bytes are no digits
-shown_note : (depth : ℕ) (text : Bor (List ℕ)) → shown_line depth Content [] (comment.Note text) ≡ note_line depth text.now
+shown_note : (depth : ℕ) (text : Bor (List ℕ))
+    → shown_line depth Content [] (comment.Note text) ≡ note_line depth text.now
 unfolding encode_with
 shown_note depth text = refl
 

@@ -8,10 +8,13 @@ pub rows-preserved : goal.rows-preserved
 rows-preserved c =
     let rest = c.rows.rest.now in
     let parts = split_parts 10 rest (Some (c.in-Some.row, c.in-Some.after)) c.in-Some.ensures.cases (omega arith) in
-    let first = split_once_first 10 rest (Some (c.in-Some.row, c.in-Some.after)) c.in-Some.ensures.cases (omega arith) in (
+    let first = split_once_first 10 rest (Some (c.in-Some.row, c.in-Some.after)) c.in-Some.ensures.cases
+    (omega arith) in (
       utf8_after rest c.in-Some.row.now c.in-Some.after.now c.rows.invariant.0 parts.0,
       λ width lines plain text.
-          rows_more c.args.depth width (held c.rows.self.pass) rest _ (c.rows.invariant.1 width lines plain text) first.0 c.in-Some.row.now c.in-Some.after.now (held c.note_line.new.self.pass) first.1 first.2 c.in_ok-note_line.ensures.0,
+          rows_more c.args.depth width (held c.rows.self.pass) rest _ (c.rows.invariant.1 width lines plain text)
+          first.0 c.in-Some.row.now c.in-Some.after.now (held c.note_line.new.self.pass) first.1 first.2
+          c.in_ok-note_line.ensures.0,
       c.in_ok-note_line.ensures.1 ∙ c.rows.invariant.2,
     )
 

@@ -14,7 +14,8 @@ abbrev pub invariant-rows : goal.invariant-rows
 invariant-rows l =
     shadow (Utf8 l.rest)
     × ((width : ℕ) (lines : List DumpLine) → AllByRecursion IsPlain lines → l.text ≡ flat_map (line_text width) lines
-    → RowsLeft l.depth width (held l.self.pass) l.rest (taken step (held l.fn.self.pass) (map (note_line l.depth) (map (row width) lines))))
+    → RowsLeft l.depth width (held l.self.pass) l.rest
+    (taken step (held l.fn.self.pass) (map (note_line l.depth) (map (row width) lines))))
     × (room l.self.pass ≡ room l.fn.self.pass)
 
 abbrev pub decreases-rows : goal.decreases-rows

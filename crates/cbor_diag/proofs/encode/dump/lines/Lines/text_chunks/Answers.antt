@@ -13,7 +13,8 @@ text_string-requires-clause-takes c =
     let i = c.chunks.chunk-index in
     let all = c.args.chunks.now in
     let split = chunk_lines text_chunk all i c.chunk-item.result c.chunk-item.is c.chunks-test.true lines end in
-    part_here (flat_map lines (map text_chunk (drop i all)) ++ end) (lines (text_chunk c.chunk-item.result)) (flat_map lines (map text_chunk (drop (i + 1) all)) ++ end)
+    part_here (flat_map lines (map text_chunk (drop i all)) ++ end) (lines (text_chunk c.chunk-item.result))
+    (flat_map lines (map text_chunk (drop (i + 1) all)) ++ end)
     split c.chunks.self.pass c.chunks.invariant.0.1
 
 pub chunks-preserved : goal.chunks-preserved
@@ -23,8 +24,11 @@ chunks-preserved c =
     let i = c.chunks.chunk-index in
     let all = c.args.chunks.now in
     let split = chunk_lines text_chunk all i c.chunk-item.result c.chunk-item.is c.chunks-test.true lines end in (
-      part_left (flat_map lines (map text_chunk (drop i all)) ++ end) (lines (text_chunk c.chunk-item.result)) (flat_map lines (map text_chunk (drop (i + 1) all)) ++ end)
-          split c.args.self.now.pass c.chunks.self.pass c.text_string.new.self.pass (text_chunks_lines c.args.depth (map text_chunk all))
+      part_left (flat_map lines (map text_chunk (drop i all)) ++ end) (lines (text_chunk c.chunk-item.result))
+          (flat_map lines (map text_chunk (drop (i + 1) all)) ++ end)
+          split c.args.self.now.pass c.chunks.self.pass c.text_string.new.self.pass
+          (text_chunks_lines c.args.depth (map text_chunk all))
           c.in_ok-text_string.ensures c.chunks.invariant.0,
-      chunks_after text_chunk all i c.chunk-item.result c.chunk-item.is c.chunks-test.true IsTextChunk c.chunks.invariant.1,
+      chunks_after text_chunk all i c.chunk-item.result c.chunk-item.is c.chunks-test.true IsTextChunk
+          c.chunks.invariant.1,
     )

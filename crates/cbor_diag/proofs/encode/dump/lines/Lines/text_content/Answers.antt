@@ -45,7 +45,9 @@ pieces-preserved c =
     let back = c.split_at.ensures.back ∙ ap (λ n. drop n rest) c.text_cut.ensures.cut in
     let took = subst (λ bytes. Took now next (piece_line c.args.depth bytes (text_comment piece) ∷ []))
     c.as_bytes-in-pieces.ensures.value c.in_ok-piece_line.ensures in (
-      subst IsUtf8 (sym c.split_at.ensures.back) (IsUtf8-drop rest c.text_cut.result c.pieces.invariant.0 c.text_cut.ensures.boundary),
+      subst IsUtf8 (sym c.split_at.ensures.back)
+          (IsUtf8-drop rest c.text_cut.result c.pieces.invariant.0 c.text_cut.ensures.boundary),
       pieces_left (line_of c.args.depth) text_cut text_cuts rest piece c.split_at.result.1.now some front back
-          c.args.self.now.pass now next (content_lines c.args.depth text_comment (text_pieces c.args.text.now)) took c.pieces.invariant.1,
+          c.args.self.now.pass now next (content_lines c.args.depth text_comment (text_pieces c.args.text.now)) took
+          c.pieces.invariant.1,
     )

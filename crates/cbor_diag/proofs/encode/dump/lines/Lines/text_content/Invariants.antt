@@ -11,7 +11,8 @@ abbrev pub invariant-pieces : goal.invariant-pieces
 invariant-pieces l =
     let line = λ (piece : List ℕ). piece_line l.depth piece (text_comment piece) in
     shadow (Utf8 l.rest)
-    × Left l.fn.self.pass l.self.pass (lines_of line text_cut l.rest) (content_lines l.depth text_comment (text_pieces l.text))
+    × Left l.fn.self.pass l.self.pass (lines_of line text_cut l.rest)
+    (content_lines l.depth text_comment (text_pieces l.text))
 
 abbrev pub decreases-pieces : goal.decreases-pieces
 decreases-pieces l = length l.rest

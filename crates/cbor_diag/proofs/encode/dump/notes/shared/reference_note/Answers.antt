@@ -16,8 +16,10 @@ returns c =
     let seen = ap view c.in-Integer.is ∙ view-Integer n c.in-Integer.bitwidth in
     let digits = c.deref.ensures ∙ c.in_ok-digits.ensures.text ∙ ap (λ k. grouped k false) c.from.ensures in
     let front = c.in_ok-note.ensures ∙ ap (in_brackets (codes "reference-to")) digits in
-    let back : unknown ≡ (if nat_lt n known then [] else codes ", not previously shared") = elim c.if-number-known.branch [
+    let back : unknown ≡ (if nat_lt n known then [] else codes ", not previously shared") =
+    elim c.if-number-known.branch [
       | then-number-known w ↦ unknown_if n known unknown w.if-number-known.true (ap (λ s. s.now) w.unknown-is)
       | else-number-known w ↦ unknown_else n known unknown w.if-number-known.false (ap (λ s. s.now) w.unknown-is)
     ] in
-    reference_is known n c.in-Integer.bitwidth (view c.args.value.now) (string_bytes c.in_ok-note.note) unknown (string_bytes c.push_str.new.self) seen front back c.in_ok-push_str.ensures.bytes
+    reference_is known n c.in-Integer.bitwidth (view c.args.value.now) (string_bytes c.in_ok-note.note) unknown
+    (string_bytes c.push_str.new.self) seen front back c.in_ok-push_str.ensures.bytes

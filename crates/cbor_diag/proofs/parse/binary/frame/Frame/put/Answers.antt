@@ -8,11 +8,24 @@ returns-in_ok-push-in-Array-clause-put c =
     let held = c.in-Array.content.items in
     let len = c.in-Array.len in
     let part = c.args.part in
-    rw (c.in_ok-push-in-Array.ensures.items, item_joins held part, wanted_pushed len held part, wanted_less len (length held), c.in-Array.is) refl
+    rw (
+      c.in_ok-push-in-Array.ensures.items,
+      item_joins held part,
+      wanted_pushed len held part,
+      wanted_less len (length held),
+      c.in-Array.is,
+    ) refl
 
 pub returns-in_ok-push-in-Some-clause-put : goal.returns-in_ok-push-in-Some-clause-put
 returns-in_ok-push-in-Some-clause-put c =
     let held = c.in-Map.content.items in
     let len = c.in-Map.len in
     let p : DataItem × DataItem = (c.in-Some.key, c.args.part) in
-    rw (c.in-Some.ensures.after, c.in-Map.is, ← c.in-Some.ensures.value, c.in_ok-push-in-Some.ensures.items, pair_joins held p, wanted_pushed len held p) refl
+    rw (
+      c.in-Some.ensures.after,
+      c.in-Map.is,
+      ← c.in-Some.ensures.value,
+      c.in_ok-push-in-Some.ensures.items,
+      pair_joins held p,
+      wanted_pushed len held p,
+    ) refl

@@ -14,11 +14,13 @@ close-requires c =
 pub returns-clause-item : goal.returns-clause-item
 returns-clause-item c =
     let last = ap last_of c.in-Some.ensures.items ∙ last_pushed c.pop.new.self.items c.in-Some.top in
-    subst (λ o. IfOk c.close.result (λ i. option_and_then closed (option_map frame o) ≡ Some (view i))) (sym last) c.close.ensures.item
+    subst (λ o. IfOk c.close.result (λ i. option_and_then closed (option_map frame o) ≡ Some (view i))) (sym last)
+    c.close.ensures.item
 
 pub returns-clause-outer : goal.returns-clause-outer
 returns-clause-outer c =
-    ap (map frame) (ap before_last c.in-Some.ensures.items ∙ before_pushed c.pop.new.self.items c.in-Some.top) ∙ all_at c.pop.new.self.items
+    ap (map frame) (ap before_last c.in-Some.ensures.items ∙ before_pushed c.pop.new.self.items c.in-Some.top)
+    ∙ all_at c.pop.new.self.items
 
 pub returns-clause-bottom : goal.returns-clause-bottom
 returns-clause-bottom c = stack_at c.pop.new.self.items

@@ -8,4 +8,5 @@ pub returns-clause-outer : goal.returns-clause-outer
 returns-clause-outer c = rw c.in_ok-push.ensures.items (outer_pushed c.args.self.now.«open».items c.args.container)
 
 pub returns-clause-top : goal.returns-clause-top
-returns-clause-top c = rw c.in_ok-push.ensures.items (ap (option_map frame) (last_pushed c.args.self.now.«open».items c.args.container))
+returns-clause-top c = rw c.in_ok-push.ensures.items
+    (ap (option_map frame) (last_pushed c.args.self.now.«open».items c.args.container))
