@@ -1,7 +1,7 @@
 pub mod notation
 pub mod bytes
 pub mod dump
-pub mod extent
+pub mod skipping
 pub mod hex
 pub mod normal
 pub mod shared

@@ -1,4 +1,4 @@
--- What reading answers, want of memory apart.
+-- What reading answers, out of memory aside.
 use Rattle.std.specs.Prelude.{◌≡◌, ◌≢◌, ℕ, ◌+◌, ◌/◌, ◌%◌, ◌<◌, ◌≤◌, List, [], ◌∷◌, length, take, Option, Some, None}
 use Rattle.std.specs.Prelude.{Result, Ok, Err, MatchResult, IfErr, ◌⊎◌}
 use Rattle.cbor_diag.specs.declared.error.Error.{Error}
@@ -38,14 +38,14 @@ Gave (Ok None) o = o ≡ cut
 Gave (Err refusal.Memory) o = Unit {0}
 Gave (Err e) o = o ≡ fault e
 
--- What a reader of the front of an input gave holds of it, want of memory aside.
+-- What a reader of the front of an input gave holds of it, out of memory aside.
 abbrev pub HasOutcome : ℕ → List ℕ → Result (Option (DataItem × ℕ)) Error → Type 0
 HasOutcome level b (Ok (Some x)) = IsOutcome level b (spelled (view x.0) x.1)
 HasOutcome level b (Ok None) = IsOutcome level b cut
 HasOutcome level b (Err refusal.Memory) = Unit {0}
 HasOutcome level b (Err e) = IsOutcome level b (fault e)
 
--- What a reader of the front of an input gave tells how far a count of turns rose, want of memory aside: by
+-- What a reader of the front of an input gave says how far a count of turns rose, out of memory aside: by
 -- the turns of the item, or by those of what is whole before a cut or a fault, and the one that failed.
 abbrev pub HasTurns : ℕ → List ℕ → ℕ → ℕ → Result (Option (DataItem × ℕ)) Error → Type 0
 HasTurns level b old new (Ok (Some x)) = new ≡ old + item_turns (view x.0)
@@ -62,7 +62,7 @@ IsRefused level b refusal.TooDeep = Fault level b refusal.TooDeep
 IsRefused level b refusal.Remaining = (i : Item) × (n : ℕ) × (n < length b) × Spells any level (take n b) i
 IsRefused level b _ = ⊥
 
--- What a reader of one whole item gave holds of the input, want of memory aside.
+-- What a reader of one whole item gave holds of the input, out of memory aside.
 abbrev pub HasAnswer : ℕ → List ℕ → Result DataItem Error → Type 0
 HasAnswer level b (Ok x) = Spells any level b (view x)
 HasAnswer level b (Err refusal.Memory) = Unit {0}
@@ -76,12 +76,12 @@ GaveItem result i = MatchResult result (λ x. view x ≡ i) (λ e. e ≡ refusal
 abbrev pub GaveRefusal : Result DataItem Error → Error → Type 0
 GaveRefusal result e = MatchResult result (λ _. ⊥) (λ f. (f ≡ e) ⊎ (f ≡ refusal.Memory))
 
--- a refusal that is no want of memory has this meaning
+-- an error other than out of memory has this meaning
 abbrev pub RefusedSo : {X : Type 0} → Result X Error → (Error → Type 0) → Type 0
 RefusedSo result Means = IfErr result (λ e. e ≢ refusal.Memory → Means e)
 
 -- The first byte opens what a reader needs memory for: a string, an array, a map or a tag, and no
--- fault stands in it. Elsewhere memory is never wanted.
+-- fault is in it. Elsewhere memory is never needed.
 abbrev pub MayWantMemory : List ℕ → Type 0
 MayWantMemory [] = ⊥
 MayWantMemory (first ∷ b) =

@@ -77,7 +77,7 @@ abbrev pub MembersThen
 MembersThen major n (Some w) b Members = HeadThen major n w b (λ rest. Members rest [])
 MembersThen major n None b Members = OpenThen major b (λ rest. Members rest (break_byte ∷ []))
 
--- The bytes, all of them, are this item, which stands at this level. No item with an unstated width is
+-- The bytes, all of them, are this item, which is at this level. No item with an unstated width is
 -- spelled, and none deeper than the deepest level.
 abbrev mutual
   pub Spells : Rule → ℕ → List ℕ → Item → Type 0

@@ -60,7 +60,7 @@ encoding_below t outside =
     else if (t == 23) || (t == 37) || (t == 52) || (t == 54) || (t == 260) then Some Base16
     else outside
 
--- a piece of a byte string, encoded as in notation; in base 64 the whole string stands beside each piece
+-- a piece of a byte string, encoded as in notation; in base 64 the whole string is beside each piece
 abbrev pub bytes_comment : Option Encoding → List ℕ → List ℕ → List ℕ
 bytes_comment None whole piece = quoted_bytes piece
 bytes_comment (Some Base16) whole piece = quoted Base16 piece

@@ -25,7 +25,7 @@ use Rattle.cbor_diag.specs.Pieces.{pieces_of, byte_pieces, text_pieces}
 use Rattle.cbor_diag.specs.Reading.{Read, read_item}
 use Rattle.cbor_diag.specs.Refusals.{text_of}
 
--- the digits of a head: its first byte, and behind a blank the bytes that follow it, if any do
+-- the digits of a head: its first byte, and after a blank the bytes that follow it, if any do
 abbrev pub head_hex : List ℕ → List ℕ
 head_hex bytes =
     if nat_le (length bytes) 1 then encode_lower bytes
@@ -82,7 +82,7 @@ sized_lines depth encoding t None bytes = bytes_lines depth encoding bytes
 sized_lines depth encoding t (Some size) bytes =
     if length bytes % size == 0 then element_lines depth t size bytes else bytes_lines depth encoding bytes
 
--- the content of a byte string that stands right below a tag, or below none
+-- the content of a byte string right below a tag, or below none
 abbrev pub tagged_lines : ℕ → Option Encoding → Option ℕ → List ℕ → List DumpLine
 tagged_lines depth encoding None bytes = bytes_lines depth encoding bytes
 tagged_lines depth encoding (Some t) bytes = sized_lines depth encoding t (element_size t) bytes
@@ -127,7 +127,7 @@ atom_lines p (simple n) = head_line p.depth (encoded_simple n) (simple_comment n
 
 -- ---- containers
 
--- what stands before a container's members, and after them
+-- what comes before a container's members, and after them
 abbrev pub count_if_definite : ℕ → Option IntegerWidth → Option ℕ
 count_if_definite n (Some w) = Some n
 count_if_definite n None = None
@@ -173,7 +173,7 @@ abbrev pub note_lines : ℕ → List (List ℕ) → List DumpLine
 note_lines depth [] = []
 note_lines depth (text ∷ texts) = note_line depth text ∷ map (note_line (depth + 1)) texts
 
--- a line as it stands in a dump of that width, without its line feed
+-- a line as it is in a dump of that width, without its line feed
 abbrev pub row : ℕ → DumpLine → List ℕ
 row width line = left_column width line ++ codes " # " ++ blanks (2 * line.depth) ++ line.comment
 
@@ -232,7 +232,7 @@ notes_lines depth left dump known (Some t) i = flat_map (note_lines depth) (note
 
 -- ---- items
 
--- the items of a container one after the other, each written by `write`, so many values being shared before
+-- the items of a container one after the other, each written by `write`, `known` values being shared before
 abbrev pub items_lines : (ℕ → Item → List DumpLine) → ℕ → Items → List DumpLine
 items_lines write known no_items = []
 items_lines write known (item i is) = write known i ++ items_lines write (known + shared_in i) is
@@ -243,7 +243,7 @@ pairs_lines write known no_pairs = []
 pairs_lines write known (pair k v ps) =
     write known k ++ (write (known + shared_in k) v ++ pairs_lines write (known + shared_in k + shared_in v) ps)
 
--- what an item's bytes are; what a container or a tag holds stands one deeper
+-- what an item's bytes are; what a container or a tag holds is one deeper
 abbrev pub parts_lines : (At → ℕ → Item → List DumpLine) → At → ℕ → Item → List DumpLine
 parts_lines write p known (atom a) = atom_lines p a
 parts_lines write p known (array is w) =
@@ -256,8 +256,8 @@ parts_lines write p known (tagged t w i) =
     head_line p.depth (encoded_head 6 t w) (tag_comment t)
     ∷ write (below t known p) (shared_from t known) i
 
--- An item with so many levels left for it and what is nested in it, embedded items included: 129 less the
--- level that it stands at. Its notes follow it, as deep as it stands. An embedded item has a dump of its own,
+-- An item with `left` levels left for it and what is nested in it, embedded items included: 129 less the
+-- level of the item. Its notes follow it, as deep as it is. An embedded item has a dump of its own,
 -- which counts shared values from 0. Where no level is left there is no item.
 unfoldable pub lines_at : ℕ → At → ℕ → Item → List DumpLine
 lines_at zero p known i = []

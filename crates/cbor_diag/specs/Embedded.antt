@@ -15,7 +15,7 @@ abbrev pub if_whole : Read Item → Option Item
 if_whole (Ok (i, [])) = Some i
 if_whole _ = None
 
--- the item that the bytes are, where so many levels are left for it
+-- the item that the bytes are, where `left` levels are left for it
 abbrev pub embedded_at : ℕ → List ℕ → Option Item
 embedded_at left b = if_whole (read_item left b)
 

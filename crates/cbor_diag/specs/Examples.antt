@@ -49,7 +49,7 @@ encodings =
     tagged 21 Zero (array (item (bytes (255 ∷ []))
     (item (over_bytes 24 (0x41 ∷ 255 ∷ [])) (item (tagged 23 Zero (bytes (255 ∷ []))) no_items))) (Some Zero))
 
--- an array of so many ones
+-- an array of `n` ones
 abbrev pub repeated : ℕ → Item → Items
 repeated zero i = no_items
 repeated (suc n) i = item i (repeated n i)
@@ -70,7 +70,7 @@ abbrev pub shared_values : Item
 shared_values = spec.map (pair (tagged 28 Eight (small 1)) (tagged 28 Eight (tagged 29 Eight (small 0))) no_pairs)
     (Some Zero)
 
--- so many arrays of one member, one in the other, and then 1; and as bytes
+-- `n` arrays of one member, one in the other, and then 1; and as bytes
 abbrev pub nested : ℕ → Item
 nested zero = small 1
 nested (suc n) = array (item (nested n) no_items) (Some Zero)
@@ -79,7 +79,7 @@ abbrev pub nested_bytes : ℕ → List ℕ
 nested_bytes zero = 1 ∷ []
 nested_bytes (suc n) = 0x81 ∷ nested_bytes n
 
--- byte strings of an open width
+-- byte strings of an unstated width
 abbrev pub chunk : List ℕ → Chunk
 chunk content = record { bytes = content; width = Unknown }
 

@@ -16,11 +16,11 @@ abbrev pub IfFault : Extent → (Error → ℕ → Type 0) → Type 0
 IfFault (extent.Fault error end) Fact = Fact error end
 IfFault _ Fact = Unit {0}
 
--- so many first bytes, at least one, have the fault
+-- a number of first bytes, at least one, have the fault
 abbrev pub FaultEnds : List ℕ → Error → ℕ → Type 0
 FaultEnds b error end = (1 ≤ end) × (end ≤ length b) × HasFault (take end b) error
 
--- The bytes begin so: with an item of so many bytes; cut; or with a fault that so many first bytes have,
+-- How the bytes begin: with an item of this length; cut; or with a fault that this number of first bytes has,
 -- of which fewer are cut.
 abbrev pub IsExtent : List ℕ → Extent → Type 0
 IsExtent b (extent.Item n) = (i : Item) × BeginsWithItem b i n

@@ -1,4 +1,4 @@
--- The facts that callers read: of bytes as a whole, and of an item that stands at the outermost level.
+-- The facts that callers read: of bytes as a whole, and of an item at the outermost level.
 use Rattle.std.specs.Prelude.{ℕ, ◌≤◌, List, length, take}
 use Rattle.cbor_diag.specs.declared.error.Error.{Error}
 use Rattle.cbor_diag.specs.Item.{Item}
@@ -54,6 +54,6 @@ diag_of i = compact Base16 1 i
 abbrev pub pretty_of : Item → List ℕ
 pretty_of i = pretty Base16 1 0 i
 
--- what these texts tell of the item
+-- what these texts say of the item
 abbrev pub normal_of : Item → Item
 normal_of i = normal 1 i

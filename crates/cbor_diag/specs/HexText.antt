@@ -12,7 +12,7 @@ use Rattle.cbor_diag.specs.Facts.{IsItem, IsNoItem}
 abbrev pub unspaced : List ℕ → List ℕ
 unspaced line = filter (λ b. not (b == 32)) line
 
--- of one line, what stands before its first `#`, without spaces
+-- of one line, what comes before its first `#`, without spaces
 abbrev pub uncommented : List ℕ → List ℕ
 uncommented line = unspaced (before_first (λ b. b == 35) line)
 

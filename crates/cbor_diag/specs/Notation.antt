@@ -69,13 +69,13 @@ NegativeOf text n w = (digits : List ℕ) × (indicator : Option ℕ) × (text �
 abbrev pub Closes : List ℕ → List ℕ → Type 0
 Closes closing text = (text ≡ closing) ⊎ ((space : List ℕ) × (text ≡ codes "," ++ (space ++ closing)) × IsSpace space)
 
--- what stands behind a member: further members, each after a comma, and then what closes the list
+-- what follows a member: further members, each after a comma, and then what closes the list
 abbrev pub Further : {X : Type 0} → (List ℕ → X → Type 0) → List ℕ → List ℕ → List X → Type 0
 Further Member closing text [] = Closes closing text
 Further Member closing text (x ∷ xs) = (first rest : List ℕ) × (text ≡ codes "," ++ (first ++ rest)) × Member first x
     × Further Member closing rest xs
 
--- what stands behind the opening of a list: its members, separated by commas, and what closes it; or no
+-- what follows the opening of a list: its members, separated by commas, and what closes it; or no
 -- member, a blank, and what closes it
 abbrev pub Members : {X : Type 0} → (List ℕ → X → Type 0) → List ℕ → List ℕ → List X → Type 0
 Members Member closing text [] = (blank end : List ℕ) × (text ≡ blank ++ end) × IsBlank blank × Closes closing end
@@ -111,13 +111,13 @@ Opens bracket None opening = opening ≡ bracket ++ codes "_"
 abbrev pub QuotedBy : ℕ → List ℕ → List ℕ → Type 0
 QuotedBy quote text content = text ≡ quote ∷ (in_quotes quote content ++ quote ∷ [])
 
--- digits between quotes, with blanks before, between and after them, behind such a prefix
+-- digits between quotes, with blanks before, between and after them, after such a prefix
 abbrev pub DigitsIn : Bool → List ℕ → List ℕ → List ℕ → Type 0
 DigitsIn comments prefix text digits = (content : List ℕ) × (text ≡ prefix ++ (content ++ codes "'"))
     × DigitsBetween comments content digits
 
 -- A notation of bytes: digits that are the encoding of the bytes, a text in apostrophes, or items whose
--- encodings are the bytes, one after the other. In base 64 a `/` is a digit, so no comment stands there.
+-- encodings are the bytes, one after the other. In base 64 a `/` is a digit, so there is no comment.
 pub data Notation (Read : List ℕ → Item → Type 0) : List ℕ → List ℕ → Type 0 where
   in_base16 : {text bytes : List ℕ} (digits : List ℕ) → DigitsIn true (codes "h'") text digits
       → decode_of digits ≡ Ok bytes → Notation Read text bytes
@@ -205,17 +205,17 @@ Core Read text (spec.map ps w) = (opening : List ℕ) × Opens (codes "{") w ope
 Core Read text (tagged t w i) = (number inner : List ℕ) × (text ≡ number ++ (codes "(" ++ (inner ++ codes ")")))
     × NumberOf number t w × Read inner i
 
--- The text, all of it, is this item, with so many levels left for it and the items in it, those in `<<`
+-- The text, all of it, is this item, with `left` levels left for it and the items in it, those in `<<`
 -- `>>` too: a blank, the item's core and a blank.
 unfoldable pub Reads : ℕ → List ℕ → Item → Type 0
 Reads zero text i = ⊥
 Reads (suc left) text i = Blanked (λ core. Core (Reads left) core i) text
 
--- The text is this item, and nothing in it stands deeper than this limit. The outermost item stands at
+-- The text is this item, and nothing in it is deeper than this limit. The outermost item is at
 -- level 1, so all levels up to the limit are left for it.
 abbrev pub ReadsUnder : ℕ → List ℕ → Item → Type 0
 ReadsUnder limit text i = Reads limit text i
 
--- The text is this item, and nothing in it stands deeper than the deepest level.
+-- The text is this item, and nothing in it is deeper than the deepest level.
 abbrev pub IsNotation : List ℕ → Item → Type 0
 IsNotation text i = ReadsUnder deepest text i

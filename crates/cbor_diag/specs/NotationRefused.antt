@@ -9,7 +9,7 @@ use Rattle.cbor_diag.specs.View.{view}
 use Rattle.cbor_diag.specs.WellFormed.{deepest}
 use Rattle.cbor_diag.specs.Notation.{Reads, ReadsUnder, IsNotation}
 
--- `[`, `{`, `(` and `<`, behind which an item may stand deeper
+-- `[`, `{`, `(` and `<`, after which an item may be deeper
 abbrev pub is_opening : ℕ → Bool
 is_opening b = (b == 91) || (b == 123) || (b == 40) || (b == 60)
 
@@ -17,12 +17,12 @@ is_opening b = (b == 91) || (b == 123) || (b == 40) || (b == 60)
 abbrev pub openings : List ℕ → ℕ
 openings text = count_by is_opening text
 
--- so many of a byte, at least one
+-- `n` of a byte, at least one
 abbrev pub HoldsByte : ℕ → List ℕ → Type 0
 HoldsByte byte text = 0 < count_by (λ b. b == byte) text
 
--- Nesting is too deep only in a text of so many openings, a number is past its width only where an
--- indicator states one, behind `_`, and content is not UTF-8 only in a text string, behind `"`. Any text
+-- Nesting is too deep only in a text of that many openings, a number is past its width only where an
+-- indicator states one, after `_`, and content is not UTF-8 only in a text string, after `"`. Any text
 -- may be no notation.
 abbrev pub MayRefuse : ℕ → List ℕ → Error → Type 0
 MayRefuse levels text refusal.TooDeep = levels ≤ openings text
@@ -38,13 +38,13 @@ pub record IsNoNotation (text : List ℕ) (e : Error) : Type 0 where
   pub none : (i : Item) → ¬ (IsNotation text i)
   pub deeper : (limit : ℕ) (i : Item) → ReadsUnder limit text i → e ≡ refusal.TooDeep
 
--- what a reader of a whole text answered holds of it, with so many levels
+-- what a reader of a whole text answered holds of it, with `levels` levels
 abbrev pub IsAnswered : ℕ → List ℕ → Result Item Error → Type 0
 IsAnswered levels text (Ok i) = Reads levels text i
 IsAnswered levels text (Err e) = MayRefuse levels text e
 
 -- A reader gave this item, or memory ran out, or the item is nested too deep: that is answered exactly where
--- so many levels do not read it.
+-- these levels do not read it.
 abbrev pub GaveOrTooDeep : ℕ → List ℕ → Result DataItem Error → Item → Type 0
 GaveOrTooDeep levels text (Ok x) i = view x ≡ i
 GaveOrTooDeep levels text (Err e) i = (e ≡ refusal.Memory) ⊎ ((e ≡ refusal.TooDeep) × ¬ (Reads levels text i))

@@ -21,7 +21,7 @@ use Rattle.cbor_diag.specs.Comments.{in_brackets}
 abbrev pub one : List ℕ → List (List ℕ)
 one text = text ∷ []
 
--- a text between brackets behind a word, if there is such a text
+-- a text between brackets after a word, if there is such a text
 abbrev pub word_or : List ℕ → List ℕ → Option (List ℕ) → List ℕ
 word_or word otherwise (Some text) = in_brackets word text
 word_or word otherwise None = otherwise
@@ -62,7 +62,7 @@ date_note _ = codes "invalid type for date"
 abbrev pub shareable_note : ℕ → List ℕ
 shareable_note number = in_brackets (codes "reference") (grouped number false)
 
--- tag 29: the number of a value, and whether so many are known
+-- tag 29: the number of a value, and whether it is known
 abbrev pub reference_note : ℕ → Item → List ℕ
 reference_note known (atom (integer n w)) =
     in_brackets (codes "reference-to") (grouped n false)
@@ -128,7 +128,7 @@ abbrev pub plain_address : Family → List ℕ → List ℕ
 plain_address f bytes =
     if length bytes == family_size f then shown f (codes "address") (address_text f bytes) else invalid_length f
 
--- the first bytes of an address, those behind them being zeros that are left away
+-- the first bytes of an address, those after them being zeros that are left away
 abbrev pub prefix_note : Family → ℕ → List ℕ → List ℕ
 prefix_note f len bytes =
     if ends_with nat_eq bytes (0 ∷ []) then codes "invalid prefix, ends with zero byte"

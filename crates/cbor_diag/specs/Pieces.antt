@@ -30,7 +30,7 @@ last_start text (suc n) = if begins_character (slice_index text (suc n)) then su
 abbrev pub text_cut : List ℕ → ℕ
 text_cut text = if nat_le (length text) piece_size then length text else max 1 (last_start text piece_size)
 
--- how many bytes of text stand in one line
+-- how many bytes of text are on one line
 abbrev pub short_text : ℕ
 short_text = 24
 

@@ -29,7 +29,7 @@ abbrev pub ◌>>=◌ : {A B : Type 0} → Result A Error → (A → Result B Err
 (Ok x) >>= f = f x
 (Err e) >>= f = Err e
 
--- A refusal that is no want of memory is the one that reading gives.
+-- An error other than out of memory is the one that reading gives.
 abbrev pub Fails : {Y : Type 0} → Error → Result Y Error → Type 0
 Fails refusal.Memory read = Unit {0}
 Fails e read = read ≡ Err e
@@ -44,7 +44,7 @@ read_number w b =
     if nat_lt (length b) (byte_len w) then Err refusal.CutShort
     else Ok (from_be_bytes w (take (byte_len w) b), drop (byte_len w) b)
 
--- the number behind info 24 to 27
+-- the number after info 24 to 27
 unfoldable pub read_wide : Width → IntegerWidth → List ℕ → Read Info
 read_wide w width b = read_number w b >>= λ n. Ok (info.Number n.0 width, n.1)
 
@@ -99,7 +99,7 @@ unfoldable pub read_head : List ℕ → Read ItemHead
 read_head [] = Err refusal.CutShort
 read_head (first ∷ b) = read_info (first % 32) b >>= λ i. head_of (first / 32) i.0 >>= λ h. Ok (h, i.1)
 
--- so many bytes
+-- a number of bytes
 abbrev pub split_at : ℕ → List ℕ → Read (List ℕ)
 split_at n b = if nat_lt (length b) n then Err refusal.CutShort else Ok (take n b, drop n b)
 
@@ -122,7 +122,7 @@ read_chunk_length major (first ∷ b) =
     else if first / 32 == major then (read_info (first % 32) b >>= λ i. length_of i.0 i.1)
     else Err refusal.Head
 
--- a chunk behind its info
+-- a chunk after its info
 abbrev pub chunk_of : StringKind → Info → List ℕ → Read (Option Chunk)
 chunk_of kind (info.Number n w) b = read_content kind n w b >>= λ c. Ok (Some c.0, c.1)
 chunk_of kind info.Indefinite b = Err refusal.Head
@@ -145,7 +145,7 @@ unfoldable pub read_chunks : ℕ → StringKind → List ℕ → Read (List Chun
 read_chunks zero kind b = Err refusal.CutShort
 read_chunks (suc n) kind b = read_chunk kind b >>= λ c. more_chunks (read_chunks n kind) c.0 c.1
 
--- so many items, each read by `read`
+-- a number of items, each read by `read`
 unfoldable pub read_items : (List ℕ → Read Item) → ℕ → List ℕ → Read Items
 read_items read zero b = Ok (no_items, b)
 read_items read (suc n) b = read b >>= λ i. read_items read n i.1 >>= λ is. Ok (item i.0 is.0, is.1)
@@ -158,7 +158,7 @@ unfoldable pub read_pairs : (List ℕ → Read Item) → ℕ → List ℕ → Re
 read_pairs read zero b = Ok (no_pairs, b)
 read_pairs read (suc n) b = read_pair read b >>= λ p. read_pairs read n p.1 >>= λ ps. Ok (pair p.0.0 p.0.1 ps.0, ps.1)
 
--- whether a break stands here, and where it does the bytes after it
+-- whether a break is here, and if so the bytes after it
 abbrev pub after_break : List ℕ → Option (List ℕ)
 after_break [] = None
 after_break (first ∷ b) = if first == break_byte then Some b else None
@@ -178,7 +178,7 @@ read_open_pairs read zero b = Err refusal.CutShort
 read_open_pairs read (suc n) b = unless_break (after_break b) no_pairs
     (read_pair read b >>= λ p. read_open_pairs read n p.1 >>= λ ps. Ok (pair p.0.0 p.0.1 ps.0, ps.1))
 
--- an item behind its head, the items in it read by `read`
+-- an item after its head, the items in it read by `read`
 abbrev pub read_body : (List ℕ → Read Item) → ItemHead → List ℕ → Read Item
 read_body read (item_head.Integer n w) b = Ok (atom (integer n w), b)
 read_body read (item_head.Negative n w) b = Ok (atom (negative n w), b)
@@ -204,12 +204,12 @@ HoldsContent (item_head.Simple n) = ⊥
 HoldsContent item_head.Break = ⊥
 HoldsContent _ = Unit {0}
 
--- no more levels are left, and an item is wanted
+-- no more levels are left, and an item has to follow
 abbrev pub no_level_left : List ℕ → Read Item
 no_level_left [] = Err refusal.CutShort
 no_level_left (first ∷ b) = Err refusal.TooDeep
 
--- an item, with so many levels left for it and the items in it
+-- an item, with `left` levels left for it and the items in it
 unfoldable pub read_item : ℕ → List ℕ → Read Item
 read_item zero b = no_level_left b
 read_item (suc left) b = read_head b >>= λ h. read_body (read_item left) h.0 h.1

@@ -38,18 +38,18 @@ abbrev pub BadText : List ℕ → Type 0
 BadText b = (n : ℕ) × (w : IntegerWidth) × HeadThen 3 n w b (λ rest.
     (text after : List ℕ) × (rest ≡ text ++ after) × (length text ≡ n) × ¬ (IsUtf8 text))
 
--- so many whole items one after the other
+-- a number of whole items one after the other
 abbrev pub SpelledParts : ℕ → ℕ → List ℕ → Type 0
 SpelledParts level zero b = b ≡ []
 SpelledParts level (suc k) b =
     (x rest : List ℕ) × (i : Item) × (b ≡ x ++ rest) × Spells any level x i × SpelledParts level k rest
 
--- what may stand next in a container that is not whole
+-- what may come next in a container that is not whole
 pub data Next : Type 0 where
   part : Next
   part_or_break : Next
 
--- A container that stands at this level: its head, the whole parts in it, and the rest, which stands in
+-- A container at this level: its head, the whole parts in it, and the rest, which is in
 -- the place of its next part. A map's parts are its keys and values in turn.
 pub data Inside (level : ℕ) (b rest : List ℕ) : Next → Type 0 where
   -- a tag, and then its item
@@ -68,11 +68,11 @@ pub data Inside (level : ℕ) (b rest : List ℕ) : Next → Type 0 where
   in_open_array : (k : ℕ) (whole : List ℕ)
       → b ≡ opening 4 ∷ (whole ++ rest) → SpelledParts (level + 1) k whole
       → Inside level b rest part_or_break
-  -- an indefinite map before a key, where the break may stand too
+  -- an indefinite map before a key, where the break may be too
   at_open_key : (k : ℕ) (whole : List ℕ)
       → b ≡ opening 5 ∷ (whole ++ rest) → SpelledParts (level + 1) (2 * k) whole
       → Inside level b rest part_or_break
-  -- an indefinite map before a value, where no break may stand
+  -- an indefinite map before a value, where no break may be
   at_open_value : (k : ℕ) (whole : List ℕ)
       → b ≡ opening 5 ∷ (whole ++ rest) → SpelledParts (level + 1) (2 * k + 1) whole
       → Inside level b rest part
@@ -88,9 +88,9 @@ CutChunk kind [] = Unit {0}
 CutChunk kind (first ∷ rest) =
     ((first / 32 ≡ major_of kind) × CutHead (first ∷ rest)) ⊎ CutContent kind (first ∷ rest)
 
--- The bytes end before the item that stands at this level does.
+-- The bytes end before the item at this level does.
 pub data Cut : ℕ → List ℕ → Type 0 where
-  -- an item is wanted, also below the deepest level, and there are no bytes
+  -- an item has to follow, also below the deepest level, and there are no bytes
   nothing : {level : ℕ} → level ≤ deepest + 1 → Cut level []
   -- the head is cut
   in_head : {level : ℕ} {b : List ℕ} → level ≤ deepest → CutHead b → Cut level b
@@ -113,7 +113,7 @@ pub data NoChunk (kind : StringKind) : List ℕ → Type 0 where
       → first ≢ break_byte → ¬ ((first / 32 ≡ major_of kind) × (first % 32 ≤ 27))
       → NoChunk kind (first ∷ rest)
 
--- a break, which ends the container where it may stand
+-- a break, which ends the container where it may be
 abbrev pub BeginsWithBreak : List ℕ → Type 0
 BeginsWithBreak b = (rest : List ℕ) × (b ≡ break_byte ∷ rest)
 
@@ -121,7 +121,7 @@ abbrev pub NoBreakAt : Next → List ℕ → Type 0
 NoBreakAt part rest = Unit {0}
 NoBreakAt part_or_break rest = ¬ (BeginsWithBreak rest)
 
--- No item that stands at this level begins so, and why.
+-- No item at this level begins with these bytes, and why.
 pub data Fault : ℕ → List ℕ → Error → Type 0 where
   -- an item below the deepest level, whatever its first byte is
   too_deep : {level first : ℕ} {rest : List ℕ}

@@ -10,7 +10,7 @@ use Rattle.cbor_diag.specs.Item.{float, simple, Item, atom, array, tagged, Items
 use Rattle.cbor_diag.specs.Item.{pair, item_count, pair_count}
 use Rattle.cbor_diag.specs.Head.{FitsWidth}
 
--- the deepest level that an item may stand at; the outermost stands at level 1
+-- the deepest level of an item; the outermost is at level 1
 abbrev pub deepest : ℕ
 deepest = 128
 
@@ -52,7 +52,7 @@ abbrev pub FitsCount : Option IntegerWidth → ℕ → Type 0
 FitsCount None n = Unit {0}
 FitsCount (Some w) n = FitsWidth w n
 
--- Each number, tag, length and count fits its width, and no item stands deeper than the deepest level.
+-- Each number, tag, length and count fits its width, and no item is deeper than the deepest level.
 abbrev mutual
   pub WellFormed : ℕ → Item → Type 0
   WellFormed level (atom a) = (level ≤ deepest) × WellFormedAtom a

@@ -11,7 +11,7 @@ use Rattle.cbor_diag.specs.Item.{float, simple, Item, atom, array, tagged, Items
 use Rattle.cbor_diag.specs.Item.{pair, item_count, pair_count}
 use Rattle.cbor_diag.specs.Head.{stated, head, opening, break_byte}
 
--- a head, an open width being the shortest that fits
+-- a head, an unstated width being the shortest that fits
 abbrev pub encoded_head : ℕ → ℕ → IntegerWidth → List ℕ
 encoded_head major n w = head major n (stated w n)
 
@@ -23,7 +23,7 @@ encoded_chunk major c = encoded_head major (length c.bytes) c.width ++ c.bytes
 abbrev pub encoded_chunks : ℕ → List Chunk → List ℕ
 encoded_chunks major cs = opening major ∷ (flat_map (encoded_chunk major) cs ++ break_byte ∷ [])
 
--- a float's bits, an open width being 64 bits
+-- a float's bits, an unstated width being 64 bits
 abbrev pub encoded_float : ℕ → FloatWidth → List ℕ
 encoded_float bits float_width.Unknown = 0xfb ∷ to_be_bytes w64 bits
 encoded_float bits float_width.Sixteen = 0xf9 ∷ to_be_bytes w16 bits
@@ -45,12 +45,12 @@ encoded_atom (text_chunks cs) = encoded_chunks 3 cs
 encoded_atom (float bits w) = encoded_float bits w
 encoded_atom (simple n) = encoded_simple n
 
--- what stands before a container's members: a head with their count, or an opening byte
+-- what comes before a container's members: a head with their count, or an opening byte
 abbrev pub encoded_open : ℕ → ℕ → Option IntegerWidth → List ℕ
 encoded_open major n (Some w) = encoded_head major n w
 encoded_open major n None = opening major ∷ []
 
--- what stands after them: nothing, or the break
+-- what comes after them: nothing, or the break
 abbrev pub encoded_close : Option IntegerWidth → List ℕ
 encoded_close (Some w) = []
 encoded_close None = break_byte ∷ []
@@ -94,7 +94,7 @@ abbrev pub resolve_count : Option IntegerWidth → ℕ → Option IntegerWidth
 resolve_count None n = None
 resolve_count (Some w) n = Some (stated w n)
 
--- The item with each open width replaced by the one that it is written in. Nothing else changes, bytes
+-- The item with each unstated width replaced by the one that it is written in. Nothing else changes, bytes
 -- that are an encoded item included.
 abbrev mutual
   pub resolve : Item → Item

@@ -15,17 +15,17 @@ pub enum Error {
     Memory,
     /// The input ends before its item does.
     CutShort,
-    /// A head that no item can have where it stands (RFC 7049 sections 2.1 to 2.3).
+    /// A head that no item can have at its place (RFC 7049 sections 2.1 to 2.3).
     Head,
     /// A text string, or a chunk of one, whose bytes are not UTF-8 (RFC 7049 section 2.1).
     Utf8,
-    /// An item stands deeper than level 128; the outermost stands at level 1.
+    /// An item is deeper than level 128; the outermost is at level 1.
     TooDeep,
     /// Bytes follow the item.
     Remaining,
     /// The number of hex digits is odd.
     OddHex,
-    /// A character stands where a hex digit is wanted.
+    /// A character where a hex digit is expected.
     BadHex,
     /// The text is not diagnostic notation (RFC 7049 section 6).
     Notation,

@@ -51,7 +51,7 @@ pub(crate) fn spelled()
 {}
 
 /// Bytes that end before their item does: in a chunk's head, in a string, and where a value is
-/// wanted.
+/// needed.
 pub(crate) fn cut()
     ensures head { Cut 1 (0x5f ∷ 0x58 ∷ []) }
     ensures content { Cut 1 (0x63 ∷ 0xff ∷ []) }
@@ -92,7 +92,7 @@ pub(crate) fn hex_text()
     ensures nothing { strip [] ≡ [] }
 {}
 
-/// Items embedded in bytes: a whole one, one with a byte behind it, and a sequence with a rest.
+/// Items embedded in bytes: a whole one, one with a byte after it, and a sequence with a rest.
 pub(crate) fn embedded_items()
     ensures whole { embedded 128 (1 ∷ []) ≡ Some (small 1) }
     ensures too_long { embedded 128 (1 ∷ 2 ∷ []) ≡ None }
@@ -206,7 +206,7 @@ pub(crate) fn notation_strings()
     ensures no_texts { ReadsUnder 1 (codes "\"\"_") (atom (text_chunks [])) }
 {}
 
-/// Texts that are no item: an indicator past 3, a value past its width, no whitespace behind a last
+/// Texts that are no item: an indicator past 3, a value past its width, no whitespace after a last
 /// comma, a blank before the parenthesis of a tag, digits that encode nothing, an escape too many,
 /// and others.
 pub(crate) fn notation_refused()

@@ -20,7 +20,7 @@ pub(crate) fn one_of_three()
 {}
 
 /// Which items are embedded in bytes: the one that they spell, and the longest list of items that
-/// are spelled one after the other, behind which the rest begins with none.
+/// are spelled one after the other, after which the rest begins with none.
 pub(crate) fn embedded_items()
     ensures { EmbedsExactly }
 {}

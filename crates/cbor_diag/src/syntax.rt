@@ -6,7 +6,7 @@ mod tags;
 mod well_formed;
 mod width;
 
-/// The deepest level that an item may stand at; the outermost stands at level 1.
+/// The deepest level of an item; the outermost is at level 1.
 pub(crate) const DEEPEST: u8 = 128;
 
 /// How many bits follow a head's first byte to hold its number: a value, a length, a count or a tag
@@ -16,7 +16,7 @@ pub enum IntegerWidth {
     /// Not stated, as in a diagnostic text without an encoding indicator. It is written in the
     /// shortest width that fits.
     Unknown,
-    /// None: a number from 0 to 23 stands in the first byte itself.
+    /// None: a number from 0 to 23 is in the first byte itself.
     Zero,
     /// One byte, for a number from 0 to 255.
     Eight,
@@ -86,9 +86,9 @@ pub struct TextString {
 
 /// A CBOR data item. Two are equal where all fields are, widths included.
 ///
-/// The outermost item stands at level 1, and what a container or a tag holds one level deeper than
+/// The outermost item is at level 1, and what a container or a tag holds one level deeper than
 /// it; chunks of a string have no level. An item is well formed where each number fits its width
-/// and none stands deeper than level 128; `DataItem::is_well_formed` tells.
+/// and none is deeper than level 128; `DataItem::is_well_formed` checks.
 #[derive(Debug, Drop)]
 pub enum DataItem {
     /// An unsigned integer (RFC 7049 section 2.1, major type 0).
@@ -136,7 +136,7 @@ pub enum DataItem {
         tag: Tag,
         /// The width of the tag's number.
         bitwidth: IntegerWidth,
-        /// The item that the tag stands before.
+        /// The item below the tag.
         value: Box<DataItem>,
     },
     /// A float by its bits, as encoded (RFC 7049 section 2.3, major type 7).

@@ -65,7 +65,7 @@ content_again text_kind c rest is = rw (split_again c.bytes rest, is_utf8-from_I
 abbrev pub none_left : List ℕ → Read (Option Chunk)
 none_left b = Ok (None, b)
 
--- the three ways of a first byte: a break, a head of that kind, and what can't stand there
+-- the three ways of a first byte: a break, a head of that kind, and what can't be there
 pub chunk_ways : (kind : StringKind) (first : ℕ) (b : List ℕ)
     → ((first ≡ break_byte) × (read_chunk kind (first ∷ b) ≡ none_left b))
     ⊎ (((first ≢ break_byte) × (first / 32 ≡ major_of kind)
@@ -184,7 +184,7 @@ chunk_parts kind b c Rest h = record {
   holds = h.1.3.2;
 }
 
--- a chunk with more bytes behind it
+-- a chunk with more bytes after it
 pub chunk_append : (kind : StringKind) (b more : List ℕ) (c : Chunk) (Rest More : List ℕ → Type 0)
     → ChunkThen kind c b Rest → ((r : List ℕ) → Rest r → More (r ++ more)) → ChunkThen kind c (b ++ more) More
 chunk_append kind b more c Rest More h then = (
@@ -250,7 +250,7 @@ chunks_again (suc n) kind b rest (c ∷ cs) le h =
     let shorter = p.shorter in
     rw (chunk_again kind b p.rest c p.is, chunks_again n kind p.rest rest cs (omega arith) p.holds) refl
 
--- chunks with more bytes behind their end
+-- chunks with more bytes after their end
 pub chunks_append : (kind : StringKind) (cs : List Chunk) (b end more : List ℕ) → SpellsChunks kind b cs end
     → SpellsChunks kind (b ++ more) cs (end ++ more)
 chunks_append kind [] b end more h = ap (λ (x : List ℕ). x ++ more) h

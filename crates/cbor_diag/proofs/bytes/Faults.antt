@@ -1,4 +1,4 @@
--- Reading answers with a fault exactly where there is one, and a fault stands whatever bytes follow.
+-- Reading answers with a fault exactly where there is one, and a fault is there whatever bytes follow.
 use Rattle.std.proofs.Common.{◌≡◌, ℕ, zero, suc, ◌+◌, ◌≢◌, List, [], ◌∷◌, ◌++◌, Err, inl, inr, refl, ap, ◌-◌, ◌≤◌, ◌∙◌}
 use Rattle.std.proofs.Common.{append_assoc, arith}
 use Rattle.cbor_diag.specs.declared.error.Error.{Error}
@@ -74,7 +74,7 @@ fault_level (bad_part next rest le inside no_break f) = omega arith
 pub left_at : (level : ℕ) → level ≤ 129 → (left : ℕ) × (level + left ≡ 129)
 left_at level le = (129 - level, omega arith)
 
--- what follows some bytes, with more behind it
+-- what follows some bytes, with more after it
 behind : (r x rest c : List ℕ) → r ≡ x ++ rest → r ++ c ≡ x ++ (rest ++ c)
 behind r x rest c is = ap (λ (y : List ℕ). y ++ c) is ∙ append_assoc x rest c
 

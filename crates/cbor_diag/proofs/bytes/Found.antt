@@ -28,7 +28,7 @@ use Rattle.cbor_diag.proofs.bytes.Chunks.{chunks_front}
 
 -- ---- what is read is spelled so
 
--- the item stands in front of the rest
+-- the item is in front of the rest
 pub record Spelled (level : ℕ) (b : List ℕ) (i : Item) (rest : List ℕ) : Type 0 where
   pub front : List ℕ
   pub parts : b ≡ front ++ rest
@@ -38,7 +38,7 @@ pub record Spelled (level : ℕ) (b : List ℕ) (i : Item) (rest : List ℕ) : T
 joined : (b x r y s : List ℕ) → b ≡ x ++ r → r ≡ y ++ s → b ≡ x ++ (y ++ s)
 joined b x r y s p q = p ∙ ap (λ (z : List ℕ). x ++ z) q
 
--- members with fewer bytes behind their end
+-- members with fewer bytes after their end
 pub items_front : (level : ℕ) (is : Items) (b end more : List ℕ) → SpellsItems any level b is (end ++ more)
     → (front : List ℕ) × (b ≡ front ++ more) × SpellsItems any level front is end
 items_front level no_items b end more h = (end, h, refl)
@@ -61,7 +61,7 @@ pairs_front level (pair k v ps) b end more h =
 abbrev pub Finds : ℕ → (List ℕ → Read Item) → Type 0
 Finds level read = (b : List ℕ) (i : Item) (rest : List ℕ) → IsBytes b → read b ≡ Ok (i, rest) → Spelled level b i rest
 
--- whether a break stands in front
+-- whether a break is in front
 pub break_ways : (b : List ℕ) → ((rest : List ℕ) × (b ≡ break_byte ∷ rest) × (after_break b ≡ Some rest))
     ⊎ (after_break b ≡ None)
 break_ways [] = inr refl
@@ -206,7 +206,7 @@ open_string_takes kind b r rest cs fits h e =
     let f = chunks_front kind cs r (break_byte ∷ []) rest t.0 in
     (opening (major_of kind) ∷ f.0, h ∙ ap (λ (x : List ℕ). opening (major_of kind) ∷ x) f.1, (f.0, refl, f.2), t.1)
 
--- an item behind its head
+-- an item after its head
 body_takes : (level : ℕ) (read : List ℕ → Read Item) (finds : Finds (level + 1) read) (h : ItemHead) (b r rest : List ℕ)
     (i : Item) → level ≤ deepest → HeadIs h b r → IsBytes r → read_body read h r ≡ Ok (i, rest) → Spelled level b i rest
 body_takes level read finds (item_head.Integer n w) b r rest i le h fits e =
@@ -368,7 +368,7 @@ no_break_at x rest s = ap (λ (y : List ℕ). after_break (y ++ rest)) s.parts
 pub begins_longer : (x rest : List ℕ) → Begins x → length rest < length (x ++ rest)
 begins_longer x rest s = omega (arith, length-append x rest, ap length s.parts)
 
--- members with more bytes behind their end
+-- members with more bytes after their end
 pub items_append : (level : ℕ) (is : Items) (b end more : List ℕ) → SpellsItems any level b is end
     → SpellsItems any level (b ++ more) is (end ++ more)
 items_append level no_items b end more h = ap (λ (x : List ℕ). x ++ more) h
@@ -451,13 +451,13 @@ module _ (level : ℕ) (read : List ℕ → Read Item) (again : FindsAgain level
         open_pairs_again n ps h.2 rest shorter h.6,
       ) refl
 
--- a head with the bytes behind the item
+-- a head with the bytes after the item
 head_behind : (major n : ℕ) (w : IntegerWidth) (x rest : List ℕ) → HeadThen major n w x (λ r. r ≡ [])
     → HeadThen major n w (x ++ rest) (λ r. r ≡ rest)
 head_behind major n w x rest h = head_append major n w x rest (λ r. r ≡ []) (λ r. r ≡ rest) h
     (λ r e. ap (λ (y : List ℕ). y ++ rest) e)
 
--- a string's head with the content and the bytes behind it
+-- a string's head with the content and the bytes after it
 string_behind : (kind : StringKind) (x rest : List ℕ) (c : Chunk) → ChunkThen kind c x (λ r. r ≡ [])
     → HeadThen (major_of kind) (length c.bytes) c.width (x ++ rest) (λ r. r ≡ c.bytes ++ rest)
 string_behind kind x rest c h =
@@ -475,7 +475,7 @@ simple_again x rest n (inr h) =
     ap (λ (y : List ℕ). y ++ rest) (h.1 ∙ ap (λ (y : List ℕ). 248 ∷ y) (sym (byte_of n h.0))) in
     head_again 7 n Eight (x ++ rest) rest (omega arith) (h.0, rest, is, refl)
 
--- an item by its head and what is behind it
+-- an item by its head and what is after it
 abbrev pub read_whole : (List ℕ → Read Item) → List ℕ → Read Item
 read_whole read b = read_head b >>= λ h. read_body read h.0 h.1
 

@@ -21,7 +21,7 @@ err_is x d e p q = cc
 
 -- ---- five bits of info
 
--- the number behind the info is cut short, or the info means nothing
+-- the number after the info is cut short, or the info means nothing
 pub data InfoRefusal : ℕ → List ℕ → Error → Type 0 where
   cut_info : {bits : ℕ} {b : List ℕ} (k : ℕ) → k ≤ 3 → bits ≡ 24 + k → length b < 2 ^ k
       → InfoRefusal bits b refusal.CutShort

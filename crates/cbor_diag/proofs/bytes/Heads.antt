@@ -161,7 +161,7 @@ number_again w limit wide n rest lt =
 
 -- ---- five bits of info
 
--- the info of a head with this width, and the bytes of the number behind it
+-- the info of a head with this width, and the bytes of the number after it
 abbrev pub bits_of : IntegerWidth → ℕ → ℕ
 bits_of Unknown n = n
 bits_of Zero n = n
@@ -187,7 +187,7 @@ head_parts major n Sixteen fits = (refl, omega arith)
 head_parts major n ThirtyTwo fits = (refl, omega arith)
 head_parts major n SixtyFour fits = (refl, omega arith)
 
--- what stands behind five bits of info
+-- what follows five bits of info
 abbrev pub InfoIs : ℕ → Info → List ℕ → List ℕ → Type 0
 InfoIs bits (info.Number n w) b rest = FitsStated w n × (bits ≡ bits_of w n) × (b ≡ number_bytes w n ++ rest)
     × IsBytes rest
@@ -301,7 +301,7 @@ HeadIs item_head.OpenArray b rest = b ≡ opening 4 ∷ rest
 HeadIs item_head.OpenMap b rest = b ≡ opening 5 ∷ rest
 HeadIs item_head.Break b rest = b ≡ break_byte ∷ rest
 
--- a head with more bytes behind it
+-- a head with more bytes after it
 pub head_append : (major n : ℕ) (w : IntegerWidth) (b more : List ℕ) (Rest More : List ℕ → Type 0)
     → HeadThen major n w b Rest → ((r : List ℕ) → Rest r → More (r ++ more)) → HeadThen major n w (b ++ more) More
 head_append major n w b more Rest More h then =
@@ -366,7 +366,7 @@ open_again major h rest le e =
     let major-is : (32 * major + 31) / 32 ≡ major = omega arith in
     rw (bits-are, major-is, e) refl
 
--- a number behind the first byte is a head
+-- a number after the first byte is a head
 pub head_then : (major bits n : ℕ) (w : IntegerWidth) (b rest : List ℕ) → InfoIs bits (info.Number n w) b rest
     → HeadThen major n w ((32 * major + bits) ∷ b) (λ r. r ≡ rest)
 head_then major bits n w b rest i =

@@ -19,7 +19,7 @@ pub record Reads (level : ℕ) (read : List ℕ → Read Item) : Type 0 where
   pub again : FindsAgain level read
   pub nothing : read [] ≡ Err refusal.CutShort
 
--- so many whole parts, and then a part that the reader refuses, which is no break where one may stand
+-- a number of whole parts, and then a part that the reader refuses, which is no break where one may be
 pub record Stops (level : ℕ) (read : List ℕ → Read Item) (next : Next) (k : ℕ) (b : List ℕ) (e : Error) : Type 0 where
   pub whole : List ℕ
   pub rest : List ℕ
@@ -176,7 +176,7 @@ module _ (level : ℕ) (read : List ℕ → Read Item) (reads : Reads level read
         ]
       ]
 
-  -- before a key, where a break may stand, or before a value
+  -- before a key, where a break may be, or before a value
   pub open_pairs_stop : (n : ℕ) (b : List ℕ) (e : Error) → IsBytes b → length b ≤ n → read_open_pairs read n b ≡ Err e
       → (k : ℕ) × (Stops level read part_or_break (2 * k) b e ⊎ Stops level read part (2 * k + 1) b e)
   unfolding read_open_pairs

@@ -18,7 +18,7 @@ use Rattle.cbor_diag.proofs.bytes.Heads.{IsBytes, HeadIs, head_takes}
 use Rattle.cbor_diag.proofs.bytes.Found.{item_takes}
 use Rattle.cbor_diag.proofs.bytes.Faults.{fault_takes}
 
--- ---- where memory may be wanted
+-- ---- where memory may be needed
 
 number_opens : (major n : ℕ) (w : IntegerWidth) (b rest : List ℕ) → 2 ≤ major → major ≤ 6
     → HeadThen major n w b (λ r. r ≡ rest) → MayWantMemory b
@@ -47,7 +47,7 @@ head_opens b rest item_head.OpenArray is holds = rw is (omega arith, omega arith
 head_opens b rest item_head.OpenMap is holds = rw is (omega arith, omega arith, inr (refl, omega arith))
 head_opens b rest item_head.Break is holds = absurd holds
 
--- memory is wanted only behind a head that holds content
+-- memory is needed only after a head that holds content
 pub memory_opens : (b rest : List ℕ) (h : ItemHead) → IsBytes b → read_head b ≡ Ok (h, rest) → HoldsContent h
     → MayWantMemory b
 memory_opens b rest h fits e holds = head_opens b rest h (head_takes b rest h fits e).0 holds

@@ -129,7 +129,7 @@ pub refusal_is : (level : ℕ) (b : List ℕ) (r : Result DataItem Error) → Ha
 refusal_is level b (Ok x) h = tt
 refusal_is level b (Err e) h = refused_of level b e h
 
--- want of memory, or another refusal
+-- out of memory, or another refusal
 memory_or : (e : Error) → (e ≡ refusal.Memory) ⊎ (e ≢ refusal.Memory)
 memory_or refusal.Memory = inl refl
 memory_or _ = inr (λ e. absurd cc)

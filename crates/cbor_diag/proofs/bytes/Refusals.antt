@@ -1,4 +1,4 @@
--- What reading refuses is cut or has a fault, and what stands inside a container is refused with it.
+-- What reading refuses is cut or has a fault, and what is inside a container is refused with it.
 use Rattle.std.proofs.Common.{◌≡◌, ℕ, zero, suc, ◌+◌, ◌*◌, ◌≤◌, List, [], ◌∷◌, ◌++◌, length, Some, None, Ok, Err, inl}
 use Rattle.std.proofs.Common.{inr, refl, ap, subst, ◌∙◌, arith}
 use Rattle.cbor_diag.specs.declared.syntax.IntegerWidth.{IntegerWidth}
@@ -88,7 +88,7 @@ part_refusal : (next : Next) (level : ℕ) (b rest : List ℕ) (e : Error) → l
 part_refusal next level b rest e le inside no_break (is_cut c) = is_cut (in_part next rest le inside c)
 part_refusal next level b rest e le inside no_break (is_fault f) = is_fault (bad_part next rest le inside no_break f)
 
--- ---- an item behind its head
+-- ---- an item after its head
 
 module _ (level : ℕ) (read : List ℕ → Read Item) (reads : Reads (level + 1) read) (later : (b : List ℕ) (e : Error)
     → IsBytes b → read b ≡ Err e → Refusal (level + 1) b e) where
@@ -196,7 +196,7 @@ refused (suc left) level b e levels fits h =
           head.2
     ]
 
--- ---- what stands inside a container is refused with it
+-- ---- what is inside a container is refused with it
 
 pub inside_refuses : (level left : ℕ) (next : Next) (b rest : List ℕ) (e : Error) → level + suc left ≡ 129
     → Inside level b rest next → NoBreakAt next rest → read_item left rest ≡ Err e → read_item (suc left) b ≡ Err e

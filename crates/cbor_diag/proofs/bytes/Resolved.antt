@@ -1,4 +1,4 @@
--- An item that bytes spell has no open width and is well formed. Bytes that are the encoding of what
+-- An item that bytes spell has no unstated width and is well formed. Bytes that are the encoding of what
 -- they spell spell it strictly, and items are written alike just where they are read as one item.
 use Rattle.std.proofs.Common.{◌≡◌, ℕ, suc, ◌+◌, ◌<◌, List, [], ◌∷◌, ◌++◌, length, map, Option, Some, None, Ok, inl, inr}
 use Rattle.std.proofs.Common.{refl, sym, ap, subst, ◌∙◌, arith}
@@ -38,7 +38,7 @@ all_bytes : (b : List ℕ) → IsBytes b → AllByRecursion (λ x. x < 256) b
 all_bytes [] h = tt
 all_bytes (x ∷ b) h = (h 0, all_bytes b (λ j. h (suc j)))
 
--- what stands before members in a container, what ends them, and what holds of them
+-- what comes before members in a container, what ends them, and what holds of them
 record Inner (n : ℕ) (w : Option IntegerWidth) (b : List ℕ) (Members : List ℕ → List ℕ → Type 0) : Type 0 where
   pub front : List ℕ
   pub rest : List ℕ
@@ -70,7 +70,7 @@ inner major n None b Members h = record {
   holds = h.2;
 }
 
--- ---- a spelled item has no open width
+-- ---- a spelled item has no unstated width
 
 chunk_resolved : (kind : StringKind) (c : Chunk) (b : List ℕ) (Rest : List ℕ → Type 0) → ChunkThen kind c b Rest
     → resolve_chunk c ≡ c

@@ -1,4 +1,4 @@
--- What is left behind an item that was read is shorter than the bytes that it was read from.
+-- What is left after an item that was read is shorter than the bytes that it was read from.
 use Rattle.std.proofs.Common.{◌≡◌, ℕ, zero, suc, ◌/◌, ◌%◌, ◌<◌, ◌≤◌, cond, ltb, eqb, List, [], ◌∷◌, length, take, drop}
 use Rattle.std.proofs.Common.{Option, Some, None, Result, Ok, Err, inl, inr, subst, arith}
 use Rattle.std.specs.Str.{is_utf8}

@@ -33,7 +33,7 @@ atom_bound level b (byte_chunks cs) h = open_bound bytes_kind 2 cs b h.1
 atom_bound level b (text_chunks cs) h = open_bound text_kind 3 cs b h.1
 atom_bound level b a h = one_byte level b (atom a) h
 
--- members that are no more than the bytes behind a container's first
+-- members that are no more than the bytes after a container's first
 members_bound : (major n : ℕ) (w : Option IntegerWidth) (b : List ℕ) (Members : List ℕ → List ℕ → Type 0) (held : ℕ)
     → MembersThen major n w b Members
     → ((rest end : List ℕ) → Members rest end → held ≤ length rest) → 1 + held ≤ length b

@@ -81,7 +81,7 @@ members_map : (major n : ℕ) (w : Option IntegerWidth) (b : List ℕ) (Members 
 members_map major n (Some w) b Members Others h then = (h.0, h.1, h.2, then h.1 [] h.3)
 members_map major n None b Members Others h then = (h.0, h.1, then h.0 (break_byte ∷ []) h.2)
 
--- members written between what stands before and after them
+-- members written between what comes before and after them
 members_enc : (major n : ℕ) (w : Option IntegerWidth) (written : List ℕ) (Members : List ℕ → List ℕ → Type 0)
     → FitsCount w n
     → ((end : List ℕ) → Members (written ++ end) end)
@@ -89,7 +89,7 @@ members_enc : (major n : ℕ) (w : Option IntegerWidth) (written : List ℕ) (Me
 members_enc major n (Some w) written Members fits then = (stated_fits w n fits, written ++ [], refl, then [])
 members_enc major n None written Members fits then = (written ++ break_byte ∷ [], refl, then (break_byte ∷ []))
 
--- members that are what is written, between what stands before and after them
+-- members that are what is written, between what comes before and after them
 members_only : (major n : ℕ) (w : Option IntegerWidth) (b written : List ℕ) (Members : List ℕ → List ℕ → Type 0)
     → MembersThen major n w b Members
     → ((rest end : List ℕ) → Members rest end → rest ≡ written ++ end)

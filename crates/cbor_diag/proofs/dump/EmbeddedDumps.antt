@@ -37,7 +37,7 @@ pub record RowsLeft (depth width : ℕ) (now : Held) (rest : List ℕ) (whole : 
   pub text : rest ≡ flat_map (line_text width) lines
   pub same : taken step now (map (note_line depth) (map (row width) lines)) ≡ whole
 
--- the first line is what stands before the first line feed
+-- the first line is what comes before the first line feed
 module _ (width : ℕ) (line : DumpLine) (more : List DumpLine) (rest : List ℕ) (plain : IsPlain line)
     (text : rest ≡ flat_map (line_text width) (line ∷ more)) where
   split : rest ≡ row width line ++ 10 ∷ flat_map (line_text width) more

@@ -293,7 +293,7 @@ open_fits : (depth major : ℕ) (name : List ℕ) (n : ℕ) (w : Option IntegerW
 open_fits depth major name n w low said = fit_head depth (encoded_open major n w) _ low (open_length major n w)
     (counted_line name (count_if_definite n w) said)
 
--- where a line below stands
+-- where a line below is
 low_here : (depth level : ℕ) → depth < level → level ≤ deepest → depth < 128
 low_here depth level below few = omega arith
 
@@ -408,7 +408,7 @@ bytes_well level (array is w) well = tt
 bytes_well level (spec.map ps w) well = tt
 bytes_well level (tagged t w i) well = tt
 
--- what is embedded stands at a level, and its dump is good
+-- what is embedded is at a level, and its dump is good
 module _ (level left : ℕ) (levels : level + left ≡ 129) (dump : Item → List DumpLine) (each : (e : Item)
     → WellFormed level e → AllByRecursion IsGood (dump e)) where
   item_embedded : (b : List ℕ) → AllBytes b → AllByRecursion (Free 10) (whole_note dump (read_item left b))

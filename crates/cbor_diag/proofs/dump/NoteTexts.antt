@@ -60,7 +60,7 @@ pub unknown_else : (n known : ℕ) (unknown : List ℕ) → known ≤ n → unkn
     → unknown ≡ (if nat_lt n known then [] else codes ", not previously shared")
 unknown_else n known unknown most is = rw (le-ltb n known most) is
 
--- the bytes of an address, those behind them being zeros that are left away
+-- the bytes of an address, those after them being zeros that are left away
 pub filled_up : (bytes octets : List ℕ) (size n : ℕ) → octets ≡ bytes → n ≡ size → length bytes ≤ size → size ≤ 16
     → take n (octets ++ drop (length bytes) (replicate 16 0)) ≡ bytes ++ replicate (size - length bytes) 0
 filled_up bytes octets size n are is short small =
@@ -224,12 +224,12 @@ plain_line f bytes =
     (shown_line f (codes "address") (address_text f bytes) (from_test 10 (codes "address") refl) (text_line f bytes))
     (length_line f)
 
--- the length of a prefix behind a text
+-- the length of a prefix after a text
 slash_line : (text : List ℕ) (len : ℕ) → Free 10 text → Free 10 (text ++ codes "/" ++ decimal len)
 slash_line text len free = free_both 10 (text ++ codes "/") (decimal len)
     (free_both 10 text (codes "/") free (from_test 10 (codes "/") refl)) (decimal_line len)
 
--- a zone behind a text
+-- a zone after a text
 percent_line : (text zone : List ℕ) → Free 10 text → Free 10 zone → Free 10 (text ++ codes "%" ++ zone)
 percent_line text zone free h = free_both 10 (text ++ codes "%") zone
     (free_both 10 text (codes "%") free (from_test 10 (codes "%") refl)) h

@@ -83,7 +83,7 @@ last_is text f here (suc n) inside low nearest =
           rw yes (sym same)
     ]
 
--- a text that isn't empty has a boundary behind its first character
+-- a text that isn't empty has a boundary after its first character
 first_boundary : (text : List ℕ) → IsUtf8 text → 0 < length text → (i : ℕ) × ((1 ≤ i) × (i ≤ 4) × IsCharBoundary text i)
 first_boundary text utf8 some = first_of text utf8.0 utf8 utf8.1.1 some where
   first_of : (text cs : List ℕ) → IsUtf8 text → encodes cs ≡ text → 0 < length text
@@ -126,7 +126,7 @@ floor_is text f utf8 some low here nearest =
 pub some_left : (n : ℕ) → false ≡ (n == 0) → 0 < n
 some_left n e = grind (arith, nat_tests)
 
--- a text that is short stands in one line
+-- a text that is short is in one line
 pub text_short : (text : List ℕ) → 0 < length text → length text ≤ short_text → text_pieces text ≡ text ∷ []
 text_short [] some short = absurd (omega arith)
 text_short (x ∷ xs) some short = let fits : nat_le (length (x ∷ xs)) short_text ≡ true =

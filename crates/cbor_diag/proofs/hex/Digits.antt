@@ -57,7 +57,7 @@ NoBytes s f =
     (f ≡ refusal.Memory) ⊎ (f ≡ refusal.OddHex) × (length s % 2 ≡ 1) ⊎ (f ≡ refusal.BadHex) × (length s % 2 ≡ 0)
     × ¬ (AllPass is_hex_digit s)
 
--- digits that have bytes are refused for want of memory alone
+-- digits that have bytes are refused for out of memory alone
 pub digits_want_memory : (s b : List ℕ) (f : Error) → NoBytes s f → decode_of s ≡ Ok b → f ≡ refusal.Memory
 digits_want_memory s b f (inl m) h = m
 digits_want_memory s b f (inr (inl w)) h = let even = (decode_of-ok s b h).0 in absurd (omega (arith, w.1))

@@ -56,7 +56,7 @@ uncommented_to line n le before here =
     (λ lt. eq-eqb _ 35 (here lt)) in
     ap (λ (k : ℕ). unspaced (take k line)) at
 
--- the carriage return before a line feed stands behind a `#`
+-- the carriage return before a line feed is after a `#`
 uncommented_return : (line : List ℕ) (n : ℕ) → n < length line → ((k : ℕ) → k < n → get_or line k 0 ≢ 35)
     → get_or line n 0 ≡ 35 → uncommented (strip_carriage_return line) ≡ unspaced (take n line)
 uncommented_return line n lt before here =
@@ -110,7 +110,7 @@ parts_cons x (y ∷ more) some = refl
 parts_one : (x : List ℕ) → 0 < length x → lines_of_parts (x ∷ []) ≡ x ∷ []
 parts_one x some = rw (ne_eqb (length x) 0 (λ none. absurd (omega arith))) refl
 
--- what is kept of the first line, which ends at a line feed, and of those behind it
+-- what is kept of the first line, which ends at a line feed, and of those after it
 strip_line : (text : List ℕ) (n : ℕ) → n < length text → ((k : ℕ) → k < n → get_or text k 0 ≢ 10) → get_or text n 0 ≡ 10
     → strip text ≡ uncommented (strip_carriage_return (take n text)) ++ strip (drop (n + 1) text)
 strip_line text n lt before here =
@@ -154,7 +154,7 @@ cut_feed text n lt none here =
     strip_line text n lt (λ k below. (none k below).1) here
     ∙ ap (λ (line : List ℕ). line ++ strip (drop (n + 1) text)) whole
 
--- a `#` comes first, and a line feed stands m places behind it
+-- a `#` comes first, and a line feed is m places after it
 comment_then_feed : (text : List ℕ) (n m : ℕ) → n + m < length text
     → ((k : ℕ) → k < n → (get_or text k 0 ≢ 35) × (get_or text k 0 ≢ 10))
     → get_or text n 0 ≡ 35 → ((k : ℕ) → k < m → get_or text (n + k) 0 ≢ 10) → get_or text (n + m) 0 ≡ 10

@@ -21,7 +21,7 @@ pub onto_fails : {R : Type 0} (e : Error) (front : R → R) (read total : Read R
     → Fails e total
 onto_fails e front read total h so_far = subst (λ r. Fails e r) so_far (Fails-bind e read (λ x. Ok (front x.0, x.1)) h)
 
--- items, and those behind them
+-- items, and those after them
 abbrev pub joined : Items → Items → Items
 joined no_items js = js
 joined (item i is) js = item i (joined is js)

@@ -26,7 +26,7 @@ module _ (Reads : List ℕ → Item → Type 0) (kind : StringKind) where
   starts_chunk : (core : List ℕ) (c : Chunk) → StringOf kind Reads core c → Starts core
   starts_chunk core c is = string_starts_core kind core (string_begins Reads kind core c is)
 
-  -- what is left of a chunk and the rest behind the blank
+  -- what is left of a chunk and the rest after the blank
   chunk_passed : (text rest : List ℕ) (c : Chunk) (is : ChunkOf kind Reads text c)
       → skip_blank (text ++ rest) ≡ is.1 ++ (is.2 ++ rest)
   chunk_passed text rest c is =
@@ -42,7 +42,7 @@ module _ (Reads : List ℕ → Item → Type 0) (kind : StringKind) where
     stripped = λ text c is. blanked_stripped (StringOf kind Reads) starts_chunk text c is;
   }
 
-  -- what stands behind the opening and a blank
+  -- what follows the opening and a blank
   first_chunk : (cs : List Chunk) (c : Chunk) (inner rest : List ℕ)
       → Members (ChunkOf kind Reads) (codes ")") inner (c ∷ cs)
       → Begins (string_starts kind) (skip_blank (inner ++ rest))
@@ -67,7 +67,7 @@ module _ (Reads : List ℕ → Item → Type 0) (kind : StringKind) where
       closing end (inl e) = subst (λ (t : List ℕ). Begins (codes ",)") (t ++ rest)) (sym e) refl
       closing end (inr last) = subst (λ (t : List ℕ). Begins (codes ",)") (t ++ rest)) (sym last.1) refl
 
--- the kind that the first byte tells
+-- the kind that the first byte has
 no_texts : (read : List ℕ → Read Item) (text : List ℕ) (s : Start) → begins_string text_kind s ≡ false
     → chunks_of read text s ≡ read_byte_chunks read text
 no_texts read text start.Quote e = cc e

@@ -17,9 +17,9 @@ pairs_again : (ps : Pairs) → pairs_of (pairs_list ps) ≡ ps
 pairs_again no_pairs = refl
 pairs_again (pair k v ps) = ap (pair k v) (pairs_again ps)
 
--- ---- no `_` stands first behind the opening of a list, but the one that says that its length is indefinite
+-- ---- no `_` is first after the opening of a list, but the one that says that its length is indefinite
 
--- what may stand there
+-- what may be there
 abbrev list_fronts : List ℕ
 list_fronts = codes ",:]})>/ '<bh\"-[{(ftnus0123456789" ++ (9 ∷ 10 ∷ 13 ∷ [])
 
@@ -43,7 +43,7 @@ module _ {X : Type 0} (Member : List ℕ → X → Type 0) (read : List ℕ → 
       (blank_ends core_starts list_fronts s.blank tail refl refl s.is_blank
       (begins_ends core_starts tail (begins_append core_starts s.behind (is.1 ++ rest) s.starts)))
 
-  -- the members behind a bracket, or behind it and `_`
+  -- the members after a bracket, or after it and `_`
   pub opened_again : (xs : List X) (w : Option IntegerWidth) (bracket : ℕ) (opening text rest : List ℕ)
       → Opens (bracket ∷ []) w opening → Listed Member opening (close ∷ []) text xs
       → (behind inner : List ℕ) × (text ++ rest ≡ bracket ∷ behind)

@@ -1,4 +1,4 @@
--- What may stand behind an item, and what an item begins with: all by tests of one byte.
+-- What may be after an item, and what an item begins with: all by tests of one byte.
 use Rattle.std.proofs.Common.{◌≡◌, ℕ, Bool, true, not, ◌==◌, ◌||◌, ◌&&◌, nat_le, List, [], ◌∷◌, ◌++◌, codes, None, refl}
 use Rattle.std.proofs.Common.{sym, ap, ◌∙◌, subst, inl, inr, IsTrue}
 use Rattle.std.specs.List.{list_any, list_all}
@@ -77,7 +77,7 @@ pub blank_passed : (bytes blank text : List ℕ) → list_all no_blank bytes ≡
 blank_passed bytes blank text all is ends = after_blank-append is text
     ∙ after_blank-ends true text (ends_blank bytes text all ends)
 
--- ---- what stands behind an item, and behind its core
+-- ---- what follows an item, and after its core
 
 -- what closes lists and tags, `,` and `:`
 abbrev pub item_ends : List ℕ
@@ -87,7 +87,7 @@ item_ends = codes ",:]})>"
 abbrev pub core_ends : List ℕ
 core_ends = codes ",:]})>/ " ++ (9 ∷ 10 ∷ 13 ∷ [])
 
--- what may stand behind an item
+-- what may be after an item
 abbrev pub Follows : List ℕ → Type 0
 Follows text = Ends item_ends text
 
@@ -107,11 +107,11 @@ blank_ends few bytes after rest all blanks (comment words more allowed none blan
 pub follows_blank : (after rest : List ℕ) → IsBlank after → Follows rest → Ends core_ends (after ++ rest)
 follows_blank after rest is follows = blank_ends item_ends core_ends after rest refl refl is follows
 
--- a blank behind a core is passed
+-- a blank after a core is passed
 pub follows_passed : (after rest : List ℕ) → IsBlank after → Follows rest → skip_blank (after ++ rest) ≡ rest
 follows_passed after rest is follows = blank_passed item_ends after rest refl is follows
 
--- no number goes on behind its end
+-- no number goes on after its end
 abbrev no_number : ℕ → Bool
 no_number b = nat_le 36 (digit_value b) && not (b == 95)
 

@@ -15,7 +15,7 @@ use Rattle.cbor_diag.specs.mirror.NotationReading.{members_or_end, read_members}
 use Rattle.cbor_diag.proofs.notation.Ends.{is_one_of, holds_of, begins_append, ends_after_byte, blank_passed, item_ends}
 use Rattle.cbor_diag.proofs.notation.Ends.{Follows, core_starts, Starts, starts_passed, passed_twice}
 
--- a text behind a blank, which begins as cores do and is the same member
+-- a text after a blank, which begins as cores do and is the same member
 pub record Stripped {X : Type 0} (Member : List ℕ → X → Type 0) (text : List ℕ) (x : X) : Type 0 where
   pub blank : List ℕ
   pub behind : List ℕ
@@ -119,7 +119,7 @@ starts_no_end close (b ∷ text) closes starts =
     rw (not-true (b == 44) (holds_of (λ c. not (c == 44)) core_starts b refl starts))
     (ends_after_byte close core_starts (b ∷ text) (no_start close closes) starts)
 
--- the whitespace at the front of a blank, and what stands behind it
+-- the whitespace at the front of a blank, and what follows it
 abbrev Leading : ℕ → List ℕ → Type 0
 Leading close text = (space : List ℕ) × (b : ℕ) × (rest : List ℕ) × (text ≡ space ++ b ∷ rest) × Blank false space
     × (is_whitespace b ≡ false) × ((b == close) ≡ false)
@@ -231,7 +231,7 @@ module _ {X : Type 0} (Member : List ℕ → X → Type 0) (read : List ℕ → 
       rw (passed, starts_no_end close tail closes starts)
       (members_from_again (suc (length tail)) xs x s.behind is.1 rest few s.is is.4)
 
-  -- the members behind an opening
+  -- the members after an opening
   pub listed_again : (xs : List X) (opening text rest : List ℕ) (is : Listed Member opening (close ∷ more) text xs)
       → (text ++ rest ≡ opening ++ (is.0 ++ rest)) × (read_members read close (is.0 ++ rest) ≡ Ok (xs, more ++ rest))
   listed_again xs opening text rest is = (

@@ -47,7 +47,7 @@ room_left (suc m) k lt = (m, refl)
 module _ {X : Type 0} (read : List ℕ → Read X) (close : ℕ) (front : List X) (n : ℕ) (text : List ℕ)
     (total : Read (List X)) (room : length text < n)
     (so_far : onto (λ xs. front ++ xs) (members_from read close n text) ≡ total) where
-  -- what stands behind the member that is read
+  -- what follows the member that is read
   behind : ℕ → X → List ℕ → Read (List X)
   behind m x after = more_members (members_from read close m) after (after_end close after)
 

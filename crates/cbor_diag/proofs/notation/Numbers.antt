@@ -84,7 +84,7 @@ number_again text rest n indicator is ends =
     (number_of-append text rest n indicator is ends)
 
 module _ (read : List ℕ → Read Item) where
-  -- where a digit stands, an integer or a tag is read
+  -- where a digit is, an integer or a tag is read
   digit_core : (text : List ℕ) → Begins digits text → read_core read text ≡ read_integer read text
   unfolding read_core start_of
   digit_core [] begins = absurd begins

@@ -18,7 +18,7 @@ use Rattle.cbor_diag.specs.mirror.NotationReading.{begins_piece, ends_string, on
 use Rattle.cbor_diag.specs.mirror.NotationReading.{read_string, checked, base16_of, read_decoded, read_byte_string}
 use Rattle.cbor_diag.specs.mirror.NotationReading.{read_text_string}
 
--- What stands before the first quote or backslash of a text is its content, where that is the quote.
+-- What comes before the first quote or backslash of a text is its content, where that is the quote.
 pub plain : (text content rest : List ℕ) (place : Option ℕ) (n : ℕ) → place ≡ position (is_special 34) text
     → place ≡ Some n → content ≡ take n text → drop n text ≡ 34 ∷ rest → unquoted 34 false text ≡ Some (content, rest)
 plain text content rest place n found at front behind =
@@ -85,7 +85,7 @@ one : (leaf : Chunk → Atom) (rest : List ℕ) (r : Result Chunk Error)
 one leaf rest (Ok c) = refl
 one leaf rest (Err e) = refl
 
--- A text without escapes, and behind it what ends a string: what the rules give.
+-- A text without escapes, and after it what ends a string: what the rules give.
 pub plain_text : (read : List ℕ → Read Item) (text inner content rest : List ℕ) → text ≡ 34 ∷ inner
     → unquoted 34 false inner ≡ Some (content, rest) → ends_string rest ≡ true
     → read_text_string read text ≡ one_string text_kind content rest
@@ -95,7 +95,7 @@ plain_text read text inner content rest front is ends =
     ap (read_text_string read) front ∙ rw (no_empty inner content rest is ends, pieces)
     (one text_string rest (checked text_kind content))
 
--- Hex digits, and behind them what ends a string: what the rules give.
+-- Hex digits, and after them what ends a string: what the rules give.
 pub plain_hex : (read : List ℕ → Read Item) (text inner bytes rest : List ℕ) → text ≡ 104 ∷ 39 ∷ inner
     → read_decoded true base16_of inner ≡ Ok (bytes, rest) → ends_string rest ≡ true
     → read_byte_string read text ≡ one_string bytes_kind bytes rest

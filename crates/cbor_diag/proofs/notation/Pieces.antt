@@ -28,7 +28,7 @@ pub items_again : (is : Items) → items_of (list_of is) ≡ is
 items_again no_items = refl
 items_again (item i is) = ap (item i) (items_again is)
 
--- a text between quotes, and what is behind its first quote
+-- a text between quotes, and what is after its first quote
 pub quoted_parts : (quote : ℕ) (text content rest : List ℕ) → QuotedBy quote text content
     → text ++ rest ≡ quote ∷ (in_quotes quote content ++ quote ∷ rest)
 quoted_parts quote text content rest is = ap (λ (t : List ℕ). t ++ rest) is
@@ -44,7 +44,7 @@ apostrophe = omega arith
 pub quotation_mark : ◌≢◌ {A = ℕ} 34 92
 quotation_mark = omega arith
 
--- digits behind an opened quote
+-- digits after an opened quote
 decoded_again : (comments : Bool) (decode : List ℕ → Option (List ℕ)) (content digits bytes rest : List ℕ)
     → DigitsBetween comments content digits → decode digits ≡ Some bytes
     → read_decoded comments decode (content ++ 39 ∷ rest) ≡ Ok (bytes, rest)

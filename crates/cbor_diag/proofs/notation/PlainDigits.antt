@@ -1,4 +1,4 @@
--- Hex digits that stand with no blanks between them.
+-- Hex digits with no blanks between them.
 use Rattle.std.proofs.Common.{◌≡◌, ℕ, ◌+◌, ◌<◌, true, List, [], ◌∷◌, ◌++◌, length, get_or, take, drop, IsTrue, Result}
 use Rattle.std.proofs.Common.{Ok, Err, sym, ap, ◌∙◌, arith, Some, ◌-◌}
 use Rattle.std.specs.List.{AllByRecursion, list_all}

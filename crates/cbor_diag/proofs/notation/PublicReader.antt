@@ -15,7 +15,7 @@ use Rattle.cbor_diag.proofs.notation.Again.{notation_again}
 use Rattle.cbor_diag.proofs.notation.OneReading.{one_reading, read_or_too_deep}
 use Rattle.cbor_diag.proofs.notation.sound.Items.{notation_sound}
 
--- a refusal that was given is want of memory, or what reading answers
+-- a refusal that was given is out of memory, or what reading answers
 failed : (e : Error) (read : Result Item Error) → Fails e read → (e ≡ refusal.Memory) ⊎ (read ≡ Err e)
 failed refusal.Memory read h = inl refl
 failed refusal.CutShort read h = inr h

@@ -83,7 +83,7 @@ other_start quote bytes (b ∷ text) all is =
     no_word (empty_word quote) (b ∷ text) (rw (not-true (quote == b) (holds_of (λ c. not (quote == c)) bytes b all is))
     refl)
 
--- what may stand behind a piece
+-- what may be after a piece
 abbrev piece_ends : List ℕ
 piece_ends = codes ",:]})>/ '<bh\"" ++ (9 ∷ 10 ∷ 13 ∷ [])
 

@@ -1,4 +1,4 @@
--- What stands in memory after calls that append.
+-- What is in memory after calls that append.
 use Rattle.std.specs.Prelude.{Result, Ok, Err, is_ok, if◌then◌else◌}
 use Rattle.std.specs.Io.{StartsWith}
 use Rattle.std.specs.Str.{IsUtf8}

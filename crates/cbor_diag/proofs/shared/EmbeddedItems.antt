@@ -222,7 +222,7 @@ module _ (level left : ℕ) (levels : level + left ≡ 129) where
       (omega (arith, one_byte level h.0 i h.3, ap length h.2, length-append h.0 h.1)) h.4 ends in
       rw read (ap (before i) more)
 
--- no item stands before the rest of a sequence
+-- no item is before the rest of a sequence
 pub no_item_before : (level left : ℕ) → level + left ≡ 129
     → (b : List ℕ) {s : Items × List ℕ} (x rest : List ℕ) (e : Item) → Sequenced level left b s → s.1 ≡ x ++ rest
     → Spells any level x e → ⊥

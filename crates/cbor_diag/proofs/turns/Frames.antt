@@ -30,7 +30,7 @@ wanted_less (Definite n w) held = let e : n - (held + 1) ≡ (n - held) - 1 = om
     ∙ sym (less_one (n - held) w)
 wanted_less Indefinite held = refl
 
--- what is wanted after one more was pushed
+-- what is still to come after one more was pushed
 pub wanted_pushed : {A : Type 0} (len : Length) (xs : List A) (x : A)
     → wanted len (length (xs ++ x ∷ [])) ≡ wanted len (length xs + 1)
 wanted_pushed len xs x = let e : length (xs ++ x ∷ []) ≡ length xs + 1 =

@@ -47,7 +47,7 @@ pub turn_wants : (left t : ℕ) (outer : List Frame) (top : Option Frame) (b : L
     → Stops refusal.Memory (t + 1) (later t (resume left outer top b))
 turn_wants left t outer top b = omega (arith, resume_counts left outer top b)
 
--- ---- a head that is wanted
+-- ---- a head that has to follow
 
 pub wants : (left : ℕ) (outer : List Frame) (top : Option Frame) (b : List ℕ)
     → None ≡ option_and_then (λ f. after_end f b) top

@@ -56,7 +56,7 @@ chunks_spent (suc n) kind (c ∷ cs) b rest e spelled bound refused =
 
 -- ---- a container that is not whole
 
--- so many parts more are wanted before the rest, in whose place one more is
+-- parts that are still to come before the rest, in whose place one more is
 abbrev Wants : ℕ → List ℕ → Frame → Type 0
 Wants k rest (items_in is (so_many n w)) = k < n
 Wants k rest (items_in is to_break) = ¬ (BeginsWithBreak rest)

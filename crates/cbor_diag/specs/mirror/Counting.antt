@@ -18,7 +18,7 @@ use Rattle.cbor_diag.specs.Reading.{Read, ◌>>=◌, read_head, read_content, re
 abbrev pub Counted : Type 0 → Type 0
 Counted X = ℕ × Read X
 
--- so many turns before
+-- a number of turns before
 abbrev pub later : {X : Type 0} → ℕ → Counted X → Counted X
 later k c = (k + c.0, c.1)
 
@@ -30,7 +30,7 @@ infixl 10 ◌>>-◌
 abbrev pub ◌>>-◌ : {A B : Type 0} → Counted A → (A × List ℕ → Counted B) → Counted B
 c >>- f = go_on c.0 c.1 f
 
--- Counted reading stops with this refusal after so many turns. Where memory ran out, these are at most the
+-- Counted reading stops with this error after this number of turns. Where memory ran out, these are at most the
 -- turns that it takes in all.
 abbrev pub Stops : {X : Type 0} → Error → ℕ → Counted X → Type 0
 Stops refusal.Memory n c = n ≤ c.0
@@ -63,16 +63,16 @@ abbrev pub joined_pairs : Pairs → Pairs → Pairs
 joined_pairs no_pairs qs = qs
 joined_pairs (pair k v ps) qs = pair k v (joined_pairs ps qs)
 
--- how many members or pairs are still wanted: so many, of a count of that width, or all up to a break
+-- how many members or pairs are still to come: a number, of a count of that width, or all up to a break
 pub data Wanted : Type 0 where
   so_many : ℕ → IntegerWidth → Wanted
   to_break : Wanted
 
--- A container that is open: what was read of it, and what it still wants.
+-- A container that is open: what was read of it, and what is still to come.
 pub data Frame : Type 0 where
   items_in : Items → Wanted → Frame
   pairs_in : Pairs → Wanted → Frame
-  -- a key was read, and its value is wanted, and then so many pairs
+  -- a key was read, and its value is to come, and then this number of pairs
   value_of : Pairs → Item → Wanted → Frame
   tag_of : ℕ → IntegerWidth → Frame
   tagged_with : ℕ → IntegerWidth → Item → Frame
@@ -94,7 +94,7 @@ put (value_of ps k wanted) v = pairs_in (joined_pairs ps (pair k v no_pairs)) wa
 put (tag_of t w) i = tagged_with t w i
 put (tagged_with t w j) i = tagged_with t w i
 
--- the bytes behind the container, where it ends here
+-- the bytes after the container, where it ends here
 abbrev pub wanted_end : Wanted → List ℕ → Option (List ℕ)
 wanted_end (so_many zero w) b = Some b
 wanted_end (so_many (suc n) w) b = None
@@ -140,7 +140,7 @@ opened item_head.OpenArray = Some (items_in no_items to_break)
 opened item_head.OpenMap = Some (pairs_in no_pairs to_break)
 opened _ = None
 
--- an item that holds no item, behind its head
+-- an item that holds no item, after its head
 abbrev pub read_atom : ItemHead → List ℕ → Counted Item
 read_atom (item_head.Integer n w) b = (0, Ok (atom (integer n w), b))
 read_atom (item_head.Negative n w) b = (0, Ok (atom (negative n w), b))
@@ -157,13 +157,13 @@ abbrev pub read_part : (List ℕ → Counted Item) → Option Frame → ItemHead
 read_part read (Some f) h b = read_parts read f b
 read_part read None h b = read_atom h b
 
--- the head of an item, with so many levels left for it
+-- the head of an item, with `left` levels left for it
 abbrev pub read_item_head : ℕ → List ℕ → Read ItemHead
 read_item_head zero [] = Err refusal.CutShort
 read_item_head zero (first ∷ b) = Err refusal.TooDeep
 read_item_head (suc left) b = read_head b
 
--- an item, with so many levels left for it and the items in it
+-- an item, with `left` levels left for it and the items in it
 unfoldable pub counted_item : ℕ → List ℕ → Counted Item
 counted_item zero b = (1, no_level_left b)
 counted_item (suc left) b = (1, read_head b) >>- λ h. read_part (counted_item left) (opened h.0) h.0 h.1

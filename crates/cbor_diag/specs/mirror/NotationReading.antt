@@ -39,16 +39,16 @@ or_refused (Some x) = Ok x
 
 -- Blanks and words
 
--- the text behind the longest blank at its front
+-- the text after the longest blank at its front
 abbrev pub skip_blank : List ℕ → List ℕ
 skip_blank text = after_blank true text
 
--- the text behind this byte, where the text begins with it
+-- the text after this byte, where the text begins with it
 abbrev pub after_byte : ℕ → List ℕ → Option (List ℕ)
 after_byte byte [] = None
 after_byte byte (b ∷ text) = if b == byte then Some text else None
 
--- the text behind this word, where the text begins with it
+-- the text after this word, where the text begins with it
 abbrev pub after_word : List ℕ → List ℕ → Option (List ℕ)
 after_word word text = if starts_with nat_eq text word then Some (drop (length word) text) else None
 
@@ -92,7 +92,7 @@ read_negative_number text = read_number text >>= λ x. negative_number x.0.0 x.0
 abbrev pub read_negative : List ℕ → Read Item
 read_negative text = read_negative_number text >>= λ n. Ok (atom (negative n.0.0 n.0.1), n.1)
 
--- a tag's item behind its parenthesis
+-- a tag's item after its parenthesis
 abbrev pub read_tagged : (List ℕ → Read Item) → ℕ → IntegerWidth → List ℕ → Read Item
 read_tagged read n w text = read text >>= λ i. or_refused (after_byte 41 i.1) >>= λ rest. Ok (tagged n w i.0, rest)
 
@@ -106,17 +106,17 @@ read_integer read text = read_unsigned_number text >>= λ n. integer_or_tag read
 
 -- Lists
 
--- the text behind the close of a list, where one or more whitespace characters stand before it
+-- the text after the close of a list, where one or more whitespace characters come before it
 abbrev pub after_space : ℕ → List ℕ → Option (List ℕ)
 after_space close text = option_and_then (λ spaces. if nat_lt 0 spaces then after_byte close (drop spaces text)
     else None) (position (λ b. not (is_whitespace b)) text)
 
--- the text behind what closes a list, where that stands here: the byte, or a last comma, whitespace and it
+-- the text after what closes a list, where that is here: the byte, or a last comma, whitespace and it
 abbrev pub after_end : ℕ → List ℕ → Option (List ℕ)
 after_end close [] = None
 after_end close (b ∷ text) = if b == 44 then after_space close text else after_byte close (b ∷ text)
 
--- the members behind a comma, or none where the list is closed
+-- the members after a comma, or none where the list is closed
 abbrev pub more_members : {X : Type 0} → (List ℕ → Read (List X)) → List ℕ → Option (List ℕ) → Read (List X)
 more_members read text (Some rest) = Ok ([], rest)
 more_members read text None = or_refused (after_byte 44 text) >>= read
@@ -132,7 +132,7 @@ abbrev pub members_or_end : {X : Type 0} → (List ℕ → Read X) → ℕ → L
 members_or_end read close text (Some rest) = Ok ([], rest)
 members_or_end read close text None = members_from read close (suc (length text)) text
 
--- the members of a list behind its opening, up to what closes it
+-- the members of a list after its opening, up to what closes it
 unfoldable pub read_members : {X : Type 0} → (List ℕ → Read X) → ℕ → List ℕ → Read (List X)
 read_members read close text = let first = skip_blank text in members_or_end read close first (after_end close first)
 
@@ -141,7 +141,7 @@ abbrev pub read_pair : (List ℕ → Read Item) → List ℕ → Read (Item × I
 read_pair read text = read text >>= λ k. or_refused (after_byte 58 k.1) >>= λ rest. read rest
     >>= λ v. Ok ((k.0, v.0), v.1)
 
--- whether a list is of indefinite length, which a `_` says, and the text behind that
+-- whether a list is of indefinite length, which a `_` says, and the text after that
 abbrev pub length_of : List ℕ → Option (List ℕ) → Option IntegerWidth × List ℕ
 length_of text None = (Some Unknown, text)
 length_of text (Some rest) = (None, rest)
@@ -221,7 +221,7 @@ base16_bytes (Err e) = None
 abbrev pub base16_of : List ℕ → Option (List ℕ)
 base16_of digits = base16_bytes (decode_of digits)
 
--- what the digits behind an opened quote are the encoding of
+-- what the digits after an opened quote are the encoding of
 abbrev pub read_decoded : Bool → (List ℕ → Option (List ℕ)) → List ℕ → Read (List ℕ)
 read_decoded comments decode text = or_refused (digits_of comments text) >>= λ x. or_refused (decode x.0)
     >>= λ bytes. Ok (bytes, x.1)
@@ -233,7 +233,7 @@ either_word (Some rest) first other second = first rest
 either_word None first (Some rest) second = second rest
 either_word None first None second = Err refusal.Notation
 
--- `h'..'` or `h32'..'`, and `b32'..'` or `b64'..'`, behind the letter
+-- `h'..'` or `h32'..'`, and `b32'..'` or `b64'..'`, after the letter
 abbrev pub h_notation : List ℕ → Read (List ℕ)
 h_notation text = either_word (after_word (codes "'") text) (read_decoded true base16_of)
     (after_word (codes "32'") text) (read_decoded true base32hex_of)
@@ -242,7 +242,7 @@ abbrev pub b_notation : List ℕ → Read (List ℕ)
 b_notation text = either_word (after_word (codes "32'") text) (read_decoded true base32_of)
     (after_word (codes "64'") text) (read_decoded false base64_of)
 
--- items behind the first `<` of `<<`, and their encodings
+-- items after the first `<` of `<<`, and their encodings
 abbrev pub read_embedded : (List ℕ → Read Item) → List ℕ → Read (List ℕ)
 read_embedded read text = or_refused (after_byte 60 text) >>= λ first. read_members read 62 first
     >>= λ is. or_refused (after_byte 62 is.1) >>= λ rest. Ok (encoded_items (items_of is.0), rest)
@@ -279,7 +279,7 @@ begins_piece texts start.LetterB = true
 begins_piece texts start.LetterH = true
 begins_piece texts _ = false
 
--- a piece of a string, by its first byte and what stands behind that
+-- a piece of a string, by its first byte and what follows that
 abbrev pub piece_of : (List ℕ → Read Item) → Start → List ℕ → Read (List ℕ)
 piece_of read start.Quote text = or_refused (unquoted 34 false text)
 piece_of read start.Apostrophe text = or_refused (unquoted 39 false text)
@@ -292,7 +292,7 @@ unfoldable pub read_piece : (List ℕ → Read Item) → List ℕ → Read (List
 read_piece read [] = Err refusal.Notation
 read_piece read (b ∷ text) = piece_of read (start_of b) text
 
--- The pieces from here on, with blanks between them, and the text behind the blank after them. The number
+-- The pieces from here on, with blanks between them, and the text after the blank after them. The number
 -- bounds them as in `members_from`.
 unfoldable pub read_pieces : (List ℕ → Read Item) → Bool → ℕ → List ℕ → Read (List ℕ)
 read_pieces read texts zero text = Err refusal.Notation
@@ -345,7 +345,7 @@ abbrev pub chunks_of : (List ℕ → Read Item) → List ℕ → Start → Read 
 chunks_of read text start.Quote = read_text_chunks read text
 chunks_of read text _ = read_byte_chunks read text
 
--- an indefinite string behind its parenthesis
+-- an indefinite string after its parenthesis
 abbrev pub read_chunks : (List ℕ → Read Item) → List ℕ → Read Item
 read_chunks read text = or_refused (after_byte 95 text) >>= λ opened. let first =
     skip_blank opened in chunks_of read first (first_start first)
@@ -358,7 +358,7 @@ byte_string_of read text None = read_string read bytes_kind text >>= λ c. Ok (a
 abbrev pub read_byte_string : (List ℕ → Read Item) → List ℕ → Read Item
 read_byte_string read text = byte_string_of read text (after_word (codes "''_") text)
 
--- a string of this kind and content, and what stands behind it
+-- a string of this kind and content, and what follows it
 abbrev pub one_string : StringKind → List ℕ → List ℕ → Read Item
 one_string bytes_kind content rest = checked bytes_kind content >>= λ c. Ok (atom (byte_string c), rest)
 one_string text_kind content rest = checked text_kind content >>= λ c. Ok (atom (text_string c), rest)
@@ -387,7 +387,7 @@ abbrev pub read_simple : List ℕ → Read Item
 read_simple text = read_number text >>= λ x. simple_value x.0.0 (take (length text - length x.1) text)
     >>= λ n. or_refused (after_byte 41 x.1) >>= λ rest. Ok (atom (simple n), rest)
 
--- the width of a float of so many hex digits
+-- the width of a float of this number of hex digits
 abbrev pub float_of : ℕ → Option FloatWidth
 float_of count =
     if count == 4 then Some float_width.Sixteen
@@ -401,7 +401,7 @@ read_float text =
     or_refused (position (λ b. b == 39) text) >>= λ count. or_refused (float_of count)
     >>= λ w. or_refused (numeral 16 (take count text)) >>= λ bits. Ok (atom (float bits w), drop (count + 1) text)
 
--- what stands behind a word, read so, where the text begins with it; and else the other
+-- what follows a word, read so, where the text begins with it; and else the other
 abbrev pub or_else : Option (List ℕ) → (List ℕ → Read Item) → Read Item → Read Item
 or_else None read other = other
 or_else (Some rest) read other = read rest
@@ -421,7 +421,7 @@ read_word text =
 
 -- Items
 
--- an item's core, by what it begins with: the text, and what stands behind its first byte
+-- an item's core, by what it begins with: the text, and what follows its first byte
 abbrev pub core_of : (List ℕ → Read Item) → Start → List ℕ → List ℕ → Read Item
 core_of read start.Digit text rest = read_integer read text
 core_of read start.Minus text rest = read_negative rest
@@ -439,7 +439,7 @@ unfoldable pub read_core : (List ℕ → Read Item) → List ℕ → Read Item
 read_core read [] = Err refusal.Notation
 read_core read (b ∷ rest) = core_of read (start_of b) (b ∷ rest) rest
 
--- an item with the blanks round it, with so many levels left for it and the items in it
+-- an item with the blanks round it, with `left` levels left for it and the items in it
 unfoldable pub read_item : ℕ → List ℕ → Read Item
 read_item zero text = Err refusal.TooDeep
 read_item (suc left) text = read_core (read_item left) (skip_blank text) >>= λ i. Ok (i.0, skip_blank i.1)

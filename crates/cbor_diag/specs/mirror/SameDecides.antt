@@ -1,4 +1,4 @@
--- The test of `specs/Same.antt` holds of two items exactly where they are equal. It stands here, since `==` is to
+-- The test of `specs/Same.antt` holds of two items exactly where they are equal. It is here, since `==` is to
 -- have a proof that it is an equivalence.
 use Rattle.std.proofs.Common.{◌≡◌, Bool, true, ◌&&◌, nat_eq, Some, None, refl, ap}
 use Rattle.std.proofs.Common.{subst}

@@ -45,7 +45,7 @@ skip_content kind n w b = rest_of (read_content kind n w b)
 abbrev pub skip_chunks : StringKind → List ℕ → Skip
 skip_chunks kind b = rest_of (read_chunks (length b) kind b)
 
--- an item with so many levels left for it, and the same behind its head
+-- an item with `left` levels left for it, and the same after its head
 abbrev pub skip_item : ℕ → List ℕ → Skip
 skip_item left b = rest_of (read_item left b)
 
@@ -54,7 +54,7 @@ skip_body left h b = rest_of (read_body (read_item left) h b)
 
 -- ---- steps of the code
 
--- Over some bytes one way of skipping goes on as another, whatever stands after them.
+-- Over some bytes one way of skipping goes on as another, whatever follows them.
 pub record Goes (from to : List ℕ → Skip) (b rest : List ℕ) : Type 0 where
   pub over : List ℕ
   pub parts : b ≡ over ++ rest
@@ -119,7 +119,7 @@ opened item_head.OpenArray = Some (Items ToBreak)
 opened item_head.OpenMap = Some (Pairs ToBreak)
 opened _ = None
 
--- the parts, with so many levels left for each
+-- the parts, with `left` levels left for each
 abbrev pub skip_items : ℕ → Count → List ℕ → Skip
 skip_items left (Definite n) b = rest_of (read_items (read_item left) n b)
 skip_items left ToBreak b = rest_of (read_open_items (read_item left) (length b) b)
@@ -133,14 +133,14 @@ skip_parts left (Items c) b = skip_items left c b
 skip_parts left (Pairs c) b = skip_pairs left c b
 skip_parts left (Value c) b = skip_item left b >>= skip_pairs left c
 
--- what an item has still to come, with so many levels left for its parts
+-- what an item has still to come, with `left` levels left for its parts
 abbrev pub begun : ℕ → Option ToCome → List ℕ → Skip
 begun left None b = here b
 begun left (Some parts) b = skip_parts left parts b
 
 -- ---- containers in containers
 
--- The containers that are open, the outermost first, given what is left behind the innermost part; the levels
+-- The containers that are open, the outermost first, given what is left after the innermost part; the levels
 -- are those that are left for the parts of the outermost.
 abbrev pub closing : ℕ → List ToCome → Skip → Skip
 closing left [] r = r

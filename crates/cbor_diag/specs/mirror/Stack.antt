@@ -12,7 +12,7 @@ use Rattle.cbor_diag.specs.mirror.Counting.{Wanted, so_many, to_break, Frame, it
 use Rattle.cbor_diag.specs.mirror.Counting.{tagged_with, put, depth_of}
 use Rattle.cbor_diag.specs.mirror.Counting.{Counted, resume, deliver}
 
--- what is wanted of such a length where so many members are there
+-- what is still to come of such a length where `held` members are there
 abbrev pub wanted : Length → ℕ → Wanted
 wanted (Definite n w) held = so_many (n - held) w
 wanted Indefinite held = to_break
@@ -58,7 +58,7 @@ abbrev pub IsPutIn : Option Frame → Option Frame → Item → Option Item → 
 IsPutIn None after i whole = whole ≡ Some i
 IsPutIn (Some f) after i whole = (after ≡ Some (put f i)) × (whole ≡ None)
 
--- what the outermost item is, with so many levels left for it, where these containers are open and these
+-- what the outermost item is, with `left` levels left for it, where these containers are open and these
 -- bytes are left
 abbrev pub resumed : ℕ → Stack → List ℕ → Counted Item
 resumed left s b = resume left (outer_of s) (top_of s) b

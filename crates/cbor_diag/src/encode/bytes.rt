@@ -1,6 +1,6 @@
 //! Writes an item as bytes (RFC 7049 section 2), each byte once, at the end of one vector.
 //!
-//! What writes strings and containers isn't inlined where an item is told by its kind: it keeps
+//! What writes strings and containers isn't inlined where the kinds of items are told apart: it keeps
 //! values over calls, and room for these would be made for each integer, too.
 #![tactic(auto, using(crate::proofs::shared::Appending::appending_steps))]
 
@@ -196,20 +196,20 @@ fn push_pairs(out: &mut Vec<u8>, pairs: &Vec<(DataItem, DataItem)>) -> Result<()
 }
 
 impl DataItem {
-    /// The item in bytes. An open width is the shortest that fits, an open float width 64 bits, and
+    /// The item in bytes. An unstated width is the shortest that fits, an unstated float width 64 bits, and
     /// a simple value below 24 takes one byte; indefinite lengths stay so (RFC 7049 section 2).
     ///
-    /// The item has to be well formed, which `is_well_formed` tells. Refuses with `Memory` alone.
+    /// The item has to be well formed, as `is_well_formed` checks. The only error is `Memory`.
     pub fn to_bytes(&self, alloc: Global) -> crate::Result<Vec<u8>>
         requires { IsWellFormed (view self.now) }
         ensures bytes { IfOk result (λ v. v.items ≡ encoded (view self.now)) }
-        // What is written is the one strict spelling of the item with its open widths resolved.
+        // What is written is the one strict spelling of the item with its unstated widths resolved.
         ensures strictly { IfOk result (λ v. IsStrictItem v.items (resolve (view self.now))) }
         ensures no_other { IfOk result (λ v.
             (b : List ℕ) → IsStrictItem b (resolve (view self.now)) → b ≡ v.items) }
         // So it is read back as that item.
         ensures read_back { IfOk result (λ v. IsItem v.items (resolve (view self.now))) }
-        // Two items are written alike exactly where they are the same but for open widths.
+        // Two items are written alike exactly where they are the same but for unstated widths.
         ensures alike { (other : Item) → IsWellFormed other
             → (encoded (view self.now) ≡ encoded other)
             ↔ (resolve (view self.now) ≡ resolve other) }
@@ -222,7 +222,7 @@ impl DataItem {
 
     /// Appends what [`DataItem::to_bytes`] answers to `out`, for whoever has memory for it already.
     ///
-    /// The item has to be well formed, which `is_well_formed` tells. The only error is `Memory`,
+    /// The item has to be well formed, as `is_well_formed` checks. The only error is `Memory`,
     /// and after it `out` is unchanged.
     pub fn push_bytes(&self, out: &mut Vec<u8>) -> crate::Result<()>
         requires { IsWellFormed (view self.now) }

@@ -32,7 +32,7 @@ use std::alloc::Global;
 
 impl DataItem {
     /// The item as a dump: its bytes in hex, as `to_bytes` writes them, each line with a comment
-    /// (docs/DUMP.md). `parse_hex` reads it back, with open widths resolved.
+    /// (docs/DUMP.md). `parse_hex` reads it back, with unstated widths resolved.
     ///
     /// The item has to be well formed, as `is_well_formed` checks. The only error is `Memory`.
     pub fn to_hex(&self, alloc: Global) -> crate::Result<String>
@@ -41,12 +41,12 @@ impl DataItem {
         // Without its comments the dump is the item's encoding in hex.
         ensures digits { IfOk result (λ t. strip (string_bytes t)
             ≡ encode_lower (encoded (view self.now))) }
-        // So it is read back as the item with its open widths resolved.
+        // So it is read back as the item with its unstated widths resolved.
         ensures read_back { IfOk result (λ t. IsHexOf (string_bytes t) (resolve (view self.now))) }
         // No comment has a line feed, whatever the item carries.
         ensures one_line { AllByRecursion (λ line. Lacks 10 line.comment)
             (spec.lines (view self.now)) }
-        // The first `#` of every line stands in one column.
+        // The first `#` of every line is in one column.
         ensures one_column { IfOk result (λ t.
             IsColumn (width_of (spec.lines (view self.now)) + 1) (string_bytes t)) }
         // What is dumped as embedded items is exactly what the bytes spell, and else the note says

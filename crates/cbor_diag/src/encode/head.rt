@@ -116,7 +116,7 @@ pub(crate) fn push_simple(out: &mut Vec<u8>, value: u8) -> Result<(), AllocError
     Ok(())
 }
 
-/// Writes what stands before the members of a container: a head with their count, or an opening
+/// Writes what comes before the members of a container: a head with their count, or an opening
 /// byte.
 pub(crate) fn push_open(
     out: &mut Vec<u8>,
@@ -137,7 +137,7 @@ pub(crate) fn push_open(
     }
 }
 
-/// Writes what stands after the members of a container: nothing, or the break.
+/// Writes what comes after the members of a container: nothing, or the break.
 pub(crate) fn push_close(out: &mut Vec<u8>, width: Option<IntegerWidth>) -> Result<(), AllocError>
     ensures { Appends result out.old.items out.new.items (encoded_close width) }
 {

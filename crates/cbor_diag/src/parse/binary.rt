@@ -291,7 +291,7 @@ pub fn parse_bytes_partial(alloc: Global, bytes: &[u8]) -> Result<Option<(DataIt
     ensures fault_stays { RefusedSo result (λ e.
         (more : List ℕ) → HasFault (bytes.now ++ more) e) }
 
-    // The item has an encoding, and memory is wanted as by `parse_bytes`.
+    // The item has an encoding, and memory is needed as by `parse_bytes`.
     ensures well_formed { IfOk result (λ o. IfSome o (λ x. IsWellFormed (view x.0))) }
     ensures memory { result ≡ Err Error.Memory → MayWantMemory bytes.now }
 {
@@ -326,7 +326,7 @@ pub fn parse_bytes_counted(
     ensures fault_stays { RefusedSo result (λ e.
         (more : List ℕ) → HasFault (bytes.now ++ more) e) }
 
-    // The item has an encoding, and memory is wanted as by `parse_bytes`.
+    // The item has an encoding, and memory is needed as by `parse_bytes`.
     ensures well_formed { IfOk result (λ o. IfSome o (λ x. IsWellFormed (view x.0))) }
     ensures memory { result ≡ Err Error.Memory → MayWantMemory bytes.now }
 

@@ -80,8 +80,8 @@ fn after_eights(line: &[u8]) -> &[u8]
     rest
 }
 
-/// Where the first space stands, or the end of the line. It looks at byte after byte, since most
-/// digits stand in short runs.
+/// The place of the first space, or the end of the line. It looks at byte after byte, since most
+/// digits are in short runs.
 #[tactic(auto, using(crate::proofs::hex::Lines::front_kept))]
 fn first_space(line: &[u8]) -> usize
     ensures within { result ≤ length line.now }
@@ -145,7 +145,7 @@ fn decode(alloc: Global, digits: Vec<u8>) -> crate::Result<Vec<u8>>
 /// Reads one item from hex with comments, two digits of either case for each of its bytes.
 ///
 /// A line ends at a line feed, and one carriage return right before it belongs to the end. Of each
-/// line what stands before its first `#` is kept, without spaces (U+0020); a tab is kept.
+/// line what comes before its first `#` is kept, without spaces (U+0020); a tab is kept.
 ///
 /// Refuses with `OddHex` where an odd number of bytes is kept, else with `BadHex` where one of them
 /// is no hex digit, else as `parse_bytes` does, and with `Memory` where a growth was refused.

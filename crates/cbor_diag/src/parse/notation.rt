@@ -190,7 +190,7 @@ fn whole_text(alloc: Global, text: &str) -> Result<DataItem>
 ///
 /// Refuses with `TooDeep` where the text is an item but for its levels, of which there may be 128,
 /// and with `Notation` where it is none. Of a text that is no item however many levels there may
-/// be, the refusal may also be `TooDeep`, where 128 of `[`, `{`, `(` and `<` stand in it;
+/// be, the error may also be `TooDeep`, if 128 of `[`, `{`, `(` and `<` are in it;
 /// `PastWidth`, where a number does not fit the width that its indicator states; and `Utf8`, where
 /// a text string is not UTF-8. `Memory` where a growth was refused.
 pub fn parse_diag(alloc: Global, text: &str) -> Result<DataItem>

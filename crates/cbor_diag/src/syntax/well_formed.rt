@@ -43,7 +43,7 @@ fn text_chunks_fit(chunks: &[TextString]) -> bool
     chunks.iter().all(TextString::length_fits)
 }
 
-/// Whether an item that stands at this level is well formed; what stands past the deepest level is
+/// Whether an item at this level is well formed; what is past the deepest level is
 /// not looked at.
 #[cycle(well_formed)]
 fn well_formed_at_level(item: &DataItem, level: u8) -> bool
@@ -73,14 +73,14 @@ fn well_formed_at_level(item: &DataItem, level: u8) -> bool
         } => bitwidth.fits(tag.0) && well_formed_at_level(value, level + 1),
         DataItem::Float { bits, bitwidth } => bitwidth.fits(*bits),
         DataItem::Simple(simple) => {
-            // Reading the number tells the proof that it is below 256.
+            // Reading the number shows the proof that it is below 256.
             let _number = simple.0;
             true
         }
     }
 }
 
-/// Whether items that stand at this level are well formed.
+/// Whether items at this level are well formed.
 #[cycle(well_formed)]
 fn items_well_formed(items: &Vec<DataItem>, level: u8) -> bool
     ensures { IsTrue result ↔ WellFormedItems level (items_view items.now.items) }
@@ -93,7 +93,7 @@ fn items_well_formed(items: &Vec<DataItem>, level: u8) -> bool
     true
 }
 
-/// Whether keys and values that stand at this level are well formed.
+/// Whether keys and values at this level are well formed.
 #[cycle(well_formed)]
 fn pairs_well_formed(pairs: &Vec<(DataItem, DataItem)>, level: u8) -> bool
     ensures { IsTrue result ↔ WellFormedPairs level (pairs_view pairs.now.items) }
@@ -108,8 +108,8 @@ fn pairs_well_formed(pairs: &Vec<(DataItem, DataItem)>, level: u8) -> bool
 
 impl DataItem {
     /// Whether the item is well formed, that is, has an encoding: each number, tag, length and
-    /// count fits the width stated for it, the bits of each float fit theirs, and no item stands
-    /// deeper than level 128, where the outermost stands at level 1.
+    /// count fits the width stated for it, the bits of each float fit theirs, and no item is
+    /// deeper than level 128, where the outermost is at level 1.
     ///
     /// It takes no memory, and looks at nothing below level 129.
     pub fn is_well_formed(&self) -> bool

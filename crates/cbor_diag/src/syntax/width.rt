@@ -6,7 +6,7 @@ ghost use Rattle.cbor_diag.specs.WellFormed.{FitsFloat, FitsCount};
 use super::{FloatWidth, IntegerWidth};
 
 impl IntegerWidth {
-    /// Whether the number can be written in this width; an open width takes any.
+    /// Whether the number can be written in this width; an unstated width takes any.
     pub(crate) fn fits(self, number: u64) -> bool
         ensures { IsTrue result ↔ FitsWidth self number }
     {
@@ -47,7 +47,7 @@ impl IntegerWidth {
 }
 
 impl FloatWidth {
-    /// Whether the bits of a float can be written in this width; an open width takes 64 bits.
+    /// Whether the bits of a float can be written in this width; an unstated width takes 64 bits.
     pub(crate) fn fits(self, bits: u64) -> bool
         ensures { IsTrue result ↔ FitsFloat self bits }
     {

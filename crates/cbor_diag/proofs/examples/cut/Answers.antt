@@ -12,7 +12,7 @@ returns-clause-head c = in_chunk bytes_kind (88 ∷ []) (omega arith) ([], 88 �
 pub returns-clause-content : goal.returns-clause-content
 returns-clause-content c = in_content text_kind (omega arith) (3, Zero, (omega arith, 255 ∷ [], refl, omega arith))
 
--- the key 1 is whole, and nothing stands in the value's place
+-- the key 1 is whole, and nothing is in the value's place
 pub returns-clause-value : goal.returns-clause-value
 returns-clause-value c =
     in_part part [] (omega arith)

@@ -13,7 +13,7 @@ use Rattle.cbor_diag.proofs.examples.faults.Goals as goal
 pub returns-clause-stray : goal.returns-clause-stray
 returns-clause-stray c = bad_head (omega arith) (no_length refl (inr (omega arith)))
 
--- two keys and a value are whole, and the break stands in the second value's place
+-- two keys and a value are whole, and the break is in the second value's place
 pub returns-clause-value : goal.returns-clause-value
 returns-clause-value c =
     bad_part part (0xff ∷ []) (omega arith)

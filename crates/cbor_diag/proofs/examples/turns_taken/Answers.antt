@@ -11,7 +11,7 @@ use Rattle.cbor_diag.proofs.examples.turns_taken.Goals as goal
 pub returns-clause-nothing : goal.returns-clause-nothing
 returns-clause-nothing c = (nothing (omega arith), refl)
 
--- the inner array is whole, and nothing stands in the second member's place
+-- the inner array is whole, and nothing is in the second member's place
 pub returns-clause-member : goal.returns-clause-member
 returns-clause-member c =
     let cut : Cut 1 (0x82 ∷ 0x81 ∷ 1 ∷ []) = in_part part [] (omega arith)

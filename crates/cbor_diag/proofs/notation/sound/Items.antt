@@ -78,7 +78,7 @@ quote_empty (c ∷ front) blank end rest z is b closes e =
     let quote : c ≡ 34 = head_is c 34 (front ++ rest) z e in
     quote_blank b end front closes (sym is ∙ ap (λ (d : ℕ). d ∷ front) quote)
 
--- nor does what stands before more
+-- nor does what comes before more
 quote_member : {X : Type 0} (Member : List ℕ → X → Type 0) (front rest z : List ℕ) (xs : List X)
     → Members Member (41 ∷ []) front xs → front ++ rest ≡ 34 ∷ z → 0 < length xs
 quote_member Member front rest z [] h e = absurd (quote_empty front h.0 h.1 rest z h.2 h.3 h.4 e)
@@ -307,7 +307,7 @@ unfolding Reads
 reads_blank zero before text i is h = absurd h
 reads_blank (suc left) before text i is h = blanked_more (λ core. Core (Reads left) core i) before text is h
 
--- what a text is read as with so many levels left
+-- what a text is read as with `left` levels left
 pub item_sound : (left : ℕ) (text : List ℕ) → Sound left (Reads left) text (read_item left text)
 unfolding read_item Reads
 item_sound zero text = omega arith

@@ -15,7 +15,7 @@ use Rattle.std.proofs.lemmas.Bool.{cases_eq, eq-eqb, ne_eqb}
 use Rattle.cbor_diag.proofs.notation.sound.Steps.{none_some, a_test, Sound, moved, weaker, sound_then, sound_map}
 use Rattle.cbor_diag.proofs.notation.sound.Steps.{sound_option, after_byte_is}
 
--- what closes a list stands in front of the rest
+-- what closes a list is in front of the rest
 abbrev white : ℕ → Bool
 white b = not (not (is_whitespace b))
 
@@ -77,7 +77,7 @@ behind_comma : {X : Type 0} (Member : List ℕ → X → Type 0) (close rest : L
 behind_comma Member close rest [] h = absurd h
 behind_comma Member close rest (x ∷ xs) h = (h.0, h.1, ap (λ (z : List ℕ). 44 ∷ z) h.2, h.3, h.4)
 
--- where a blank may stand before a member, it may before the first
+-- where a blank may be before a member, it may before the first
 blank_first : {X : Type 0} (Member : List ℕ → X → Type 0) (close blank rest : List ℕ) (xs : List X) → IsBlank blank
     → ((before text : List ℕ) (x : X) → IsBlank before → Member text x → Member (before ++ text) x)
     → FromFirst Member close rest xs → Members Member close (blank ++ rest) xs

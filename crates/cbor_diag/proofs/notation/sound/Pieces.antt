@@ -93,14 +93,14 @@ start_is b =
           ]
     ]
 
--- such a text, and a blank behind it
+-- such a text, and a blank after it
 abbrev pub Trailed : (List ℕ → Type 0) → List ℕ → Type 0
 Trailed Is front = (core blank : List ℕ) × (front ≡ core ++ blank) × Is core × IsBlank blank
 
 module _ (left : ℕ) (R : List ℕ → Item → Type 0) (read : List ℕ → Read Item) (sound : (text : List ℕ)
     → Sound left R text (read text)) (blank_more : (before text : List ℕ) (i : Item) → IsBlank before → R text i
     → R (before ++ text) i) where
-  -- behind the first `<`
+  -- after the first `<`
   embedded_sound : (text : List ℕ) → Sound left (λ g bytes. Notation R (60 ∷ g) bytes) text (read_embedded read text)
   embedded_sound text =
       sound_option left (λ g bytes. Notation R (60 ∷ g) bytes) text (after_byte 60 text)
@@ -126,7 +126,7 @@ module _ (left : ℕ) (R : List ℕ → Item → Type 0) (read : List ℕ → Re
         ) refl,
       )))))
 
-  -- a piece, which begins with the byte that it was told by
+  -- a piece, which begins with the byte of its kind
   abbrev PieceFrom : StringKind → ℕ → List ℕ → List ℕ → Type 0
   PieceFrom kind b g bytes = PieceOf kind R g bytes × (tail : List ℕ) × (g ≡ b ∷ tail)
 
@@ -383,7 +383,7 @@ module _ (left : ℕ) (R : List ℕ → Item → Type 0) (read : List ℕ → Re
       (λ g c t. trailed_blanked blank.0 g (λ core. StringOf kind R core c) blank.2 t)
       (string_sound kind (skip_blank text)))
 
--- a blank before what may stand behind blanks
+-- a blank before what may be after blanks
 pub blanked_more : (Is : List ℕ → Type 0) (before text : List ℕ) → IsBlank before → Blanked Is text
     → Blanked Is (before ++ text)
 blanked_more Is before text is h = (

@@ -1,4 +1,4 @@
--- What a reader of notation answers holds of the text: what it read stands in front of the rest, and a
+-- What a reader of notation answers holds of the text: what it read is in front of the rest, and a
 -- refusal says what is true. Such readers one after the other do so, too.
 use Rattle.std.proofs.Common.{◌≡◌, ℕ, suc, ◌+◌, ◌≤◌, Bool, true, false, cond, ◌==◌, List, [], ◌∷◌, ◌++◌, length, take}
 use Rattle.std.proofs.Common.{drop, Option, Some, None, Ok, Err, Result, ◌⊎◌, inl, inr, refl, sym, ap, ◌∙◌}
@@ -32,7 +32,7 @@ may_later levels text front rest refusal.Remaining is h = absurd h
 may_later levels text front rest refusal.OddHex is h = absurd h
 may_later levels text front rest refusal.BadHex is h = absurd h
 
--- behind an opening one level less is left
+-- after an opening one level less is left
 pub may_open : (levels : ℕ) (text front : List ℕ) (b : ℕ) (rest : List ℕ) (e : Error) → text ≡ front ++ b ∷ rest
     → is_opening b ≡ true → MayRefuse levels rest e → MayRefuse (suc levels) text e
 may_open levels text front b rest refusal.TooDeep is opens h =
@@ -58,14 +58,14 @@ abbrev pub Sound : {X : Type 0} → ℕ → (List ℕ → X → Type 0) → List
 Sound levels Is text (Ok x) = (front : List ℕ) × (text ≡ front ++ x.1) × Is front x.0
 Sound levels Is text (Err e) = MayRefuse levels text e
 
--- the same of what stands behind a front
+-- the same of what follows a front
 pub moved : {X : Type 0} (levels : ℕ) (Is : List ℕ → X → Type 0) (text front rest : List ℕ) (r : Read X)
     → text ≡ front ++ rest → Sound levels (λ g x. Is (front ++ g) x) rest r → Sound levels Is text r
 moved levels Is text front rest (Ok x) is s =
     (front ++ s.0, is ∙ ap (λ (z : List ℕ). front ++ z) s.1 ∙ sym (append_assoc front s.0 x.1), s.2)
 moved levels Is text front rest (Err e) is s = may_later levels text front rest e is s
 
--- the same behind an opening
+-- the same after an opening
 pub moved_in : {X : Type 0} (levels : ℕ) (Is : List ℕ → X → Type 0) (text front : List ℕ) (b : ℕ) (rest : List ℕ)
     (r : Read X) → text ≡ front ++ b ∷ rest → is_opening b ≡ true → Sound levels (λ g x. Is (front ++ b ∷ g) x) rest r
     → Sound (suc levels) Is text r
@@ -79,7 +79,7 @@ pub weaker : {X : Type 0} (levels : ℕ) (Is Such : List ℕ → X → Type 0) (
 weaker levels Is Such text (Ok x) h s = (s.0, s.1, h s.0 x.0 s.2)
 weaker levels Is Such text (Err e) h s = s
 
--- the same, where what was read stands in front of the text
+-- the same, where what was read is in front of the text
 pub weaker_here : {X : Type 0} (levels : ℕ) (Is Such : List ℕ → X → Type 0) (text : List ℕ) (r : Read X)
     → ((front rest : List ℕ) (x : X) → text ≡ front ++ rest → Is front x → Such front x) → Sound levels Is text r
     → Sound levels Such text r

@@ -26,7 +26,7 @@ pub list_of-items_of : (is : List Item) → list_of (items_of is) ≡ is
 list_of-items_of [] = refl
 list_of-items_of (i ∷ is) = ap (λ (js : List Item). i ∷ js) (list_of-items_of is)
 
--- a list with more behind its close
+-- a list with more after its close
 closes_more : (close more text : List ℕ) → Closes close text → Closes (close ++ more) (text ++ more)
 closes_more close more text (inl is) = inl (ap (λ (z : List ℕ). z ++ more) is)
 closes_more close more text (inr last) = inr (
@@ -114,7 +114,7 @@ module _ (R : List ℕ → Item → Type 0) where
         | inr plain ↦ inr (sym plain ∙ ap base64.standard so.0)
       ])
 
-  -- behind the opened quote of a notation
+  -- after the opened quote of a notation
   decoded_sound : (levels : ℕ) (comments : Bool) (decode : List ℕ → Option (List ℕ)) (word : List ℕ)
       → ((text digits bytes : List ℕ) → DigitsIn comments word text digits → decode digits ≡ Some bytes
       → Notation R text bytes)

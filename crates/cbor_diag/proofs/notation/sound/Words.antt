@@ -193,7 +193,7 @@ module _ (left : ℕ) (R : List ℕ → Item → Type 0) (read : List ℕ → Re
   below_odd zero indicator d e = let same : refusal.Notation ≡ d = cc in inl (sym same)
   below_odd (suc n) indicator d e = sized_odd n indicator d e
 
-  -- behind the minus
+  -- after the minus
   pub negative_sound : (text : List ℕ) → Sound (suc left) (λ g i. Core R (45 ∷ g) i) text (read_negative text)
   negative_sound text =
       let made : ℕ × IntegerWidth → List ℕ → Read Item = λ x rest. Ok (atom (negative x.0 x.1), rest) in
@@ -242,7 +242,7 @@ module _ (left : ℕ) (R : List ℕ → Item → Type 0) (read : List ℕ → Re
       let n : length text - length rest ≡ length front = omega (arith, ap length is, length-append front rest) in
       rw n (ap (take (length front)) is ∙ take-append_seam front rest)
 
-  -- behind `simple(`
+  -- after `simple(`
   pub simple_sound : (text : List ℕ) → Sound (suc left) (λ g i. Core R (codes "simple(" ++ g) i) text (read_simple text)
   simple_sound text =
       sound_number (suc left) (λ g i. Core R (codes "simple(" ++ g) i) text
@@ -325,7 +325,7 @@ module _ (left : ℕ) (R : List ℕ → Item → Type 0) (read : List ℕ → Re
         | inr other ↦ absurd (none_some count (rw other at e))
       ]
 
-  -- behind `float'`
+  -- after `float'`
   pub float_sound : (text : List ℕ) → Sound (suc left) (λ g i. Core R (codes "float'" ++ g) i) text (read_float text)
   float_sound text =
       sound_option (suc left) (λ g i. Core R (codes "float'" ++ g) i) text (position (λ b. b == 39) text)

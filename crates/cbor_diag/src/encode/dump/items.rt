@@ -197,7 +197,7 @@ fn dump_map(
     walk.lines.close(context.depth + 1, width)
 }
 
-/// How many values were shared when the value below a tag begins. No memory holds so many that they
+/// How many values were shared when the value below a tag begins. No memory holds enough of them that they
 /// don't fit.
 fn shared_below(shared: u64, tag: Tag) -> Result<u64, AllocError>
     ensures { IfOk result (λ n. n ≡ spec.shared_from tag.0 shared) }

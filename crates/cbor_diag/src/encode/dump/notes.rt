@@ -68,7 +68,7 @@ fn words(alloc: Global, text: &str) -> Result<Vec<String>, AllocError>
     one(alloc, String::from_str(alloc, text)?)
 }
 
-/// A text between brackets behind a word.
+/// A text between brackets after a word.
 fn in_brackets(alloc: Global, word: &str, text: &str) -> Result<String, AllocError>
     ensures { IfOk result (λ note. string_bytes note ≡ comments.in_brackets word.now text.now) }
 {

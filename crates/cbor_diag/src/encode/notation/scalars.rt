@@ -1,5 +1,5 @@
 //! What holds no item: numbers, strings, floats and simple values (RFC 7049 section 6). Each is
-//! written by a function of its own, which isn't inlined where an item is told by its kind.
+//! written by a function of its own, which isn't inlined where the kinds of items are told apart.
 #![tactic(auto, using(crate::proofs::shared::Appending::appending_steps))]
 
 ghost use Rattle.std.specs.Prelude.{◌≡◌, ◌+◌, ◌++◌, codes};

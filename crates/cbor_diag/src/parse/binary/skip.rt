@@ -274,7 +274,7 @@ fn begins(bytes: &[u8]) -> Extent
 /// `TooDeep` the last of these is the byte at fault; of `Utf8` they end with the text that is not
 /// UTF-8.
 pub fn extent(bytes: &[u8]) -> Extent
-    // An item of so many bytes, exactly where they spell one.
+    // An item of `used` bytes, exactly where they spell one.
     ensures item { IfItem result (λ n. (i : Item) × BeginsWithItem bytes.now i n) }
     ensures every_item { (i : Item) (n : ℕ) → BeginsWithItem bytes.now i n
         → result ≡ Extent.Item n }

@@ -124,7 +124,7 @@ impl Family {
         }
     }
 
-    /// What is said of the first bytes of an address, those behind them being zeros that are left
+    /// What is said of the first bytes of an address, those after them being zeros that are left
     /// away.
     fn prefix_note(self, alloc: Global, len: u64, bytes: &[u8]) -> Result<String, AllocError>
         ensures { IfOk result (λ note. string_bytes note ≡ spec.prefix_note self len bytes.now) }

@@ -103,7 +103,7 @@ fn day_text(alloc: Global, days: i128) -> Result<Option<String>, AllocError>
     }
 }
 
-/// A text between brackets behind a word, or other words where there is no such text.
+/// A text between brackets after a word, or other words where there is no such text.
 fn word_or(
     alloc: Global,
     word: &str,

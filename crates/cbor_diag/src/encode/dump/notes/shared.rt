@@ -17,7 +17,7 @@ pub(super) fn shareable_note(alloc: Global, number: u64) -> Result<String, Alloc
     in_brackets(alloc, "reference", &number)
 }
 
-/// What is said of a reference to a shared value: its number, and whether so many are known.
+/// What is said of a reference to a shared value: its number, and whether it is known.
 pub(super) fn reference_note(
     alloc: Global,
     known: u64,

@@ -5,7 +5,7 @@ use Rattle.std.proofs.lemmas.Str.{IsCharBoundary-from_ascii}
 use Rattle.cbor_notes.proofs.texts.HexLemmas.{IsAscii-from_test}
 use Rattle.cbor_diag.proofs.encode.notation.members.push_far_line.Goals as goal
 
--- a line feed and some of the blanks behind it
+-- a line feed and some of the blanks after it
 line_cut : (n : ℕ) → n ≤ 64 → slice_range {X = ℕ} (10 ∷ replicate 64 32) 0 (1 + n) ≡ 10 ∷ replicate n 32
 line_cut n h =
     let from_start : 1 + n - 0 ≡ suc n = omega arith in

@@ -1,8 +1,8 @@
 use Rattle.cbor_diag.specs.Bytes.{bytes_kind, text_kind}
 use Rattle.std.proofs.lemmas.Result.{IfOk-weaker, IfErr-weaker}
 use Rattle.cbor_diag.specs.mirror.Skipping.{skip_content}
-use Rattle.cbor_diag.proofs.extent.Skips.{goes_from, stops_from}
-use Rattle.cbor_diag.proofs.extent.SkippedParts.{bytes_same, text_same}
+use Rattle.cbor_diag.proofs.skipping.Skips.{goes_from, stops_from}
+use Rattle.cbor_diag.proofs.skipping.SkippedParts.{bytes_same, text_same}
 use Rattle.cbor_diag.proofs.parse.binary.skip.after_atom.Goals as goal
 
 pub returns-in-Bytes-clause-goes : goal.returns-in-Bytes-clause-goes

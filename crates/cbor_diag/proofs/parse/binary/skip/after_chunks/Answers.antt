@@ -1,6 +1,6 @@
 use Rattle.std.proofs.Common.{arith}
 use Rattle.std.proofs.lemmas.Result.{err_from_is_err_and}
-use Rattle.cbor_diag.proofs.extent.Skips.{goes_then, stops_then}
+use Rattle.cbor_diag.proofs.skipping.Skips.{goes_then, stops_then}
 use Rattle.cbor_diag.proofs.parse.binary.skip.after_chunks.Goals as goal
 
 pub returns-in_err-chunk-clause-stops : goal.returns-in_err-chunk-clause-stops

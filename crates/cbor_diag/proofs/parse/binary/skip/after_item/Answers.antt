@@ -3,8 +3,8 @@ use Rattle.std.proofs.lemmas.Result.{err_from_is_err_and}
 use Rattle.cbor_diag.specs.declared.parse.binary.skip.to_come.ToCome.{ToCome}
 use Rattle.cbor_diag.specs.WellFormed.{deepest}
 use Rattle.cbor_diag.specs.mirror.Skipping.{here, Goes, StopsSo, skip_item, begun, skip_open}
-use Rattle.cbor_diag.proofs.extent.Skips.{goes_then, stops_then}
-use Rattle.cbor_diag.proofs.extent.SkippedParts.{first_goes, last_ends, open_ends, part_stops, whole_goes, opens_goes}
+use Rattle.cbor_diag.proofs.skipping.Skips.{goes_then, stops_then}
+use Rattle.cbor_diag.proofs.skipping.SkippedParts.{first_goes, last_ends, open_ends, part_stops, whole_goes, opens_goes}
 use Rattle.cbor_diag.proofs.parse.binary.skip.after_item.Goals as goal
 
 pub turns-init : goal.turns-init

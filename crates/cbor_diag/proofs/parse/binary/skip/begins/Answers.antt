@@ -1,5 +1,5 @@
 use Rattle.std.proofs.Common.{arith}
-use Rattle.cbor_diag.proofs.extent.Extents.{item_extent, cut_extent, fault_extent}
+use Rattle.cbor_diag.proofs.skipping.Extents.{item_extent, cut_extent, fault_extent}
 use Rattle.cbor_diag.proofs.parse.binary.skip.begins.Goals as goal
 
 pub returns-in-Ok : goal.returns-in-Ok

@@ -1,7 +1,7 @@
 use Rattle.std.proofs.Common.{arith}
 use Rattle.cbor_diag.proofs.bytes.ExactlyOne.{one_outcome}
-use Rattle.cbor_diag.proofs.extent.Extents.{item_is, every_item, cut_exactly, fault_is, every_fault, fault_shown}
-use Rattle.cbor_diag.proofs.extent.Extents.{fronts_cut, item_stays, fault_stays}
+use Rattle.cbor_diag.proofs.skipping.Extents.{item_is, every_item, cut_exactly, fault_is, every_fault, fault_shown}
+use Rattle.cbor_diag.proofs.skipping.Extents.{fronts_cut, item_stays, fault_stays}
 use Rattle.cbor_diag.proofs.parse.binary.skip.extent.Goals as goal
 
 pub returns-clause-item : goal.returns-clause-item

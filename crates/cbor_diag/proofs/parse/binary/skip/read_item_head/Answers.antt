@@ -4,8 +4,8 @@ use Rattle.cbor_diag.specs.declared.parse.binary.head.ItemHead.{ItemHead}
 use Rattle.cbor_diag.specs.Reading.{read_head}
 use Rattle.cbor_diag.specs.mirror.HeadErrors.{head_error}
 use Rattle.cbor_diag.specs.mirror.Skipping.{Goes, Shows, StopsSo, stop_of, skip_item, skip_body}
-use Rattle.cbor_diag.proofs.extent.Skips.{head_goes, head_stops, break_shows, deep_shows, no_item, behind_first}
-use Rattle.cbor_diag.proofs.extent.Skips.{first_is, at_first, fits_first, empty_is}
+use Rattle.cbor_diag.proofs.skipping.Skips.{head_goes, head_stops, break_shows, deep_shows, no_item, behind_first}
+use Rattle.cbor_diag.proofs.skipping.Skips.{first_is, at_first, fits_first, empty_is}
 use Rattle.cbor_diag.proofs.parse.binary.skip.read_item_head.Goals as goal
 
 pub returns-in_default-clause-stops : goal.returns-in_default-clause-stops

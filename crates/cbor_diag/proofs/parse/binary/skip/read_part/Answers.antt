@@ -1,7 +1,7 @@
 use Rattle.std.proofs.Common.{◌-◌, sym, ◌∙◌}
 use Rattle.std.proofs.lemmas.Result.{err_from_is_err_and}
-use Rattle.cbor_diag.proofs.extent.Skips.{goes_then, stops_then}
-use Rattle.cbor_diag.proofs.extent.SkippedParts.{opened_goes}
+use Rattle.cbor_diag.proofs.skipping.Skips.{goes_then, stops_then}
+use Rattle.cbor_diag.proofs.skipping.SkippedParts.{opened_goes}
 use Rattle.cbor_diag.proofs.parse.binary.skip.read_part.Goals as goal
 
 pub returns-in-Some-clause-goes : goal.returns-in-Some-clause-goes

@@ -229,7 +229,7 @@ pub break_goes : (kind : StringKind) (b : List ℕ) → Goes (skip_chunks kind) 
 unfolding read_chunk
 break_goes kind b = record { over = break_byte ∷ []; parts = refl; along = λ c. chunks_next kind (break_byte ∷ c) }
 
--- the number behind five bits of info, whatever stands after it
+-- the number after five bits of info, whatever is after it
 info_over : (bits : ℕ) (i : Info) (b rest : List ℕ) → InfoIs bits i b rest
     → (x : List ℕ) × (b ≡ x ++ rest) × ((c : List ℕ) → read_info bits (x ++ c) ≡ Ok (i, c))
 info_over bits (info.Number n w) b rest is =
@@ -341,7 +341,7 @@ more_keeps kind e = refl
 
 -- ---- heads
 
--- a head that is read, whatever stands after it
+-- a head that is read, whatever is after it
 head_over : (h : ItemHead) (first : ℕ) (b rest : List ℕ) → IsBytes (first ∷ b) → read_head (first ∷ b) ≡ Ok (h, rest)
     → (x : List ℕ) × (b ≡ x ++ rest) × ((c : List ℕ) → read_head (first ∷ (x ++ c)) ≡ Ok (h, c))
 unfolding read_head
@@ -427,7 +427,7 @@ deep_shows (suc left) first b none = absurd (omega arith)
 
 -- ---- bytes that are not empty
 
--- the first byte, and the bytes behind it
+-- the first byte, and the bytes after it
 abbrev pub behind_first : List ℕ → List ℕ
 behind_first b = take (length b - 1) (drop 1 b)
 
@@ -435,7 +435,7 @@ pub first_is : (b : List ℕ) → 1 ≤ length b → b ≡ get_or b 0 0 ∷ behi
 first_is [] some = absurd (omega arith)
 first_is (first ∷ b) some = ap (λ (x : List ℕ). first ∷ x) (sym (take_all (length (first ∷ b) - 1) b (omega arith)))
 
--- a fact of such bytes, from that of their first byte and those behind it
+-- a fact of such bytes, from that of their first byte and those after it
 pub at_first : (Fact : List ℕ → Type 0) (b : List ℕ) → 1 ≤ length b → Fact (get_or b 0 0 ∷ behind_first b) → Fact b
 at_first Fact b some holds = subst Fact (sym (first_is b some)) holds
 

@@ -21,7 +21,7 @@ use Rattle.cbor_diag.proofs.bytes.CutShort.{cut_takes, cut_again, fault_no_cut}
 use Rattle.cbor_diag.proofs.bytes.Faults.{fault_takes, fault_refuses, fault_append}
 use Rattle.cbor_diag.proofs.bytes.Outcomes.{found_outcome}
 use Rattle.cbor_diag.proofs.bytes.ExactlyOne.{one_outcome}
-use Rattle.cbor_diag.proofs.extent.Skips.{goes_at}
+use Rattle.cbor_diag.proofs.skipping.Skips.{goes_at}
 
 -- ---- from what is forgotten to what was read
 

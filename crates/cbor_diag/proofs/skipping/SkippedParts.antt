@@ -29,7 +29,7 @@ use Rattle.cbor_diag.proofs.bytes.Shorter.{item_shorter}
 use Rattle.cbor_diag.proofs.bytes.Found.{break_ways}
 use Rattle.cbor_diag.proofs.bytes.Refusals.{item_nothing}
 use Rattle.cbor_diag.proofs.turns.Uncounted.{bind_same}
-use Rattle.cbor_diag.proofs.extent.Skips.{goes_here, goes_then, goes_within, rest_made, rest_then}
+use Rattle.cbor_diag.proofs.skipping.Skips.{goes_here, goes_then, goes_within, rest_made, rest_then}
 
 -- ---- steps
 
@@ -42,7 +42,7 @@ bind_here : (r : Skip) → (r >>= here) ≡ r
 bind_here (Ok b) = refl
 bind_here (Err e) = refl
 
--- whether a break stands here, by the first byte alone
+-- whether a break is here, by the first byte alone
 break_front : (first : ℕ) (x y : List ℕ) → after_break (first ∷ y) ≡ None → after_break (first ∷ x) ≡ None
 break_front first x y none =
     elim (break_ways (first ∷ x)) [
@@ -53,7 +53,7 @@ break_front first x y none =
       | inr none ↦ none
     ]
 
--- ---- parts, each read with so many levels left for it
+-- ---- parts, each read with `left` levels left for it
 
 module _ (left : ℕ) where
   -- how many parts are looked for at most makes no difference
@@ -145,14 +145,14 @@ module _ (left : ℕ) where
       (open_pairs_same (length b) (length p.1) p.1 (omega arith) (omega arith))))
       ∙ pair_then (first ∷ b) (λ r. read_open_pairs (read_item left) (length r) r) (λ p ps. pair p.0 p.1 ps)
 
-  -- a part that is wanted
+  -- a part that has to follow
   pub part_next : (t : ToCome) (b : List ℕ) → end_of t b ≡ None
       → skip_parts left t b ≡ (skip_item left b >>= skip_parts left (after_part t))
   part_next (Items c) b none = items_next c b none
   part_next (Pairs c) b none = pairs_next c b none
   part_next (Value c) b none = refl
 
-  -- no part is wanted
+  -- no part has to follow
   items_end : (c : Count) (b after : List ℕ) → count_end c b ≡ Some after → Goes (skip_items left c) here b after
   unfolding read_items read_open_items
   items_end (Definite zero) b after some = let is : b ≡ after =
@@ -192,7 +192,7 @@ module _ (left : ℕ) where
   part_end (Pairs c) b after some = pairs_end c b after some
   part_end (Value c) b after some = absurd cc
 
-  -- ---- an item behind its head
+  -- ---- an item after its head
 
   one_part : (b : List ℕ) → skip_item left b ≡ skip_items left (Definite 1) b
   unfolding read_items
