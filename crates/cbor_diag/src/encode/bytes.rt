@@ -1,7 +1,7 @@
 //! Writes an item as bytes (RFC 7049 section 2), each byte once, at the end of one vector.
 //!
-//! What writes strings and containers isn't inlined where the kinds of items are told apart: it keeps
-//! values over calls, and room for these would be made for each integer, too.
+//! What writes strings and containers isn't inlined where the kinds of items are told apart: it
+//! keeps values over calls, and room for these would be made for each integer, too.
 #![tactic(auto, using(crate::proofs::shared::Appending::appending_steps))]
 
 ghost use Rattle.std.specs.Prelude.{◌≡◌, ◌++◌, if◌then◌else◌, ℕ, List, ◌↔◌, length, map, OnOk};
@@ -196,8 +196,9 @@ fn push_pairs(out: &mut Vec<u8>, pairs: &Vec<(DataItem, DataItem)>) -> Result<()
 }
 
 impl DataItem {
-    /// The item in bytes. An unstated width is the shortest that fits, an unstated float width 64 bits, and
-    /// a simple value below 24 takes one byte; indefinite lengths stay so (RFC 7049 section 2).
+    /// The item in bytes. An unstated width is the shortest that fits, an unstated float width 64
+    /// bits, and a simple value below 24 takes one byte; indefinite lengths stay so (RFC 7049
+    /// section 2).
     ///
     /// The item has to be well formed, as `is_well_formed` checks. The only error is `Memory`.
     pub fn to_bytes(&self, alloc: Global) -> crate::Result<Vec<u8>>

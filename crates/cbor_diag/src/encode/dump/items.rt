@@ -197,8 +197,8 @@ fn dump_map(
     walk.lines.close(context.depth + 1, width)
 }
 
-/// How many values were shared when the value below a tag begins. No memory holds enough of them that they
-/// don't fit.
+/// How many values were shared when the value below a tag begins. No memory holds more of them than
+/// fit.
 fn shared_below(shared: u64, tag: Tag) -> Result<u64, AllocError>
     ensures { IfOk result (λ n. n ≡ spec.shared_from tag.0 shared) }
 {
