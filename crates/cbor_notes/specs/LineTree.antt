@@ -16,8 +16,12 @@ abbrev pub tree_lines : Line → ℕ → List DumpLine
 tree_lines = fold-Line (ℕ → List DumpLine) tree_step
 
 abbrev pub first_line : Line → ℕ → DumpLine
-first_line line depth = record { depth = depth; hex = string_bytes (out-Line line).hex; comment =
-    string_bytes (out-Line line).comment }
+first_line line depth = record {
+  depth = depth;
+  hex = string_bytes (out-Line line).hex;
+  comment =
+      string_bytes (out-Line line).comment;
+}
 
 -- the lines of several trees, one after the other
 abbrev pub forest_lines : List Line → ℕ → List DumpLine

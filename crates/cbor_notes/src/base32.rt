@@ -35,7 +35,7 @@ enum Alphabet {
 pub fn base32_decode(alloc: Global, digits: &[u8]) -> Result<Option<Vec<u8>>, AllocError>
     ensures found { IfOk result
         (λ found. IfSome found (λ bytes. AreBytes bytes.items
-            × (digits.now ≡ base32 bytes.items))) }
+        × (digits.now ≡ base32 bytes.items))) }
     ensures none { IfOk result (λ found. IfNone found
         ((bytes : List ℕ) → AreBytes bytes → digits.now ≢ base32 bytes)) }
     // No two lists of bytes have the same digits.
@@ -52,7 +52,7 @@ pub fn base32_decode(alloc: Global, digits: &[u8]) -> Result<Option<Vec<u8>>, Al
 pub fn base32hex_decode(alloc: Global, digits: &[u8]) -> Result<Option<Vec<u8>>, AllocError>
     ensures found { IfOk result
         (λ found. IfSome found (λ bytes. AreBytes bytes.items
-            × (digits.now ≡ base32hex bytes.items))) }
+        × (digits.now ≡ base32hex bytes.items))) }
     ensures none { IfOk result (λ found. IfNone found
         ((bytes : List ℕ) → AreBytes bytes → digits.now ≢ base32hex bytes)) }
     // No two lists of bytes have the same digits.
@@ -65,7 +65,7 @@ pub fn base32hex_decode(alloc: Global, digits: &[u8]) -> Result<Option<Vec<u8>>,
 fn decode(alloc: Global, alphabet: Alphabet, digits: &[u8]) -> Result<Option<Vec<u8>>, AllocError>
     ensures found { IfOk result
         (λ found. IfSome found (λ bytes. AreBytes bytes.items
-            × (digits.now ≡ encode alphabet bytes.items))) }
+        × (digits.now ≡ encode alphabet bytes.items))) }
     ensures only { (bytes : List ℕ) → AreBytes bytes → digits.now ≡ encode alphabet bytes
         → IfOk result (λ found. IsSomeAnd found (λ answer. answer.items ≡ bytes)) }
 {
@@ -132,7 +132,7 @@ impl Alphabet {
         requires { length digits.now ≡ 8 }
         ensures found { IfSome result
             (λ group. AreBytes group × (length group ≡ 5)
-                × (digits.now ≡ encode_group self group)) }
+            × (digits.now ≡ encode_group self group)) }
         ensures only { (group : List ℕ) → AreBytes group → length group ≡ 5
             → digits.now ≡ encode_group self group → result ≡ Some group }
     {

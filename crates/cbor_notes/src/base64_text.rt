@@ -54,7 +54,7 @@ pub fn base64_lines(alloc: Global, text: &str, url: bool) -> Result<Option<Vec<S
     // The same as a function of the text.
     ensures value { IfOk result
         (λ found. option_map (λ lines. map string_bytes lines.items) found
-            ≡ base64_lines url text.now) }
+        ≡ base64_lines url text.now) }
 {
     match decode(alloc, text.as_bytes(), url)? {
         Some(bytes) => Ok(Some(decoded_lines(alloc, &bytes)?)),

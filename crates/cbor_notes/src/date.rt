@@ -50,7 +50,7 @@ pub fn epoch_of_date(alloc: Global, text: &str) -> Result<Option<String>, AllocE
     // No text is that of two dates.
     ensures only { (date : CivilDate) → IsDateText text.now date
         → IfOk result (λ found. IsSomeAnd found
-            (λ day. string_bytes day ≡ spec.grouped_signed (epoch_day date))) }
+        (λ day. string_bytes day ≡ spec.grouped_signed (epoch_day date))) }
 {
     let Some(date) = text_date(text) else {
         return Ok(None);

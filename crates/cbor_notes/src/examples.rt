@@ -27,12 +27,12 @@ pub(crate) fn base32_vectors()
     ensures upper { map base32 (codes "" ∷ codes "f" ∷ codes "fo" ∷ codes "foo" ∷ codes "foob"
         ∷ codes "fooba"
         ∷ codes "foobar" ∷ []) ≡ codes "" ∷ codes "MY======" ∷ codes "MZXQ====" ∷ codes "MZXW6==="
-            ∷ codes "MZXW6YQ="
+        ∷ codes "MZXW6YQ="
         ∷ codes "MZXW6YTB" ∷ codes "MZXW6YTBOI======" ∷ [] }
     ensures hex { map base32hex (codes "" ∷ codes "f" ∷ codes "fo" ∷ codes "foo" ∷ codes "foob"
         ∷ codes "fooba"
         ∷ codes "foobar" ∷ []) ≡ codes "" ∷ codes "CO======" ∷ codes "CPNG====" ∷ codes "CPNMU==="
-            ∷ codes "CPNMUOG="
+        ∷ codes "CPNMUOG="
         ∷ codes "CPNMUOJ1" ∷ codes "CPNMUOJ1E8======" ∷ [] }
 {}
 
@@ -41,7 +41,7 @@ pub(crate) fn base64_vectors()
     ensures vectors { map standard (codes "" ∷ codes "f" ∷ codes "fo" ∷ codes "foo" ∷ codes "foob"
         ∷ codes "fooba"
         ∷ codes "foobar" ∷ []) ≡ codes "" ∷ codes "Zg==" ∷ codes "Zm8=" ∷ codes "Zm9v"
-            ∷ codes "Zm9vYg=="
+        ∷ codes "Zm9vYg=="
         ∷ codes "Zm9vYmE=" ∷ codes "Zm9vYmFy" ∷ [] }
     ensures standard { standard (0xfb ∷ 0xff ∷ []) ≡ codes "+/8=" }
     ensures url_safe { url_safe (0xfb ∷ 0xff ∷ []) ≡ codes "-_8" }
@@ -135,7 +135,7 @@ pub(crate) fn laid_out()
     ensures width { width_of (head ∷ number ∷ bare ∷ []) ≡ 5 }
     ensures note { layout (head ∷ number ∷ bare ∷ [])
         ≡ codes "d8 20 # tag" ++ 10 ∷ codes "   01 #   one" ++ 10 ∷ codes "      #   note"
-            ++ 10 ∷ [] }
+        ++ 10 ∷ [] }
     ensures first { line_text 9 head ≡ codes "d8 20     # tag" ++ 10 ∷ [] }
     ensures deeper { layout (deep ∷ []) ≡ codes "      ff #     break" ++ 10 ∷ [] }
     ensures bare { layout (bare ∷ []) ≡ codes " #   note" ++ 10 ∷ [] }

@@ -56,9 +56,9 @@ continues b (i ∷ is) [] rest end e first all none =
     absurd (no_both b first.1 i e (item_read b first.0 first.1 i first.2 first.3) (ap (read_item 128) all ∙ none))
 continues b (i ∷ is) (j ∷ js) rest end e first all none =
     let one = one_front b first.1 all.1 i j (item_read b first.0 first.1 i first.2 first.3)
-        (item_read b all.0 all.1 j all.2 all.3) in
+    (item_read b all.0 all.1 j all.2 all.3) in
     let later = continues first.1 is js rest end e first.4
-        (subst (λ (x : List ℕ). ItemsThen x js end) (sym one.1) all.4) none in
+    (subst (λ (x : List ℕ). ItemsThen x js end) (sym one.1) all.4) none in
     let item_is = one.0 in
     let items_are = later.1 in
     (later.0, (cc), later.2)
@@ -78,9 +78,11 @@ module _ (to : To) (input a b rest end : List ℕ) (d : Error) (first : IsOutput
   first_output : (more : List ℕ) × (b ≡ a ++ more)
   first_output =
       let more = continues input first.items all.items rest end d first.input_is all.input_is none in
-      let items_are = ap (flat_map (output_of to)) more.1 in
-      (flat_map (output_of to) more.0, all.output_is ∙ items_are ∙ flat_map-append (output_of to) first.items more.0
-          ∙ ap (λ (x : List ℕ). x ++ flat_map (output_of to) more.0) (sym first.output_is))
+      let items_are = ap (flat_map (output_of to)) more.1 in (
+        flat_map (output_of to) more.0,
+        all.output_is ∙ items_are ∙ flat_map-append (output_of to) first.items more.0
+            ∙ ap (λ (x : List ℕ). x ++ flat_map (output_of to) more.0) (sym first.output_is),
+      )
 
   -- items that no other follows have the whole output
   whole_output : (e : Error) → IsRefused rest e → (a ≡ b) × (rest ≡ end)
@@ -88,7 +90,7 @@ module _ (to : To) (input a b rest end : List ℕ) (d : Error) (first : IsOutput
       let more = continues input first.items all.items rest end d first.input_is all.input_is none in
       let there = ends_there rest more.0 end e ends more.2 in
       let items_are : all.items ≡ first.items = more.1 ∙ ap (λ (ks : List Item). first.items ++ ks) there.0
-          ∙ append-nil first.items in
+      ∙ append-nil first.items in
       (first.output_is ∙ sym (all.output_is ∙ ap (flat_map (output_of to)) items_are), there.1)
 
 pub of_all : (to : To) (input a b : List ℕ) → IsOutputOfAll to input a → IsOutputOfAll to input b → a ≡ b
@@ -111,7 +113,7 @@ not_ended e (inr fault) = fault_no_cut fault
 pub not_both : (to : To) (input a b : List ℕ) (e : Error) → IsOutputOfAll to input a → ¬ (IsOutputBefore to input e b)
 not_both to input a b e all before =
     let one = whole_output to input b a before.0 [] refusal.CutShort before.1 all end_refused e
-        (rest_refused before.0 e before.2) in
+    (rest_refused before.0 e before.2) in
     not_ended e (subst (λ (x : List ℕ). EndsTheItems x e) one.1 before.2)
 
 pub first_of_all : (to : To) (input a rest b : List ℕ) → IsOutputOfFirst to input a rest → IsOutputOfAll to input b

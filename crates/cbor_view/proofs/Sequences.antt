@@ -69,7 +69,7 @@ same_end {X = X} (Err v) r e is was = let P : ViewError → Result X ViewError =
 module _ {T : Type 0} (contents : T → Option (List ℕ)) (old mid new : Counted T) (to : To)
     (all out rest block after : List ℕ)
     (first : IsOutputOfFirst to all out rest) (gained : Gains contents old mid out)
-        (second : IsOutputOfFirst to rest block after) where
+    (second : IsOutputOfFirst to rest block after) where
   -- the block, or a beginning of it where a write failed
   abbrev pub Took : {X : Type 0} → Result X ViewError → Type 0
   Took r = MatchBool (is_write_error r) (GainsPart contents mid new block) (Gains contents mid new block)
@@ -77,32 +77,43 @@ module _ {T : Type 0} (contents : T → Option (List ℕ)) (old mid new : Counte
   pub end_item : {X : Type 0} (r : Result X ViewError) → Took r
       → OnRefusal r (λ e. e ≢ refusal.Memory → EndsTheItems after e)
       → OnRefusal r (λ e. e ≢ refusal.Memory → (written : List ℕ) × IsOutputBefore to all e written
-          × Gains contents old new written)
+      × Gains contents old new written)
   end_item (Ok x) took h = tt
   end_item (Err (view_error.Item e)) took h =
-      λ ample. (out ++ block, (after, more_written to all out rest block after first second, h ample),
-      Appends-trans _ _ _ out block gained took)
+      λ ample. (
+        out ++ block,
+        (after, more_written to all out rest block after first second, h ample),
+        Appends-trans _ _ _ out block gained took,
+      )
   end_item (Err view_error.Read) took h = tt
   end_item (Err view_error.Write) took h = tt
 
   pub end_memory : {X : Type 0} (r : Result X ViewError) → Took r
       → OnRefusal r (λ e. e ≡ refusal.Memory → (written left : List ℕ) × IsOutputOfFirst to all written left
-          × Gains contents old new written)
+      × Gains contents old new written)
   end_memory (Ok x) took = tt
   end_memory (Err (view_error.Item e)) took =
-      λ memory. (out ++ block, after, more_written to all out rest block after first second,
-      Appends-trans _ _ _ out block gained took)
+      λ memory. (
+        out ++ block,
+        after,
+        more_written to all out rest block after first second,
+        Appends-trans _ _ _ out block gained took,
+      )
   end_memory (Err view_error.Read) took = tt
   end_memory (Err view_error.Write) took = tt
 
   pub end_write : {X : Type 0} (r : Result X ViewError) → Took r
       → OnTrue (is_write_error r) ((written left : List ℕ) × IsOutputOfFirst to all written left
-          × GainsPart contents old new written)
+      × GainsPart contents old new written)
   end_write (Ok x) took = tt
   end_write (Err (view_error.Item e)) took = tt
   end_write (Err view_error.Read) took = tt
-  end_write (Err view_error.Write) took = (out ++ block, after, more_written to all out rest block after first second,
-      part_later contents old mid new out block gained took)
+  end_write (Err view_error.Write) took = (
+    out ++ block,
+    after,
+    more_written to all out rest block after first second,
+    part_later contents old mid new out block gained took,
+  )
 
 -- a reader had some bytes, whether they are known or not
 pub had_some : (told : Option (List ℕ)) → (all : List ℕ) × IfSome told (λ bytes. bytes ≡ all)

@@ -28,13 +28,13 @@ two_ranges a m b n v small = elim (cases_lt v m) [
 -- `A` to `Z`, and then `2` to `7`
 pub standard_at : (v : ℕ) → v < 32
     → ((v < 26) × (slice_index (characters Standard) v ≡ 65 + v))
-        ⊎ ((26 ≤ v) × (slice_index (characters Standard) v ≡ 50 + (v - 26)))
+    ⊎ ((26 ≤ v) × (slice_index (characters Standard) v ≡ 50 + (v - 26)))
 standard_at v small = two_ranges 65 26 50 6 v small
 
 -- `0` to `9`, and then `A` to `V`
 pub extended_hex_at : (v : ℕ) → v < 32
     → ((v < 10) × (slice_index (characters ExtendedHex) v ≡ 48 + v))
-        ⊎ ((10 ≤ v) × (slice_index (characters ExtendedHex) v ≡ 65 + (v - 10)))
+    ⊎ ((10 ≤ v) × (slice_index (characters ExtendedHex) v ≡ 65 + (v - 10)))
 extended_hex_at v small = two_ranges 48 10 65 22 v small
 
 -- no digit is `=`
@@ -93,14 +93,26 @@ hex_letter_at d low high = elim (extended_hex_at (d - 65 + 10) (omega arith))
 pub same_value : (a : Alphabet) (v w : ℕ) → v < 32 → w < 32
     → slice_index (characters a) v ≡ slice_index (characters a) w → v ≡ w
 same_value Standard v w sv sw is = elim (standard_at v sv) [
-  | inl x ↦ elim (standard_at w sw) [ inl y ↦ omega (arith, x.0, x.1, y.0, y.1, is) | inr y ↦ omega
-      (arith, x.0, x.1, y.0, y.1, is) ]
-  | inr x ↦ elim (standard_at w sw) [ inl y ↦ omega (arith, x.0, x.1, y.0, y.1, is) | inr y ↦ omega
-      (arith, x.0, x.1, y.0, y.1, is) ]
+  | inl x ↦ elim (standard_at w sw) [
+    | inl y ↦ omega (arith, x.0, x.1, y.0, y.1, is)
+    | inr y ↦ omega
+        (arith, x.0, x.1, y.0, y.1, is)
+  ]
+  | inr x ↦ elim (standard_at w sw) [
+    | inl y ↦ omega (arith, x.0, x.1, y.0, y.1, is)
+    | inr y ↦ omega
+        (arith, x.0, x.1, y.0, y.1, is)
+  ]
 ]
 same_value ExtendedHex v w sv sw is = elim (extended_hex_at v sv) [
-  | inl x ↦ elim (extended_hex_at w sw) [ inl y ↦ omega (arith, x.0, x.1, y.0, y.1, is) | inr y ↦ omega
-      (arith, x.0, x.1, y.0, y.1, is) ]
-  | inr x ↦ elim (extended_hex_at w sw) [ inl y ↦ omega (arith, x.0, x.1, y.0, y.1, is) | inr y ↦ omega
-      (arith, x.0, x.1, y.0, y.1, is) ]
+  | inl x ↦ elim (extended_hex_at w sw) [
+    | inl y ↦ omega (arith, x.0, x.1, y.0, y.1, is)
+    | inr y ↦ omega
+        (arith, x.0, x.1, y.0, y.1, is)
+  ]
+  | inr x ↦ elim (extended_hex_at w sw) [
+    | inl y ↦ omega (arith, x.0, x.1, y.0, y.1, is)
+    | inr y ↦ omega
+        (arith, x.0, x.1, y.0, y.1, is)
+  ]
 ]

@@ -20,7 +20,7 @@ length-encode_group a group few =
     let values : List ℕ = take k (places 32 8 (forty_bits group)) in
     let long : length values ≡ k = length-take-le k (places 32 8 (forty_bits group)) (rw length-places small) in
     let front : length (map (slice_index (characters a)) values) ≡ k = length-map values (slice_index (characters a))
-        ∙ long in
+    ∙ long in
     let back : length (replicate {A = ℕ} (8 - k) 61) ≡ 8 - k = length-replicate (8 - k) 61 in
     let rest : List ℕ = replicate (8 - k) 61 in
     let both : length (map (slice_index (characters a)) values) + length rest ≡ 8 = rw (front, back) (omega arith) in
@@ -83,7 +83,7 @@ encode-append a (suc n) (x ∷ b ∷ c ∷ d ∷ []) ys whole = absurd (omega (a
 encode-append a (suc n) (x ∷ b ∷ c ∷ d ∷ e ∷ xs) ys whole =
     let group : List ℕ = encode_group a (x ∷ b ∷ c ∷ d ∷ e ∷ []) in
     ap (λ (l : List ℕ). group ++ l) (encode-append a n xs ys (omega (arith, whole)))
-        ∙ sym (append_assoc group (encode a xs) (encode a ys))
+    ∙ sym (append_assoc group (encode a xs) (encode a ys))
 
 -- the first of several groups
 pub record FirstGroup (a : Alphabet) (bytes digits : List ℕ) : Type 0 where
@@ -134,7 +134,7 @@ few_bytes a (x ∷ b ∷ c ∷ d ∷ e ∷ rest) eight =
     let group : List ℕ = x ∷ b ∷ c ∷ d ∷ e ∷ [] in
     let first = length-encode_group a group (omega arith) in
     let last : rest ≡ [] = no_bytes a rest (omega
-        (arith, eight, first, length-append (encode_group a group) (encode a rest))) in
+    (arith, eight, first, length-append (encode_group a group) (encode a rest))) in
     rw last (omega arith, omega arith)
 
 pub one_group : (a : Alphabet) (bytes digits : List ℕ) → AreBytes bytes → digits ≡ encode a bytes → length digits ≡ 8
@@ -146,7 +146,7 @@ one_group a bytes digits all is eight =
 take-add : (m n : ℕ) (xs : List ℕ) → take (m + n) xs ≡ take m xs ++ take n (drop m xs)
 take-add m n xs =
     let whole : take m (take (m + n) xs) ++ drop m (take (m + n) xs) ≡ take (m + n) xs =
-        take-append-drop m (take (m + n) xs) in
+    take-append-drop m (take (m + n) xs) in
     sym (rw (take-take m (m + n) xs (omega arith), drop-take m n xs) at whole)
 
 pub AllBelowBase-append : (b : ℕ) (xs ys : List ℕ) → AllBelowBase b xs → AllBelowBase b ys → AllBelowBase b (xs ++ ys)
@@ -175,23 +175,26 @@ pub next_group : (a : Alphabet) (digits bytes : List ℕ) (i : ℕ) → IsDecode
     → (whole : List ℕ) → AreBytes whole → digits ≡ encode a whole
     → (rest : List ℕ) × (whole ≡ bytes ++ rest) × FirstGroup a rest (drop (8 * i) digits)
 next_group a digits bytes i so_far more whole all is =
-    let here = so_far.only whole all is in
-    (here.0, here.2, first_group a here.0 (drop (8 * i) digits) here.1 here.3
-        (omega (arith, length-drop (8 * i) digits)))
+    let here = so_far.only whole all is in (
+      here.0,
+      here.2,
+      first_group a here.0 (drop (8 * i) digits) here.1 here.3
+          (omega (arith, length-drop (8 * i) digits)),
+    )
 
 pub decoded_more : (a : Alphabet) (digits bytes group : List ℕ) (i : ℕ) → IsDecoded a digits bytes i
     → 8 * i + 8 < length digits
     → AreBytes group → length group ≡ 5 → take 8 (drop (8 * i) digits) ≡ encode_group a group
     → ((other : List ℕ) → AreBytes other → length other ≡ 5 → take 8 (drop (8 * i) digits) ≡ encode_group a other
-        → Some group ≡ Some other)
+    → Some group ≡ Some other)
     → IsDecoded a digits (bytes ++ group) (i + 1)
 decoded_more a digits bytes group i so_far more are_bytes five shown one =
     let next : 8 * (i + 1) ≡ 8 * i + 8 = omega arith in
     let split : take (8 * i + 8) digits ≡ take (8 * i) digits ++ take 8 (drop (8 * i) digits) =
-        take-add (8 * i) 8 digits in
+    take-add (8 * i) 8 digits in
     let joined : encode a (bytes ++ group) ≡ encode a bytes ++ encode_group a group =
     encode-append a i bytes group so_far.count
-        ∙ ap (λ (l : List ℕ). encode a bytes ++ l) (encode-group a group (omega arith) (omega arith)) in
+    ∙ ap (λ (l : List ℕ). encode a bytes ++ l) (encode-group a group (omega arith) (omega arith)) in
     record {
       are_bytes = AllBelowBase-append 256 bytes group so_far.are_bytes are_bytes;
       count = omega (arith, length-append bytes group, so_far.count);
@@ -199,9 +202,12 @@ decoded_more a digits bytes group i so_far more are_bytes five shown one =
       only = λ whole all is.
           let here = next_group a digits bytes i so_far more whole all is in
           let first = here.2 in
-          let same : group ≡ first.group = cc (one first.group first.are_bytes first.five first.front) in
-          (first.rest, first.rest_bytes, here.1 ∙ rw (first.whole, same, append_assoc) refl,
-              rw next (sym (drop-drop 8 (8 * i) digits) ∙ first.back));
+          let same : group ≡ first.group = cc (one first.group first.are_bytes first.five first.front) in (
+            first.rest,
+            first.rest_bytes,
+            here.1 ∙ rw (first.whole, same, append_assoc) refl,
+            rw next (sym (drop-drop 8 (8 * i) digits) ∙ first.back),
+          );
     }
 
 -- after the last whole group: the digits of the last group are left
@@ -247,7 +253,7 @@ first_bytes five group count len bytes is same long =
     let filled : five ≡ group ++ rest =
     same_digits 256 five (group ++ rest) (len ∙ sym (length-append group rest ∙ rw back (omega (arith, is.2)))) bytes
     (below_zeros 256 (5 - length group) group (lit< tt) is.0)
-        (same ∙ sym (number_zeros 256 (5 - length group) group)) in
+    (same ∙ sym (number_zeros 256 (5 - length group) group)) in
     rw filled (take_at group rest count (sym long))
 
 pub forty_bits-lt : (group : List ℕ) (number : ℕ) → IsLastGroup group → number ≡ forty_bits group

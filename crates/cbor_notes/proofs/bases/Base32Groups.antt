@@ -22,16 +22,16 @@ pub encode_group_is : (a : Alphabet) (group digits : List ℕ) (number k : ℕ) 
     → encode_group a group ≡ digits ++ replicate (8 - k) 61
 encode_group_is a group digits number k k_is fits w len bits =
     let long : length w.values ≡ k = sym (length-map w.values (slice_index (characters a)))
-        ∙ sym (ap length w.digits_are) ∙ len in
+    ∙ sym (ap length w.digits_are) ∙ len in
     let eight : 8 - k + k ≡ 8 = omega arith in
     let high : forty_bits group / 32 ^ (8 - k) ≡ number =
-        rw (← bits) (mul-div_cancel number (one-le-pow (8 - k) 32 (lit< tt))) in
+    rw (← bits) (mul-div_cancel number (one-le-pow (8 - k) 32 (lit< tt))) in
     let front : take k (places 32 8 (forty_bits group)) ≡ places 32 k number =
     ap (λ (n : ℕ). take k (places 32 n (forty_bits group))) (sym eight) ∙ take-places 32 k (8 - k) (forty_bits group)
-        ∙ ap (places 32 k) high in
+    ∙ ap (places 32 k) high in
     let values : places 32 k number ≡ w.values =
     ap (places 32 k) w.number_is ∙ ap (λ (n : ℕ). places 32 n (number_from_digits 32 w.values)) (sym long)
-        ∙ places-number 32 w.values (lit< tt) w.below in
+    ∙ places-number 32 w.values (lit< tt) w.below in
     rw (← k_is, front, values, ← w.digits_are) refl
 
 -- a group's forty bits, and the number of its digits
@@ -44,8 +44,13 @@ pub record GroupBits (group : List ℕ) : Type 0 where
 
 pub group_bits : (group : List ℕ) → IsLastGroup group → GroupBits group
 group_bits [] is = absurd (omega (arith, is.1))
-group_bits (a ∷ []) is = let fits = is.0.0 in record { small = omega arith; whole = omega arith; unused =
-    omega arith; count = refl }
+group_bits (a ∷ []) is = let fits = is.0.0 in record {
+  small = omega arith;
+  whole = omega arith;
+  unused =
+      omega arith;
+  count = refl;
+}
 group_bits (a ∷ b ∷ []) is = let x = is.0.0 in let y =
     is.0.1.0 in record { small = omega arith; whole = omega arith; unused = omega arith; count = refl }
 group_bits (a ∷ b ∷ c ∷ []) is = let x = is.0.0 in let y = is.0.1.0 in let z =
@@ -53,8 +58,13 @@ group_bits (a ∷ b ∷ c ∷ []) is = let x = is.0.0 in let y = is.0.1.0 in let
 group_bits (a ∷ b ∷ c ∷ d ∷ []) is = let x = is.0.0 in let y = is.0.1.0 in let z = is.0.1.1.0 in let w =
     is.0.1.1.1.0 in record { small = omega arith; whole = omega arith; unused = omega arith; count = refl }
 group_bits (a ∷ b ∷ c ∷ d ∷ e ∷ []) is = let x = is.0.0 in let y = is.0.1.0 in let z = is.0.1.1.0 in let w =
-    is.0.1.1.1.0 in let v = is.0.1.1.1.1.0 in record { small = omega arith; whole = omega arith; unused =
-    omega arith; count = refl }
+    is.0.1.1.1.0 in let v = is.0.1.1.1.1.0 in record {
+      small = omega arith;
+      whole = omega arith;
+      unused =
+          omega arith;
+      count = refl;
+    }
 group_bits (a ∷ b ∷ c ∷ d ∷ e ∷ f ∷ group) is = absurd (omega (arith, is.2))
 
 -- what the characters of a group show
@@ -77,7 +87,7 @@ group_digits a group digits k is k_is digits_are =
     ap (λ (n : ℕ). take k (places 32 n (forty_bits group))) (sym eight) ∙ take-places 32 k (8 - k) (forty_bits group) in
     let front : List ℕ = map (slice_index (characters a)) (places 32 k number) in
     let long : length front ≡ k = length-map (places 32 k number) (slice_index (characters a))
-        ∙ length-places 32 k number in
+    ∙ length-places 32 k number in
     let shown : digits ≡ front ++ replicate (8 - k) 61 = digits_are ∙ rw (← k_is, values) refl in
     let scaled : forty_bits group < 32 ^ k * 32 ^ (8 - k) =
     rw (← pow-add 32 k (8 - k)) (let whole : k + (8 - k) ≡ 8 = omega arith in rw whole bits.small) in
@@ -102,11 +112,11 @@ unpadded_is a digits number r k few eight w padding low = elim (cases_lt r k) [
       let long : length (take k digits) ≡ k = length-take-le k digits (omega arith) in
       let last = written_at a (take k digits) number (k - 1) w (omega arith) in
       let there : slice_index (take k digits) (k - 1) ≡ slice_index digits (k - 1) =
-          get_or-take k digits (k - 1) 0 (omega arith) in
+      get_or-take k digits (k - 1) 0 (omega arith) in
       let place : r + (k - 1 - r) ≡ k - 1 = omega arith in
       let equals : slice_index digits (k - 1) ≡ 61 =
       ap (slice_index digits) (sym place) ∙ sym (get_or-drop r digits (k - 1 - r) 0)
-          ∙ ap (λ (l : List ℕ). slice_index l (k - 1 - r)) padding
+      ∙ ap (λ (l : List ℕ). slice_index l (k - 1 - r)) padding
       ∙ get_or-replicate (8 - r) (k - 1 - r) 61 0 (omega arith) in
       absurd (no_equals_sign a last.0 last.1 (last.2 ∙ there ∙ equals))
   | inr ge ↦ omega arith
@@ -150,7 +160,7 @@ IsRead a digits bits count = (group : List ℕ) × IsLastGroup group × (digits 
 from_number : (a : Alphabet) (digits : List ℕ) (n r m x : ℕ) → r ≡ digit_count m → 0 < m → m ≤ 5 → r ≤ 8
     → length digits ≡ 8
     → Writes a (take r digits) n → drop r digits ≡ replicate (8 - r) 61 → x < 256 ^ m
-        → n * 32 ^ (8 - r) ≡ x * 256 ^ (5 - m)
+    → n * 32 ^ (8 - r) ≡ x * 256 ^ (5 - m)
     → IsRead a digits (n * 32 ^ (8 - r)) m
 from_number a digits n r m x r_is some few fits eight w padding small same =
     let group : List ℕ = places 256 m x in
@@ -160,7 +170,7 @@ from_number a digits n r m x r_is some few fits eight w padding small same =
     let encoded : encode_group a group ≡ take r digits ++ replicate (8 - r) 61 =
     encode_group_is a group (take r digits) n r (rw long r_is) fits w (length-take-le r digits (omega arith)) bits in
     let shown : digits ≡ encode_group a group = sym (take-append-drop r digits)
-        ∙ ap (λ (l : List ℕ). take r digits ++ l) padding ∙ sym encoded in
+    ∙ ap (λ (l : List ℕ). take r digits ++ l) padding ∙ sym encoded in
     (group, is, shown, bits, sym long)
 
 -- five bytes have eight digits, which write their number
@@ -194,14 +204,14 @@ read_at a digits n r m x is r_is count some few fits eight below w padding small
     let read = from_number a digits n r m x r_is some few fits eight w padding small same in
     let whole : r + (8 - r) ≡ 8 = omega arith in
     let scaled : n * 32 ^ (8 - r) < 32 ^ r * 32 ^ (8 - r) =
-        mul-lt-mul_of_pos_right below (one-le-pow (8 - r) 32 (lit< tt)) in
+    mul-lt-mul_of_pos_right below (one-le-pow (8 - r) 32 (lit< tt)) in
     let bits : n * 32 ^ (8 - r) < 32 ^ 8 = rw (← pow-add 32 r (8 - r), whole) at scaled in
     (read.0, read.1, read.2, shifted n r (n * 32 ^ (8 - r)) is refl bits ∙ read.3, count ∙ read.4)
 
 -- a last group that was read, from its digits
 pub last_is_read : (a : Alphabet) (digits : List ℕ) (n r : ℕ) → IsDigitCount r → length digits ≡ 8
     → Writes a (take r digits) n → drop r digits ≡ replicate (8 - r) 61
-        → n % (1 * 2 ^ (5 * r % 8) % 18446744073709551616) ≡ 0
+    → n % (1 * 2 ^ (5 * r % 8) % 18446744073709551616) ≡ 0
     → IsRead a digits (n * 2 ^ (40 - 5 * r) % 18446744073709551616) (5 * r / 8)
 last_is_read a digits n r is eight w padding unused =
     let few : r ≤ 8 = rw is.3 (few_digits is.0 is.2) in
@@ -209,22 +219,22 @@ last_is_read a digits n r is eight w padding unused =
     elim (digit_counts r is) [
       | inl e ↦ let h = rw e at unused in let b = rw e at below in
           read_at a digits n r 1 (n / 4) is (rw e refl) (rw e refl) (omega arith) (omega arith) few eight below w
-              padding (omega arith) (rw e (omega arith))
+          padding (omega arith) (rw e (omega arith))
       | inr more ↦ elim more [
         | inl e ↦ let h = rw e at unused in let b = rw e at below in
             read_at a digits n r 2 (n / 16) is (rw e refl) (rw e refl) (omega arith) (omega arith) few eight below w
-                padding (omega arith) (rw e (omega arith))
+            padding (omega arith) (rw e (omega arith))
         | inr more ↦ elim more [
           | inl e ↦ let h = rw e at unused in let b = rw e at below in
               read_at a digits n r 3 (n / 2) is (rw e refl) (rw e refl) (omega arith) (omega arith) few eight below w
-                  padding (omega arith) (rw e (omega arith))
+              padding (omega arith) (rw e (omega arith))
           | inr more ↦ elim more [
             | inl e ↦ let h = rw e at unused in let b = rw e at below in
                 read_at a digits n r 4 (n / 8) is (rw e refl) (rw e refl) (omega arith) (omega arith) few eight below w
-                    padding (omega arith) (rw e (omega arith))
+                padding (omega arith) (rw e (omega arith))
             | inr e ↦ let h = rw e at unused in let b = rw e at below in
                 read_at a digits n r 5 (n / 1) is (rw e refl) (rw e refl) (omega arith) (omega arith) few eight below w
-                    padding (omega arith) (rw e (omega arith))
+                padding (omega arith) (rw e (omega arith))
           ]
         ]
       ]
@@ -248,7 +258,7 @@ last_digits a group digits r is eight digits_are r_is padding least =
     let shown = group_digits a group digits k is refl digits_are in
     let bits = group_bits group is in
     let same : r ≡ k = unpadded_is a digits (forty_bits group / 32 ^ (8 - k)) r k shown.few eight shown.front padding
-        (least k k_is shown.padding) in
+    (least k k_is shown.padding) in
     rw same (record {
       front = shown.front;
       unused = unused_none (forty_bits group / 32 ^ (8 - k)) k k_is bits.unused;

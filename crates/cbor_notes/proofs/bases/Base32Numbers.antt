@@ -32,9 +32,11 @@ below_at b (d ∷ ds) (suc i) all small = below_at b ds i all.1 (omega (arith, s
 pub written_at : (a : Alphabet) (digits : List ℕ) (number i : ℕ) → Writes a digits number → i < length digits
     → (value : ℕ) × (value < 32) × (slice_index (characters a) value ≡ slice_index digits i)
 written_at a digits number i w small =
-    let fits : i < length w.values = rw (w.digits_are, length-map) at small in
-    (get_or w.values i 0, below_at 32 w.values i w.below fits,
-        sym (rw w.digits_are (get_or-map (slice_index (characters a)) w.values i 0 0 fits)))
+    let fits : i < length w.values = rw (w.digits_are, length-map) at small in (
+      get_or w.values i 0,
+      below_at 32 w.values i w.below fits,
+      sym (rw w.digits_are (get_or-map (slice_index (characters a)) w.values i 0 0 fits)),
+    )
 
 same_values : (a : Alphabet) (xs ys : List ℕ) → AllBelowBase 32 xs → AllBelowBase 32 ys
     → map (slice_index (characters a)) xs ≡ map (slice_index (characters a)) ys → xs ≡ ys
@@ -50,4 +52,4 @@ same_values a (c ∷ xs) (d ∷ ys) x y is =
 pub same_written : (a : Alphabet) (digits : List ℕ) (m n : ℕ) → Writes a digits m → Writes a digits n → m ≡ n
 same_written a digits m n v w =
     v.number_is ∙ ap (number_from_digits 32)
-        (same_values a v.values w.values v.below w.below (sym v.digits_are ∙ w.digits_are)) ∙ sym w.number_is
+    (same_values a v.values w.values v.below w.below (sym v.digits_are ∙ w.digits_are)) ∙ sym w.number_is

@@ -16,7 +16,7 @@ digits_after number (d ∷ digits) some all =
     let more : 0 < next = omega arith in
     let step : digits_of 58 next ≡ digits_of 58 number ++ d ∷ [] =
     digits_of_step 58 next (omega arith) more
-        ∙ rw (div-mul-add number 58 d all.0, mod-mul-add number 58 d all.0) refl in
+    ∙ rw (div-mul-add number 58 d all.0, mod-mul-add number 58 d all.0) refl in
     digits_after next digits more all.1 ∙ rw (step, append_assoc) refl
 
 -- digits that do not begin with zero are those of their number
@@ -26,7 +26,7 @@ digits_of-number [] all some = refl
 digits_of-number (d ∷ digits) all some =
     let first : digits_of 58 d ≡ d ∷ [] =
     digits_of_step 58 d (omega arith) some ∙ (let high : d / 58 ≡ 0 = omega (arith, all.0) in let low : d % 58 ≡ d =
-        omega (arith, all.0) in rw (high, low) refl) in
+    omega (arith, all.0) in rw (high, low) refl) in
     let start : 0 * 58 + d ≡ d = omega arith in
     rw start (digits_after d digits some all.1 ∙ rw first refl)
 
@@ -38,5 +38,5 @@ pub base58_by_digits : (bytes text digits : List ℕ) → text ≡ base58_of byt
 unfolding base58_of
 base58_by_digits bytes text digits is all some same =
     let digits_are : digits_of 58 (number_from_digits 256 bytes) ≡ digits = ap (digits_of 58) (sym same)
-        ∙ digits_of-number digits all some in
+    ∙ digits_of-number digits all some in
     is ∙ rw digits_are refl

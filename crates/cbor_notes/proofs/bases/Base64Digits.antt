@@ -55,7 +55,7 @@ false_or a b x y = rw (x, y) refl
 -- one symbol, and then the same others
 same_first : (k : ℕ) (xs ys : List ℕ) → k < 64 → list_any is_standard_only (slice_index standard_symbols k ∷ xs) ≡ false
     → (list_any is_standard_only xs ≡ false → xs ≡ ys)
-        → slice_index standard_symbols k ∷ xs ≡ slice_index url_safe_symbols k ∷ ys
+    → slice_index standard_symbols k ∷ xs ≡ slice_index url_safe_symbols k ∷ ys
 same_first k xs ys small plain more =
     let parts = or_false (is_standard_only (slice_index standard_symbols k)) (list_any is_standard_only xs) plain in
     rw (standard_symbol k small parts.0, more parts.1) refl
@@ -68,21 +68,21 @@ symbols_url_safe [] all = refl
 symbols_url_safe (a ∷ []) all =
     let x = all.0 in
     false_or _ _ (url_safe_symbol (a / 4) (omega arith))
-        (false_or _ _ (url_safe_symbol (a % 4 * 16) (omega arith)) refl)
+    (false_or _ _ (url_safe_symbol (a % 4 * 16) (omega arith)) refl)
 symbols_url_safe (a ∷ b ∷ []) all =
     let x = all.0 in
     let y = all.1.0 in
     false_or _ _ (url_safe_symbol (a / 4) (omega arith))
-        (false_or _ _ (url_safe_symbol (a % 4 * 16 + b / 16) (omega arith))
+    (false_or _ _ (url_safe_symbol (a % 4 * 16 + b / 16) (omega arith))
     (false_or _ _ (url_safe_symbol (b % 16 * 4) (omega arith)) refl))
 symbols_url_safe (a ∷ b ∷ c ∷ bytes) all =
     let x = all.0 in
     let y = all.1.0 in
     let z = all.1.1.0 in
     false_or _ _ (url_safe_symbol (a / 4) (omega arith))
-        (false_or _ _ (url_safe_symbol (a % 4 * 16 + b / 16) (omega arith))
+    (false_or _ _ (url_safe_symbol (a % 4 * 16 + b / 16) (omega arith))
     (false_or _ _ (url_safe_symbol (b % 16 * 4 + c / 64) (omega arith))
-        (false_or _ _ (url_safe_symbol (c % 64) (omega arith))
+    (false_or _ _ (url_safe_symbol (c % 64) (omega arith))
     (symbols_url_safe bytes all.1.1.1))))
 
 -- the symbols of a standard encoding without these digits
@@ -158,7 +158,7 @@ standard_chosen digits bytes false marks all is = standard_plain digits bytes al
 pub found_either : {V E : Type 0} (r : Result (Option V) E) (items : V → List ℕ) (digits : List ℕ) (url : Bool)
     → IfOk r (λ found. IfSome found (λ v. AreBytes (items v) × (digits ≡ encoding url (items v))))
     → IfOk r (λ found. IfSome found (λ v. AreBytes (items v)
-        × ((digits ≡ url_safe (items v)) ⊎ (digits ≡ standard (items v)))))
+    × ((digits ≡ url_safe (items v)) ⊎ (digits ≡ standard (items v)))))
 found_either (Ok (Some v)) items digits true is = (is.0, inl is.1)
 found_either (Ok (Some v)) items digits false is = (is.0, inr is.1)
 found_either (Ok None) items digits url is = tt
@@ -183,10 +183,10 @@ pub decoded_found : (url : Bool) (digits bytes : List ℕ) → AreBytes digits �
 unfolding decoded decoded_of
 decoded_found true digits bytes all is =
     decode_of_strict engines.url_safe_no_pad digits bytes (refl, refl) (bytes_at digits all)
-        (some_ok (decode_of engines.url_safe_no_pad digits) bytes is)
+    (some_ok (decode_of engines.url_safe_no_pad digits) bytes is)
 decoded_found false digits bytes all is =
     decode_of_strict engines.standard digits bytes (refl, refl) (bytes_at digits all)
-        (some_ok (decode_of engines.standard digits) bytes is)
+    (some_ok (decode_of engines.standard digits) bytes is)
 
 -- and the encoding of bytes decodes to them
 pub decoded_every : (url : Bool) (bytes : List ℕ) → AreBytes bytes → decoded url (encoding url bytes) ≡ Some bytes

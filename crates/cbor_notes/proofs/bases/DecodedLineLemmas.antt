@@ -35,7 +35,7 @@ unfolding decoded_line
 line_is piece filled marked line width counter fits low high filled_is marked_is is =
     let same : counter ≡ width = omega arith in
     let whole : line ≡ ((encode_lower piece ++ replicate (counter - 2 * length piece) 32) ++ codes " # ")
-        ++ quoted_bytes piece =
+    ++ quoted_bytes piece =
     is ∙ rw (marked_is, filled_is) refl in
     rw same at whole
 
@@ -79,7 +79,7 @@ shown_more bytes rest piece left line lines n so_far split long some is =
       shown =
           rw (so_far.shown, is, here)
           (sym (map-range_with_len_more (λ k. decoded_line (2 * min 16 (length bytes)) (slice_chunk bytes 16 k)) 0 n n
-              (omega arith)));
+          (omega arith)));
     }
 
 pub shown_all : (bytes rest : List ℕ) (lines : List (List ℕ)) (n : ℕ) → AreShown bytes rest lines n → length rest ≡ 0

@@ -59,7 +59,7 @@ pub values_below : (group : List ℕ) → length group ≤ 5 → AllBelowBase 32
 values_below group small =
     let k : ℕ = digit_count (length group) in
     rw (values_are group k (few_digits (length group) small))
-        (AllBelowBase-places 32 k (forty_bits group / 32 ^ (8 - k)) (lit< tt))
+    (AllBelowBase-places 32 k (forty_bits group / 32 ^ (8 - k)) (lit< tt))
 
 -- the number that the values make, filled up with zero bits, is the group's forty bits
 bits_again : (group : List ℕ) → IsLastGroup group → (length (group_values group) ≡ digit_count (length group))
@@ -72,7 +72,7 @@ bits_again group is =
     let scaled : forty_bits group < 32 ^ k * 32 ^ (8 - k) =
     rw (← pow-add 32 k (8 - k)) (let whole : k + (8 - k) ≡ 8 = omega arith in rw whole bits.small) in
     let small : number < 32 ^ k = div_below (forty_bits group) (32 ^ (8 - k)) (32 ^ k) (one-le-pow (8 - k) 32 (lit< tt))
-        scaled in (
+    scaled in (
       ap length (values_are group k few) ∙ length-places 32 k number,
       ap (λ (v : List ℕ). number_from_digits 32 v * 32 ^ (8 - k)) (values_are group k few)
           ∙ (ap (λ (n : ℕ). n * 32 ^ (8 - k)) (number-places 32 k number (lit< tt) small) ∙ bits.whole),
@@ -90,7 +90,7 @@ bytes_again group n n_is few all =
 
 pub group_again : (group : List ℕ) → IsLastGroup group
     → let values = group_values group in take (5 * length values / 8)
-        (places 256 5 (number_from_digits 32 values * 32 ^ (8 - length values))) ≡ group
+    (places 256 5 (number_from_digits 32 values * 32 ^ (8 - length values))) ≡ group
 group_again group is =
     let bits = bits_again group is in
     let count = (group_bits group is).count in

@@ -52,7 +52,7 @@ free_joined between f other each [] = tt
 free_joined between f other each (x ∷ []) = each x
 free_joined between f other each (x ∷ y ∷ xs) =
     free_both 10 (f x) (between ∷ join_with_byte between (map f (y ∷ xs))) (each x)
-        (other, free_joined between f other each (y ∷ xs))
+    (other, free_joined between f other each (y ∷ xs))
 
 dot_other : dot ≢ 10
 dot_other e = cc e
@@ -74,7 +74,7 @@ shortened_line : (groups : List ℕ) (start count : ℕ) → Free 10 (shortened 
 shortened_line groups start count =
     free_both 10 (groups_text (take start groups) ++ codes "::") (groups_text (drop (start + count) groups))
     (free_both 10 (groups_text (take start groups)) (codes "::") (segments_line (take start groups))
-        (from_test 10 (codes "::") refl))
+    (from_test 10 (codes "::") refl))
     (segments_line (drop (start + count) groups))
 
 hex_text_line : (groups : List ℕ) → Free 10 (hex_text groups)
@@ -87,7 +87,7 @@ unfolding ipv6_text
 ipv6_line octets =
     free_cond 10 _ (codes "::ffff:" ++ ipv4_text (drop 12 octets)) (hex_text _)
     (free_both 10 (codes "::ffff:") (ipv4_text (drop 12 octets)) (from_test 10 (codes "::ffff:") refl)
-        (ipv4_line (drop 12 octets)))
+    (ipv4_line (drop 12 octets)))
     (hex_text_line _)
 
 -- identifiers
@@ -119,7 +119,7 @@ fields_free bytes =
     free_words (one ++ number ++ codes ", ") version (codes "))")
     (free_words one number (codes ", ")
     (free_between (codes "uuid(variant(") variant (codes "), version(") refl
-        (from_test 10 variant (variant_plain (variant_of (slice_index bytes 8)))) refl)
+    (from_test 10 variant (variant_plain (variant_of (slice_index bytes 8)))) refl)
     (decimal_line (version_num bytes)) refl)
     (from_test 10 version (version_plain (version_of bytes))) refl
 
@@ -141,20 +141,20 @@ hyphenated_line : (bytes : List ℕ) → Free 10 (hyphenated_text lower bytes)
 hyphenated_line bytes =
     free_by_index 36 (λ k. if is_hyphen_place k then hyphen else hex_digit lower (nibble bytes (digit_place k)))
     (λ k. other_cond 10 (is_hyphen_place k) hyphen (hex_digit lower (nibble bytes (digit_place k))) hyphen_other
-        (hex_digit_other (nibble bytes (digit_place k))))
+    (hex_digit_other (nibble bytes (digit_place k))))
 
 pub base58_of_line : (bytes : List ℕ) → Free 10 (base58_of bytes)
 unfolding base58_of
 base58_of_line bytes =
     free_both 10 (replicate _ 49) (map (slice_index characters) _) (free_same 10 49 _ (λ e. cc e))
     (all_map (λ b. b ≢ 10) (slice_index characters)
-        (λ k. free_digit 10 characters k zero_other (from_test 10 characters refl)) _)
+    (λ k. free_digit 10 characters k zero_other (from_test 10 characters refl)) _)
 
 base64_free : (bytes : List ℕ) → Free 10 (base64_line bytes)
 base64_free bytes =
     let table = codes "ABCDEFGHIJKLMNOPQRSTUVWXYZabcdefghijklmnopqrstuvwxyz0123456789+/" in
     free_between (codes "base64(") _ (codes ")") refl
-        (free_both 10 _ [] (free_symbols table (from_test 10 table refl) bytes) tt) refl
+    (free_both 10 _ [] (free_symbols table (from_test 10 table refl) bytes) tt) refl
 
 base16_free : (bytes : List ℕ) → Free 10 (base16_line bytes)
 base16_free bytes = free_between (codes "base16(") (hyphenated_text lower bytes) (codes ")") refl
@@ -186,7 +186,7 @@ value_text_line : (k : Kind) (bytes : List ℕ) → Free 10 (value_text k bytes)
 value_text_line k bytes =
     free_words (word k ++ codes "(") (value k bytes) (codes ")")
     (free_both 10 (word k) (codes "(") (from_test 10 (word k) (word_plain k)) (from_test 10 (codes "(") refl))
-        (value_line k bytes) refl
+    (value_line k bytes) refl
 
 free_if : (b : Bool) (text : List ℕ) → Free 10 text → Free 10 (unwrap_or (cond b (Some text) None) [])
 free_if true text free = free
@@ -203,7 +203,7 @@ unfolding decoded_line
 decoded_line_line width piece =
     free_both 10 (encode_lower piece ++ replicate (width - 2 * length piece) 32 ++ codes " # ") (quoted_bytes piece)
     (free_words (encode_lower piece) (replicate (width - 2 * length piece) 32) (codes " # ") (hex_line piece)
-        (free_same 10 32 _ (λ e. cc e)) refl)
+    (free_same 10 32 _ (λ e. cc e)) refl)
     (quoted_line piece)
 
 pub decoded_lines_line : (bytes : List ℕ) → AllByRecursion (Free 10) (decoded_lines bytes)

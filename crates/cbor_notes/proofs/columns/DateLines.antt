@@ -59,17 +59,17 @@ moment_line seconds text is =
     let first = free_both 10 date (codes "T") (date_line is.date) (from_test 10 (codes "T") refl) in
     let second = free_both 10 (date ++ codes "T") clock first (clock_line is.hour is.minute is.second) in
     subst (Free 10) (sym is.text_is) (free_both 10 (date ++ codes "T" ++ clock) (codes "Z") second
-        (from_test 10 (codes "Z") refl))
+    (from_test 10 (codes "Z") refl))
 
 pub date_of_epoch_line : (day : ℤ) → Free 10 (unwrap_or (date_of_epoch day) [])
 date_of_epoch_line day =
     line_of (date_of_epoch day) (IfSome_then (date_of_epoch day) (date_of_epoch_is day)
-        (λ text is. subst (Free 10) (sym is.2) (date_line is.0)))
+    (λ text is. subst (Free 10) (sym is.2) (date_line is.0)))
 
 pub datetime_of_epoch_line : (seconds : ℤ) → Free 10 (unwrap_or (datetime_of_epoch seconds) [])
 datetime_of_epoch_line seconds =
     line_of (datetime_of_epoch seconds) (IfSome_then (datetime_of_epoch seconds) (datetime_of_epoch_is seconds)
-        (moment_line seconds))
+    (moment_line seconds))
 
 -- numbers
 signed_line : (number : ℤ) → Free 10 (grouped_signed number)
@@ -79,7 +79,7 @@ signed_line (negsuc n) = grouped_line (suc n) true
 pub epoch_of_date_line : (text : List ℕ) → Free 10 (unwrap_or (epoch_of_date text) [])
 epoch_of_date_line text =
     line_of (epoch_of_date text) (IfSome_then (epoch_of_date text) (epoch_of_date_is text)
-        (λ day is. subst (Free 10) (sym is.2) (signed_line _)))
+    (λ day is. subst (Free 10) (sym is.2) (signed_line _)))
 
 decimal_signed_line : (number : ℤ) → Free 10 (signed_decimal number)
 decimal_signed_line (pos n) = decimal_line n
@@ -101,18 +101,18 @@ unfolding fraction_text
 fraction_line digits all =
     let zeros : Free 10 (replicate 9 48) = from_test 10 (replicate 9 48) refl in
     let nine : Free 10 (nine_digits digits) =
-        free_take 10 9 (digits ++ replicate 9 48)
-        (free_both 10 digits (replicate 9 48) (digits_free digits all) zeros) in
+    free_take 10 9 (digits ++ replicate 9 48)
+    (free_both 10 digits (replicate 9 48) (digits_free digits all) zeros) in
     let some = free_take 10 (shown (nine_digits digits)) (nine_digits digits) nine in
     free_cond 10 (shown (nine_digits digits) == 0) [] _ tt
     (free_both 10 (codes ".") (take (shown (nine_digits digits)) (nine_digits digits)) (from_test 10 (codes ".") refl)
-        some)
+    some)
 
 epoch_line : (seconds : ℤ) (digits : List ℕ) → list_all is_ascii_digit digits ≡ true
     → Free 10 (epoch_text seconds digits)
 epoch_line seconds digits all =
     free_both 10 (signed_decimal seconds) (fraction_text digits) (decimal_signed_line seconds)
-        (fraction_line digits all)
+    (fraction_line digits all)
 
 note_line : (text answer : List ℕ) → IsMomentNote text answer → Free 10 answer
 note_line text answer is =

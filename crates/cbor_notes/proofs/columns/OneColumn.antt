@@ -20,7 +20,7 @@ pub first_at : (c : ℕ) (front back : List ℕ) → Lacks c front
     → position_or_len (λ b. b == c) (front ++ c ∷ back) ≡ length front
 first_at c front back lacks =
     position_or_len_is (λ b. b == c) (front ++ c ∷ back) (length front) 0
-        (omega (arith, length-append front (c ∷ back)))
+    (omega (arith, length-append front (c ∷ back)))
     (λ k h. rw (get_or_append_left front (c ∷ back) 0 k h) (ne_eqb (get_or front k 0) c (lacks k 0 h)))
     (λ _. rw (get_or-append_seam front c back 0) (grind (arith, nat_tests)))
 
@@ -44,7 +44,7 @@ parts_some p [] = ([], [], refl)
 parts_some p (x ∷ xs) =
     let rest = parts_some p xs in
     elim (p x) as (λ v. (first : List ℕ) × (more : List (List ℕ))
-        × (cond v ([] ∷ slice_split p xs) (onto_first x (slice_split p xs)) ≡ first ∷ more)) [
+    × (cond v ([] ∷ slice_split p xs) (onto_first x (slice_split p xs)) ≡ first ∷ more)) [
       | true ↦ ([], slice_split p xs, refl)
       | false ↦ (x ∷ rest.0, rest.1, ap (onto_first x) rest.2)
     ]
@@ -62,11 +62,11 @@ end_lost : (front back : List ℕ) → (left : List ℕ)
 end_lost front back =
     let line : List ℕ = front ++ 35 ∷ (32 ∷ back) in
     let long : length line - 1 ≡ length front + suc (length back) =
-        omega (arith, length-append front (35 ∷ (32 ∷ back))) in
+    omega (arith, length-append front (35 ∷ (32 ∷ back))) in
     let cut : take (length line - 1) line ≡ front ++ 35 ∷ take (length back) (32 ∷ back) =
-        rw long (take-append-add front (35 ∷ (32 ∷ back)) (suc (length back))) in
+    rw long (take-append-add front (35 ∷ (32 ∷ back)) (suc (length back))) in
     elim (get_or line (length line - 1) 0 == 13) as
-        (λ v. (left : List ℕ) × (cond v (take (length line - 1) line) line ≡ front ++ 35 ∷ left)) [
+    (λ v. (left : List ℕ) × (cond v (take (length line - 1) line) line ≡ front ++ 35 ∷ left)) [
       | true ↦ (take (length back) (32 ∷ back), cut)
       | false ↦ (32 ∷ back, refl)
     ]
@@ -92,7 +92,7 @@ front_lacks c width line other lacks =
     let blank = blanks_lack c 1 other in
     All-append (λ b. b ≢ c) (left_column width line) (32 ∷ [])
     (elim (length line.hex == 0) as (λ v. Lacks c
-        (cond v (blanks width) ((blanks (3 * line.depth) ++ line.hex) ++ blanks (width - reach line)))) [
+    (cond v (blanks width) ((blanks (3 * line.depth) ++ line.hex) ++ blanks (width - reach line)))) [
       | true ↦ blanks_lack c width other
       | false ↦
           All-append (λ b. b ≢ c) (blanks (3 * line.depth) ++ line.hex) (blanks (width - reach line))
@@ -107,7 +107,7 @@ front_long width line fits =
     elim (length line.hex == 0) as
     (λ v. cond v 0 long ≤ width
     → length (cond v (blanks width) ((blanks (3 * line.depth) ++ line.hex) ++ blanks (width - cond v 0 long))
-        ++ 32 ∷ []) ≡ width + 1) [
+    ++ 32 ∷ []) ≡ width + 1) [
       | true ↦ λ h. simp (length-append, length-replicate) (omega arith)
       | false ↦ λ h. simp (length-append, length-replicate) (omega arith)
     ] fits
@@ -128,12 +128,19 @@ front_digits width line =
     elim (length line.hex == 0) as
     (λ v. (length line.hex == 0) ≡ v
     → digits (cond v (blanks width) ((blanks (3 * line.depth) ++ line.hex) ++ blanks (width - reach line)) ++ 32 ∷ [])
-        ≡ digits line.hex) [
+    ≡ digits line.hex) [
       | true ↦ λ e.
           let none : length line.hex ≡ 0 = grind (arith, nat_tests) in
           rw (nothing line.hex none, filter-append, no_blanks width) refl
-      | false ↦ λ e. rw (filter-append, filter-append, filter-append, no_blanks (3 * line.depth),
-          no_blanks (width - reach line), append-nil, append-nil) refl
+      | false ↦ λ e. rw (
+        filter-append,
+        filter-append,
+        filter-append,
+        no_blanks (3 * line.depth),
+        no_blanks (width - reach line),
+        append-nil,
+        append-nil,
+      ) refl
     ] refl
 
 hash_lacks : Lacks 10 (35 ∷ 32 ∷ [])
@@ -148,10 +155,10 @@ blank_is_no_feed e = cc e
 body_lacks : (width : ℕ) (line : DumpLine) → IsPlain line → Lacks 10 (body_of width line)
 body_lacks width line plain =
     All-append (λ b. b ≢ 10) (front_of width line) (35 ∷ (32 ∷ back_of line))
-        (front_lacks 10 width line blank_is_no_feed plain.no_feed)
+    (front_lacks 10 width line blank_is_no_feed plain.no_feed)
     (All-append (λ b. b ≢ 10) (35 ∷ 32 ∷ []) (back_of line) hash_lacks
     (All-append (λ b. b ≢ 10) (blanks (2 * line.depth)) line.comment (blanks_lack 10 (2 * line.depth) blank_is_no_feed)
-        plain.one_line))
+    plain.one_line))
 
 -- The text of some lines, and the lines of a text: two words that stay closed while the lines are gone over.
 text_of : ℕ → List DumpLine → List ℕ
@@ -167,15 +174,17 @@ cut_none width = refl
 -- the first line of a layout
 cut_more : (width : ℕ) (line : DumpLine) (more : List DumpLine) → IsPlain line
     → (back : List ℕ) × (cut (text_of width (line ∷ more)) ≡ (front_of width line ++ 35 ∷ back)
-        ∷ cut (text_of width more))
+    ∷ cut (text_of width more))
 unfolding text_of cut
 cut_more width line more plain =
     let lost = end_lost (front_of width line) (back_of line) in
     let rest : List ℕ = flat_map (line_text width) more in
     let split : line_text width line ++ rest ≡ body_of width line ++ 10 ∷ rest =
-    ap (λ text. text ++ rest) (line_is width line) ∙ append_assoc (body_of width line) (10 ∷ []) rest in
-    (lost.0, ap lines split ∙ line_first (body_of width line) rest (body_lacks width line plain)
-        ∙ ap (λ first. first ∷ lines rest) lost.1)
+    ap (λ text. text ++ rest) (line_is width line) ∙ append_assoc (body_of width line) (10 ∷ []) rest in (
+      lost.0,
+      ap lines split ∙ line_first (body_of width line) rest (body_lacks width line plain)
+          ∙ ap (λ first. first ∷ lines rest) lost.1,
+    )
 
 abbrev HashAt : ℕ → List ℕ → Type 0
 HashAt n line = position (λ b. b == 35) line ≡ Some n
@@ -191,7 +200,7 @@ hash_here : (width : ℕ) (line : DumpLine) (back : List ℕ) → IsPlain line �
     → HashAt (width + 1) (front_of width line ++ 35 ∷ back)
 hash_here width line back plain fits =
     place 35 (front_of width line) back (front_lacks 35 width line blank_is_no_hash plain.no_hash)
-        ∙ ap (λ n. Some n) (front_long width line fits)
+    ∙ ap (λ n. Some n) (front_long width line fits)
 
 hashes_more : (width : ℕ) (line : DumpLine) (more : List DumpLine) → IsPlain line → reach line ≤ width
     → AllByRecursion (HashAt (width + 1)) (cut (text_of width more))
@@ -208,7 +217,7 @@ hashes : (width : ℕ) (all : List DumpLine) → AllByRecursion IsPlain all → 
 hashes width [] plain fits = hashes_none width
 hashes width (line ∷ more) plain fits =
     hashes_more width line more plain.0 (fits_first width line more fits)
-        (hashes width more plain.1 (fits_more width line more fits))
+    (hashes width more plain.1 (fits_more width line more fits))
 
 abbrev kept : List ℕ → List ℕ
 kept line = filter (λ b. not (b == 32)) (before_first (λ b. b == 35) line)
@@ -217,7 +226,7 @@ kept_here : (width : ℕ) (line : DumpLine) (back : List ℕ) → IsPlain line
     → kept (front_of width line ++ 35 ∷ back) ≡ filter (λ b. not (b == 32)) line.hex
 kept_here width line back plain =
     ap (filter (λ b. not (b == 32))) (before 35 (front_of width line) back
-        (front_lacks 35 width line blank_is_no_hash plain.no_hash)) ∙ front_digits width line
+    (front_lacks 35 width line blank_is_no_hash plain.no_hash)) ∙ front_digits width line
 
 digits_more : (width : ℕ) (line : DumpLine) (more : List DumpLine) → IsPlain line
     → flat_map kept (cut (text_of width more)) ≡ digits_of more
@@ -225,7 +234,7 @@ digits_more : (width : ℕ) (line : DumpLine) (more : List DumpLine) → IsPlain
 digits_more width line more plain others =
     let first = cut_more width line more plain in
     ap (flat_map kept) first.1 ∙ ap (λ x. x ++ flat_map kept (cut (text_of width more)))
-        (kept_here width line first.0 plain)
+    (kept_here width line first.0 plain)
     ∙ ap (λ x. filter (λ b. not (b == 32)) line.hex ++ x) others
 
 digits : (width : ℕ) (all : List DumpLine) → AllByRecursion IsPlain all

@@ -57,9 +57,10 @@ free_digit c (x ∷ table) (suc k) other free = free_digit c table k other free.
 free_with : (c : ℕ) (table : List ℕ) → 0 ≢ c → Free c table → (bytes : List ℕ) → Free c (encode_with table bytes)
 unfolding encode_with
 free_with c table other free [] = tt
-free_with c table other free (b ∷ bytes) =
-    (free_digit c table (b / 16) other free,
-    (free_digit c table (b % 16) other free, free_with c table other free bytes))
+free_with c table other free (b ∷ bytes) = (
+  free_digit c table (b / 16) other free,
+  (free_digit c table (b % 16) other free, free_with c table other free bytes),
+)
 
 pub free_hex : (c : ℕ) → 0 ≢ c → Free c lower_digits → (bytes : List ℕ) → Free c (encode_lower bytes)
 free_hex c other free bytes = free_with c lower_digits other free bytes
@@ -74,10 +75,14 @@ hex_line bytes = free_hex 10 zero_other (from_test 10 lower_digits refl) bytes
 pub free_symbols : (table : List ℕ) → Free 10 table → (bytes : List ℕ) → Free 10 (encode_symbols table bytes)
 unfolding encode_symbols
 free_symbols table free [] = tt
-free_symbols table free (a ∷ []) = (free_digit 10 table (a / 4) zero_other free,
-    (free_digit 10 table (a % 4 * 16) zero_other free, tt))
-free_symbols table free (a ∷ b ∷ []) = (free_digit 10 table (a / 4) zero_other free,
-    (free_digit 10 table (a % 4 * 16 + b / 16) zero_other free, (free_digit 10 table (b % 16 * 4) zero_other free, tt)))
+free_symbols table free (a ∷ []) = (
+  free_digit 10 table (a / 4) zero_other free,
+  (free_digit 10 table (a % 4 * 16) zero_other free, tt),
+)
+free_symbols table free (a ∷ b ∷ []) = (
+  free_digit 10 table (a / 4) zero_other free,
+  (free_digit 10 table (a % 4 * 16 + b / 16) zero_other free, (free_digit 10 table (b % 16 * 4) zero_other free, tt)),
+)
 free_symbols table free (a ∷ b ∷ c ∷ rest) =
     let last = free_symbols table free rest in (
       free_digit 10 table (a / 4) zero_other free,
@@ -96,16 +101,16 @@ padding_other e = cc e
 pub standard_line : (bytes : List ℕ) → Free 10 (standard bytes)
 standard_line bytes =
     free_both 10 (encode_symbols (codes "ABCDEFGHIJKLMNOPQRSTUVWXYZabcdefghijklmnopqrstuvwxyz0123456789+/") bytes)
-        (replicate (padding_len (length bytes)) 61)
+    (replicate (padding_len (length bytes)) 61)
     (free_symbols (codes "ABCDEFGHIJKLMNOPQRSTUVWXYZabcdefghijklmnopqrstuvwxyz0123456789+/")
-        (from_test 10 (codes "ABCDEFGHIJKLMNOPQRSTUVWXYZabcdefghijklmnopqrstuvwxyz0123456789+/") refl) bytes)
-        (free_same 10 61 (padding_len (length bytes)) padding_other)
+    (from_test 10 (codes "ABCDEFGHIJKLMNOPQRSTUVWXYZabcdefghijklmnopqrstuvwxyz0123456789+/") refl) bytes)
+    (free_same 10 61 (padding_len (length bytes)) padding_other)
 
 pub url_safe_line : (bytes : List ℕ) → Free 10 (url_safe bytes)
 url_safe_line bytes =
     free_both 10 (encode_symbols (codes "ABCDEFGHIJKLMNOPQRSTUVWXYZabcdefghijklmnopqrstuvwxyz0123456789-_") bytes) []
     (free_symbols (codes "ABCDEFGHIJKLMNOPQRSTUVWXYZabcdefghijklmnopqrstuvwxyz0123456789-_")
-        (from_test 10 (codes "ABCDEFGHIJKLMNOPQRSTUVWXYZabcdefghijklmnopqrstuvwxyz0123456789-_") refl) bytes) tt
+    (from_test 10 (codes "ABCDEFGHIJKLMNOPQRSTUVWXYZabcdefghijklmnopqrstuvwxyz0123456789-_") refl) bytes) tt
 
 -- numbers
 free_glyph : (upper : Bool) (d : ℕ) → digit_glyph upper d ≢ 10
@@ -117,7 +122,7 @@ free_onto zero base upper n text free = free
 free_onto (suc k) base upper n text free =
     let more : Free 10 (digit_glyph upper (n % base) ∷ text) = (free_glyph upper (n % base), free) in
     free_cond 10 (n / base == 0) (digit_glyph upper (n % base) ∷ text)
-        (digits_onto k base upper (n / base) (digit_glyph upper (n % base) ∷ text)) more
+    (digits_onto k base upper (n / base) (digit_glyph upper (n % base) ∷ text)) more
     (free_onto k base upper (n / base) (digit_glyph upper (n % base) ∷ text) more)
 
 pub digits_line : (base : ℕ) (n : ℕ) → Free 10 (digits base false n)
@@ -129,15 +134,17 @@ decimal_line n = digits_line 10 n
 
 groups_line : (ds : List ℕ) → Free 10 ds → Free 10 (in_groups ds)
 groups_line [] free = tt
-groups_line (d ∷ ds) free =
-    (free.0, free_both 10 (comma_before ds) (in_groups ds)
-        (free_cond 10 _ (codes ",") [] (from_test 10 (codes ",") refl) tt) (groups_line ds free.1))
+groups_line (d ∷ ds) free = (
+  free.0,
+  free_both 10 (comma_before ds) (in_groups ds)
+      (free_cond 10 _ (codes ",") [] (from_test 10 (codes ",") refl) tt) (groups_line ds free.1),
+)
 
 pub grouped_line : (n : ℕ) (negative : Bool) → Free 10 (grouped n negative)
 grouped_line n negative =
     free_both 10 (minus_if negative) (in_groups (decimal n))
-        (free_cond 10 negative (codes "-") [] (from_test 10 (codes "-") refl) tt)
-        (groups_line (decimal n) (decimal_line n))
+    (free_cond 10 negative (codes "-") [] (from_test 10 (codes "-") refl) tt)
+    (groups_line (decimal n) (decimal_line n))
 
 -- bytes between quotes
 byte_line : (b : ℕ) → Free 10 (escaped_byte b)
@@ -149,7 +156,7 @@ byte_line b =
           (free_cond 10 (b == 13) (codes "\\r") _ (from_test 10 (codes "\\r") refl)
           (free_cond 10 (b == 10) (codes "\\n") _ (from_test 10 (codes "\\n") refl)
           (free_cond 10 ((b == 39) || (b == 34) || (b == 92)) (codes "\\" ++ b ∷ []) _
-              (free_both 10 (codes "\\") (b ∷ []) (from_test 10 (codes "\\") refl) (other, tt))
+          (free_both 10 (codes "\\") (b ∷ []) (from_test 10 (codes "\\") refl) (other, tt))
           (free_cond 10 (nat_le 32 b && nat_le b 126) (b ∷ []) (codes "\\x" ++ encode_lower (b ∷ [])) (other, tt)
           (free_both 10 (codes "\\x") (encode_lower (b ∷ [])) (from_test 10 (codes "\\x") refl) (hex_line (b ∷ [])))))))
     ]
@@ -158,7 +165,7 @@ pub quoted_line : (bytes : List ℕ) → Free 10 (quoted_bytes bytes)
 quoted_line bytes =
     free_both 10 (codes "\"" ++ flat_map escaped_byte bytes) (codes "\"")
     (free_both 10 (codes "\"") (flat_map escaped_byte bytes) (from_test 10 (codes "\"") refl)
-        (free_flat 10 escaped_byte byte_line bytes)) (from_test 10 (codes "\"") refl)
+    (free_flat 10 escaped_byte byte_line bytes)) (from_test 10 (codes "\"") refl)
 
 -- texts
 utf8_line : (c : ℕ) → c ≢ 10 → Free 10 (encode c)
@@ -178,11 +185,11 @@ char_line c =
           (free_cond 10 (c == 13) (codes "\\r") _ (from_test 10 (codes "\\r") refl)
           (free_cond 10 (c == 10) (codes "\\n") _ (from_test 10 (codes "\\n") refl)
           (free_cond 10 ((c == 34) || (c == 92)) (codes "\\" ++ c ∷ []) _
-              (free_both 10 (codes "\\") (c ∷ []) (from_test 10 (codes "\\") refl) (other, tt))
+          (free_both 10 (codes "\\") (c ∷ []) (from_test 10 (codes "\\") refl) (other, tt))
           (free_cond 10 (is_control c) (codes "\\u{" ++ digits 16 false c ++ codes "}") (encode c)
           (free_both 10 (codes "\\u{" ++ digits 16 false c) (codes "}")
-              (free_both 10 (codes "\\u{") (digits 16 false c) (from_test 10 (codes "\\u{") refl) (digits_line 16 c))
-              (from_test 10 (codes "}") refl))
+          (free_both 10 (codes "\\u{") (digits 16 false c) (from_test 10 (codes "\\u{") refl) (digits_line 16 c))
+          (from_test 10 (codes "}") refl))
           (utf8_line c other)))))
     ]
 
@@ -204,48 +211,48 @@ array_name_free : (n : ℕ) → FreeName (array_name n)
 array_name_free n =
     (if_name (n == 64) (Some (codes "typed array of u8")) _ (named_test (codes "typed array of u8") refl)
     (if_name (n == 65) (Some (codes "typed array of u16, big endian")) _
-        (named_test (codes "typed array of u16, big endian") refl)
+    (named_test (codes "typed array of u16, big endian") refl)
     (if_name (n == 66) (Some (codes "typed array of u32, big endian")) _
-        (named_test (codes "typed array of u32, big endian") refl)
+    (named_test (codes "typed array of u32, big endian") refl)
     (if_name (n == 67) (Some (codes "typed array of u64, big endian")) _
-        (named_test (codes "typed array of u64, big endian") refl)
+    (named_test (codes "typed array of u64, big endian") refl)
     (if_name (n == 68) (Some (codes "typed array of u8, clamped")) _
-        (named_test (codes "typed array of u8, clamped") refl)
+    (named_test (codes "typed array of u8, clamped") refl)
     (if_name (n == 69) (Some (codes "typed array of u16, little endian")) _
-        (named_test (codes "typed array of u16, little endian") refl)
+    (named_test (codes "typed array of u16, little endian") refl)
     (if_name (n == 70) (Some (codes "typed array of u32, little endian")) _
-        (named_test (codes "typed array of u32, little endian") refl)
+    (named_test (codes "typed array of u32, little endian") refl)
     (if_name (n == 71) (Some (codes "typed array of u64, little endian")) _
-        (named_test (codes "typed array of u64, little endian") refl)
+    (named_test (codes "typed array of u64, little endian") refl)
     (if_name (n == 72) (Some (codes "typed array of i8")) _ (named_test (codes "typed array of i8") refl)
     (if_name (n == 73) (Some (codes "typed array of i16, big endian, twos-complement")) _
-        (named_test (codes "typed array of i16, big endian, twos-complement") refl)
+    (named_test (codes "typed array of i16, big endian, twos-complement") refl)
     (if_name (n == 74) (Some (codes "typed array of i32, big endian, twos-complement")) _
-        (named_test (codes "typed array of i32, big endian, twos-complement") refl)
+    (named_test (codes "typed array of i32, big endian, twos-complement") refl)
     (if_name (n == 75) (Some (codes "typed array of i64, big endian, twos-complement")) _
-        (named_test (codes "typed array of i64, big endian, twos-complement") refl)
+    (named_test (codes "typed array of i64, big endian, twos-complement") refl)
     (if_name (n == 77) (Some (codes "typed array of i16, little endian, twos-complement")) _
-        (named_test (codes "typed array of i16, little endian, twos-complement") refl)
+    (named_test (codes "typed array of i16, little endian, twos-complement") refl)
     (if_name (n == 78) (Some (codes "typed array of i32, little endian, twos-complement")) _
-        (named_test (codes "typed array of i32, little endian, twos-complement") refl)
+    (named_test (codes "typed array of i32, little endian, twos-complement") refl)
     (if_name (n == 79) (Some (codes "typed array of i64, little endian, twos-complement")) _
-        (named_test (codes "typed array of i64, little endian, twos-complement") refl)
+    (named_test (codes "typed array of i64, little endian, twos-complement") refl)
     (if_name (n == 80) (Some (codes "typed array of f16, big endian")) _
-        (named_test (codes "typed array of f16, big endian") refl)
+    (named_test (codes "typed array of f16, big endian") refl)
     (if_name (n == 81) (Some (codes "typed array of f32, big endian")) _
-        (named_test (codes "typed array of f32, big endian") refl)
+    (named_test (codes "typed array of f32, big endian") refl)
     (if_name (n == 82) (Some (codes "typed array of f64, big endian")) _
-        (named_test (codes "typed array of f64, big endian") refl)
+    (named_test (codes "typed array of f64, big endian") refl)
     (if_name (n == 83) (Some (codes "typed array of f128, big endian")) _
-        (named_test (codes "typed array of f128, big endian") refl)
+    (named_test (codes "typed array of f128, big endian") refl)
     (if_name (n == 84) (Some (codes "typed array of f16, little endian")) _
-        (named_test (codes "typed array of f16, little endian") refl)
+    (named_test (codes "typed array of f16, little endian") refl)
     (if_name (n == 85) (Some (codes "typed array of f32, little endian")) _
-        (named_test (codes "typed array of f32, little endian") refl)
+    (named_test (codes "typed array of f32, little endian") refl)
     (if_name (n == 86) (Some (codes "typed array of f64, little endian")) _
-        (named_test (codes "typed array of f64, little endian") refl)
+    (named_test (codes "typed array of f64, little endian") refl)
     (if_name (n == 87) (Some (codes "typed array of f128, little endian")) _
-        (named_test (codes "typed array of f128, little endian") refl) unnamed)))))))))))))))))))))))
+    (named_test (codes "typed array of f128, little endian") refl) unnamed)))))))))))))))))))))))
 
 pub tag_name_free : (n : ℕ) → FreeName (tag_name n)
 tag_name_free n =
@@ -256,15 +263,15 @@ tag_name_free n =
     (if_name (n == 4) (Some (codes "decimal fraction")) _ (named_test (codes "decimal fraction") refl)
     (if_name (n == 5) (Some (codes "bigfloat")) _ (named_test (codes "bigfloat") refl)
     (if_name (n == 21) (Some (codes "suggested base64url encoding")) _
-        (named_test (codes "suggested base64url encoding") refl)
+    (named_test (codes "suggested base64url encoding") refl)
     (if_name (n == 22) (Some (codes "suggested base64 encoding")) _
-        (named_test (codes "suggested base64 encoding") refl)
+    (named_test (codes "suggested base64 encoding") refl)
     (if_name (n == 23) (Some (codes "suggested base16 encoding")) _
-        (named_test (codes "suggested base16 encoding") refl)
+    (named_test (codes "suggested base16 encoding") refl)
     (if_name (n == 24) (Some (codes "encoded cbor data item")) _ (named_test (codes "encoded cbor data item") refl)
     (if_name (n == 28) (Some (codes "shareable value")) _ (named_test (codes "shareable value") refl)
     (if_name (n == 29) (Some (codes "reference to shared value")) _
-        (named_test (codes "reference to shared value") refl)
+    (named_test (codes "reference to shared value") refl)
     (if_name (n == 32) (Some (codes "uri")) _ (named_test (codes "uri") refl)
     (if_name (n == 33) (Some (codes "base64url encoded text")) _ (named_test (codes "base64url encoded text") refl)
     (if_name (n == 34) (Some (codes "base64 encoded text")) _ (named_test (codes "base64 encoded text") refl)
@@ -272,12 +279,12 @@ tag_name_free n =
     (if_name (n == 36) (Some (codes "mime message")) _ (named_test (codes "mime message") refl)
     (if_name (n == 37) (Some (codes "uuid")) _ (named_test (codes "uuid") refl)
     (if_name (n == 52) (Some (codes "ipv4 address and/or prefix")) _
-        (named_test (codes "ipv4 address and/or prefix") refl)
+    (named_test (codes "ipv4 address and/or prefix") refl)
     (if_name (n == 54) (Some (codes "ipv6 address and/or prefix")) _
-        (named_test (codes "ipv6 address and/or prefix") refl)
+    (named_test (codes "ipv6 address and/or prefix") refl)
     (if_name (n == 63) (Some (codes "encoded cbor sequence")) _ (named_test (codes "encoded cbor sequence") refl)
     (if_name (n == 100) (Some (codes "epoch date value")) _ (named_test (codes "epoch date value") refl)
     (if_name (n == 260) (Some (codes "network address")) _ (named_test (codes "network address") refl)
     (if_name (n == 1004) (Some (codes "standard date string")) _ (named_test (codes "standard date string") refl)
     (if_name (n == 55799) (Some (codes "self describe cbor")) _ (named_test (codes "self describe cbor") refl)
-        (array_name_free n))))))))))))))))))))))))))
+    (array_name_free n))))))))))))))))))))))))))

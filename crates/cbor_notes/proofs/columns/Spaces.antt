@@ -25,4 +25,4 @@ pub blanks_split : (out : List ℕ) (n left : ℕ) → n ≤ left
 blanks_split out n left h =
     let whole : n + (left - n) ≡ left = omega arith in
     append_assoc out (replicate n 32) (replicate (left - n) 32)
-        ∙ ap (λ x. out ++ x) (replicate-append-replicate n (left - n) 32 ∙ ap (λ k. replicate k 32) whole)
+    ∙ ap (λ x. out ++ x) (replicate-append-replicate n (left - n) 32 ∙ ap (λ k. replicate k 32) whole)

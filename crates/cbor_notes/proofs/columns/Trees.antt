@@ -19,7 +19,7 @@ pub tree_is : (line : Line) (depth : ℕ) → tree_lines line depth ≡ first_li
     ∷ forest_lines (out-Line line).sublines.items (depth + 1)
 tree_is line depth =
     ap (λ (lines : ℕ → List DumpLine). lines depth) (fold_out-Line (ℕ → List DumpLine) tree_step line)
-        ∙ ap (λ rest. first_line line depth ∷ rest) (sublines_are (out-Line line).sublines.items (depth + 1))
+    ∙ ap (λ rest. first_line line depth ∷ rest) (sublines_are (out-Line line).sublines.items (depth + 1))
 
 pub all_both : (P : DumpLine → Type 0) (xs ys : List DumpLine) → AllByRecursion P xs → AllByRecursion P ys
     → AllByRecursion P (xs ++ ys)
@@ -54,7 +54,7 @@ module _ (trees : List Line) (i depth : ℕ) (tree : Line) (is : tree ≡ get_or
   pub forest_more : rest ≡ tree_lines tree depth ++ others
   forest_more =
       ap (λ lines. forest_lines lines depth) (drop_more trees i tree inside)
-          ∙ ap (λ here. tree_lines here depth ++ others) (sym is)
+      ∙ ap (λ here. tree_lines here depth ++ others) (sym is)
 
   pub fit_here : AllByRecursion IsFit rest → AllByRecursion IsFit (tree_lines tree depth)
   fit_here fit = all_front IsFit (tree_lines tree depth) others (subst (AllByRecursion IsFit) forest_more fit)
@@ -79,9 +79,9 @@ module _ (trees : List Line) (i depth : ℕ) (tree : Line) (is : tree ≡ get_or
       → new ++ flat_map write others ≡ out ++ flat_map write rest
   text_more write out new written =
       ap (λ text. text ++ flat_map write others) written
-          ∙ append_assoc out (flat_map write (tree_lines tree depth)) (flat_map write others)
+      ∙ append_assoc out (flat_map write (tree_lines tree depth)) (flat_map write others)
       ∙ ap (λ text. out ++ text) (sym (flat_map-append write (tree_lines tree depth) others)
-          ∙ sym (ap (flat_map write) forest_more))
+      ∙ sym (ap (flat_map write) forest_more))
 
 -- the digits of lines that fit reach no farther than the deepest and longest
 pub fit_width : (lines : List DumpLine) → AllByRecursion IsFit lines → width_of lines ≤ 484

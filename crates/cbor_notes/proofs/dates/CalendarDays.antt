@@ -21,19 +21,37 @@ later_in_month : (date : Date) → date.day < days_in_month date.year date.month
     → IsDateOn (epoch_day date +ℤ pos 1) (record { year = date.year; month = date.month; day = date.day + 1 })
 later_in_month date h =
     let first = date.day_in in
-    is_date (record { year = date.year; month = date.month; day = date.day + 1; year_in = date.year_in; month_in =
-        date.month_in; day_in = (omega arith, omega arith) }) (epoch_day date +ℤ pos 1)
-    (omega (arith, signed_arith, days_from_civil-day date.year date.month date.day (date.day + 1) first.0
-        (omega arith)))
+    is_date (record {
+      year = date.year;
+      month = date.month;
+      day = date.day + 1;
+      year_in = date.year_in;
+      month_in =
+          date.month_in;
+      day_in = (omega arith, omega arith);
+    }) (epoch_day date +ℤ pos 1)
+    (omega (
+      arith,
+      signed_arith,
+      days_from_civil-day date.year date.month date.day (date.day + 1) first.0
+          (omega arith),
+    ))
 
 next_month : (date : Date) → days_in_month date.year date.month ≤ date.day → date.month < 12
     → IsDateOn (epoch_day date +ℤ pos 1) (record { year = date.year; month = date.month + 1; day = 1 })
 next_month date last h =
     let month_in = date.month_in in
     let day_in = date.day_in in
-    is_date (record { year = date.year; month = date.month + 1; day = 1; year_in = date.year_in; month_in =
-        (omega arith, omega arith); day_in = (omega arith, month_long date.year (date.month + 1)) })
-        (epoch_day date +ℤ pos 1)
+    is_date (record {
+      year = date.year;
+      month = date.month + 1;
+      day = 1;
+      year_in = date.year_in;
+      month_in =
+          (omega arith, omega arith);
+      day_in = (omega arith, month_long date.year (date.month + 1));
+    })
+    (epoch_day date +ℤ pos 1)
     (days_from_civil-next_month date.year date.month date.day month_in.0 (omega arith))
 
 -- only 9999-12-31 has no day after it
@@ -48,10 +66,17 @@ next_year date last late before =
     let length : days_in_month date.year date.month ≡ 31 = rw month refl in
     let day : date.day ≡ 31 = omega arith in
     let year : date.year ≡ pos 9999 → ⊥ = λ e. let max : epoch_day date ≡ pos 2_932_896 =
-        rw (e, month, day) days_from_civil-max in omega (arith, signed_arith) in
-    is_date (record { year = date.year +ℤ pos 1; month = 1; day = 1; year_in =
-        (omega (arith, signed_arith), omega (arith, signed_arith)); month_in = (omega arith, omega arith); day_in =
-        (omega arith, omega arith) }) (epoch_day date +ℤ pos 1)
+    rw (e, month, day) days_from_civil-max in omega (arith, signed_arith) in
+    is_date (record {
+      year = date.year +ℤ pos 1;
+      month = 1;
+      day = 1;
+      year_in =
+          (omega (arith, signed_arith), omega (arith, signed_arith));
+      month_in = (omega arith, omega arith);
+      day_in =
+          (omega arith, omega arith);
+    }) (epoch_day date +ℤ pos 1)
     (rw (month, day) (days_from_civil-next_year date.year (date.year +ℤ pos 1) (omega (arith, signed_arith)) refl))
 
 -- the day after a date is that of the next number
@@ -67,8 +92,15 @@ tomorrow date before =
 -- each day of the calendar is a date
 pub date_on : (n : ℕ) → n < day_count → IsDateOn (day_number n) (calendar_day n)
 unfolding calendar_day
-date_on zero h = is_date (record { year = neg_ℤ (pos 9999); month = 1; day = 1; year_in = search rules; month_in =
-    search rules; day_in = search rules }) (day_number 0) days_from_civil-min
+date_on zero h = is_date (record {
+  year = neg_ℤ (pos 9999);
+  month = 1;
+  day = 1;
+  year_in = search rules;
+  month_in =
+      search rules;
+  day_in = search rules;
+}) (day_number 0) days_from_civil-min
 date_on (suc n) h =
     let today = date_on n (omega arith) in
     let next = tomorrow today.0 (rw today.2 (omega (arith, signed_arith))) in

@@ -29,12 +29,16 @@ no_text (Some other) never = absurd never
 
 -- an order and its test
 pub Decides-int_le : (a b : ℤ) → Decides (int_le a b) (a ≤ℤ b)
-Decides-int_le a b = ((λ h. omega (arith, signed_arith)),
-    λ h. true_from_ne_false (int_le a b) (λ e. omega (arith, signed_arith)))
+Decides-int_le a b = (
+  (λ h. omega (arith, signed_arith)),
+  λ h. true_from_ne_false (int_le a b) (λ e. omega (arith, signed_arith)),
+)
 
 Decides-int_lt : (a b : ℤ) → Decides (int_lt a b) (a <ℤ b)
-Decides-int_lt a b = ((λ h. omega (arith, signed_arith)),
-    λ h. true_from_ne_false (int_lt a b) (λ e. omega (arith, signed_arith)))
+Decides-int_lt a b = (
+  (λ h. omega (arith, signed_arith)),
+  λ h. true_from_ne_false (int_lt a b) (λ e. omega (arith, signed_arith)),
+)
 
 -- the days of the calendar have the numbers that the dates of `jiff` have
 Decides-is_day_number : (number : ℤ) → Decides (is_day_number number) (IsEpochDay number)
@@ -42,7 +46,7 @@ Decides-is_day_number number =
     let low = Decides-int_le (day_number 0) number in
     let high = Decides-int_lt number (day_number day_count) in
     Decides-like (is_day_number number) (λ h. (omega (arith, signed_arith), omega (arith, signed_arith)))
-        (λ h. (omega (arith, signed_arith), omega (arith, signed_arith)))
+    (λ h. (omega (arith, signed_arith), omega (arith, signed_arith)))
     (Decides-and (int_le (day_number 0) number) (int_lt number (day_number day_count)) low high)
 
 -- the text of a date by its parts
@@ -72,7 +76,7 @@ Decides-is_day_text : (text : List ℕ) (day : CalendarDay)
     → Decides (is_day_text text day) ((pos 0 ≤ℤ day.year) × (text ≡ day_text day))
 Decides-is_day_text text day =
     Decides-and (int_le (pos 0) day.year) (bytes_eq text (day_text day)) (Decides-int_le (pos 0) day.year)
-        (bytes_eq-Decides text (day_text day))
+    (bytes_eq-Decides text (day_text day))
 
 -- a date from the year 0 on, and its number in groups
 abbrev pub IsDayNote : List ℕ → List ℕ → Type 0
@@ -92,7 +96,7 @@ unfolding epoch_of_date
 epoch_of_date_some text date is =
     let at = place_of date in
     IsSome-first_found day_count _ (place (epoch_day date)) at.0
-        (IsSome-tested _ _ (rw (← at.2) ((Decides-is_day_text text (day_of date)).1 (is.0, is.1 ∙ sym (text_of date)))))
+    (IsSome-tested _ _ (rw (← at.2) ((Decides-is_day_text text (day_of date)).1 (is.0, is.1 ∙ sym (text_of date)))))
 
 -- what holds of what is made of what is found
 pub IfSome-option_map : {A B : Type 0} (f : A → B) (found : Option A) (P : A → Type 0) (Q : B → Type 0) → IfSome found P

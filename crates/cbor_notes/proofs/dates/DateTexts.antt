@@ -21,8 +21,10 @@ use Rattle.cbor_notes.specs.Text.{grouped}
 pub ten_items : (xs : List ℕ) → length xs ≡ 10
     → xs ≡ get_or xs 0 0 ∷ get_or xs 1 0 ∷ get_or xs 2 0 ∷ get_or xs 3 0 ∷ get_or xs 4 0 ∷ get_or xs 5 0 ∷ get_or xs 6 0
     ∷ get_or xs 7 0 ∷ get_or xs 8 0 ∷ get_or xs 9 0 ∷ []
-ten_items xs h = text_from_reads xs _ h (refl,
-    (refl, (refl, (refl, (refl, (refl, (refl, (refl, (refl, (refl, tt))))))))))
+ten_items xs h = text_from_reads xs _ h (
+  refl,
+  (refl, (refl, (refl, (refl, (refl, (refl, (refl, (refl, (refl, tt))))))))),
+)
 
 pub no_minus : (y : ℤ) → pos 0 ≤ℤ y → year_text y ≡ four_digits (unsigned_abs y)
 no_minus (pos n) h = refl
@@ -87,8 +89,11 @@ pub civil_parts : (date : Date) → pos 0 ≤ℤ date.year
 civil_parts date h =
     let m = date.month_in in
     let d = date.day_in in
-    rw (not_negative date.year h) (date.year_in, (omega (arith, signed_arith), omega (arith, signed_arith)),
-        (omega (arith, signed_arith), omega (arith, signed_arith)))
+    rw (not_negative date.year h) (
+      date.year_in,
+      (omega (arith, signed_arith), omega (arith, signed_arith)),
+      (omega (arith, signed_arith), omega (arith, signed_arith)),
+    )
 
 -- and gives that date's day
 pub date_found : (found : Option Date) (date : Date) → pos 0 ≤ℤ date.year → IsSome found
@@ -170,7 +175,7 @@ pub record OffsetParts (text : List ℕ) (offset : ℤ) : Type 0 where
 offset_parts : (text : List ℕ) (offset : ℤ) (sign hour minute : ℕ) → hour ≤ 23 → minute ≤ 59
     → text ≡ (sign ∷ two_digits hour) ++ (58 ∷ two_digits minute)
     → ((sign ≡ 43) × (offset ≡ pos (3600 * hour + 60 * minute)))
-        ⊎ ((sign ≡ 45) × (offset ≡ neg_ℤ (pos (3600 * hour + 60 * minute)))) → OffsetParts text offset
+    ⊎ ((sign ≡ 45) × (offset ≡ neg_ℤ (pos (3600 * hour + 60 * minute)))) → OffsetParts text offset
 offset_parts text offset sign hour minute h m is signed =
     let first : get_or text 0 0 ≡ sign = ap (λ t. get_or t 0 0) is in
     record {
@@ -198,4 +203,4 @@ pub offset_text : (text : List ℕ) (sign hour minute : ℕ) → length text ≡
     → text ≡ (sign ∷ two_digits hour) ++ (58 ∷ two_digits minute)
 offset_text text sign hour minute six first colon a b =
     text_from_reads text (get_or text 0 0 ∷ get_or text 1 0 ∷ get_or text 2 0 ∷ get_or text 3 0 ∷ get_or text 4 0
-        ∷ get_or text 5 0 ∷ []) six (refl, (refl, (refl, (refl, (refl, (refl, tt)))))) ∙ cc
+    ∷ get_or text 5 0 ∷ []) six (refl, (refl, (refl, (refl, (refl, (refl, tt)))))) ∙ cc

@@ -35,17 +35,17 @@ signed_seconds_is : (text : List ℕ) (hour minute : ℕ) → hour < 24 → minu
 signed_seconds_is text hour minute hour_in minute_in =
     IfSome-option_or _ _ (IsZone text)
     (IfSome-tested _ _ (IsZone text) (λ is. inr
-        (ahead hour minute (omega arith) (omega arith)
-        ((bytes_eq-Decides text (offset_text (codes "+") hour minute)).0 is) refl)))
+    (ahead hour minute (omega arith) (omega arith)
+    ((bytes_eq-Decides text (offset_text (codes "+") hour minute)).0 is) refl)))
     (IfSome-tested _ _ (IsZone text) (λ is. inr
-        (behind hour minute (omega arith) (omega arith)
-        ((bytes_eq-Decides text (offset_text (codes "-") hour minute)).0 is) refl)))
+    (behind hour minute (omega arith) (omega arith)
+    ((bytes_eq-Decides text (offset_text (codes "-") hour minute)).0 is) refl)))
 
 Decides-utc : (text : List ℕ) → Decides (bytes_eq text (codes "Z") || bytes_eq text (codes "z"))
     ((text ≡ codes "Z") ⊎ (text ≡ codes "z"))
 Decides-utc text =
     Decides-or (bytes_eq text (codes "Z")) (bytes_eq text (codes "z")) (bytes_eq-Decides text (codes "Z"))
-        (bytes_eq-Decides text (codes "z"))
+    (bytes_eq-Decides text (codes "z"))
 
 read_zone_is : (text : List ℕ) → IfSome (read_zone text) (IsZone text)
 unfolding read_zone
@@ -63,11 +63,11 @@ offset_some : (text : List ℕ) (offset : ℤ) → IsOffset text offset → IsSo
 offset_some text offset (ahead hour minute h m is o) =
     IsSome-first_minute (signed_seconds text) hour minute (omega arith) (omega arith)
     (IsSome-option_or _ _ (inl (found_at text (offset_text (codes "+") hour minute) (pos (3600 * hour + 60 * minute))
-        is)))
+    is)))
 offset_some text offset (behind hour minute h m is o) =
     IsSome-first_minute (signed_seconds text) hour minute (omega arith) (omega arith)
     (IsSome-option_or _ _ (inr (found_at text (offset_text (codes "-") hour minute)
-        (neg_ℤ (pos (3600 * hour + 60 * minute))) is)))
+    (neg_ℤ (pos (3600 * hour + 60 * minute))) is)))
 
 read_zone_some : (text : List ℕ) (offset : ℤ) → IsZone text offset → IsSome (read_zone text)
 unfolding read_zone
@@ -75,7 +75,7 @@ read_zone_some text offset (inl utc) =
     IsSome-option_or _ (first_minute (signed_seconds text)) (inl (IsSome-tested _ (pos 0) ((Decides-utc text).1 utc.0)))
 read_zone_some text offset (inr is) =
     IsSome-option_or (cond (bytes_eq text (codes "Z") || bytes_eq text (codes "z")) (Some (pos 0)) None) _
-        (inr (offset_some text offset is))
+    (inr (offset_some text offset is))
 
 -- fractions
 dotted_is : (digits : List ℕ) → list_all is_ascii_digit digits ≡ true → IsFraction (dotted digits) digits
@@ -85,7 +85,7 @@ dotted_is (digit ∷ rest) all = some_digits refl (omega arith) all
 pub read_digits-digits : (text : List ℕ) → list_all is_ascii_digit (read_digits text) ≡ true
 read_digits-digits text =
     cond_both (get_or text 0 0 == 46) (take_while is_ascii_digit (drop 1 text)) []
-        (λ digits. list_all is_ascii_digit digits ≡ true)
+    (λ digits. list_all is_ascii_digit digits ≡ true)
     (λ _. all_digits (drop 1 text)) (λ _. refl)
 
 -- the digits that come first, after a dot, and the rest
@@ -94,15 +94,15 @@ after_dot : (text digits : List ℕ) → take (length digits) text ≡ digits
 after_dot text [] first = refl
 after_dot text (digit ∷ rest) first =
     ap (λ t. 46 ∷ t) (sym (take-append-drop (length (digit ∷ rest)) text)
-        ∙ ap (λ t. t ++ drop (length (digit ∷ rest)) text) first)
+    ∙ ap (λ t. t ++ drop (length (digit ∷ rest)) text) first)
 
 fraction_split : (text : List ℕ) → text ≡ dotted (read_digits text) ++ drop (length (dotted (read_digits text))) text
 fraction_split [] = refl
 fraction_split (first ∷ text) =
     cond_both (first == 46) (take_while is_ascii_digit text) []
-        (λ digits. first ∷ text ≡ dotted digits ++ drop (length (dotted digits)) (first ∷ text))
+    (λ digits. first ∷ text ≡ dotted digits ++ drop (length (dotted digits)) (first ∷ text))
     (λ dot. rw (eqb-true first 46 dot) (after_dot text (take_while is_ascii_digit text)
-        (ap (λ n. take n text) (length-prefix_len is_ascii_digit text))))
+    (ap (λ n. take n text) (length-prefix_len is_ascii_digit text))))
     (λ _. refl)
 
 dotted_some : (digits : List ℕ) → 0 < length digits → dotted digits ≡ 46 ∷ digits
@@ -114,7 +114,7 @@ fraction_read : (fraction digits zone : List ℕ) (offset : ℤ) → IsFraction 
     → dotted (read_digits (fraction ++ zone)) ≡ fraction
 fraction_read fraction digits zone offset (no_fraction empty none) zone_is =
     let no_dot : read_digits zone ≡ [] = cond-false _ _ []
-        (ne_eqb (get_or zone 0 0) 46 (zone_first zone offset zone_is).1) in
+    (ne_eqb (get_or zone 0 0) 46 (zone_first zone offset zone_is).1) in
     rw (empty, no_dot) refl
 fraction_read fraction digits zone offset (some_digits dot some all) zone_is =
     let count = digits_then digits zone all (zone_first zone offset zone_is).0 in
@@ -153,7 +153,7 @@ Decides-is_civil_text : (text : List ℕ) (day : CalendarDay) (time : List ℕ)
 Decides-is_civil_text text day time =
     Decides-and _ _ (Decides-int_le (pos 0) day.year)
     (Decides-or _ _ (bytes_eq-Decides text (day_text day ++ codes "T" ++ time))
-        (bytes_eq-Decides text (day_text day ++ codes "t" ++ time)))
+    (bytes_eq-Decides text (day_text day ++ codes "t" ++ time)))
 
 read_civil_is : (text : List ℕ) → IfSome (read_civil text) (IsCivil text)
 unfolding read_civil
@@ -191,11 +191,11 @@ read_civil_some text seconds is =
     let time = clock_text is.hour is.minute is.second in
     let letter = from_letter text (date_text is.date) time is.separator is.separator_is is.text_is in
     let fits : is_civil_text text (day_of is.date) time ≡ true =
-        (Decides-is_civil_text text (day_of is.date) time).1 (is.year_in, rw (text_of is.date) letter) in
+    (Decides-is_civil_text text (day_of is.date) time).1 (is.year_in, rw (text_of is.date) letter) in
     IsSome-first_found day_count _ (place (epoch_day is.date)) here.0
     (IsSome-first_minute _ is.hour is.minute (omega arith) (omega arith)
     (IsSome-first_found 61 _ is.second (omega arith)
-        (IsSome-tested _ _ (subst (λ day. is_civil_text text day time ≡ true) here.2 fits))))
+    (IsSome-tested _ _ (subst (λ day. is_civil_text text day time ≡ true) here.2 fits))))
 
 -- a text of a date and a time, by its front and its rest
 front_of : (text front rest : List ℕ) → text ≡ front ++ rest → length front ≡ 19
@@ -236,7 +236,7 @@ moment_of text seconds offset civil zone_is =
     let time = clock_text civil.hour civil.minute civil.second in
     let whole : text ≡ (date_text civil.date ++ civil.separator ++ time) ++ (dotted digits ++ zone) =
     sym (take-append-drop 19 text) ∙ ap (λ t. t ++ rest) civil.text_is
-        ∙ ap (λ t. (date_text civil.date ++ civil.separator ++ time) ++ t) (fraction_split rest) in
+    ∙ ap (λ t. (date_text civil.date ++ civil.separator ++ time) ++ t) (fraction_split rest) in
     record {
       date = civil.date;
       hour = civil.hour;
@@ -262,7 +262,7 @@ unfolding epoch_of_datetime
 epoch_of_datetime_is text =
     let zone = drop (length (dotted (read_digits (drop 19 text)))) (drop 19 text) in
     IfSome-option_and_then _ (read_civil (take 19 text)) (IsCivil (take 19 text)) (IsMomentNote text)
-        (read_civil_is (take 19 text)) (λ seconds civil.
+    (read_civil_is (take 19 text)) (λ seconds civil.
     IfSome-option_map _ (read_zone zone) (IsZone zone) (IsMomentNote text) (read_zone_is zone) (λ offset zone_is.
     (seconds -ℤ offset, read_digits (drop 19 text), moment_of text seconds offset civil zone_is, refl)))
 
@@ -273,10 +273,10 @@ civil_of : (text : List ℕ) (seconds : ℤ) (digits : List ℕ) (moment : IsDat
 civil_of text seconds digits moment =
     let front = date_text moment.date ++ moment.separator ++ clock_text moment.hour moment.minute moment.second in
     let whole : text ≡ front ++ (moment.fraction ++ moment.zone) = moment.text_is
-        ∙ append_assoc front moment.fraction moment.zone in
+    ∙ append_assoc front moment.fraction moment.zone in
     let split = front_of text front (moment.fraction ++ moment.zone) whole
-        (front_long moment.date moment.hour moment.minute moment.second moment.separator moment.year_in
-        moment.separator_is) in (
+    (front_long moment.date moment.hour moment.minute moment.second moment.separator moment.year_in
+    moment.separator_is) in (
       record {
         date = moment.date;
         hour = moment.hour;
@@ -301,8 +301,8 @@ epoch_of_datetime_some text seconds digits moment =
     let civil = civil_of text seconds digits moment in
     let read = fraction_read moment.fraction digits moment.zone moment.offset moment.fraction_is moment.zone_is in
     let zone : drop (length (dotted (read_digits (drop 19 text)))) (drop 19 text) ≡ moment.zone =
-        rw (civil.1, read) (drop-append_seam moment.fraction moment.zone) in
+    rw (civil.1, read) (drop-append_seam moment.fraction moment.zone) in
     let zone_some : IsSome (read_zone (drop (length (dotted (read_digits (drop 19 text)))) (drop 19 text))) =
-        rw zone (read_zone_some moment.zone moment.offset moment.zone_is) in
+    rw zone (read_zone_some moment.zone moment.offset moment.zone_is) in
     IsSome-option_and_then _ (read_civil (take 19 text)) (read_civil_some (take 19 text) _ civil.0)
-        (λ z. IsSome-option_map _ _ zone_some)
+    (λ z. IsSome-option_map _ _ zone_some)

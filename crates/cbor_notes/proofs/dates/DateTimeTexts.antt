@@ -63,15 +63,17 @@ pub fraction_read : (text rest : List ℕ) (n : ℕ) → text ≡ 46 ∷ rest �
     → IsFraction (46 ∷ take n rest) (take n rest) × (text ≡ (46 ∷ take n rest) ++ drop n rest)
 fraction_read text rest n is count some =
     let len : n ≡ prefix_len is_ascii_digit rest = count ∙ length-prefix_len is_ascii_digit rest in
-    let here : take n rest ≡ take_while is_ascii_digit rest = ap (λ k. take k rest) len in
-    (some_digits refl (rw (here, ← count) some) (rw here (all_digits rest)), is
-        ∙ ap (λ t. 46 ∷ t) (sym (take-append-drop n rest)))
+    let here : take n rest ≡ take_while is_ascii_digit rest = ap (λ k. take k rest) len in (
+      some_digits refl (rw (here, ← count) some) (rw here (all_digits rest)),
+      is
+          ∙ ap (λ t. 46 ∷ t) (sym (take-append-drop n rest)),
+    )
 
 -- and only so
 pub fraction_only : (text rest fraction digits zone : List ℕ) (offset : ℤ) (n : ℕ) → text ≡ 46 ∷ rest
     → n ≡ length (take_while is_ascii_digit rest)
     → IsFraction fraction digits → IsZone zone offset → text ≡ fraction ++ zone
-        → (take n rest ≡ digits) × (drop n rest ≡ zone)
+    → (take n rest ≡ digits) × (drop n rest ≡ zone)
 fraction_only text rest fraction digits zone offset n is count (no_fraction empty none) zone_is whole =
     let e : 46 ∷ rest ≡ zone = sym is ∙ whole ∙ ap (λ t. t ++ zone) empty in
     absurd ((zone_first zone offset zone_is).1 (ap (λ t. get_or t 0 0) (sym e)))
@@ -79,7 +81,7 @@ fraction_only text rest fraction digits zone offset n is count (some_digits dot 
     let e : 46 ∷ rest ≡ 46 ∷ (digits ++ zone) = sym is ∙ whole ∙ ap (λ t. t ++ zone) dot in
     let same : rest ≡ digits ++ zone = cc in
     let len : n ≡ length digits = count ∙ length-prefix_len is_ascii_digit rest ∙ ap (prefix_len is_ascii_digit) same
-        ∙ digits_then digits zone all (zone_first zone offset zone_is).0 in
+    ∙ digits_then digits zone all (zone_first zone offset zone_is).0 in
     rw (len, same) (take-append_seam digits zone, drop-append_seam digits zone)
 
 -- so many places: digits, and zeros in the places of the others
@@ -90,15 +92,15 @@ fill_places k digits n is = elim (cases_lt k (length digits)) [
       let all : n ≡ k = omega arith in
       let none : k - k ≡ 0 = omega arith in
       rw (all, drop-replicate {X = ℕ} k k 48, none, take-append-le k digits (replicate k 48) (omega arith))
-          (append-nil (take k digits))
+      (append-nil (take k digits))
   | inr few ↦
       let all : n ≡ length digits = omega arith in
       let split : k ≡ length digits + (k - length digits) = omega arith in
       let left : take n digits ++ drop n (replicate k 48) ≡ digits ++ replicate (k - length digits) 48 =
-          rw (all, take_all (length digits) digits (omega arith), drop-replicate {X = ℕ} (length digits) k 48) refl in
+      rw (all, take_all (length digits) digits (omega arith), drop-replicate {X = ℕ} (length digits) k 48) refl in
       let right : take k (digits ++ replicate k 48) ≡ digits ++ replicate (k - length digits) 48 =
       ap (λ m. take m (digits ++ replicate k 48)) split ∙ take-append-add digits (replicate k 48) (k - length digits)
-          ∙ ap (λ t. digits ++ t) (take-replicate {X = ℕ} (k - length digits) k 48 (omega arith)) in
+      ∙ ap (λ t. digits ++ t) (take-replicate {X = ℕ} (k - length digits) k 48 (omega arith)) in
       left ∙ sym right
 ]
 
@@ -115,7 +117,7 @@ digits_ascii (x ∷ xs) all =
 pub nine_ascii : (digits : List ℕ) → list_all is_ascii_digit digits ≡ true → IsAscii (nine_digits digits)
 nine_ascii digits all =
     IsAscii-take (digits ++ replicate 9 48) 9
-        (IsAscii-append digits (replicate 9 48) (digits_ascii digits all) (digits_ascii (replicate 9 48) refl))
+    (IsAscii-append digits (replicate 9 48) (digits_ascii digits all) (digits_ascii (replicate 9 48) refl))
 
 -- a text that begins with a dot is the dot and the rest
 pub dot_first : (text : List ℕ) → 0 < length text → get_or text 0 0 ≡ 46
@@ -139,7 +141,7 @@ fraction_some text rest fraction digits zone offset n is count (some_digits dot 
     let e : 46 ∷ rest ≡ 46 ∷ (digits ++ zone) = sym is ∙ whole ∙ ap (λ t. t ++ zone) dot in
     let same : rest ≡ digits ++ zone = cc in
     let len : n ≡ length digits = count ∙ length-prefix_len is_ascii_digit rest ∙ ap (prefix_len is_ascii_digit) same
-        ∙ digits_then digits zone all (zone_first zone offset zone_is).0 in
+    ∙ digits_then digits zone all (zone_first zone offset zone_is).0 in
     rw len some
 
 -- a fraction of zeros is nothing, and any other the digits that are shown
@@ -174,7 +176,7 @@ pub record Pieces (text : List ℕ) (date : Date) (hour minute second : ℕ) (fr
 pieces_of : (text : List ℕ) (date : Date) (hour minute second sep : ℕ) (fraction zone : List ℕ) → pos 0 ≤ℤ date.year
     → (sep ≡ 84) ⊎ (sep ≡ 116)
     → text ≡ date_text date ++ (sep ∷ []) ++ clock_text hour minute second ++ fraction ++ zone
-        → Pieces text date hour minute second fraction zone
+    → Pieces text date hour minute second fraction zone
 pieces_of text date hour minute second sep fraction zone here which is =
     let ten = date_text-ten date here in
     let eight = clock_text-eight hour minute second in

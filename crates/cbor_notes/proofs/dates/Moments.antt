@@ -55,7 +55,7 @@ moment_only s date n text is n_in moment =
     let m = moment.minute_in in
     let e = moment.second_in in
     let same = one_day s (epoch_day date) (epoch_day moment.date) n
-        (3600 * moment.hour + 60 * moment.minute + moment.second) is moment.seconds_are n_in (omega arith) in
+    (3600 * moment.hour + 60 * moment.minute + moment.second) is moment.seconds_are n_in (omega arith) in
     let k : 3600 * moment.hour + 60 * moment.minute + moment.second ≡ n = same.1 in
     let hour : n / 3600 ≡ moment.hour = omega arith in
     let minute : n / 60 % 60 ≡ moment.minute = omega arith in

@@ -50,7 +50,7 @@ pub places-number : (b : ℕ) (ds : List ℕ) → 0 < b → AllBelowBase b ds
     → places b (length ds) (number_from_digits b ds) ≡ ds
 places-number b ds positive all =
     same_digits b (places b (length ds) (number_from_digits b ds)) ds
-        (length-places b (length ds) (number_from_digits b ds))
+    (length-places b (length ds) (number_from_digits b ds))
     (AllBelowBase-places b (length ds) (number_from_digits b ds) positive) all
     (number-places b (length ds) (number_from_digits b ds) positive (number_lt b ds all))
 
@@ -60,7 +60,7 @@ take-places b j zero n = rw (zero-add, pow-zero, div-one)
     (take_all j (places b j n) (omega (arith, length-places b j n)))
 take-places b j (suc i) n =
     let shift : n / b / b ^ i ≡ n / b ^ suc i = div-div-eq-div-mul n b (b ^ i)
-        ∙ ap (λ (m : ℕ). n / m) (mul_comm b (b ^ i) ∙ sym (pow-suc b i)) in
+    ∙ ap (λ (m : ℕ). n / m) (mul_comm b (b ^ i) ∙ sym (pow-suc b i)) in
     let front : take j (places b (i + j) (n / b) ++ n % b ∷ []) ≡ take j (places b (i + j) (n / b)) =
     take-append-le j (places b (i + j) (n / b)) (n % b ∷ []) (omega (arith, length-places b (i + j) (n / b))) in
     rw suc-add (front ∙ take-places b j i (n / b) ∙ ap (places b j) shift)

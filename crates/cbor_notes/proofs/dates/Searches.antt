@@ -31,14 +31,14 @@ unfolding first_found
 IfSome-first_found zero look P each = tt
 IfSome-first_found (suc n) look P each =
     IfSome-option_or (first_found n look) (look n) P (IfSome-first_found n look P (λ k h. each k (omega arith)))
-        (each n (omega arith))
+    (each n (omega arith))
 
 pub IfSome-first_minute : {X : Type 0} (look : ℕ → ℕ → Option X) (P : X → Type 0)
     → ((hour minute : ℕ) → hour < 24 → minute < 60 → IfSome (look hour minute) P) → IfSome (first_minute look) P
 unfolding first_minute
 IfSome-first_minute look P each =
     IfSome-first_found 24 _ P (λ hour hour_in. IfSome-first_found 60 _ P
-        (λ minute minute_in. each hour minute hour_in minute_in))
+    (λ minute minute_in. each hour minute hour_in minute_in))
 
 -- something is found where it is for one of those that are tried
 pub IsSome-first_found : {X : Type 0} (n : ℕ) (look : ℕ → Option X) (k : ℕ) → k < n → IsSome (look k)

@@ -65,7 +65,7 @@ AllGroups-segments_of (a ∷ []) fit k = omega arith
 AllGroups-segments_of (a ∷ b ∷ rest) fit k =
     let later = AllGroups-segments_of rest (λ j. fit (suc (suc j))) in
     elim k as (λ j. get_or ((a * 256 + b) ∷ segments_of rest) j 0 < 2 ^ 16)
-        [ zero ↦ omega (arith, fit 0, fit 1) | suc j ↦ later j ]
+    [ zero ↦ omega (arith, fit 0, fit 1) | suc j ↦ later j ]
 
 more_groups : (groups : List ℕ) → AllGroups groups
     → flat_map (λ g. 58 ∷ Std.hex g) groups ≡ flat_map (λ g. 58 ∷ digits 16 false g) groups
@@ -131,15 +131,21 @@ same_pair a b m n group others la lb lm ln e = elim (cases_eq a m) [
 same_prefix : (a b c d e f g h i j k l : ℕ) → a < 256 → b < 256 → c < 256 → d < 256 → e < 256 → f < 256 → g < 256
     → h < 256 → i < 256 → j < 256 → k < 256 → l < 256
     → bytes_eq ((a * 256 + b) ∷ (c * 256 + d) ∷ (e * 256 + f) ∷ (g * 256 + h) ∷ (i * 256 + j) ∷ (k * 256 + l) ∷ [])
-        (0 ∷ 0 ∷ 0 ∷ 0 ∷ 0 ∷ 0xffff ∷ [])
+    (0 ∷ 0 ∷ 0 ∷ 0 ∷ 0 ∷ 0xffff ∷ [])
     ≡ bytes_eq (a ∷ b ∷ c ∷ d ∷ e ∷ f ∷ g ∷ h ∷ i ∷ j ∷ k ∷ l ∷ []) spec.ipv4_prefix
 same_prefix a b c d e f g h i j k l la lb lc ld le lf lg lh li lj lk ll =
     let zero_pair : (x y : ℕ) (others : Bool) → x < 256 → y < 256
-        → eqb (x * 256 + y) 0 && others ≡ eqb x 0 && (eqb y 0 && others) =
-        λ x y others lx ly. same_pair x y 0 0 0 others lx ly (omega arith) (omega arith) refl in
+    → eqb (x * 256 + y) 0 && others ≡ eqb x 0 && (eqb y 0 && others) =
+    λ x y others lx ly. same_pair x y 0 0 0 others lx ly (omega arith) (omega arith) refl in
     let ones = same_pair k l 255 255 0xffff true lk ll (omega arith) (omega arith) refl in
-    rw (ones, zero_pair i j _ li lj, zero_pair g h _ lg lh, zero_pair e f _ le lf, zero_pair c d _ lc ld,
-        zero_pair a b _ la lb)
+    rw (
+      ones,
+      zero_pair i j _ li lj,
+      zero_pair g h _ lg lh,
+      zero_pair e f _ le lf,
+      zero_pair c d _ lc ld,
+      zero_pair a b _ la lb,
+    )
 
 -- the last four octets, from their groups
 last_four : (m n o p : ℕ) → n < 256 → p < 256
@@ -159,12 +165,12 @@ cond_same t u x y v w test then_same else_same = cc
 listed : (a b c d e f g h i j q l m n o p : ℕ)
     → ((k : ℕ) → get_or (a ∷ b ∷ c ∷ d ∷ e ∷ f ∷ g ∷ h ∷ i ∷ j ∷ q ∷ l ∷ m ∷ n ∷ o ∷ p ∷ []) k 0 < 256)
     → Std.ipv6_text (segments_of (a ∷ b ∷ c ∷ d ∷ e ∷ f ∷ g ∷ h ∷ i ∷ j ∷ q ∷ l ∷ m ∷ n ∷ o ∷ p ∷ []))
-        ≡ spec.ipv6_text (a ∷ b ∷ c ∷ d ∷ e ∷ f ∷ g ∷ h ∷ i ∷ j ∷ q ∷ l ∷ m ∷ n ∷ o ∷ p ∷ [])
+    ≡ spec.ipv6_text (a ∷ b ∷ c ∷ d ∷ e ∷ f ∷ g ∷ h ∷ i ∷ j ∷ q ∷ l ∷ m ∷ n ∷ o ∷ p ∷ [])
 unfolding Std.ipv6_text spec.ipv6_text
 listed a b c d e f g h i j q l m n o p fit =
     let octets : List ℕ = a ∷ b ∷ c ∷ d ∷ e ∷ f ∷ g ∷ h ∷ i ∷ j ∷ q ∷ l ∷ m ∷ n ∷ o ∷ p ∷ [] in
     cond_same _ _ _ _ _ _ (same_prefix a b c d e f g h i j q l (fit 0) (fit 1) (fit 2) (fit 3) (fit 4) (fit 5) (fit 6)
-        (fit 7) (fit 8) (fit 9) (fit 10) (fit 11))
+    (fit 7) (fit 8) (fit 9) (fit 10) (fit 11))
     (ap (λ t. codes "::ffff:" ++ t) (last_four m n o p (fit 13) (fit 15)))
     (hex_text-std (segments_of octets) (AllGroups-segments_of octets fit))
 
@@ -174,10 +180,10 @@ pub ipv6_text-std : (octets : List ℕ) → length octets ≡ 16 → ((k : ℕ) 
 ipv6_text-std octets sixteen fit =
     let P : List ℕ → Type 0 = λ o. ((k : ℕ) → get_or o k 0 < 256) → Std.ipv6_text (segments_of o) ≡ spec.ipv6_text o in
     subst P (sym (sixteen_items octets sixteen))
-        (listed (get_or octets 0 0) (get_or octets 1 0) (get_or octets 2 0) (get_or octets 3 0) (get_or octets 4 0)
-        (get_or octets 5 0) (get_or octets 6 0) (get_or octets 7 0) (get_or octets 8 0) (get_or octets 9 0)
-        (get_or octets 10 0) (get_or octets 11 0) (get_or octets 12 0) (get_or octets 13 0) (get_or octets 14 0)
-        (get_or octets 15 0)) fit
+    (listed (get_or octets 0 0) (get_or octets 1 0) (get_or octets 2 0) (get_or octets 3 0) (get_or octets 4 0)
+    (get_or octets 5 0) (get_or octets 6 0) (get_or octets 7 0) (get_or octets 8 0) (get_or octets 9 0)
+    (get_or octets 10 0) (get_or octets 11 0) (get_or octets 12 0) (get_or octets 13 0) (get_or octets 14 0)
+    (get_or octets 15 0)) fit
 
 -- the run that is written `::` is the first longest
 pub shortened-first_longest : (groups : List ℕ) (start count : ℕ) → spec.IsFirstLongestRun groups start count
@@ -187,7 +193,7 @@ shortened-first_longest groups start count is least =
     let found = longest_zero_run-is groups in
     let std_run = IsZeroRun-longest_zero_run groups in
     let run : spec.IsZeroRun groups (spec.first_run (spec.longest_run groups) groups) (spec.longest_run groups) =
-        rw found at std_run in
+    rw found at std_run in
     let none_before = rw found at (longest_zero_run_first groups start count is.run) in
     let most = is.longest _ _ run in
     let same_count : spec.longest_run groups ≡ count = omega arith in

@@ -63,10 +63,10 @@ take_fits (suc n) (x ∷ xs) fit (suc i) = take_fits n xs (λ j. fit (suc j)) i
 pub next_number : (xs : List ℕ) (i number : ℕ) → ((j : ℕ) → get_or xs j 0 < 256) → i < length xs → length xs ≤ 16
     → number ≡ number_from_digits 256 (take i xs)
     → (number * 256 + get_or xs i 0 ≡ number_from_digits 256 (take (i + 1) xs))
-        × (number * 256 + get_or xs i 0 < 2 ^ 128)
+    × (number * 256 + get_or xs i 0 < 2 ^ 128)
 next_number xs i number fit inside few is =
     let more : number * 256 + get_or xs i 0 ≡ number_from_digits 256 (take (i + 1) xs) =
-        rw is (sym (number_more 256 xs i inside)) in
+    rw is (sym (number_more 256 xs i inside)) in
     let below = number_below (take (i + 1) xs) (take_fits (i + 1) xs fit) in
     let len : 8 * length (take (i + 1) xs) ≤ 128 = omega (arith, length-take-le (i + 1) xs (omega arith)) in
     let most : 2 ^ (8 * length (take (i + 1) xs)) ≤ 2 ^ 128 = pow-le-pow_right (lit< tt) len in

@@ -20,13 +20,13 @@ split_after : {Z : Type 0} (old new : String Z) → StartsWith (string_bytes new
 split_after old new front =
     let within = starts_with_length (string_bytes new) (string_bytes old) front in
     let at = IsCharBoundary-from_take (string_bytes new) (length (string_bytes old)) (IsUtf8-string_bytes new) within
-        (subst IsUtf8 (sym front) (IsUtf8-string_bytes old)) in
+    (subst IsUtf8 (sym front) (IsUtf8-string_bytes old)) in
     (at.0, λ some. at.1)
 
 -- so it may be cut after an error
 pub cut_point : {Z V E : Type 0} (old new : String Z) (result : Result V E) (len : ℕ) → len ≡ string_len old
     → OnErr result (StartsWith (string_bytes new) (string_bytes old))
-        → OnErr result (IsSplitPoint (string_bytes new) len)
+    → OnErr result (IsSplitPoint (string_bytes new) len)
 cut_point old new result len is =
     let same : length (string_bytes old) ≡ len = omega (arith, is, old.bytes.ok.0) in
     on_err_weaker result (λ front. subst (IsSplitPoint (string_bytes new)) same (split_after old new front))

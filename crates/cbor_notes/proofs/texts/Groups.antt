@@ -21,12 +21,20 @@ comma d ds h = rw (lt-ltb 0 (length (d ∷ ds)) (omega arith), eq-eqb (length (d
 
 pub is_grouped : (digits : List ℕ) → 0 < length digits → IsGrouped digits (in_groups digits)
 is_grouped [] h = absurd (omega arith)
-is_grouped (digit ∷ []) h = record { first = digit ∷ []; others = []; some = omega arith; short =
-    omega arith; of_three = tt; digits_are = refl; text_is = refl }
+is_grouped (digit ∷ []) h = record {
+  first = digit ∷ [];
+  others = [];
+  some = omega arith;
+  short =
+      omega arith;
+  of_three = tt;
+  digits_are = refl;
+  text_is = refl;
+}
 is_grouped (digit ∷ d ∷ ds) h =
     let g = is_grouped (d ∷ ds) (omega arith) in
     let count : length (d ∷ ds) ≡ length g.first + 3 * length g.others = ap length g.digits_are
-        ∙ length-append g.first (concat g.others) ∙ ap (λ n. length g.first + n) (joined_length g.others g.of_three) in
+    ∙ length-append g.first (concat g.others) ∙ ap (λ n. length g.first + n) (joined_length g.others g.of_three) in
     elim (cases_lt (length g.first) 3) [
       | inl few ↦
           let uneven : length (d ∷ ds) % 3 ≢ 0 = λ e. omega (arith, g.some) in

@@ -31,8 +31,8 @@ pub hex_more : (out piece after rest whole : List ℕ) → piece ++ after ≡ re
     → (out ++ encode_lower piece) ++ encode_lower after ≡ whole
 hex_more out piece after rest whole parts h =
     append_assoc out (encode_lower piece) (encode_lower after)
-        ∙ ap (λ x. out ++ x) (sym (encode_with-append lower_digits piece after)) ∙ ap (λ x. out ++ encode_lower x) parts
-        ∙ h
+    ∙ ap (λ x. out ++ x) (sym (encode_with-append lower_digits piece after)) ∙ ap (λ x. out ++ encode_lower x) parts
+    ∙ h
 
 -- all is written
 pub hex_end : (out rest whole : List ℕ) → eqb (length rest) 0 ≡ true → out ++ encode_lower rest ≡ whole → out ≡ whole

@@ -32,7 +32,7 @@ Blank-append nothing after = after
 Blank-append (whitespace is more) after = whitespace is (Blank-append more after)
 Blank-append {rest = after} (comment words rest allowed no_slash more is) then =
     comment words (rest ++ after) allowed no_slash (Blank-append more then)
-        (ap (λ (t : List ℕ). t ++ after) is ∙ append_assoc (47 ∷ words) (47 ∷ rest) after)
+    (ap (λ (t : List ℕ). t ++ after) is ∙ append_assoc (47 ∷ words) (47 ∷ rest) after)
 
 -- where reading stands: before a piece of a blank, or in a comment that was opened and whose words so far hold no `/`
 abbrev Stands : Bool → Option (List ℕ) → List ℕ → List ℕ → Type 0
@@ -56,9 +56,9 @@ left_in comments (Some opened) [] whole is = ([], is.0, nothing)
 left_in comments None (byte ∷ rest) whole is =
     cond_both (is_whitespace byte) (after_blank_in comments None rest) _ (Left comments whole)
     (λ white. let next = left_in comments None rest rest refl in
-        (byte ∷ next.0, is ∙ ap (λ (t : List ℕ). byte ∷ t) next.1, whitespace white next.2))
+    (byte ∷ next.0, is ∙ ap (λ (t : List ℕ). byte ∷ t) next.1, whitespace white next.2))
     (λ black. cond_both (comments && (byte == 47)) (after_blank_in comments (Some (byte ∷ rest)) rest) (byte ∷ rest)
-        (Left comments whole)
+    (Left comments whole)
     (λ opens. let parts = and_parts comments (byte == 47) opens in
     let slash : byte ≡ 47 = eqb-true byte 47 parts.1 in
     left_in comments (Some (byte ∷ rest)) rest whole (is, parts.0, ([], tt, ap (λ (b : ℕ). b ∷ rest) slash)))
@@ -66,7 +66,7 @@ left_in comments None (byte ∷ rest) whole is =
 left_in comments (Some opened) (byte ∷ rest) whole is =
     let words = is.2.0 in
     cond_both (byte == 47) (after_blank_in comments None rest) (after_blank_in comments (Some opened) rest)
-        (Left comments whole)
+    (Left comments whole)
     (λ closes. let next = left_in comments None rest rest refl in
     let slash : byte ≡ 47 = eqb-true byte 47 closes in (
       47 ∷ words ++ 47 ∷ next.0,
@@ -75,9 +75,16 @@ left_in comments (Some opened) (byte ∷ rest) whole is =
           ∙ sym (append_assoc (47 ∷ words) (47 ∷ next.0) (after_blank_in comments None rest)),
       comment words next.0 is.1 is.2.1 next.2 refl,
     ))
-    (λ goes_on. left_in comments (Some opened) rest whole
-    (is.0, is.1, (words ++ byte ∷ [], all_push words byte is.2.1 (eqb-false byte 47 goes_on), is.2.2
-        ∙ sym (append_assoc (47 ∷ words) (byte ∷ []) rest))))
+    (λ goes_on. left_in comments (Some opened) rest whole (
+      is.0,
+      is.1,
+      (
+        words ++ byte ∷ [],
+        all_push words byte is.2.1 (eqb-false byte 47 goes_on),
+        is.2.2
+            ∙ sym (append_assoc (47 ∷ words) (byte ∷ []) rest),
+      ),
+    ))
 
 -- some front of a text is a blank, after which reading leaves the rest
 pub blank_left : (comments : Bool) (text : List ℕ) → (front : List ℕ) × (text ≡ front ++ after_blank comments text)
@@ -107,7 +114,7 @@ after_blank-append nothing after = refl
 after_blank-append (whitespace is more) after = rw is (after_blank-append more after)
 after_blank-append {comments} (comment words rest allowed no_slash more is) after =
     ap (after_blank comments) (ap (λ (t : List ℕ). t ++ after) is ∙ append_assoc (47 ∷ words) (47 ∷ rest) after)
-        ∙ (comment_read comments words (rest ++ after) allowed no_slash ∙ after_blank-append more after)
+    ∙ (comment_read comments words (rest ++ after) allowed no_slash ∙ after_blank-append more after)
 
 -- so what is left stands after the longest blank
 pub longest_left : (comments : Bool) (front rest : List ℕ) → Blank comments front
@@ -116,9 +123,16 @@ longest_left comments front rest is left = record {
   is = is;
   no_longer = λ other after same blank.
       let read : after_blank comments (front ++ rest) ≡ after_blank comments after = ap (after_blank comments) same
-          ∙ after_blank-append blank after in
-      omega (arith, ap length same, length-append front rest, length-append other after, ap length left, ap length read,
-          length-after_blank comments after);
+      ∙ after_blank-append blank after in
+      omega (
+        arith,
+        ap length same,
+        length-append front rest,
+        length-append other after,
+        ap length left,
+        ap length read,
+        length-after_blank comments after,
+      );
 }
 
 -- and whatever stands after the longest blank is what is left
@@ -151,11 +165,11 @@ after_comment comments opened (byte ∷ rest) place is within =
           rw (closes, zero) refl
       | inr goes_on ↦
           let next : place ≡ suc (position_or_len (λ b. b == 47) rest) = is
-              ∙ (rw (goes_on, one-add (position_or_len (λ b. b == 47) rest)) refl) in
+          ∙ (rw (goes_on, one-add (position_or_len (λ b. b == 47) rest)) refl) in
           let n = position_or_len (λ b. b == 47) rest in
           let one_on : suc (n + 1) ≡ suc n + 1 = omega arith in
           rw (goes_on, next) (after_comment comments opened rest n refl (omega arith)
-              ∙ ap (λ (m : ℕ). after_blank comments (drop m (byte ∷ rest))) one_on)
+          ∙ ap (λ (m : ℕ). after_blank comments (drop m (byte ∷ rest))) one_on)
     ]
 
 pub no_comment : (comments : Bool) (opened rest : List ℕ) → position_or_len (λ b. b == 47) rest ≡ length rest

@@ -14,6 +14,6 @@ pub one_longest : (Is : List ℕ → Type 0) (front rest other after : List ℕ)
     → IsLongest Is front rest → IsLongest Is other after → (front ≡ other) × (rest ≡ after)
 one_longest Is front rest other after is here there =
     let same : length front ≡ length other =
-        omega (arith, here.no_longer other after is there.is, there.no_longer front rest (sym is) here.is) in
+    omega (arith, here.no_longer other after is there.is, there.no_longer front rest (sym is) here.is) in
     let one = same_front front rest other after is same in
     (one, append_cancel_left other rest after (ap (λ (xs : List ℕ). xs ++ rest) (sym one) ∙ is))

@@ -24,5 +24,12 @@ number_digit text value indicator is = ap (starts_with_digit 10) is.text_is
 
 -- decimal digits are a number
 pub decimal_number : (digits : List ℕ) (value : ℕ) → AreDigits 10 digits value → IsNumber digits value None
-decimal_number digits value are = record { base = Decimal; digits = digits; after = []; text_is =
-    sym (append-nil digits); digits_are = are; after_is = refl }
+decimal_number digits value are = record {
+  base = Decimal;
+  digits = digits;
+  after = [];
+  text_is =
+      sym (append-nil digits);
+  digits_are = are;
+  after_is = refl;
+}

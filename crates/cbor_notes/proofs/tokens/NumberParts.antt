@@ -9,10 +9,13 @@ use Rattle.cbor_notes.specs.Token.{prefix, radix, AreDigits, Indicates, IsNumber
 -- an indicator stands behind `_`
 pub behind_underscore : (text : List ℕ) (value indicator : ℕ) → IsNumber text value (Some indicator)
     → (front rest : List ℕ) × (text ≡ front ++ 95 ∷ rest)
-behind_underscore text value indicator is =
-    (prefix is.base ++ is.digits, is.after_is.0, is.text_is
-        ∙ ap (λ (z : List ℕ). prefix is.base ++ (is.digits ++ z)) is.after_is.1
-        ∙ sym (append_assoc (prefix is.base) is.digits (95 ∷ is.after_is.0)))
+behind_underscore text value indicator is = (
+  prefix is.base ++ is.digits,
+  is.after_is.0,
+  is.text_is
+      ∙ ap (λ (z : List ℕ). prefix is.base ++ (is.digits ++ z)) is.after_is.1
+      ∙ sym (append_assoc (prefix is.base) is.digits (95 ∷ is.after_is.0)),
+)
 
 digits_behind : (front rest : List ℕ) → AllDigits 10 (front ++ rest) → AllDigits 10 rest
 digits_behind [] rest h = h
@@ -29,10 +32,10 @@ only_digits Binary text digits after value indicator is are behind all =
     let h : AllDigits 10 (48 ∷ 98 ∷ (digits ++ after)) = subst (AllDigits 10) is all in absurd (omega (arith, h.1.0))
 only_digits Decimal text digits after value None is are behind all =
     subst (λ (z : List ℕ). AreDigits 10 z value)
-        (sym (is ∙ ap (λ (z : List ℕ). digits ++ z) behind ∙ append-nil digits)) are
+    (sym (is ∙ ap (λ (z : List ℕ). digits ++ z) behind ∙ append-nil digits)) are
 only_digits Decimal text digits after value (Some i) is are behind all =
     let h : AllDigits 10 (digits ++ (95 ∷ behind.0)) =
-        subst (AllDigits 10) (is ∙ ap (λ (z : List ℕ). digits ++ z) behind.1) all in
+    subst (AllDigits 10) (is ∙ ap (λ (z : List ℕ). digits ++ z) behind.1) all in
     absurd (omega (arith, (digits_behind digits (95 ∷ behind.0) h).0))
 
 -- a number of decimal digits alone is what they write

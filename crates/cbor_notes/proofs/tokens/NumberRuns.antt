@@ -17,7 +17,7 @@ pub digit_run-append : (base value : ℕ) (digits rest : List ℕ) → AllDigits
 digit_run-append base value [] rest all = refl
 digit_run-append base value (d ∷ digits) rest all =
     cond-true (nat_lt (digit_value d) base) _ _ (lt-ltb (digit_value d) base all.0)
-        ∙ digit_run-append base (value * base + digit_value d) digits rest all.1
+    ∙ digit_run-append base (value * base + digit_value d) digits rest all.1
 
 -- no digit of this base stands first
 pub digit_run-stops : (base value : ℕ) (rest : List ℕ) → starts_with_digit base rest ≡ false
@@ -62,8 +62,8 @@ pub small_run-append : (value : ℕ) (digits rest : List ℕ) → digits_value_a
 small_run-append value [] rest small = refl
 small_run-append value (d ∷ digits) rest small =
     cond-true (nat_le (value * 10 + digit_value d) 3) _ _
-        (le-leb _ 3 (omega (arith, after_ge (value * 10 + digit_value d) digits, small)))
-        ∙ small_run-append (value * 10 + digit_value d) digits rest small
+    (le-leb _ 3 (omega (arith, after_ge (value * 10 + digit_value d) digits, small)))
+    ∙ small_run-append (value * 10 + digit_value d) digits rest small
 
 pub small_run-stops : (value : ℕ) (rest : List ℕ) → starts_with_digit 10 rest ≡ false
     → small_run value rest ≡ (value, rest)
@@ -105,14 +105,14 @@ pub indicator_of-append : (text rest : List ℕ) (indicator : ℕ) → Indicates
     → indicator_of (text ++ rest) ≡ Some (small_run indicator rest)
 indicator_of-append text rest indicator is =
     rw is.1 (read is.0 is.2.0.1 is.2.0.0 (subst (λ (n : ℕ). n ≤ 3) is.2.1 is.3)
-        ∙ ap (λ (n : ℕ). Some (small_run n rest)) (sym is.2.1))
+    ∙ ap (λ (n : ℕ). Some (small_run n rest)) (sym is.2.1))
   where
     read : (digits : List ℕ) → AllDigits 10 digits → 0 < length digits → digits_value 10 digits ≤ 3
         → indicator_of (95 ∷ (digits ++ rest)) ≡ Some (small_run (digits_value 10 digits) rest)
     read [] all some small = absurd (omega arith)
     read (d ∷ digits) all some small =
         cond-true (nat_lt (digit_value d) 4) _ None
-            (lt-ltb (digit_value d) 4 (omega (arith, after_ge (0 * 10 + digit_value d) digits, small)))
+        (lt-ltb (digit_value d) 4 (omega (arith, after_ge (0 * 10 + digit_value d) digits, small)))
         ∙ ap (λ (r : ℕ × List ℕ). Some r) (small_run-append 0 (d ∷ digits) rest small)
 
 -- what is read is an indicator
@@ -125,10 +125,13 @@ some_small (d ∷ rest) starts =
     let small : 0 * 10 + digit_value d ≤ 3 = omega (arith, ltb-true (digit_value d) 4 starts) in
     let next = is_small_run (0 * 10 + digit_value d) rest small in
     let step : small_run 0 (d ∷ rest) ≡ small_run (0 * 10 + digit_value d) rest =
-        cond-true (nat_le (0 * 10 + digit_value d) 3) _ _ (le-leb _ 3 small) in
-    subst (SmallDigits (d ∷ rest)) (sym step)
-    (d ∷ next.digits, ap (λ (t : List ℕ). d ∷ t) next.text_is,
-        (((omega arith, (omega (arith, small), next.all)), next.value_is)), next.small)
+    cond-true (nat_le (0 * 10 + digit_value d) 3) _ _ (le-leb _ 3 small) in
+    subst (SmallDigits (d ∷ rest)) (sym step) (
+      d ∷ next.digits,
+      ap (λ (t : List ℕ). d ∷ t) next.text_is,
+      (((omega arith, (omega (arith, small), next.all)), next.value_is)),
+      next.small,
+    )
 
 pub Indicates-indicator_of : (text : List ℕ) (read : ℕ × List ℕ) → indicator_of text ≡ Some read
     → (front : List ℕ) × (text ≡ front ++ read.1) × Indicates front (Some read.0)
@@ -138,11 +141,13 @@ Indicates-indicator_of (byte ∷ rest) read is =
       | inl opens ↦
           let parts = and_parts (byte == 95) (starts_with_digit 4 rest) opens in
           let same : ◌≡◌ {A = Option (ℕ × List ℕ)} (Some (small_run 0 rest)) (Some read) =
-              sym (cond-true _ (Some (small_run 0 rest)) None opens) ∙ is in
+          sym (cond-true _ (Some (small_run 0 rest)) None opens) ∙ is in
           let run : ◌≡◌ {A = ℕ × List ℕ} (small_run 0 rest) read = cc same in
-          let found = subst (SmallDigits rest) run (some_small rest parts.1) in
-          (95 ∷ found.0, ap (λ (b : ℕ). b ∷ rest) (eqb-true byte 95 parts.0) ∙ ap (λ (t : List ℕ). 95 ∷ t) found.1,
-              (found.0, refl, found.2, found.3))
+          let found = subst (SmallDigits rest) run (some_small rest parts.1) in (
+            95 ∷ found.0,
+            ap (λ (b : ℕ). b ∷ rest) (eqb-true byte 95 parts.0) ∙ ap (λ (t : List ℕ). 95 ∷ t) found.1,
+            (found.0, refl, found.2, found.3),
+          )
       | inr none ↦ let never : ◌≡◌ {A = Option (ℕ × List ℕ)} None (Some read) =
           sym (cond-false _ (Some (small_run 0 rest)) None none) ∙ is in cc never
     ]
@@ -153,8 +158,8 @@ pub run_more : (base value digit : ℕ) (text : List ℕ) (at : ℕ) → at < le
     → digit_run base value (drop at text) ≡ digit_run base (value * base + digit) (drop (at + 1) text)
 run_more base value digit text at within small is =
     rw is (ap (digit_run base value) (drop_more text at 0 within)
-        ∙ cond-true _ (digit_run base (value * base + digit_value (get_or text at 0)) (drop (at + 1) text)) _
-        (lt-ltb _ base small))
+    ∙ cond-true _ (digit_run base (value * base + digit_value (get_or text at 0)) (drop (at + 1) text)) _
+    (lt-ltb _ base small))
 
 -- the same of runs whose value stays small
 pub small_more : (value digit : ℕ) (text : List ℕ) (at : ℕ) → at < length text → value * 10 + digit ≤ 3
@@ -163,7 +168,7 @@ pub small_more : (value digit : ℕ) (text : List ℕ) (at : ℕ) → at < lengt
 small_more value digit text at within small is =
     let few : value * 10 + digit_value (get_or text at 0) ≤ 3 = rw (← is) small in
     rw is (ap (small_run value) (drop_more text at 0 within)
-        ∙ cond-true _ (small_run (value * 10 + digit_value (get_or text at 0)) (drop (at + 1) text)) _ (le-leb _ 3 few))
+    ∙ cond-true _ (small_run (value * 10 + digit_value (get_or text at 0)) (drop (at + 1) text)) _ (le-leb _ 3 few))
 
 -- no small digit was read, or some were
 pub none_small : (text : List ℕ) (value : ℕ) → small_run 0 text ≡ (value, text) → starts_with_digit 4 text ≡ false
@@ -173,9 +178,12 @@ none_small (d ∷ rest) value is =
       | inl small ↦
           let few : 0 * 10 + digit_value d ≤ 3 = omega (arith, ltb-true (digit_value d) 4 small) in
           let step : small_run 0 (d ∷ rest) ≡ small_run (0 * 10 + digit_value d) rest =
-              cond-true _ _ _ (le-leb _ 3 few) in
-          absurd (omega (arith, length-small_run (0 * 10 + digit_value d) rest few,
-              ap (λ (r : ℕ × List ℕ). length r.1) (sym step ∙ is)))
+          cond-true _ _ _ (le-leb _ 3 few) in
+          absurd (omega (
+            arith,
+            length-small_run (0 * 10 + digit_value d) rest few,
+            ap (λ (r : ℕ × List ℕ). length r.1) (sym step ∙ is),
+          ))
       | inr large ↦ large
     ]
 

@@ -34,14 +34,20 @@ begins (first ∷ letter ∷ rest) =
     (λ zero_first.
     let first_is : first ≡ 48 = eqb-true first 48 (not-false _ zero_first) in
     cond_both ((letter == 120) && starts_with_digit 16 rest) Hexadecimal _ (Begins text)
-    (λ is. let parts = and_parts _ _ is in (both first letter 48 120 rest first_is (eqb-true letter 120 parts.0),
-        inr parts.1))
+    (λ is. let parts = and_parts _ _ is in (
+      both first letter 48 120 rest first_is (eqb-true letter 120 parts.0),
+      inr parts.1,
+    ))
     (λ _. cond_both ((letter == 111) && starts_with_digit 8 rest) Octal _ (Begins text)
-    (λ is. let parts = and_parts _ _ is in (both first letter 48 111 rest first_is (eqb-true letter 111 parts.0),
-        inr parts.1))
+    (λ is. let parts = and_parts _ _ is in (
+      both first letter 48 111 rest first_is (eqb-true letter 111 parts.0),
+      inr parts.1,
+    ))
     (λ _. cond_both ((letter == 98) && starts_with_digit 2 rest) Binary Decimal (Begins text)
-    (λ is. let parts = and_parts _ _ is in (both first letter 48 98 rest first_is (eqb-true letter 98 parts.0),
-        inr parts.1))
+    (λ is. let parts = and_parts _ _ is in (
+      both first letter 48 98 rest first_is (eqb-true letter 98 parts.0),
+      inr parts.1,
+    ))
     (λ _. begins_decimal text))))
   where
     text : List ℕ
@@ -55,15 +61,19 @@ base_of-decimal : (first letter : ℕ) (rest : List ℕ) → (digit_value letter
     → base_of (first ∷ letter ∷ rest) ≡ Decimal
 base_of-decimal first letter rest other =
     cond_both (not (first == 48)) Decimal _ (λ b. b ≡ Decimal) (λ _. refl)
-    (λ _. rw (ne_eqb letter 120 (apart 120 33 refl (omega arith) (omega arith)),
-        ne_eqb letter 111 (apart 111 24 refl (omega arith) (omega arith)),
-        ne_eqb letter 98 (apart 98 11 refl (omega arith) (omega arith))) refl)
+    (λ _. rw (
+      ne_eqb letter 120 (apart 120 33 refl (omega arith) (omega arith)),
+      ne_eqb letter 111 (apart 111 24 refl (omega arith) (omega arith)),
+      ne_eqb letter 98 (apart 98 11 refl (omega arith) (omega arith)),
+    ) refl)
   where
     apart : (letter_of_prefix value : ℕ) → digit_value letter_of_prefix ≡ value → 10 ≤ value → value < 36
         → letter ≢ letter_of_prefix
-    apart p value is low high same = elim other
-        [ inl small ↦ absurd (omega (arith, ap digit_value same, is, small)) | inr large ↦ absurd
-        (omega (arith, ap digit_value same, is, large)) ]
+    apart p value is low high same = elim other [
+      | inl small ↦ absurd (omega (arith, ap digit_value same, is, small))
+      | inr large ↦ absurd
+          (omega (arith, ap digit_value same, is, large))
+    ]
 
 -- a prefix and a digit of its base
 base_of-prefixed : (base : Base) (d : ℕ) (rest : List ℕ) → digit_value d < radix base → base ≢ Decimal
@@ -104,7 +114,7 @@ number_in-digits base [] rest value is = absurd (omega (arith, is.0.0))
 number_in-digits base (d ∷ digits) rest value is =
     cond-true (nat_lt (digit_value d) (radix base)) _ None (lt-ltb (digit_value d) (radix base) is.0.1.0)
     ∙ ap (λ (run : ℕ × List ℕ). Some (after_run run)) (digit_run-append (radix base) 0 (d ∷ digits) rest is.0.1
-        ∙ ap (λ (n : ℕ). digit_run (radix base) n rest) (sym is.1))
+    ∙ ap (λ (n : ℕ). digit_run (radix base) n rest) (sym is.1))
 
 -- what an indicator leaves
 pub record IsAfter (run : ℕ × List ℕ) (read : ℕ × Option ℕ × List ℕ) : Type 0 where
@@ -159,12 +169,12 @@ from_number_in base text read is =
       | inl starts ↦
           let run = digit_run (radix base) 0 text in
           let same : ◌≡◌ {A = Option (ℕ × Option ℕ × List ℕ)} (Some (after_run run)) (Some read) =
-              sym (cond-true _ (Some (after_run run)) None starts) ∙ is in
+          sym (cond-true _ (Some (after_run run)) None starts) ∙ is in
           let one : ◌≡◌ {A = ℕ × Option ℕ × List ℕ} (after_run run) read = cc same in
           subst (IsIn base text) one (in_run base text run starts (is_run (radix base) 0 text))
       | inr none ↦
           let never : ◌≡◌ {A = Option (ℕ × Option ℕ × List ℕ)} None (Some read) =
-              sym (cond-false _ (Some (after_run (digit_run (radix base) 0 text))) None none) ∙ is in cc never
+          sym (cond-false _ (Some (after_run (digit_run (radix base) 0 text))) None none) ∙ is in cc never
     ]
 
 -- what is read is a number
@@ -176,8 +186,15 @@ IsNumber-number_of text read is =
       prefix base ++ (found.digits ++ found.after),
       (begins text).0 ∙ (ap (λ (t : List ℕ). prefix base ++ t) found.text_is
           ∙ sym (append_assoc (prefix base) (found.digits ++ found.after) read.2)),
-      record { base = base; digits = found.digits; after = found.after; text_is = refl; digits_are =
-          found.digits_are; after_is = found.after_is },
+      record {
+        base = base;
+        digits = found.digits;
+        after = found.after;
+        text_is = refl;
+        digits_are =
+            found.digits_are;
+        after_is = found.after_is;
+      },
     )
 
 -- where a decimal digit stands, a number is read
@@ -189,9 +206,11 @@ some_number text starts =
     let first : starts_with_digit (radix base) digits ≡ true = elim (begins text).1 [
       | inl decimal ↦ ap (λ (b : Base). starts_with_digit (radix b) (drop (length (prefix b)) text)) decimal ∙ starts
       | inr is ↦ is
-    ] in
-    (after_run (digit_run (radix base) 0 digits), cond-true _ (Some (after_run (digit_run (radix base) 0 digits))) None
-        first)
+    ] in (
+      after_run (digit_run (radix base) 0 digits),
+      cond-true _ (Some (after_run (digit_run (radix base) 0 digits))) None
+          first,
+    )
 
 -- What no number goes on with: nothing, or a byte that is neither a letter, a decimal digit nor `_`.
 abbrev pub EndsNumber : List ℕ → Type 0
@@ -222,7 +241,7 @@ after_whole base value after rest (Some indicator) is ends =
     ap after_run (digit_run-stops (radix base) value (after ++ rest) stops)
     ∙ (ap (with_indicator value (after ++ rest)) (indicator_of-append after rest indicator is)
     ∙ ap (λ (read : ℕ × List ℕ). with_indicator value (after ++ rest) (Some read))
-        (small_run-stops indicator rest (ends_digits 10 rest (omega arith) ends)))
+    (small_run-stops indicator rest (ends_digits 10 rest (omega arith) ends)))
 
 -- and as far as it goes in any case
 after_reaches : (base : Base) (value : ℕ) (after rest : List ℕ) (indicator : Option ℕ) → Indicates after indicator
@@ -256,15 +275,20 @@ decimal_goes_on d (letter ∷ rest) on = number_of-prefixed Decimal (d ∷ lette
 pub length-IsNumber : (text : List ℕ) (value : ℕ) (indicator : Option ℕ) → IsNumber text value indicator
     → 0 < length text
 length-IsNumber text value indicator is =
-    omega (arith, ap length is.text_is, length-append (prefix is.base) (is.digits ++ is.after),
-        length-append is.digits is.after, is.digits_are.0.0)
+    omega (
+      arith,
+      ap length is.text_is,
+      length-append (prefix is.base) (is.digits ++ is.after),
+      length-append is.digits is.after,
+      is.digits_are.0.0,
+    )
 
 joined : (front rest : List ℕ) (value : ℕ) (indicator : Option ℕ) → (is : IsNumber front value indicator)
     → front ++ rest ≡ prefix is.base ++ (is.digits ++ (is.after ++ rest))
 joined front rest value indicator is =
     ap (λ (t : List ℕ). t ++ rest) is.text_is
     ∙ (append_assoc (prefix is.base) (is.digits ++ is.after) rest
-        ∙ ap (λ (t : List ℕ). prefix is.base ++ t) (append_assoc is.digits is.after rest))
+    ∙ ap (λ (t : List ℕ). prefix is.base ++ t) (append_assoc is.digits is.after rest))
 
 -- a decimal number goes on with a digit or a `_`, or ends
 goes_on : (digits after rest : List ℕ) (value : ℕ) (indicator : Option ℕ) → AllDigits 10 digits
@@ -297,7 +321,7 @@ number_of-append front rest value indicator is ends =
     ∙ (in_base is.base is.digits is.after rest value indicator is.digits_are is.after_is ends
     ∙ (number_in-digits is.base is.digits (is.after ++ rest) value is.digits_are
     ∙ ap (λ (read : ℕ × Option ℕ × List ℕ). Some read)
-        (after_whole is.base value is.after rest indicator is.after_is ends)))
+    (after_whole is.base value is.after rest indicator is.after_is ends)))
 
 -- what is read of a text reaches at least so far
 abbrev Reaches : List ℕ → List ℕ → Type 0
@@ -307,24 +331,33 @@ reaches_in : (base : Base) (digits after rest : List ℕ) (value : ℕ) (indicat
     → AreDigits (radix base) digits value → Indicates after indicator
     → number_of (prefix base ++ (digits ++ (after ++ rest))) ≡ number_in base (digits ++ (after ++ rest))
     → Reaches (prefix base ++ (digits ++ (after ++ rest))) rest
-reaches_in base digits after rest value indicator digits_are is same =
-    (after_run (digit_run (radix base) value (after ++ rest)), same
-        ∙ number_in-digits base digits (after ++ rest) value digits_are,
-        after_reaches base value after rest indicator is)
+reaches_in base digits after rest value indicator digits_are is same = (
+  after_run (digit_run (radix base) value (after ++ rest)),
+  same
+      ∙ number_in-digits base digits (after ++ rest) value digits_are,
+  after_reaches base value after rest indicator is,
+)
 
 reaches_digit : (d : ℕ) (rest : List ℕ) → digit_value d < 10 → Reaches (d ∷ rest) rest
 reaches_digit d rest small =
     let read = some_number (d ∷ rest) (lt-ltb (digit_value d) 10 small) in
-    let found = IsNumber-number_of (d ∷ rest) read.0 read.1 in
-    (read.0, read.1, omega (arith, ap length found.1, length-append found.0 read.0.2,
-        length-IsNumber found.0 read.0.0 read.0.1 found.2))
+    let found = IsNumber-number_of (d ∷ rest) read.0 read.1 in (
+      read.0,
+      read.1,
+      omega (
+        arith,
+        ap length found.1,
+        length-append found.0 read.0.2,
+        length-IsNumber found.0 read.0.0 read.0.1 found.2,
+      ),
+    )
 
 reaches_decimal : (digits after rest : List ℕ) (value : ℕ) (indicator : Option ℕ) → AreDigits 10 digits value
     → Indicates after indicator → Reaches (digits ++ (after ++ rest)) rest
 reaches_decimal [] after rest value indicator digits_are is = absurd (omega (arith, digits_are.0.0))
 reaches_decimal (d ∷ e ∷ digits) after rest value indicator digits_are is =
     reaches_in Decimal (d ∷ e ∷ digits) after rest value indicator digits_are is
-        (decimal_goes_on d (e ∷ (digits ++ (after ++ rest))) (inl digits_are.0.1.1.0))
+    (decimal_goes_on d (e ∷ (digits ++ (after ++ rest))) (inl digits_are.0.1.1.0))
 reaches_decimal (d ∷ []) after rest value (Some indicator) digits_are is =
     reaches_in Decimal (d ∷ []) after rest value (Some indicator) digits_are is
     (decimal_goes_on d (after ++ rest) (subst (λ (t : List ℕ). GoesOn (t ++ rest)) (sym is.1) (inr (omega arith))))
@@ -351,7 +384,7 @@ pub number_of-reaches : (front rest : List ℕ) (value : ℕ) (indicator : Optio
     → (read : ℕ × Option ℕ × List ℕ) × (number_of (front ++ rest) ≡ Some read) × (length read.2 ≤ length rest)
 number_of-reaches front rest value indicator is =
     subst (λ (t : List ℕ). Reaches t rest) (sym (joined front rest value indicator is))
-        (reaches is.base is.digits is.after rest value indicator is.digits_are is.after_is)
+    (reaches is.base is.digits is.after rest value indicator is.digits_are is.after_is)
 
 -- so what is read is the longest number
 pub longest_number : (front rest : List ℕ) (value : ℕ) (indicator : Option ℕ) → IsNumber front value indicator
@@ -361,10 +394,16 @@ longest_number front rest value indicator is read = record {
   no_longer = λ other after same some.
       let reached = number_of-reaches other after some.0 some.1 some.2 in
       let both : ◌≡◌ {A = Option (ℕ × Option ℕ × List ℕ)} (Some (value, indicator, rest)) (Some reached.0) = sym read
-          ∙ (ap number_of same ∙ reached.1) in
+      ∙ (ap number_of same ∙ reached.1) in
       let one : ◌≡◌ {A = ℕ × Option ℕ × List ℕ} (value, indicator, rest) reached.0 = cc both in
-      omega (arith, ap length same, length-append front rest, length-append other after,
-          ap (λ (r : ℕ × Option ℕ × List ℕ). length r.2) one, reached.2);
+      omega (
+        arith,
+        ap length same,
+        length-append front rest,
+        length-append other after,
+        ap (λ (r : ℕ × Option ℕ × List ℕ). length r.2) one,
+        reached.2,
+      );
 }
 
 -- a text is a number of one value and one indicator
@@ -372,7 +411,7 @@ pub one_number : (text : List ℕ) (value other : ℕ) (indicator another : Opti
     → IsNumber text other another → (value ≡ other) × (indicator ≡ another)
 one_number text value other indicator another is is_too =
     let both : ◌≡◌ {A = Option (ℕ × Option ℕ × List ℕ)} (Some (value, indicator, [])) (Some (other, another, [])) =
-        sym (number_of-append text [] value indicator is tt) ∙ number_of-append text [] other another is_too tt in
+    sym (number_of-append text [] value indicator is tt) ∙ number_of-append text [] other another is_too tt in
     let one : ◌≡◌ {A = ℕ × Option ℕ × List ℕ} (value, indicator, []) (other, another, []) = cc both in
     (ap (λ (r : ℕ × Option ℕ × List ℕ). r.0) one, ap (λ (r : ℕ × Option ℕ × List ℕ). r.1) one)
 
@@ -386,7 +425,7 @@ number_of-longest front rest value indicator is longest =
     let here = longest_number found.0 read.2 read.0 read.1 found.2 (ap number_of (sym found.1) ∙ reached.1) in
     let one = one_longest IsSomeNumber front rest found.0 read.2 found.1 longest here in
     let same = one_number front value read.0 indicator read.1 is
-        (subst (λ (t : List ℕ). IsNumber t read.0 read.1) (sym one.0) found.2) in
+    (subst (λ (t : List ℕ). IsNumber t read.0 read.1) (sym one.0) found.2) in
     reached.1 ∙ all_same read same.0 same.1 one.1
   where
     all_same : (read : ℕ × Option ℕ × List ℕ) → value ≡ read.0 → indicator ≡ read.1 → rest ≡ read.2
@@ -406,12 +445,17 @@ no_number text value run front rest is some =
       | inl starts ↦
           let one = is_run (radix base) 0 digits in
           let read = some_digits (radix base) digits (digit_run (radix base) 0 digits) starts one in
-          absurd (omega (arith, ap length one.text_is, length-append one.digits (digit_run (radix base) 0 digits).1,
-              read, ap (λ (r : ℕ × List ℕ). length r.1) run))
+          absurd (omega (
+            arith,
+            ap length one.text_is,
+            length-append one.digits (digit_run (radix base) 0 digits).1,
+            read,
+            ap (λ (r : ℕ × List ℕ). length r.1) run,
+          ))
       | inr none ↦
           let never : ◌≡◌ {A = Option (ℕ × Option ℕ × List ℕ)} None (Some reached.0) =
-              sym (cond-false _ (Some (after_run (digit_run (radix base) 0 digits))) None none)
-              ∙ (ap number_of is ∙ reached.1) in
+          sym (cond-false _ (Some (after_run (digit_run (radix base) 0 digits))) None none)
+          ∙ (ap number_of is ∙ reached.1) in
           cc never
     ]
 
@@ -426,13 +470,19 @@ number_of-run text value rest run shorter =
     elim (cases_Bool (starts_with_digit (radix base) digits)) [
       | inl starts ↦ cond-true _ (Some (after_run (digit_run (radix base) 0 digits))) None starts
           ∙ ap (λ (r : ℕ × List ℕ). Some (after_run r)) run
-      | inr none ↦ absurd (omega (arith, shorter,
-          ap (λ (r : ℕ × List ℕ). length r.1) (sym run ∙ digit_run-stops (radix base) 0 digits none)))
+      | inr none ↦ absurd (omega (
+        arith,
+        shorter,
+        ap (λ (r : ℕ × List ℕ). length r.1) (sym run ∙ digit_run-stops (radix base) 0 digits none),
+      ))
     ]
 
 pub prefix_fits : (text : List ℕ) → length (prefix (base_of text)) ≤ length text
-prefix_fits text = omega (arith, ap length (begins text).0,
-    length-append (prefix (base_of text)) (drop (length (prefix (base_of text))) text))
+prefix_fits text = omega (
+  arith,
+  ap length (begins text).0,
+  length-append (prefix (base_of text)) (drop (length (prefix (base_of text))) text),
+)
 
 -- the number that is read, by its places
 pub record IsReadAt (text : List ℕ) (at end value : ℕ) (indicator : Option ℕ) : Type 0 where
@@ -462,11 +512,11 @@ base_of-short (first ∷ letter ∷ next ∷ rest) short = absurd (omega arith)
 base_of-short (first ∷ letter ∷ []) short =
     cond_both (not (first == 48)) Decimal _ (λ b. b ≡ Decimal) (λ _. refl)
     (λ _. cond_both ((letter == 120) && false) Hexadecimal _ (λ b. b ≡ Decimal)
-        (λ is. absurd (false≢true (and_parts _ _ is).1))
+    (λ is. absurd (false≢true (and_parts _ _ is).1))
     (λ _. cond_both ((letter == 111) && false) Octal _ (λ b. b ≡ Decimal)
-        (λ is. absurd (false≢true (and_parts _ _ is).1))
+    (λ is. absurd (false≢true (and_parts _ _ is).1))
     (λ _. cond_both ((letter == 98) && false) Binary Decimal (λ b. b ≡ Decimal)
-        (λ is. absurd (false≢true (and_parts _ _ is).1)) (λ _. refl))))
+    (λ is. absurd (false≢true (and_parts _ _ is).1)) (λ _. refl))))
 
 pub base_of-other : (first : ℕ) (rest : List ℕ) → first ≢ 48 → base_of (first ∷ rest) ≡ Decimal
 base_of-other first [] other = refl
@@ -477,11 +527,11 @@ run_at : (text : List ℕ) (at bytes digits end value : ℕ) (base : Base) → b
     → bytes ≡ length (prefix base) → digits ≡ radix base
     → digit_run digits 0 (drop (at + bytes) text) ≡ (value, drop end text)
     → let b = base_of (drop at text) in (drop (at + bytes) text ≡ drop (length (prefix b)) (drop at text))
-        × (digit_run (radix b) 0 (drop (length (prefix b)) (drop at text)) ≡ (value, drop end text))
+    × (digit_run (radix b) 0 (drop (length (prefix b)) (drop at text)) ≡ (value, drop end text))
 run_at text at bytes digits end value base base_is bytes_are digits_are run =
     let start : drop (at + bytes) text ≡ drop (length (prefix (base_of (drop at text)))) (drop at text) =
     ap (λ (n : ℕ). drop (at + n) text) (bytes_are ∙ ap (λ (b : Base). length (prefix b)) base_is)
-        ∙ sym (drop-drop (length (prefix (base_of (drop at text)))) at text) in
+    ∙ sym (drop-drop (length (prefix (base_of (drop at text)))) at text) in
     let count : digits ≡ radix (base_of (drop at text)) = digits_are ∙ ap radix base_is in
     (start, rw (← start, ← count) run)
 
@@ -497,7 +547,7 @@ pub number_at_run : (text : List ℕ) (at bytes digits end value : ℕ) (base : 
     → bytes ≡ length (prefix base) → digits ≡ radix base
     → digit_run digits 0 (drop (at + bytes) text) ≡ (value, drop end text)
     → at + bytes ≤ end → end ≤ length text → (end ≡ at + bytes → ⊥)
-        → number_of (drop at text) ≡ Some (with_indicator value (drop end text) (indicator_of (drop end text)))
+    → number_of (drop at text) ≡ Some (with_indicator value (drop end text) (indicator_of (drop end text)))
 number_at_run text at bytes digits end value base base_is bytes_are digits_are run from within some =
     let is = run_at text at bytes digits end value base base_is bytes_are digits_are run in
     number_of-run (drop at text) value (drop end text) is.1

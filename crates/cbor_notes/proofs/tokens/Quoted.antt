@@ -22,7 +22,7 @@ step : (quote byte : ℕ) (piece rest : List ℕ) (read next : List ℕ × List 
     → piece ++ rest ≡ in_quotes quote read.0 ++ quote ∷ read.1
 step quote byte piece rest read next piece_is rest_is content after =
     rw (content, after, piece_is, rest_is) (sym
-        (append_assoc (escaped_byte quote byte) (in_quotes quote next.0) (quote ∷ next.1)))
+    (append_assoc (escaped_byte quote byte) (in_quotes quote next.0) (quote ∷ next.1)))
 
 plain : (quote byte : ℕ) → (byte == quote) ≡ false → (byte == 92) ≡ false → escaped_byte quote byte ≡ byte ∷ []
 plain quote byte not_quote not_backslash = rw (not_quote, not_backslash) refl
@@ -40,7 +40,7 @@ read_in quote true (byte ∷ rest) read is =
       | inl special ↦
           let next = from_front (byte ∷ []) (unquoted quote false rest) read (rw special at is) in
           step quote byte (92 ∷ byte ∷ []) rest read next.0 (sym (escaped quote byte special))
-              (read_in quote false rest next.0 next.1) next.2 next.3
+          (read_in quote false rest next.0 next.1) next.2 next.3
       | inr no_escape ↦ let never : ◌≡◌ {A = Option (List ℕ × List ℕ)} None (Some read) = rw no_escape at is in cc never
     ]
 read_in quote false (byte ∷ rest) read is =
@@ -49,7 +49,7 @@ read_in quote false (byte ∷ rest) read is =
           let same : ◌≡◌ {A = Option (List ℕ × List ℕ)} (Some ([], rest)) (Some read) = rw closes at is in
           let pair : ◌≡◌ {A = List ℕ × List ℕ} ([], rest) read = cc same in
           ap (λ (b : ℕ). b ∷ rest) (eqb-true byte quote closes)
-              ∙ ap (λ (r : List ℕ × List ℕ). in_quotes quote r.0 ++ quote ∷ r.1) pair
+          ∙ ap (λ (r : List ℕ × List ℕ). in_quotes quote r.0 ++ quote ∷ r.1) pair
       | inr goes_on ↦
           elim (cases_Bool (byte == 92)) [
             | inl opens ↦ ap (λ (b : ℕ). b ∷ rest) (eqb-true byte 92 opens)
@@ -57,7 +57,7 @@ read_in quote false (byte ∷ rest) read is =
             | inr plain_byte ↦
                 let next = from_front (byte ∷ []) (unquoted quote false rest) read (rw (goes_on, plain_byte) at is) in
                 step quote byte (byte ∷ []) rest read next.0 (sym (plain quote byte goes_on plain_byte))
-                    (read_in quote false rest next.0 next.1) next.2 next.3
+                (read_in quote false rest next.0 next.1) next.2 next.3
           ]
     ]
 
@@ -90,8 +90,8 @@ pub in_quotes-one : (quote : ℕ) (content rest other after : List ℕ) → quot
     → (content ≡ other) × (rest ≡ after)
 in_quotes-one quote content rest other after apart is =
     let same : ◌≡◌ {A = Option (List ℕ × List ℕ)} (Some (content, rest)) (Some (other, after)) =
-        sym (unquoted-in_quotes quote content rest apart)
-        ∙ (ap (unquoted quote false) is ∙ unquoted-in_quotes quote other after apart) in
+    sym (unquoted-in_quotes quote content rest apart)
+    ∙ (ap (unquoted quote false) is ∙ unquoted-in_quotes quote other after apart) in
     let pair : ◌≡◌ {A = List ℕ × List ℕ} (content, rest) (other, after) = cc same in
     (ap (λ (r : List ℕ × List ℕ). r.0) pair, ap (λ (r : List ℕ × List ℕ). r.1) pair)
 
@@ -107,22 +107,22 @@ unquoted-plain quote (byte ∷ rest) =
           let parts = or_parts (byte == quote) (byte == 92) no_escape in
           let n = position_or_len (is_special quote) rest in
           rw (no_escape, parts.0, parts.1, one-add n) (ap (with_front (byte ∷ [])) (unquoted-plain quote rest)
-              ∙ with_front-append (byte ∷ []) (take n rest) (unquoted quote false (drop n rest)))
+          ∙ with_front-append (byte ∷ []) (take n rest) (unquoted quote false (drop n rest)))
     ]
 
 -- plain bytes up to a quote or a `\`, by their places
 pub plain_to : (quote : ℕ) (text : List ℕ) (start end : ℕ)
     → end ≡ start + position_or_len (is_special quote) (drop start text) → end < length text
     → (unquoted quote false (drop start text) ≡ with_front (slice_range text start end)
-        (unquoted quote false (drop end text))) × (is_special quote (get_or text end 0) ≡ true)
+    (unquoted quote false (drop end text))) × (is_special quote (get_or text end 0) ≡ true)
 plain_to quote text start end is within =
     let test = is_special quote in
     let n = position_or_len test (drop start text) in
     let count : n ≡ end - start = omega arith in
     let rest : drop n (drop start text) ≡ drop end text = drop-drop n start text
-        ∙ ap (λ (m : ℕ). drop m text) (sym is) in
+    ∙ ap (λ (m : ℕ). drop m text) (sym is) in
     let place : get_or (drop start text) n 0 ≡ get_or text end 0 = get_or-drop start text n 0
-        ∙ ap (λ (m : ℕ). get_or text m 0) (sym is) in (
+    ∙ ap (λ (m : ℕ). get_or text m 0) (sym is) in (
       unquoted-plain quote (drop start text) ∙ (ap
           (λ (m : ℕ). with_front (take m (drop start text)) (unquoted quote false (drop n (drop start text)))) count
           ∙ ap (λ (t : List ℕ). with_front (slice_range text start end) (unquoted quote false t)) rest),
@@ -146,7 +146,7 @@ pub opens : (quote byte : ℕ) (rest : List ℕ) → byte ≢ quote → is_speci
 opens quote byte rest other special =
     let no_quote = ne_eqb byte quote other in
     let backslash : (byte == 92) ≡ true = elim (or_cases (byte == quote) (byte == 92) special)
-        [ inl is ↦ absurd (other (eqb-true byte quote is)) | inr is ↦ is ] in
+    [ inl is ↦ absurd (other (eqb-true byte quote is)) | inr is ↦ is ] in
     rw (no_quote, backslash) refl
 
 -- of the quote or a `\`, and of nothing else
@@ -170,8 +170,11 @@ pub none_quoted : (quote : ℕ) (text : List ℕ) → quote ≢ 92 → unquoted 
     → text ≡ in_quotes quote other ++ quote ∷ after → ⊥
 none_quoted quote text apart read other after is =
     let never : ◌≡◌ {A = Option (List ℕ × List ℕ)} None (Some (other, after)) = sym read
-        ∙ (ap (unquoted quote false) is ∙ unquoted-in_quotes quote other after apart) in cc never
+    ∙ (ap (unquoted quote false) is ∙ unquoted-in_quotes quote other after apart) in cc never
 
 pub no_backslash : (quote : ℕ) → (quote ≡ 34) ⊎ (quote ≡ 39) → quote ≢ 92
-no_backslash quote is same = elim is [ inl e ↦ absurd (omega (arith, e, same)) | inr e ↦ absurd
-    (omega (arith, e, same)) ]
+no_backslash quote is same = elim is [
+  | inl e ↦ absurd (omega (arith, e, same))
+  | inr e ↦ absurd
+      (omega (arith, e, same))
+]

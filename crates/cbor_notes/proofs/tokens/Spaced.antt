@@ -21,7 +21,7 @@ pub Spaced-blank : {comments : Bool} {front text digits : List ℕ} → Blank co
 Spaced-blank is (blank after) = blank (Blank-append is after)
 Spaced-blank {front} is (digit before rest between is_one more text_is) =
     digit (front ++ before) rest (Blank-append is between) is_one more
-        (ap (λ (t : List ℕ). front ++ t) text_is ∙ sym (append_assoc front before (_ ∷ rest)))
+    (ap (λ (t : List ℕ). front ++ t) text_is ∙ sym (append_assoc front before (_ ∷ rest)))
 
 -- digits, whose text is this, up to a quote, and what follows it
 abbrev Between : Bool → List ℕ → List ℕ × List ℕ → Type 0
@@ -29,9 +29,11 @@ Between comments whole read = (text : List ℕ) × (whole ≡ text ++ 39 ∷ rea
 
 between_blank : (comments : Bool) (front rest : List ℕ) (read : List ℕ × List ℕ) → Blank comments front
     → Between comments rest read → Between comments (front ++ rest) read
-between_blank comments front rest read is more =
-    (front ++ more.0, ap (λ (t : List ℕ). front ++ t) more.1 ∙ sym (append_assoc front more.0 (39 ∷ read.1)),
-        Spaced-blank is more.2)
+between_blank comments front rest read is more = (
+  front ++ more.0,
+  ap (λ (t : List ℕ). front ++ t) more.1 ∙ sym (append_assoc front more.0 (39 ∷ read.1)),
+  Spaced-blank is more.2,
+)
 
 -- where reading stands: at a place, or in a comment whose words so far hold no `/`
 abbrev Stands : Bool → Bool → List ℕ → List ℕ → Type 0
@@ -62,14 +64,20 @@ read_in comments true (byte ∷ rest) whole read stands is =
           let is_comment : Blank comments (47 ∷ words ++ 47 ∷ []) = comment words [] stands.0 stands.1.1 nothing refl in
           let whole_is : whole ≡ (47 ∷ words ++ 47 ∷ []) ++ rest =
           stands.1.2 ∙ (ap (λ (b : ℕ). 47 ∷ words ++ b ∷ rest) (eqb-true byte 47 closes)
-              ∙ sym (append_assoc (47 ∷ words) (47 ∷ []) rest)) in
+          ∙ sym (append_assoc (47 ∷ words) (47 ∷ []) rest)) in
           subst (λ (t : List ℕ). Between comments t read) (sym whole_is)
           (between_blank comments (47 ∷ words ++ 47 ∷ []) rest read is_comment
-              (read_in comments false rest rest read refl (rw closes at is)))
+          (read_in comments false rest rest read refl (rw closes at is)))
       | inr goes_on ↦
-          read_in comments true rest whole read
-          (stands.0, (words ++ byte ∷ [], all_push words byte stands.1.1 (eqb-false byte 47 goes_on), stands.1.2
-              ∙ sym (append_assoc (47 ∷ words) (byte ∷ []) rest)))
+          read_in comments true rest whole read (
+            stands.0,
+            (
+              words ++ byte ∷ [],
+              all_push words byte stands.1.1 (eqb-false byte 47 goes_on),
+              stands.1.2
+                  ∙ sym (append_assoc (47 ∷ words) (byte ∷ []) rest),
+            ),
+          )
           (rw goes_on at is)
     ]
 read_in comments false (byte ∷ rest) whole read stands is =
@@ -133,7 +141,7 @@ digits_in-blank {comments} (whitespace {byte = byte} {rest = rest} is more) afte
     white_read comments byte (rest ++ after) is ∙ digits_in-blank more after
 digits_in-blank {comments} (comment words rest allowed no_slash more is) after =
     ap (digits_in comments false) (ap (λ (t : List ℕ). t ++ after) is ∙ append_assoc (47 ∷ words) (47 ∷ rest) after)
-        ∙ (comment_read comments words (rest ++ after) allowed no_slash ∙ digits_in-blank more after)
+    ∙ (comment_read comments words (rest ++ after) allowed no_slash ∙ digits_in-blank more after)
 
 -- a digit is read
 digit_parts : (comments : Bool) (byte : ℕ) → IsTrue (is_digit comments byte) → (byte == 39) ≡ false
@@ -202,13 +210,13 @@ digits_in-run comments (byte ∷ rest) =
       | inl is_one ↦
           let n = position_or_len (λ b. not (is_digit comments b)) rest in
           rw (is_one, digit_parts comments byte is_one, one-add n)
-              (ap (with_front (byte ∷ [])) (digits_in-run comments rest)
-              ∙ with_front-append (byte ∷ []) (take n rest) (digits_in comments false (drop n rest)))
+          (ap (with_front (byte ∷ [])) (digits_in-run comments rest)
+          ∙ with_front-append (byte ∷ []) (take n rest) (digits_in comments false (drop n rest)))
       | inr no_digit ↦
           let none : position_or_len (λ b. not (is_digit comments b)) (byte ∷ rest) ≡ 0 = rw no_digit refl in
           sym (with_front-nil (digits_in comments false (byte ∷ rest)))
           ∙ ap (λ (n : ℕ). with_front (take n (byte ∷ rest)) (digits_in comments false (drop n (byte ∷ rest))))
-              (sym none)
+          (sym none)
     ]
 
 -- some digits, or none
@@ -240,8 +248,8 @@ DigitsBetween-digits_of comments (byte ∷ rest) read is =
           )
       | inr goes_on ↦
           let some = from_some_digits (digits_in comments false (byte ∷ rest)) read
-              (sym (cond-false (byte == 39) (Some ([], rest)) (some_digits (digits_in comments false (byte ∷ rest)))
-              goes_on) ∙ is) in
+          (sym (cond-false (byte == 39) (Some ([], rest)) (some_digits (digits_in comments false (byte ∷ rest)))
+          goes_on) ∙ is) in
           let between = Spaced-digits_in comments (byte ∷ rest) read some.0 in
           (between.0, between.1, (between.2, inr some.1))
     ]
@@ -264,14 +272,14 @@ digits_of-DigitsBetween comments (byte ∷ content) digits rest is =
     elim (cases_Bool (byte == 39)) [
       | inl closes ↦
           let never : digits ≡ [] = no_digits comments (content ++ 39 ∷ rest) digits rest
-              (ap (λ (b : ℕ). digits_in comments false (b ∷ (content ++ 39 ∷ rest))) (sym (eqb-true byte 39 closes))
-              ∙ read) in
+          (ap (λ (b : ℕ). digits_in comments false (b ∷ (content ++ 39 ∷ rest))) (sym (eqb-true byte 39 closes))
+          ∙ read) in
           absurd (omega (arith, ap length never, some))
       | inr goes_on ↦
           cond-false (byte == 39) (Some ([], content ++ 39 ∷ rest))
-              (some_digits (digits_in comments false (byte ∷ (content ++ 39 ∷ rest)))) goes_on
+          (some_digits (digits_in comments false (byte ∷ (content ++ 39 ∷ rest)))) goes_on
           ∙ (ap some_digits read ∙ cond-true (nat_lt 0 (length digits)) (Some (digits, rest)) None
-              (lt-ltb 0 (length digits) some))
+          (lt-ltb 0 (length digits) some))
     ]
 
 -- a blank is left out before digits
@@ -290,10 +298,10 @@ run_to comments text start stop is =
     let n = position_or_len (λ b. not (is_digit comments b)) (drop start text) in
     let count : n ≡ stop - start = omega arith in
     let rest : drop n (drop start text) ≡ drop stop text = drop-drop n start text
-        ∙ ap (λ (m : ℕ). drop m text) (sym is) in
+    ∙ ap (λ (m : ℕ). drop m text) (sym is) in
     digits_in-run comments (drop start text)
-        ∙ (ap (λ (m : ℕ). with_front (take m (drop start text)) (digits_in comments false (drop n (drop start text))))
-        count ∙ ap (λ (t : List ℕ). with_front (slice_range text start stop) (digits_in comments false t)) rest)
+    ∙ (ap (λ (m : ℕ). with_front (take m (drop start text)) (digits_in comments false (drop n (drop start text))))
+    count ∙ ap (λ (t : List ℕ). with_front (slice_range text start stop) (digits_in comments false t)) rest)
 
 -- no digit stands here, nor a blank or a quote
 pub none_from : (comments : Bool) (text : List ℕ) (at : ℕ) → at < length text
@@ -305,11 +313,11 @@ none_from comments text at within none no_quote blank_read =
     let test : ℕ → Bool = λ b. not (is_digit comments b) in
     let place : get_or (drop at text) 0 0 ≡ byte = ap (λ (t : List ℕ). get_or t 0 0) first in
     let passes : test (get_or (drop at text) (position_or_len test (drop at text)) 0) ≡ true =
-        passes_at_first test (drop at text) 0 (omega (arith, none, length-drop at text)) in
+    passes_at_first test (drop at text) 0 (omega (arith, none, length-drop at text)) in
     let no_digit : is_digit comments byte ≡ false =
-        not-true _ (sym (ap test (ap (λ (n : ℕ). get_or (drop at text) n 0) none ∙ place)) ∙ passes) in
+    not-true _ (sym (ap test (ap (λ (n : ℕ). get_or (drop at text) n 0) none ∙ place)) ∙ passes) in
     ap (digits_in comments false) first ∙ digits_in-none comments byte (drop (at + 1) text) (ne_eqb byte 39 no_quote)
-        no_digit (sym (ap (after_blank comments) first) ∙ (blank_read ∙ first))
+    no_digit (sym (ap (after_blank comments) first) ∙ (blank_read ∙ first))
 
 -- the quote closes
 pub digits_closed : (comments : Bool) (text digits : List ℕ) (at end : ℕ)
@@ -318,7 +326,7 @@ pub digits_closed : (comments : Bool) (text digits : List ℕ) (at end : ℕ)
     → digits_in comments false (drop at text) ≡ Some (digits, drop (end + 1) text)
 digits_closed comments text digits at end read within quote =
     read ∙ (ap (λ (t : List ℕ). with_front digits (digits_in comments false t)) (from_byte text end 39 within quote)
-        ∙ ap (λ (d : List ℕ). Some (d, drop (end + 1) text)) (append-nil digits))
+    ∙ ap (λ (d : List ℕ). Some (d, drop (end + 1) text)) (append-nil digits))
 
 -- some digits, none in empty content, and none in blanks
 not_quote : (comments : Bool) (byte : ℕ) (rest digits after : List ℕ)
@@ -327,7 +335,7 @@ not_quote : (comments : Bool) (byte : ℕ) (rest digits after : List ℕ)
 not_quote comments byte rest digits after read other =
     ne_eqb byte 39 (λ is.
     let here : digits_in comments false (39 ∷ rest) ≡ Some (digits, after) =
-        ap (λ (b : ℕ). digits_in comments false (b ∷ rest)) (sym is) ∙ read in
+    ap (λ (b : ℕ). digits_in comments false (b ∷ rest)) (sym is) ∙ read in
     let same : ◌≡◌ {A = Option (List ℕ × List ℕ)} (Some ([], rest)) (Some (digits, after)) = here in
     let pair : ◌≡◌ {A = List ℕ × List ℕ} ([], rest) (digits, after) = cc same in
     other (ap (λ (r : List ℕ × List ℕ). length r.0) (sym pair)) (ap (λ (r : List ℕ × List ℕ). r.1) pair))
@@ -337,9 +345,9 @@ pub digits_of-some : (comments : Bool) (text digits rest : List ℕ) → digits_
 digits_of-some comments [] digits rest read some = cc read
 digits_of-some comments (byte ∷ more) digits rest read some =
     cond-false (byte == 39) (Some ([], more)) (some_digits (digits_in comments false (byte ∷ more)))
-        (not_quote comments byte more digits rest read (λ none _. omega (arith, none, some)))
+    (not_quote comments byte more digits rest read (λ none _. omega (arith, none, some)))
     ∙ (ap some_digits read ∙ cond-true (nat_lt 0 (length digits)) (Some (digits, rest)) None
-        (lt-ltb 0 (length digits) some))
+    (lt-ltb 0 (length digits) some))
 
 pub digits_of-blank : (comments : Bool) (text digits rest : List ℕ)
     → digits_in comments false text ≡ Some (digits, rest) → length digits ≡ 0 → length rest + 1 < length text
@@ -347,9 +355,9 @@ pub digits_of-blank : (comments : Bool) (text digits rest : List ℕ)
 digits_of-blank comments [] digits rest read none longer = cc read
 digits_of-blank comments (byte ∷ more) digits rest read none longer =
     cond-false (byte == 39) (Some ([], more)) (some_digits (digits_in comments false (byte ∷ more)))
-        (not_quote comments byte more digits rest read (λ _ same. omega (arith, ap length same, longer)))
+    (not_quote comments byte more digits rest read (λ _ same. omega (arith, ap length same, longer)))
     ∙ (ap some_digits read ∙ cond-false (nat_lt 0 (length digits)) (Some (digits, rest)) None
-        (le-ltb 0 (length digits) (omega (arith, none))))
+    (le-ltb 0 (length digits) (omega (arith, none))))
 
 pub digits_of-none : (comments : Bool) (text : List ℕ) → digits_in comments false text ≡ None
     → digits_of comments text ≡ None
@@ -357,10 +365,10 @@ digits_of-none comments [] read = refl
 digits_of-none comments (byte ∷ more) read =
     let other : byte ≢ 39 = λ is.
     let here : ◌≡◌ {A = Option (List ℕ × List ℕ)} (Some ([], more)) None =
-        ap (λ (b : ℕ). digits_in comments false (b ∷ more)) (sym is) ∙ read in cc here
+    ap (λ (b : ℕ). digits_in comments false (b ∷ more)) (sym is) ∙ read in cc here
     in
     cond-false (byte == 39) (Some ([], more)) (some_digits (digits_in comments false (byte ∷ more)))
-        (ne_eqb byte 39 other) ∙ ap some_digits read
+    (ne_eqb byte 39 other) ∙ ap some_digits read
 
 -- what the answer says of the text: these digits and this rest, or none
 pub only_digits : (comments : Bool) (text digits rest : List ℕ) → digits_of comments text ≡ Some (digits, rest)
@@ -368,7 +376,7 @@ pub only_digits : (comments : Bool) (text digits rest : List ℕ) → digits_of 
     → (digits ≡ other) × (rest ≡ after)
 only_digits comments text digits rest read content other after is between =
     let same : ◌≡◌ {A = Option (List ℕ × List ℕ)} (Some (digits, rest)) (Some (other, after)) = sym read
-        ∙ (ap (digits_of comments) is ∙ digits_of-DigitsBetween comments content other after between) in
+    ∙ (ap (digits_of comments) is ∙ digits_of-DigitsBetween comments content other after between) in
     let pair : ◌≡◌ {A = List ℕ × List ℕ} (digits, rest) (other, after) = cc same in
     (ap (λ (r : List ℕ × List ℕ). r.0) pair, ap (λ (r : List ℕ × List ℕ). r.1) pair)
 
@@ -376,4 +384,4 @@ pub none_digits : (comments : Bool) (text : List ℕ) → digits_of comments tex
     → text ≡ content ++ 39 ∷ after → DigitsBetween comments content other → ⊥
 none_digits comments text read content other after is between =
     let never : ◌≡◌ {A = Option (List ℕ × List ℕ)} None (Some (other, after)) = sym read
-        ∙ (ap (digits_of comments) is ∙ digits_of-DigitsBetween comments content other after between) in cc never
+    ∙ (ap (digits_of comments) is ∙ digits_of-DigitsBetween comments content other after between) in cc never

@@ -10,7 +10,7 @@ use Rattle.std.proofs.lemmas.Bool.{cases_Bool, cond-true, cond-false, ltb-true, 
 pub part_and_rest : (text : List ℕ) (at end : ℕ) → at ≤ end → drop at text ≡ slice_range text at end ++ drop end text
 part_and_rest text at end in_order =
     let rest : drop (end - at) (drop at text) ≡ drop end text = drop-drop (end - at) at text
-        ∙ ap (λ (n : ℕ). drop n text) (omega arith) in
+    ∙ ap (λ (n : ℕ). drop n text) (omega arith) in
     sym (take-append-drop (end - at) (drop at text)) ∙ ap (λ (t : List ℕ). slice_range text at end ++ t) rest
 
 pub part_is : (text front : List ℕ) (at end : ℕ) → at ≤ end → drop at text ≡ front ++ drop end text

@@ -9,5 +9,12 @@ pub decimal_IsNumber : (v : ℕ) (after : List ℕ) (indicator : Option ℕ) →
     → IsNumber (decimal v ++ after) v indicator
 decimal_IsNumber v after indicator le is =
     let n = decimal_is_IsNumeral_wide v (omega arith) in
-    record { base = Decimal; digits = decimal v; after = after; text_is = refl; digits_are = (n.0, sym n.1); after_is =
-        is }
+    record {
+      base = Decimal;
+      digits = decimal v;
+      after = after;
+      text_is = refl;
+      digits_are = (n.0, sym n.1);
+      after_is =
+          is;
+    }

@@ -9,4 +9,4 @@ use Rattle.cbor_notes.proofs.address.mac_text.Given as goal
 abbrev pub invariant-loop-octet : goal.invariant-loop-octet
 invariant-loop-octet l =
     string_bytes l.text ≡ encode_lower (get_or l.octets 0 0 ∷ [])
-        ++ flat_map (λ octet. colon ∷ encode_lower (octet ∷ [])) (take l.octet-index l.octet-items)
+    ++ flat_map (λ octet. colon ∷ encode_lower (octet ∷ [])) (take l.octet-index l.octet-items)

@@ -15,13 +15,13 @@ returns-then-digits-ne0-clause-only c = λ bytes all is. absurd
 pub returns-then-is_empty-clause-found : goal.returns-then-is_empty-clause-found
 returns-then-is_empty-clause-found c =
     let none : c.args.digits.now ≡ [] = nil_from_length c.args.digits.now
-        (eqb-true (length c.args.digits.now) 0 (sym c.is_empty.ensures ∙ c.if-is_empty.true)) in
+    (eqb-true (length c.args.digits.now) 0 (sym c.is_empty.ensures ∙ c.if-is_empty.true)) in
     rw c.in_ok-bytes.ensures.items (tt, none ∙ sym (encode-nil c.args.alphabet))
 
 pub returns-then-is_empty-clause-only : goal.returns-then-is_empty-clause-only
 returns-then-is_empty-clause-only c = λ bytes all is.
     let none : length c.args.digits.now ≡ 0 =
-        eqb-true (length c.args.digits.now) 0 (sym c.is_empty.ensures ∙ c.if-is_empty.true) in
+    eqb-true (length c.args.digits.now) 0 (sym c.is_empty.ensures ∙ c.if-is_empty.true) in
     c.in_ok-bytes.ensures.items ∙ sym (no_bytes c.args.alphabet bytes (sym (ap length is) ∙ none))
 
 pub loop-i-init : goal.loop-i-init
@@ -38,7 +38,7 @@ returns-in_default-clause-only c = λ bytes all is.
     let next = next_group c.args.alphabet digits c.loop-i.bytes.items c.loop-i.i c.loop-i.invariant more bytes all is in
     let first = next.2 in
     let never = c.in_default.ensures.only first.group first.are_bytes first.five
-        (eight digits c.loop-i.i ∙ first.front) in
+    (eight digits c.loop-i.i ∙ first.front) in
     cc never
 
 pub loop-i-preserved : goal.loop-i-preserved
@@ -48,9 +48,9 @@ loop-i-preserved c =
     let slice = eight digits c.loop-i.i in
     rw c.in_ok-extend_from_slice.ensures.items
     (decoded_more c.args.alphabet digits c.loop-i.bytes.items c.in-Some.group c.loop-i.i c.loop-i.invariant
-        (omega arith) found.0
+    (omega arith) found.0
     found.1 (sym slice ∙ found.2) (λ other are_bytes five shown. c.in-Some.ensures.only other are_bytes five
-        (slice ∙ shown)))
+    (slice ∙ shown)))
 
 -- all whole groups but the last are read
 all_read : (n i : ℕ) → n % 8 ≡ 0 → (n ≡ 0 → ⊥) → (n - 8) / 8 ≤ i → i ≤ (n - 8) / 8 → 8 * i + 8 ≡ n
@@ -80,7 +80,7 @@ returns-clause-found c =
     let found = c.in-Some-last_group.ensures.found in
     let five = c.five_bytes-group in
     let group = first_bytes five.result found.0 c.in-Some-last_group.count five.ensures.five five.ensures.bytes found.1
-        (five.ensures.number ∙ found.3) found.4 in
+    (five.ensures.number ∙ found.3) found.4 in
     rw (c.in_ok-extend_from_slice-2.ensures.items, group) (
       AllBelowBase-append 256 c.loop-i.bytes.items found.0 c.loop-i.invariant.are_bytes found.1.0,
       last_found c.args.alphabet digits c.loop-i.bytes.items found.0 i c.loop-i.invariant found.1
@@ -102,8 +102,8 @@ returns-clause-only c = λ bytes all is.
     let last = last_only c.args.alphabet digits c.loop-i.bytes.items bytes i c.loop-i.invariant read all is in
     let is_group = c.in-Some-last_group.ensures.only last.0 last.1 (last_slice digits i read ∙ last.3) in
     let parts = same_parts c.in-Some-last_group.number c.in-Some-last_group.count (forty_bits last.0) (length last.0)
-        is_group in
+    is_group in
     let five = c.five_bytes-group in
     let group = first_bytes five.result last.0 c.in-Some-last_group.count five.ensures.five five.ensures.bytes last.1
-        (five.ensures.number ∙ parts.0) parts.1 in
+    (five.ensures.number ∙ parts.0) parts.1 in
     rw (c.in_ok-extend_from_slice-2.ensures.items, group) (sym last.2)

@@ -8,12 +8,12 @@ pub blanks-preserved : goal.blanks-preserved
 blanks-preserved c =
     c.in_ok-push.ensures.bytes
     ∙ blanks_more (encode_lower c.args.piece.now) (string_bytes c.blanks.line) _ c.blanks.counter _
-        c.blanks.auto.counter c.blanks.invariant
+    c.blanks.auto.counter c.blanks.invariant
     (c.in_ok-push.ensures.ascii (omega arith))
 
 pub returns : goal.returns
 returns c =
     line_is c.args.piece.now (string_bytes c.blanks.line) (string_bytes c.push_str.new.self) _ c.args.width
-        c.blanks.counter c.requires.piece
+    c.blanks.counter c.requires.piece
     c.blanks-test.false (c.blanks.auto.counter-end c.requires.piece) c.blanks.invariant c.in_ok-push_str.ensures.bytes
-        c.in_ok-push_quoted_bytes.ensures.text
+    c.in_ok-push_quoted_bytes.ensures.text

@@ -19,7 +19,7 @@ loop-piece-preserved c =
     let width : c.min-width.result ≡ min 16 (length bytes) = c.min-width.ensures ∙ min_comm (length bytes) 16 in
     let line = c.in_ok-decoded_line.ensures ∙ ap (λ (n : ℕ). decoded_line (2 * n) piece) width in
     let more = shown_more bytes (chunks_rest c.loop-piece.piece-iterator) piece (chunks_rest c.next.new.self) _
-        (map string_bytes c.loop-piece.lines.items)
+    (map string_bytes c.loop-piece.lines.items)
     (vec_len c.loop-piece.lines) c.loop-piece.invariant.1 steps.1.0 long steps.1.2 line in
     (steps.0 ∙ size, rw (pushed.items, pushed.len, map_push) more)
 

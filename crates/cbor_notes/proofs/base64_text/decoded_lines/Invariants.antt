@@ -7,4 +7,4 @@ use Rattle.cbor_notes.proofs.base64_text.decoded_lines.Given as goal
 abbrev pub invariant-loop-piece : goal.invariant-loop-piece
 invariant-loop-piece l =
     (chunks_size l.piece-iterator ≡ 16) × AreShown l.bytes (chunks_rest l.piece-iterator)
-        (map string_bytes l.lines.items) (vec_len l.lines)
+    (map string_bytes l.lines.items) (vec_len l.lines)

@@ -13,7 +13,7 @@ returns-clause-found c =
     let zero = epoch_day-1970 c.date.result c.date.ensures in
     let start : epoch_day c.date.result +ℤ c.args.day ≡ c.args.day = rw zero (omega (arith, signed_arith)) in
     let added = IfOk-weaker c.checked_add.result _ (λ d. epoch_day d ≡ c.args.day)
-        (λ d e. e ∙ date_add-days c.date.result c.args.day c.days.result only ∙ start) c.checked_add.ensures.value in
+    (λ d e. e ∙ date_add-days c.date.result c.args.day c.days.result only ∙ start) c.checked_add.ensures.value in
     rw c.ok.ensures.value (IfSome-result_ok c.checked_add.result _ added)
 
 pub returns-clause-range : goal.returns-clause-range

@@ -22,7 +22,7 @@ returns-clause-found c =
     let fits : FitsSigned w64 c.args.day = c.ranges.day in
     let day = simp to_z-of_z at c.in-Some.ensures.found in
     let text : string_bytes c.push_date.new.text ≡ date_text c.in-Some.date =
-        rw c.in_ok-text.ensures.bytes at c.in_ok-push_date.ensures.text in
+    rw c.in_ok-text.ensures.bytes at c.in_ok-push_date.ensures.text in
     (c.in-Some.date, day, text)
 
 pub returns-clause-only : goal.returns-clause-only
@@ -30,7 +30,7 @@ returns-clause-only c = λ date is.
     let fits : FitsSigned w64 c.args.day = c.ranges.day in
     let day : epoch_day c.in-Some.date ≡ c.args.day = simp to_z-of_z at c.in-Some.ensures.found in
     let text : string_bytes c.push_date.new.text ≡ date_text c.in-Some.date =
-        rw c.in_ok-text.ensures.bytes at c.in_ok-push_date.ensures.text in
+    rw c.in_ok-text.ensures.bytes at c.in_ok-push_date.ensures.text in
     text ∙ date_text_same c.in-Some.date date (day ∙ sym is)
 
 pub returns-in_default-clause-value : goal.returns-in_default-clause-value
@@ -45,5 +45,5 @@ returns-clause-value c =
     let day : epoch_day c.in-Some.date ≡ c.args.day = simp to_z-of_z at c.in-Some.ensures.found in
     same_text _ (date_of_epoch c.args.day)
     (IfSome_then (date_of_epoch c.args.day) (date_of_epoch_is c.args.day)
-        (λ text is. returns-clause-only c is.0 is.1 ∙ sym is.2))
+    (λ text is. returns-clause-only c is.0 is.1 ∙ sym is.2))
     (date_of_epoch_some c.args.day (rw (← day) (epoch_day_range c.in-Some.date)))

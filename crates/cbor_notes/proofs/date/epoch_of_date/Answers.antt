@@ -18,12 +18,12 @@ written : (c : goal.In_ok-push_grouped) → Written c
 written c =
     let fits : FitsSigned w32 c.day_of_date-day.result = omega (arith, signed_arith) in
     let day : to_z w32 (of_z w32 c.day_of_date-day.result) ≡ epoch_day c.in-Some.date =
-        to_z-of_z w32 c.day_of_date-day.result fits ∙ c.day_of_date-day.ensures.value in
+    to_z-of_z w32 c.day_of_date-day.result fits ∙ c.day_of_date-day.ensures.value in
     let size : c.from.result ≡ unsigned_abs (epoch_day c.in-Some.date) = c.from.ensures ∙ c.unsigned_abs.ensures.value
-        ∙ ap unsigned_abs day in
+    ∙ ap unsigned_abs day in
     let text : string_bytes c.push_grouped.new.text ≡ grouped (unsigned_abs (epoch_day c.in-Some.date))
-        (lt_z (epoch_day c.in-Some.date) (pos 0)) =
-        rw (c.in_ok-text.ensures.bytes, size, day) at c.in_ok-push_grouped.ensures.text in
+    (lt_z (epoch_day c.in-Some.date) (pos 0)) =
+    rw (c.in_ok-text.ensures.bytes, size, day) at c.in_ok-push_grouped.ensures.text in
     text ∙ grouped_signed-is (epoch_day c.in-Some.date)
 
 pub returns-clause-found : goal.returns-clause-found
@@ -36,7 +36,7 @@ pub returns-in_default-clause-value : goal.returns-in_default-clause-value
 returns-in_default-clause-value c =
     let text = c.args.text.now in
     no_text (epoch_of_date text) (IfSome_then (epoch_of_date text) (epoch_of_date_is text)
-        (λ day is. c.in_default.ensures.only is.0 is.1))
+    (λ day is. c.in_default.ensures.only is.0 is.1))
 
 pub returns-clause-value : goal.returns-clause-value
 returns-clause-value c =

@@ -15,12 +15,16 @@ returns c =
       | then-year-lt0+in_ok-push w ↦
           let negative : c.args.year <ℤ pos 0 = omega (arith, signed_arith) in
           let first = ap string_bytes w.text-is ∙ (rw (w.in_ok-push.ensures.ascii (omega arith)) at
-              w.in_ok-push.ensures.bytes) in
-          record { text = on_ok_weaker c.push_four_digits.result
-              (λ q. q ∙ minus_first _ _ c.args.year _ negative size first) c.push_four_digits.ensures.text }
+          w.in_ok-push.ensures.bytes) in
+          record {
+            text = on_ok_weaker c.push_four_digits.result
+                (λ q. q ∙ minus_first _ _ c.args.year _ negative size first) c.push_four_digits.ensures.text;
+          }
       | else-year-lt0 w ↦
           let here : pos 0 ≤ℤ c.args.year = omega (arith, signed_arith) in
-          record { text = on_ok_weaker c.push_four_digits.result
-              (λ q. q ∙ digits_first _ _ c.args.year _ here size (ap string_bytes w.text-is))
-              c.push_four_digits.ensures.text }
+          record {
+            text = on_ok_weaker c.push_four_digits.result
+                (λ q. q ∙ digits_first _ _ c.args.year _ here size (ap string_bytes w.text-is))
+                c.push_four_digits.ensures.text;
+          }
     ]

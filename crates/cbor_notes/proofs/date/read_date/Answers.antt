@@ -16,13 +16,13 @@ returns-in_err-century-clause-only c = λ date is.
     let e = is.1 ∙ date_text-ten date is.0 in
     let b = year_below date.year date.year_in in
     absurd (c.in_err-century.ensures.only (unsigned_abs date.year / 100) (omega arith)
-        (ap (λ t. get_or t 0 0 ∷ get_or t 1 0 ∷ []) e))
+    (ap (λ t. get_or t 0 0 ∷ get_or t 1 0 ∷ []) e))
 
 pub returns-in_err-year-clause-only : goal.returns-in_err-year-clause-only
 returns-in_err-year-clause-only c = λ date is.
     let e = is.1 ∙ date_text-ten date is.0 in
     absurd (c.in_err-year.ensures.only (unsigned_abs date.year % 100) (omega arith)
-        (ap (λ t. get_or t 2 0 ∷ get_or t 3 0 ∷ []) e))
+    (ap (λ t. get_or t 2 0 ∷ get_or t 3 0 ∷ []) e))
 
 pub returns-in_err-month-clause-only : goal.returns-in_err-month-clause-only
 returns-in_err-month-clause-only c = λ date is.
@@ -41,9 +41,9 @@ returns-clause-only c = λ date is.
     let b = year_below date.year date.year_in in
     let m = date.month_in in
     let century = c.in_ok-century.ensures.only (unsigned_abs date.year / 100) (omega arith)
-        (ap (λ t. get_or t 0 0 ∷ get_or t 1 0 ∷ []) e) in
+    (ap (λ t. get_or t 0 0 ∷ get_or t 1 0 ∷ []) e) in
     let year = c.in_ok-year.ensures.only (unsigned_abs date.year % 100) (omega arith)
-        (ap (λ t. get_or t 2 0 ∷ get_or t 3 0 ∷ []) e) in
+    (ap (λ t. get_or t 2 0 ∷ get_or t 3 0 ∷ []) e) in
     let month = c.in_ok-month.ensures.only date.month (omega arith) (ap (λ t. get_or t 5 0 ∷ get_or t 6 0 ∷ []) e) in
     let day = c.in_ok-day.ensures.only date.day (day_below date) (ap (λ t. get_or t 8 0 ∷ get_or t 9 0 ∷ []) e) in
     let number : c.from.result * 100 + c.from-2.result ≡ unsigned_abs date.year = omega arith in
@@ -59,4 +59,4 @@ returns-clause-found c =
     IfSome_then c.calendar_date.result c.calendar_date.ensures.found (λ date is.
     text_of_parts c.args.text.now date c.in_ok-century.century c.in_ok-year.year c.in_ok-month.month c.in_ok-day.day
     c.told-text c.if-first-ne45.false c.if-second-ne45.false century.1 year.1 month.1 day.1 year.0
-        (rw (c.from.ensures, c.from-2.ensures) at is))
+    (rw (c.from.ensures, c.from-2.ensures) at is))

@@ -44,7 +44,7 @@ returns-in_default-clause-only c = λ text is.
     let m = is.minute_in in
     let e = is.second_in in
     let same = one_day c.args.seconds c.div_euclid.result (epoch_day is.date) _ _ clock.0 is.seconds_are clock.1
-        (omega arith) in
+    (omega arith) in
     let in_range : IsEpochDay c.div_euclid.result = rw (← same.0) (epoch_day_range is.date) in
     let range = simp to_z-of_z at c.in_default.ensures.range in
     let never = range.1 in_range in
@@ -73,8 +73,8 @@ returns-clause-value c =
     let fits_q = day_fits c.args.seconds c.div_euclid.result fits q in
     let day : epoch_day c.in-Some.date ≡ c.div_euclid.result = simp to_z-of_z at c.in-Some.ensures.found in
     let in_range : IsEpochDay (int_div_euclid c.args.seconds (pos 86400)) =
-        rw (← q, ← day) (epoch_day_range c.in-Some.date) in
+    rw (← q, ← day) (epoch_day_range c.in-Some.date) in
     same_text _ (datetime_of_epoch c.args.seconds)
     (IfSome_then (datetime_of_epoch c.args.seconds) (datetime_of_epoch_is c.args.seconds)
-        (λ text is. returns-clause-only c text is))
+    (λ text is. returns-clause-only c text is))
     (datetime_of_epoch_some c.args.seconds in_range)

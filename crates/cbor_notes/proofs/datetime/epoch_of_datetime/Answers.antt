@@ -24,13 +24,13 @@ returns-in_default-clause-value c =
     let text = c.args.text.now in
     no_text (epoch_of_datetime text)
     (IfSome_then (epoch_of_datetime text) (epoch_of_datetime_is text)
-        (λ answer is. returns-in_default-clause-only c is.0 is.1 is.2))
+    (λ answer is. returns-in_default-clause-only c is.0 is.1 is.2))
 
 pub returns-clause-value : goal.returns-clause-value
 returns-clause-value c =
     let text = c.args.text.now in
     same_text _ (epoch_of_datetime text)
     (IfSome_then (epoch_of_datetime text) (epoch_of_datetime_is text)
-        (λ answer is. returns-clause-only c is.0 is.1 is.2 ∙ sym is.3))
+    (λ answer is. returns-clause-only c is.0 is.1 is.2 ∙ sym is.3))
     (epoch_of_datetime_some text c.in-Some.seconds c.in-Some.fraction.now
-        (rw c.as_bytes.ensures.value at c.in-Some.ensures.found))
+    (rw c.as_bytes.ensures.value at c.in-Some.ensures.found))

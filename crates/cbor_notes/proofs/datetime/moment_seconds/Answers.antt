@@ -9,7 +9,7 @@ overflow_sub-result c =
     let bound = c.day_of_date.ensures.bound in
     let fits : FitsSigned w32 c.day_of_date.result = omega (arith, signed_arith) in
     let day : c.from.result ≡ epoch_day c.args.date = c.from.ensures ∙ to_z-of_z w32 c.day_of_date.result fits
-        ∙ c.day_of_date.ensures.value in
+    ∙ c.day_of_date.ensures.value in
     let offset : c.from-3.result ≡ c.args.offset = c.from-3.ensures ∙ to_z-of_z w32 c.args.offset c.ranges.offset in
     omega (arith, signed_arith)
 
@@ -18,6 +18,6 @@ returns c =
     let bound = c.day_of_date.ensures.bound in
     let fits : FitsSigned w32 c.day_of_date.result = omega (arith, signed_arith) in
     let day : c.from.result ≡ epoch_day c.args.date = c.from.ensures ∙ to_z-of_z w32 c.day_of_date.result fits
-        ∙ c.day_of_date.ensures.value in
+    ∙ c.day_of_date.ensures.value in
     let offset : c.from-3.result ≡ c.args.offset = c.from-3.ensures ∙ to_z-of_z w32 c.args.offset c.ranges.offset in
     omega (arith, signed_arith)

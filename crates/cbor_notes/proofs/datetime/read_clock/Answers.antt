@@ -51,6 +51,13 @@ returns-clause-found c =
     let minute = c.in_ok-minute.ensures.found in
     let second = c.in_ok-second.ensures.found in
     let text = clock_of_parts c.args.text.now c.in_ok-hour.hour c.in_ok-minute.minute c.in_ok-second.second c.told-text
-        c.if-first-ne58.false c.if-last-ne58.false hour.1 minute.1 second.1 in
-    (c.in_ok-hour.hour, c.in_ok-minute.minute, c.in_ok-second.second, omega arith, omega arith, omega arith, text,
-        omega arith)
+    c.if-first-ne58.false c.if-last-ne58.false hour.1 minute.1 second.1 in (
+      c.in_ok-hour.hour,
+      c.in_ok-minute.minute,
+      c.in_ok-second.second,
+      omega arith,
+      omega arith,
+      omega arith,
+      text,
+      omega arith,
+    )

@@ -50,7 +50,7 @@ returns-in_err-clock-2-clause-only c = λ seconds digits is.
     let parts = time_parts _ _ _ _ _ c.in_ok-separator.ensures.cases.0 (c.in_ok-date.ensures.cases.1 ∙ p.time_is) in
     let chunk = c.in_ok-clock.ensures.cases in
     absurd (c.in_err-clock-2.ensures.only is.hour is.minute is.second is.hour_in is.minute_in is.second_in
-        (chunk.0 ∙ ap (take 8) parts.1 ∙ p.clock_is))
+    (chunk.0 ∙ ap (take 8) parts.1 ∙ p.clock_is))
 
 pub returns-in_err-digits-clause-only : goal.returns-in_err-digits-clause-only
 returns-in_err-digits-clause-only c = λ seconds digits is.
@@ -58,7 +58,7 @@ returns-in_err-digits-clause-only c = λ seconds digits is.
     let parts = time_parts _ _ _ _ _ c.in_ok-separator.ensures.cases.0 (c.in_ok-date.ensures.cases.1 ∙ p.time_is) in
     let chunk = c.in_ok-clock.ensures.cases in
     absurd (c.in_err-digits.ensures.only is.fraction digits is.zone is.offset is.fraction_is is.zone_is
-        (chunk.1 ∙ ap (drop 8) parts.1 ∙ p.rest_is))
+    (chunk.1 ∙ ap (drop 8) parts.1 ∙ p.rest_is))
 
 pub returns-in_err-offset-clause-only : goal.returns-in_err-offset-clause-only
 returns-in_err-offset-clause-only c = λ seconds digits is.
@@ -66,7 +66,7 @@ returns-in_err-offset-clause-only c = λ seconds digits is.
     let parts = time_parts _ _ _ _ _ c.in_ok-separator.ensures.cases.0 (c.in_ok-date.ensures.cases.1 ∙ p.time_is) in
     let chunk = c.in_ok-clock.ensures.cases in
     let split = c.in_ok-digits.ensures.only is.fraction digits is.zone is.offset is.fraction_is is.zone_is
-        (chunk.1 ∙ ap (drop 8) parts.1 ∙ p.rest_is) in
+    (chunk.1 ∙ ap (drop 8) parts.1 ∙ p.rest_is) in
     absurd (c.in_err-offset.ensures.only is.offset (rw split.1 is.zone_is))
 
 abbrev Seconds : goal.After-moment_seconds → Type 0
@@ -80,7 +80,7 @@ seconds_are c =
     let small = zone_fits c.in_ok-digits.zone.now c.in_ok-offset.offset c.in_ok-offset.ensures.found in
     to_z-of_z w64 c.moment_seconds.result fits ∙ c.moment_seconds.ensures
     ∙ ap (λ o. (epoch_day c.in_ok-date-2.date *ℤ pos 86400 +ℤ pos c.in_ok-clock-2.clock) -ℤ o)
-        (to_z-of_z w32 c.in_ok-offset.offset small)
+    (to_z-of_z w32 c.in_ok-offset.offset small)
 
 pub returns-clause-found : goal.returns-clause-found
 returns-clause-found c =
@@ -98,11 +98,11 @@ returns-clause-found c =
     ] in
     let first : text ≡ date_text c.in_ok-date-2.date ++ c.in_ok-date.rest.now =
     sym (take-append-drop 10 text) ∙ ap (λ t. t ++ drop 10 text) (sym chunk.0 ∙ day.1)
-        ∙ ap (λ t. date_text c.in_ok-date-2.date ++ t) (sym chunk.1) in
+    ∙ ap (λ t. date_text c.in_ok-date-2.date ++ t) (sym chunk.1) in
     let third : c.in_ok-separator.rest.now ≡ clock_text clock.0 clock.1 clock.2 ++ c.in_ok-clock.rest.now =
     sym (take-append-drop 8 c.in_ok-separator.rest.now)
-        ∙ ap (λ t. t ++ drop 8 c.in_ok-separator.rest.now) (sym after.0 ∙ clock.6)
-        ∙ ap (λ t. clock_text clock.0 clock.1 clock.2 ++ t) (sym after.1) in
+    ∙ ap (λ t. t ++ drop 8 c.in_ok-separator.rest.now) (sym after.0 ∙ clock.6)
+    ∙ ap (λ t. clock_text clock.0 clock.1 clock.2 ++ t) (sym after.1) in
     record {
       date = c.in_ok-date-2.date;
       hour = clock.0;
@@ -134,8 +134,8 @@ returns-clause-only c = λ seconds digits is.
     let chunk = c.in_ok-clock.ensures.cases in
     let day = c.in_ok-date-2.ensures.only is.date (is.year_in, date_chunk.0 ∙ p.date_is) in
     let clock = c.in_ok-clock-2.ensures.only is.hour is.minute is.second is.hour_in is.minute_in is.second_in
-        (chunk.0 ∙ ap (take 8) parts.1 ∙ p.clock_is) in
+    (chunk.0 ∙ ap (take 8) parts.1 ∙ p.clock_is) in
     let split = c.in_ok-digits.ensures.only is.fraction digits is.zone is.offset is.fraction_is is.zone_is
-        (chunk.1 ∙ ap (drop 8) parts.1 ∙ p.rest_is) in
+    (chunk.1 ∙ ap (drop 8) parts.1 ∙ p.rest_is) in
     let offset = c.in_ok-offset.ensures.only is.offset (rw split.1 is.zone_is) in
     (seconds_are c ∙ rw (day, clock, offset) (sym is.seconds_are), split.0)

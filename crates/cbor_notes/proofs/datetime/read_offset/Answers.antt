@@ -36,7 +36,7 @@ returns-in-43-clause-found c =
     let b = c.in_ok-minute.ensures.found in
     ahead c.in_ok-hour.hour c.in_ok-minute.minute c.if-hour-gt23.false c.if-minute-gt59.false
     (offset_text c.args.text.now 43 c.in_ok-hour.hour c.in_ok-minute.minute c.told-text c.in-43.is c.if-colon-ne58.false
-        a.1 b.1)
+    a.1 b.1)
     (to_z_pos w32 _ (omega arith) ∙ ap pos (omega arith))
 
 pub returns-in-43-clause-only : goal.returns-in-43-clause-only
@@ -55,9 +55,9 @@ returns-in-45-clause-found c =
     let b = c.in_ok-minute.ensures.found in
     behind c.in_ok-hour.hour c.in_ok-minute.minute c.if-hour-gt23.false c.if-minute-gt59.false
     (offset_text c.args.text.now 45 c.in_ok-hour.hour c.in_ok-minute.minute c.told-text c.in-45.is c.if-colon-ne58.false
-        a.1 b.1)
+    a.1 b.1)
     (negated (c.from.result * 3600 + c.from-2.result * 60) (3600 * c.in_ok-hour.hour + 60 * c.in_ok-minute.minute)
-        (omega arith) (omega arith))
+    (omega arith) (omega arith))
 
 pub returns-in-45-clause-only : goal.returns-in-45-clause-only
 returns-in-45-clause-only c = λ offset is.

@@ -12,7 +12,7 @@ returns-then-count-eq0-clause-only c = λ fraction digits zone offset fraction_i
     let some : 0 < length text = grind (arith, nat_tests) in
     let first = dot_first text some c.if-text-ne46.false in
     let more = fraction_some text (rest text) fraction digits zone offset c.leading_digits-count.result first
-        c.leading_digits-count.ensures.count fraction_is zone_is whole in
+    c.leading_digits-count.ensures.count fraction_is zone_is whole in
     absurd (omega (arith, more))
 
 pub returns-clause-found : goal.returns-clause-found
@@ -31,5 +31,5 @@ returns-clause-only c = λ fraction digits zone offset fraction_is zone_is whole
     let some : 0 < length text = grind (arith, nat_tests) in
     let first = dot_first text some c.if-text-ne46.false in
     let only = fraction_only text (rest text) fraction digits zone offset n first c.leading_digits-count.ensures.count
-        fraction_is zone_is whole in
+    fraction_is zone_is whole in
     (only.0, rest_is (rest text) n ∙ only.1)

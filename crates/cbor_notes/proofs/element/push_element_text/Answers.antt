@@ -8,16 +8,24 @@ use Rattle.cbor_notes.proofs.element.push_element_text.Goals as goal
 
 pub returns-in_default : goal.returns-in_default
 unfolding element_text
-returns-in_default c = record { some = rw c.in_default.ensures.none refl; text =
-    rw c.in_default.ensures.none (sym (append-nil (string_bytes c.args.text.now))); unchanged = tt }
+returns-in_default c = record {
+  some = rw c.in_default.ensures.none refl;
+  text =
+      rw c.in_default.ensures.none (sym (append-nil (string_bytes c.args.text.now)));
+  unchanged = tt;
+}
 
 pub returns-then-bytes-element : goal.returns-then-bytes-element
 unfolding element_text
 returns-then-bytes-element c =
     let is = c.in-Some.ensures.found in
     let other : (length c.args.bytes.now == size c.args.tag) ≡ false = grind (arith, nat_tests) in
-    record { some = rw (is.0, other) refl; text =
-        rw (is.0, other) (sym (append-nil (string_bytes c.args.text.now))); unchanged = tt }
+    record {
+      some = rw (is.0, other) refl;
+      text =
+          rw (is.0, other) (sym (append-nil (string_bytes c.args.text.now)));
+      unchanged = tt;
+    }
 
 pub ordered-ordered-requires : goal.ordered-ordered-requires
 ordered-ordered-requires c =
@@ -30,7 +38,7 @@ write_value_text-answer-requires c =
     let is = c.in-Some.ensures.found in
     let small = size_small c.args.tag in
     let long = ap (length {A = ℕ}) c.ordered-ordered.ensures
-        ∙ length_either c.in-Some.element.little_endian c.args.bytes.now in
+    ∙ length_either c.in-Some.element.little_endian c.args.bytes.now in
     (omega arith, omega arith)
 
 pub cut_after_error-requires : goal.cut_after_error-requires

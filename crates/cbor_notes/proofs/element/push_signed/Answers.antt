@@ -13,9 +13,9 @@ returns-then-number-half-clause-text c =
     let value = c.number-number.ensures.value in
     let below : number_from_digits 256 bytes < 2 ^ (8 * length bytes - 1) = omega arith in
     let text = ap (λ n. grouped n false) value
-        ∙ sym (signed_text-lower (length bytes) (number_from_digits 256 bytes) below) in
+    ∙ sym (signed_text-lower (length bytes) (number_from_digits 256 bytes) below) in
     on_ok_weaker c.push_grouped.result (λ q. q ∙ ap (λ t. string_bytes c.args.text.now ++ t) text)
-        c.push_grouped.ensures.text
+    c.push_grouped.ensures.text
 
 pub returns-else-number-half-clause-text : goal.returns-else-number-half-clause-text
 returns-else-number-half-clause-text c =
@@ -27,7 +27,7 @@ returns-else-number-half-clause-text c =
     let upper = signed_text-upper (length bytes) (number_from_digits 256 bytes) above in
     let shifted = (1 * 2 ^ (8 * length bytes - 1)) % 2 ^ 128 in
     let below : shifted - (c.number-number.result - shifted) ≡ 2 ^ (8 * length bytes) - number_from_digits 256 bytes =
-        omega arith in
+    omega arith in
     let text = ap (λ n. grouped n true) below ∙ sym upper in
     on_ok_weaker c.push_grouped-else-number-half.result (λ q. q ∙ ap (λ t. string_bytes c.args.text.now ++ t) text)
-        c.push_grouped-else-number-half.ensures.text
+    c.push_grouped-else-number-half.ensures.text

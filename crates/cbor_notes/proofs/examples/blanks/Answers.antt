@@ -5,8 +5,13 @@ use Rattle.cbor_notes.proofs.tokens.Blanks.{after_blank-all}
 use Rattle.cbor_notes.proofs.examples.blanks.Goals as goal
 
 words : AllByRecursion (λ byte. byte ≢ 47) (codes "x 'y")
-words = (λ e. absurd (omega (arith, e)), (λ e. absurd (omega (arith, e)),
-    (λ e. absurd (omega (arith, e)), (λ e. absurd (omega (arith, e)), tt))))
+words = (
+  λ e. absurd (omega (arith, e)),
+  (
+    λ e. absurd (omega (arith, e)),
+    (λ e. absurd (omega (arith, e)), (λ e. absurd (omega (arith, e)), tt)),
+  ),
+)
 
 pub returns-clause-pieces : goal.returns-clause-pieces
 returns-clause-pieces c = whitespace refl (comment (codes "x 'y") (codes "\n//") refl words

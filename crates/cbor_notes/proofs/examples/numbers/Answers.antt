@@ -22,8 +22,15 @@ part_alone text value indicator byte rest read is =
     leaves_nothing value is.0 indicator is.1 byte rest (sym read ∙ number_of-append text [] is.0 is.1 is.2 tt)
 
 pub returns-clause-zeros : goal.returns-clause-zeros
-returns-clause-zeros c = record { base = Decimal; digits = codes "007"; after = []; text_is = refl; digits_are =
-    ((omega arith, (omega arith, (omega arith, (omega arith, tt)))), refl); after_is = refl }
+returns-clause-zeros c = record {
+  base = Decimal;
+  digits = codes "007";
+  after = [];
+  text_is = refl;
+  digits_are =
+      ((omega arith, (omega arith, (omega arith, (omega arith, tt)))), refl);
+  after_is = refl;
+}
 
 pub returns-clause-hexadecimal : goal.returns-clause-hexadecimal
 returns-clause-hexadecimal c = record {

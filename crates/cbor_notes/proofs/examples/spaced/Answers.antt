@@ -10,8 +10,11 @@ quote_comment : Blank true (codes "/'/")
 quote_comment = comment (codes "'") [] refl (λ e. absurd (omega (arith, e)), tt) nothing refl
 
 pub returns-clause-around : goal.returns-clause-around
-returns-clause-around c = (digit (codes " ") (codes "/'/1 ") space refl
-    (digit (codes "/'/") (codes " ") quote_comment refl (blank space) refl) refl, inr (omega arith))
+returns-clause-around c = (
+  digit (codes " ") (codes "/'/1 ") space refl
+      (digit (codes "/'/") (codes " ") quote_comment refl (blank space) refl) refl,
+  inr (omega arith),
+)
 
 pub returns-clause-empty : goal.returns-clause-empty
 returns-clause-empty c = (blank nothing, inl refl)

@@ -7,4 +7,4 @@ use Rattle.cbor_notes.proofs.line.+fits.Given as goal
 abbrev pub invariant-all_fit_at-lines : goal.invariant-all_fit_at-lines
 invariant-all_fit_at-lines l =
     AllByRecursion IsFit (forest_lines (drop l.line-index l.line-items) l.depth) ↔ AllByRecursion IsFit
-        (forest_lines l.line-items l.depth)
+    (forest_lines l.line-items l.depth)

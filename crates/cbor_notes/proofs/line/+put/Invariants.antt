@@ -9,4 +9,4 @@ invariant-put_all_at-lines l =
     let rest = forest_lines (drop l.line-index l.line-items) l.depth in
     AllByRecursion IsFit rest × (width_of rest ≤ l.width)
     × (string_bytes l.out ++ flat_map (line_text l.width) rest ≡ string_bytes l.fn.out
-        ++ flat_map (line_text l.width) (forest_lines l.line-items l.depth))
+    ++ flat_map (line_text l.width) (forest_lines l.line-items l.depth))

@@ -24,7 +24,7 @@ greatest_width_at-width_at-requires t c = (
 pub greatest_width_at-lines-preserved : goal.greatest_width_at-lines-preserved
 greatest_width_at-lines-preserved t c =
     let more = width_more c.deref-line-items.result.now c.lines.line-index c.args.depth c.line-item.result
-        c.line-item.is c.lines-test.true in (
+    c.line-item.is c.lines-test.true in (
       fit_others c.deref-line-items.result.now c.lines.line-index c.args.depth c.line-item.result c.line-item.is
           c.lines-test.true c.lines.invariant.0,
       omega (arith, more),

@@ -8,9 +8,9 @@ pub pieces-preserved : goal.pieces-preserved
 pieces-preserved c =
     let s = c.split_at in
     let parts : s.result.0.now ++ s.result.1.now ≡ c.pieces.rest.now =
-        rw (s.ensures.front, s.ensures.back) (take-append-drop c.min.result c.pieces.rest.now) in
+    rw (s.ensures.front, s.ensures.back) (take-append-drop c.min.result c.pieces.rest.now) in
     let long : length s.result.0.now + length s.result.1.now ≡ length c.pieces.rest.now =
-        sym (length-append s.result.0.now s.result.1.now) ∙ ap length parts in
+    sym (length-append s.result.0.now s.result.1.now) ∙ ap length parts in
     let more = c.in_ok-push_hex_piece.ensures in
     record {
       whole = rw more.text (hex_more (string_bytes c.pieces.text) s.result.0.now s.result.1.now c.pieces.rest.now _
@@ -21,4 +21,4 @@ pieces-preserved c =
 pub returns-clause-text : goal.returns-clause-text
 returns-clause-text c =
     hex_end (string_bytes c.pieces.text) c.pieces.rest.now _ (sym c.is_empty.ensures ∙ c.pieces-test.false)
-        c.pieces.invariant.whole
+    c.pieces.invariant.whole

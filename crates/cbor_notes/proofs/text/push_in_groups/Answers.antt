@@ -10,6 +10,6 @@ returns-in_err-push-clause-front c =
 pub returns-in_err-push-2-clause-front : goal.returns-in_err-push-2-clause-front
 returns-in_err-push-2-clause-front c =
     let digit = starts_with_of_append (string_bytes c.push.new.self) (string_bytes c.loop-place.text) _
-        c.in_ok-push.ensures.bytes in
+    c.in_ok-push.ensures.bytes in
     let front = starts_with_trans (string_bytes c.push.new.self) _ _ digit c.loop-place.invariant.front in
     on_err c.from_residual-in_err-push-2.result (rw c.in_err-push-2.ensures.bytes front)

@@ -11,12 +11,15 @@ use Rattle.cbor_notes.proofs.text.write_escaped_text.Goals as goal
 pub returns : goal.returns
 returns c =
     let t = YieldsList-end (YieldsList-from_chars c.args.text.now c.utf8.text cc) c.loop-character.yielded _
-        c.loop-character.yielded_by _ _ c.in-None.is c.next.ensures.steps in
-    record { front = tt; text = c.loop-character.invariant
-        ∙ ap (λ written. string_bytes c.args.escaped.now ++ flat_map spec.escaped_char written)
-        (sym (map-id c.loop-character.yielded) ∙ t.0) }
+    c.loop-character.yielded_by _ _ c.in-None.is c.next.ensures.steps in
+    record {
+      front = tt;
+      text = c.loop-character.invariant
+          ∙ ap (λ written. string_bytes c.args.escaped.now ++ flat_map spec.escaped_char written)
+          (sym (map-id c.loop-character.yielded) ∙ t.0);
+    }
 
 pub returns-in_err-push_escaped_char-clause-front : goal.returns-in_err-push_escaped_char-clause-front
 returns-in_err-push_escaped_char-clause-front c =
     on_err c.from_residual.result (front_before _ (string_bytes c.loop-character.escaped) _ _ c.loop-character.invariant
-        c.in_err-push_escaped_char.ensures.front)
+    c.in_err-push_escaped_char.ensures.front)

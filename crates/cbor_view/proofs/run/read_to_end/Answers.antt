@@ -10,7 +10,7 @@ filled_more : (a b c : Option (List ℕ)) (xs ys : List ℕ) (filled n : ℕ) �
     → Consumes a b (take filled xs) → Consumes b c (take n (drop filled ys)) → Consumes a c (take (filled + n) ys)
 filled_more a b c xs ys filled n front before read =
     subst (Consumes a c) (sym (take-add filled n ys ∙ ap (λ l. l ++ take n (drop filled ys)) front))
-        (Consumes-trans a b c _ _ before read)
+    (Consumes-trans a b c _ _ before read)
 
 pub loop-bytes-preserved : goal.loop-bytes-preserved
 loop-bytes-preserved g c =
@@ -19,9 +19,9 @@ loop-bytes-preserved g c =
     let ys = c.read_after.new.bytes in
     let front : take c.loop-bytes.filled ys ≡ take c.loop-bytes.filled c.loop-bytes.bytes.items =
     c.read_after.ensures.filled ∙ ap (take c.loop-bytes.filled) c.as_mut_slice.ensures.value
-        ∙ c.make_room.ensures.filled in
+    ∙ c.make_room.ensures.filled in
     let whole : take c.make_room.new.bytes.len (ys ++ drop (length ys) c.make_room.new.bytes.items) ≡ ys =
-        take_at ys _ _ (search (rules, places)) in
+    take_at ys _ _ (search (rules, places)) in
     record {
       within = search rules;
       given = rw whole (filled_more _ _ _ _ ys _ _ front before.given read.read);

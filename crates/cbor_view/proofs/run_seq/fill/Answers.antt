@@ -11,8 +11,8 @@ items-preserved c =
     let next = rw (take_rest bytes used) at c.in-Ok.ensures.output in
     let within = rw (take_rest bytes used) at c.in-Ok.ensures.used in
     let whole = rw (drop-drop c.in-Ok.count used bytes) at
-        (more_written c.args.to bytes c.items.block.items (drop used bytes) next.0
-        (drop c.in-Ok.count (drop used bytes)) c.items.invariant.output next.1) in
+    (more_written c.args.to bytes c.items.block.items (drop used bytes) next.0
+    (drop c.in-Ok.count (drop used bytes)) c.items.invariant.output next.1) in
     record {
       within = omega (arith, length-drop used bytes, within.1);
       output = subst (λ (x : List ℕ). IsOutputOfFirst c.args.to bytes x (drop (used + c.in-Ok.count) bytes))

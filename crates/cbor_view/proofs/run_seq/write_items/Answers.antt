@@ -11,8 +11,8 @@ returns-in_err-end-clause-item g c =
     let block = c.write_block-used.ensures.written in
     let same = same_end c.from_residual.result r c.in_err-end.field-0.0 c.from_residual.ensures.1 c.in_err-end.was in
     rw same (end_item g.W.Write.contents c.args.output.now c.sequence.output c.write_block-used.new.output c.args.to
-        c.args.bytes.now before.0 c.sequence.rest.now block.0 (drop c.write_block-used.result.0 c.sequence.rest.now)
-        before.1 before.2 block.1 r block.2 c.write_block-used.ensures.item)
+    c.args.bytes.now before.0 c.sequence.rest.now block.0 (drop c.write_block-used.result.0 c.sequence.rest.now)
+    before.1 before.2 block.1 r block.2 c.write_block-used.ensures.item)
 
 pub returns-in_err-end-clause-memory : goal.returns-in_err-end-clause-memory
 returns-in_err-end-clause-memory g c =
@@ -21,8 +21,8 @@ returns-in_err-end-clause-memory g c =
     let block = c.write_block-used.ensures.written in
     let same = same_end c.from_residual.result r c.in_err-end.field-0.0 c.from_residual.ensures.1 c.in_err-end.was in
     rw same (end_memory g.W.Write.contents c.args.output.now c.sequence.output c.write_block-used.new.output c.args.to
-        c.args.bytes.now before.0 c.sequence.rest.now block.0 (drop c.write_block-used.result.0 c.sequence.rest.now)
-        before.1 before.2 block.1 r block.2)
+    c.args.bytes.now before.0 c.sequence.rest.now block.0 (drop c.write_block-used.result.0 c.sequence.rest.now)
+    before.1 before.2 block.1 r block.2)
 
 pub returns-in_err-end-clause-write : goal.returns-in_err-end-clause-write
 returns-in_err-end-clause-write g c =
@@ -31,8 +31,8 @@ returns-in_err-end-clause-write g c =
     let block = c.write_block-used.ensures.written in
     let same = same_end c.from_residual.result r c.in_err-end.field-0.0 c.from_residual.ensures.1 c.in_err-end.was in
     rw same (end_write g.W.Write.contents c.args.output.now c.sequence.output c.write_block-used.new.output c.args.to
-        c.args.bytes.now before.0 c.sequence.rest.now block.0 (drop c.write_block-used.result.0 c.sequence.rest.now)
-        before.1 before.2 block.1 r block.2)
+    c.args.bytes.now before.0 c.sequence.rest.now block.0 (drop c.write_block-used.result.0 c.sequence.rest.now)
+    before.1 before.2 block.1 r block.2)
 
 pub sequence-preserved : goal.sequence-preserved
 sequence-preserved g c =

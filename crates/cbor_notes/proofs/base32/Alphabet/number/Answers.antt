@@ -29,7 +29,7 @@ overflow_add-number c =
 pub returns-in_err-value-clause-only : goal.returns-in_err-value-clause-only
 returns-in_err-value-clause-only c = λ number writes.
     let digit = written_at c.args.self c.args.digits.now number c.loop-digit.digit-index writes
-        c.loop-digit-test.true in
+    c.loop-digit-test.true in
     let some = c.in_err-value.ensures.only digit.0 digit.1 digit.2 in
     cc some
 
@@ -45,4 +45,4 @@ returns-clause-only c = λ number writes.
     let all : take c.loop-digit.digit-index c.args.digits.now ≡ c.args.digits.now =
     take_all c.loop-digit.digit-index c.args.digits.now (omega arith) in
     ap Some (same_written c.args.self c.args.digits.now c.loop-digit.number number (rw all at c.loop-digit.invariant)
-        writes)
+    writes)

@@ -25,19 +25,19 @@ pub returns-in_default-clause-only : goal.returns-in_default-clause-only
 returns-in_default-clause-only c = λ value small is.
     let there = rw c.in-Standard.is at is in
     elim (standard_other value c.args.digit small there)
-        [ inl w ↦ absurd (omega (arith, w.0, w.1)) | inr w ↦ absurd (omega (arith, w.0, w.1)) ]
+    [ inl w ↦ absurd (omega (arith, w.0, w.1)) | inr w ↦ absurd (omega (arith, w.0, w.1)) ]
 
 pub returns-in_default-2-clause-only : goal.returns-in_default-2-clause-only
 returns-in_default-2-clause-only c = λ value small is.
     let there = rw c.in-Standard.is at is in
     elim (standard_other value c.args.digit small there)
-        [ inl w ↦ absurd (omega (arith, w.0, w.1)) | inr w ↦ absurd (omega (arith, w.0, w.1)) ]
+    [ inl w ↦ absurd (omega (arith, w.0, w.1)) | inr w ↦ absurd (omega (arith, w.0, w.1)) ]
 
 pub returns-in_default-3-clause-only : goal.returns-in_default-3-clause-only
 returns-in_default-3-clause-only c = λ value small is.
     let there = rw c.in-Standard.is at is in
     elim (standard_other value c.args.digit small there)
-        [ inl w ↦ absurd (omega (arith, w.0, w.1)) | inr w ↦ absurd (omega (arith, w.0, w.1)) ]
+    [ inl w ↦ absurd (omega (arith, w.0, w.1)) | inr w ↦ absurd (omega (arith, w.0, w.1)) ]
 
 pub returns-in-48-to-57-clause-only : goal.returns-in-48-to-57-clause-only
 returns-in-48-to-57-clause-only c = λ value small is.
@@ -57,16 +57,16 @@ pub returns-in_default-digit-clause-only : goal.returns-in_default-digit-clause-
 returns-in_default-digit-clause-only c = λ value small is.
     let there = rw c.in-ExtendedHex.is at is in
     elim (hex_other value c.args.digit small there)
-        [ inl w ↦ absurd (omega (arith, w.0, w.1)) | inr w ↦ absurd (omega (arith, w.0, w.1)) ]
+    [ inl w ↦ absurd (omega (arith, w.0, w.1)) | inr w ↦ absurd (omega (arith, w.0, w.1)) ]
 
 pub returns-in_default-digit-2-clause-only : goal.returns-in_default-digit-2-clause-only
 returns-in_default-digit-2-clause-only c = λ value small is.
     let there = rw c.in-ExtendedHex.is at is in
     elim (hex_other value c.args.digit small there)
-        [ inl w ↦ absurd (omega (arith, w.0, w.1)) | inr w ↦ absurd (omega (arith, w.0, w.1)) ]
+    [ inl w ↦ absurd (omega (arith, w.0, w.1)) | inr w ↦ absurd (omega (arith, w.0, w.1)) ]
 
 pub returns-in_default-digit-3-clause-only : goal.returns-in_default-digit-3-clause-only
 returns-in_default-digit-3-clause-only c = λ value small is.
     let there = rw c.in-ExtendedHex.is at is in
     elim (hex_other value c.args.digit small there)
-        [ inl w ↦ absurd (omega (arith, w.0, w.1)) | inr w ↦ absurd (omega (arith, w.0, w.1)) ]
+    [ inl w ↦ absurd (omega (arith, w.0, w.1)) | inr w ↦ absurd (omega (arith, w.0, w.1)) ]

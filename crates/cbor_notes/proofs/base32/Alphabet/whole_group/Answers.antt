@@ -10,7 +10,7 @@ five_bytes-requires c = rw c.requires at (written-lt c.args.self c.args.digits.n
 pub returns-in_err-number-clause-only : goal.returns-in_err-number-clause-only
 returns-in_err-number-clause-only c = λ group bytes five is.
     let never = c.in_err-number.ensures.only _
-        (whole_digits c.args.self group c.args.digits.now bytes five c.requires is) in
+    (whole_digits c.args.self group c.args.digits.now bytes five c.requires is) in
     cc never
 
 pub returns-clause-found : goal.returns-clause-found
@@ -25,7 +25,7 @@ returns-clause-found c = (
 pub returns-clause-only : goal.returns-clause-only
 returns-clause-only c = λ group bytes five is.
     let some = c.in_ok-number.ensures.only _
-        (whole_digits c.args.self group c.args.digits.now bytes five c.requires is) in
+    (whole_digits c.args.self group c.args.digits.now bytes five c.requires is) in
     ap Some (same_digits 256 c.five_bytes.result group (c.five_bytes.ensures.five ∙ sym five) c.five_bytes.ensures.bytes
-        bytes
+    bytes
     (c.five_bytes.ensures.number ∙ cc some))

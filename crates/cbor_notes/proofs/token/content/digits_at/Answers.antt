@@ -34,10 +34,10 @@ stuck : (c : After-drop-digits) → digits_of c.args.comments (drop c.args.at c.
 stuck c =
     let text = c.args.text.now in
     let none = none_from c.args.comments text c.loop-end.end c.loop-end-test.true
-        (omega (arith, c.digits_end-stop.ensures.first, c.if-stop-start.true)) c.if-text-end-ne39.true
-        c.loop-end.invariant.blank in
+    (omega (arith, c.digits_end-stop.ensures.first, c.if-stop-start.true)) c.if-text-end-ne39.true
+    c.loop-end.invariant.blank in
     digits_of-none c.args.comments (drop c.args.at text)
-        (c.loop-end.invariant.read ∙ ap (with_front c.loop-end.digits.items) none)
+    (c.loop-end.invariant.read ∙ ap (with_front c.loop-end.digits.items) none)
 
 pub returns-then-stop-start-clause-none : goal.returns-then-stop-start-clause-none
 returns-then-stop-start-clause-none c = λ content digits rest is between. none_digits c.args.comments _ (stuck c)
@@ -56,7 +56,7 @@ loop-end-preserved c =
     let next = c.end_of_blank-end-in-loop-end in
     let run = run_to comments text start stop c.digits_end-stop.ensures.first in
     let after = digits_in-after_blank comments (drop stop text)
-        ∙ ap (digits_in comments false) (sym next.ensures.rest) in
+    ∙ ap (digits_in comments false) (sym next.ensures.rest) in
     record {
       from = omega (arith, c.loop-end.invariant.from, c.digits_end-stop.ensures.within.0, next.ensures.within.0);
       within = next.ensures.within.1;
@@ -65,9 +65,9 @@ loop-end-preserved c =
           c.loop-end.invariant.read
           ∙ (ap (with_front c.loop-end.digits.items) (run ∙ ap (with_front (slice_range text start stop)) after)
           ∙ (with_front-append c.loop-end.digits.items (slice_range text start stop)
-              (digits_in comments false (drop next.result text))
+          (digits_in comments false (drop next.result text))
           ∙ ap (λ (d : List ℕ). with_front d (digits_in comments false (drop next.result text)))
-              (sym c.in_ok-extend_from_slice.ensures.items)));
+          (sym c.in_ok-extend_from_slice.ensures.items)));
     }
 
 -- the text ends before the quote
@@ -75,7 +75,7 @@ unclosed : (c : After-drop-digits-then-end-text) → digits_of c.args.comments (
 unclosed c =
     let text = c.args.text.now in
     let none = ap (λ (t : List ℕ). with_front c.loop-end.digits.items (digits_in c.args.comments false t))
-        (drop_all c.loop-end.end text (omega (arith, c.if-end-text.true))) in
+    (drop_all c.loop-end.end text (omega (arith, c.if-end-text.true))) in
     digits_of-none c.args.comments (drop c.args.at text) (c.loop-end.invariant.read ∙ none)
 
 pub returns-then-end-text-clause-none : goal.returns-then-end-text-clause-none
@@ -98,9 +98,9 @@ blanks c =
       | else-loop-end-test w ↦ absurd (omega (arith, w.loop-end-test.false, within))
     ] in
     let read = digits_closed c.args.comments text c.loop-end.digits.items at end c.loop-end.invariant.read within
-        quote in
+    quote in
     let none : length c.loop-end.digits.items ≡ 0 =
-        omega (arith, eqb-true _ 0 (sym c.if-is_empty.ensures), c.loop-end.digits.ok.0) in
+    omega (arith, eqb-true _ 0 (sym c.if-is_empty.ensures), c.loop-end.digits.ok.0) in
     digits_of-blank c.args.comments (drop at text) c.loop-end.digits.items (drop (end + 1) text) read none
     (omega (arith, length-drop at text, length-drop (end + 1) text, within, c.if-end-at.true))
 
@@ -129,19 +129,20 @@ closed c =
     elim c.else-is_empty.branch [
       | else-is_empty-via-then-is_empty+else-end-at w ↦
           let none : items ≡ [] = nil_from_length items
-              (omega (arith, eqb-true _ 0 (sym w.if-is_empty.ensures), c.loop-end.digits.ok.0)) in
+          (omega (arith, eqb-true _ 0 (sym w.if-is_empty.ensures), c.loop-end.digits.ok.0)) in
           let here : at ≡ end = omega (arith, c.loop-end.invariant.from, w.if-end-at.false) in
           ap (digits_of c.args.comments) (ap (λ (n : ℕ). drop n text) here ∙ from_byte text end 39 within quote)
-              ∙ ap (λ (d : List ℕ). Some (d, drop (end + 1) text)) (sym none)
+          ∙ ap (λ (d : List ℕ). Some (d, drop (end + 1) text)) (sym none)
       | else-is_empty-via-else-is_empty w ↦
           digits_of-some c.args.comments (drop at text) items (drop (end + 1) text) read
-              (omega (arith, eqb-false _ 0 (sym w.if-is_empty.ensures), c.loop-end.digits.ok.0))
+          (omega (arith, eqb-false _ 0 (sym w.if-is_empty.ensures), c.loop-end.digits.ok.0))
     ]
 
 pub returns-clause-found : goal.returns-clause-found
-returns-clause-found c =
-    (omega (arith, c.loop-end.invariant.within, c.if-end-text.false),
-        DigitsBetween-digits_of c.args.comments (drop c.args.at c.args.text.now) _ (closed c))
+returns-clause-found c = (
+  omega (arith, c.loop-end.invariant.within, c.if-end-text.false),
+  DigitsBetween-digits_of c.args.comments (drop c.args.at c.args.text.now) _ (closed c),
+)
 
 pub returns-clause-only : goal.returns-clause-only
 returns-clause-only c = λ content digits rest is between. only_digits c.args.comments _ _ _ (closed c) content digits

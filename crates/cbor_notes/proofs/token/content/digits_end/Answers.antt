@@ -11,8 +11,8 @@ returns-in-Some-clause-first c =
     let rest = drop c.args.at c.args.text.now in
     let test : ℕ → Bool = λ b. not (is_digit c.args.comments b) in
     let found = position_from_yields_List test _ _ c.position.result c.position.ensures.ran
-        (YieldsList-from_slice rest (c.iter.ensures.rest ∙ take_rest c.args.text.now c.args.at))
-        (λ x b q k. search (rules, tests)) in
+    (YieldsList-from_slice rest (c.iter.ensures.rest ∙ take_rest c.args.text.now c.args.at))
+    (λ x b q k. search (rules, tests)) in
     ap (λ (n : ℕ). c.args.at + n) (first_at test rest c.position.result c.in-Some.digits found c.in-Some.is).0
 
 pub returns-in-None-clause-first : goal.returns-in-None-clause-first
@@ -20,6 +20,6 @@ returns-in-None-clause-first c =
     let rest = drop c.args.at c.args.text.now in
     let test : ℕ → Bool = λ b. not (is_digit c.args.comments b) in
     let found = position_from_yields_List test _ _ c.position.result c.position.ensures.ran
-        (YieldsList-from_slice rest (c.iter.ensures.rest ∙ take_rest c.args.text.now c.args.at))
-        (λ x b q k. search (rules, tests)) in
+    (YieldsList-from_slice rest (c.iter.ensures.rest ∙ take_rest c.args.text.now c.args.at))
+    (λ x b q k. search (rules, tests)) in
     omega (arith, first_nowhere test rest c.position.result found c.in-None.is, length-drop c.args.at c.args.text.now)

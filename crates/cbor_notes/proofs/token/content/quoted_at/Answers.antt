@@ -20,17 +20,19 @@ closed c =
     let found = c.in-Some.ensures.found in
     let run = plain_to c.args.quote text c.loop-end.start end found.1 found.0 in
     let quote = ap (unquoted c.args.quote false) (from_byte text end c.args.quote found.0 c.if-text-end.true)
-        ∙ closes c.args.quote (drop (end + 1) text) in
+    ∙ closes c.args.quote (drop (end + 1) text) in
     let content = c.loop-end.content.items in
     let piece = slice_range text c.loop-end.start end in
     let all : content ++ (piece ++ []) ≡ c.extend_from_slice.new.self.items =
-        ap (λ (t : List ℕ). content ++ t) (append-nil piece) ∙ sym c.in_ok-extend_from_slice.ensures.items in
+    ap (λ (t : List ℕ). content ++ t) (append-nil piece) ∙ sym c.in_ok-extend_from_slice.ensures.items in
     c.loop-end.invariant.read ∙ (ap (with_front content) (run.0 ∙ ap (with_front piece) quote)
-        ∙ ap (λ (t : List ℕ). Some (t, drop (end + 1) text)) all)
+    ∙ ap (λ (t : List ℕ). Some (t, drop (end + 1) text)) all)
 
 pub returns-then-text-end-clause-found : goal.returns-then-text-end-clause-found
-returns-then-text-end-clause-found c = (omega (arith, c.in-Some.ensures.found.0),
-    in_quotes-unquoted c.args.quote _ _ (closed c))
+returns-then-text-end-clause-found c = (
+  omega (arith, c.in-Some.ensures.found.0),
+  in_quotes-unquoted c.args.quote _ _ (closed c),
+)
 
 pub returns-then-text-end-clause-only : goal.returns-then-text-end-clause-only
 returns-then-text-end-clause-only c = λ content rest is. only_quoted c.args.quote _ _ _
@@ -44,18 +46,18 @@ stray c =
     let found = c.in-Some.ensures.found in
     let run = plain_to c.args.quote text c.loop-end.start end found.1 found.0 in
     let escape = ap (unquoted c.args.quote false) (from_byte text end _ found.0 refl)
-        ∙ opens c.args.quote (get_or text end 0) (drop (end + 1) text) c.if-text-end.false run.1 in
+    ∙ opens c.args.quote (get_or text end 0) (drop (end + 1) text) c.if-text-end.false run.1 in
     let none : unquoted c.args.quote true (drop (end + 1) text) ≡ None = elim c.then-end-text.branch [
       | then-end-text-via-then-end-text w ↦ ap (unquoted c.args.quote true)
           (drop_all (end + 1) text (omega (arith, w.if-end-text.true)))
       | then-end-text-via-else-end-text+then-not-is_special w ↦
           let within : end + 1 < length text = omega (arith, found.0, w.if-end-text.false) in
           ap (unquoted c.args.quote true) (from_byte text (end + 1) _ within refl)
-              ∙ no_escape c.args.quote (get_or text (end + 1) 0) (drop (end + 1 + 1) text)
-              (sym w.if-not-is_special.ensures)
+          ∙ no_escape c.args.quote (get_or text (end + 1) 0) (drop (end + 1 + 1) text)
+          (sym w.if-not-is_special.ensures)
     ] in
     c.loop-end.invariant.read ∙ ap (with_front c.loop-end.content.items)
-        (run.0 ∙ ap (with_front (slice_range text c.loop-end.start end)) (escape ∙ none))
+    (run.0 ∙ ap (with_front (slice_range text c.loop-end.start end)) (escape ∙ none))
 
 pub returns-then-end-text-clause-none : goal.returns-then-end-text-clause-none
 returns-then-end-text-clause-none c = none_quoted c.args.quote _ (no_backslash c.args.quote c.requires.quote) (stray c)
@@ -75,22 +77,22 @@ loop-end-preserved c =
     let run = plain_to c.args.quote text c.loop-end.start end found.1 found.0 in
     let rest : drop (end + 1 + 1) text ≡ drop (end + 2) text = ap (λ (n : ℕ). drop n text) (omega arith) in
     let escape : unquoted c.args.quote false (drop end text) ≡ with_front (escaped ∷ [])
-        (unquoted c.args.quote false (drop (end + 2) text)) =
+    (unquoted c.args.quote false (drop (end + 2) text)) =
     ap (unquoted c.args.quote false) (from_byte text end _ found.0 refl)
     ∙ (opens c.args.quote (get_or text end 0) (drop (end + 1) text) c.if-text-end.false run.1
     ∙ (ap (unquoted c.args.quote true) (from_byte text (end + 1) escaped within refl)
     ∙ (escape_is c.args.quote escaped (drop (end + 1 + 1) text) (sym c.if-not-is_special.ensures)
     ∙ ap (λ (t : List ℕ). with_front (escaped ∷ []) (unquoted c.args.quote false t)) rest))) in
     let all : (content ++ piece) ++ escaped ∷ [] ≡ c.push.new.self.items =
-        ap (λ (t : List ℕ). t ++ escaped ∷ []) (sym c.in_ok-extend_from_slice.ensures.items)
-        ∙ sym c.in_ok-push.ensures.items in
+    ap (λ (t : List ℕ). t ++ escaped ∷ []) (sym c.in_ok-extend_from_slice.ensures.items)
+    ∙ sym c.in_ok-push.ensures.items in
     record {
       within = omega (arith, within);
       read =
           c.loop-end.invariant.read
           ∙ (ap (with_front content) (run.0 ∙ ap (with_front piece) escape)
           ∙ (with_front-append content piece (with_front (escaped ∷ [])
-              (unquoted c.args.quote false (drop (end + 2) text)))
+          (unquoted c.args.quote false (drop (end + 2) text)))
           ∙ (with_front-append (content ++ piece) (escaped ∷ []) (unquoted c.args.quote false (drop (end + 2) text))
           ∙ ap (λ (t : List ℕ). with_front t (unquoted c.args.quote false (drop (end + 2) text))) all)));
     }
@@ -100,7 +102,7 @@ unclosed : (c : After-drop-content-2) → unquoted c.args.quote false (drop c.ar
 unclosed c =
     let text = c.args.text.now in
     let none = plain_to_end c.args.quote (drop c.loop-end.start text)
-        (c.in_default.ensures.none ∙ sym (length-drop c.loop-end.start text)) in
+    (c.in_default.ensures.none ∙ sym (length-drop c.loop-end.start text)) in
     c.loop-end.invariant.read ∙ ap (with_front c.loop-end.content.items) none
 
 pub returns-clause-none : goal.returns-clause-none

@@ -9,7 +9,7 @@ loop-end-preserved c =
     let before = c.loop-end.invariant.read in
     let value = before.0 in
     let digit = subst (λ (b : ℕ). (digit_value b < c.args.radix) × (c.in-Some.digit ≡ digit_value b)) c.from.ensures
-        c.in-Some.ensures.value in
+    c.in-Some.ensures.value in
     record {
       from = omega (arith, c.loop-end.invariant.from);
       within = omega (arith, c.loop-end-test.true);

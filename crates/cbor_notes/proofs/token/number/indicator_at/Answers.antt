@@ -14,7 +14,7 @@ returns-then-end-start-clause-none c =
     let first = from_byte text at 95 (omega (arith, c.requires, c.if-at-text.false)) c.if-text-at-ne95.false in
     let run = c.small_digits_from-indicator in
     let none = none_small rest run.result.0 (run.ensures.run
-        ∙ ap (λ (n : ℕ). (run.result.0, drop n text)) c.if-end-start.true) in
+    ∙ ap (λ (n : ℕ). (run.result.0, drop n text)) c.if-end-start.true) in
     ap indicator_of first ∙ cond-false _ (Some (small_run 0 rest)) None none
 
 pub returns-else-end-start-clause-found : goal.returns-else-end-start-clause-found
@@ -25,7 +25,13 @@ returns-else-end-start-clause-found c =
     let first = from_byte text at 95 (omega (arith, c.requires, c.if-at-text.false)) c.if-text-at-ne95.false in
     let run = c.small_digits_from-indicator in
     let starts = starts_small rest (run.result.0, drop run.result.1 text) run.ensures.run
-    (omega (arith, length-drop run.result.1 text, length-drop (at + 1) text, run.ensures.within.0, run.ensures.within.1,
-        c.if-end-start.false)) in
+    (omega (
+      arith,
+      length-drop run.result.1 text,
+      length-drop (at + 1) text,
+      run.ensures.within.0,
+      run.ensures.within.1,
+      c.if-end-start.false,
+    )) in
     ap indicator_of first ∙ (cond-true _ (Some (small_run 0 rest)) None starts
-        ∙ ap (λ (r : ℕ × List ℕ). Some r) run.ensures.run)
+    ∙ ap (λ (r : ℕ × List ℕ). Some r) run.ensures.run)

@@ -9,7 +9,7 @@ loop-end-preserved c =
     let text = c.args.text.now in
     let byte = get_or text c.loop-end.end 0 in
     let digit : byte - 48 ≡ digit_value byte =
-        omega (arith, digit_value_digit byte c.if-is_ascii_digit.ensures.cases) in
+    omega (arith, digit_value_digit byte c.if-is_ascii_digit.ensures.cases) in
     record {
       from = omega arith;
       within = omega arith;
