@@ -17,7 +17,7 @@ is_opening b = (b == 91) || (b == 123) || (b == 40) || (b == 60)
 abbrev pub openings : List ℕ → ℕ
 openings text = count_by is_opening text
 
--- `n` of a byte, at least one
+-- the text has this byte
 abbrev pub HoldsByte : ℕ → List ℕ → Type 0
 HoldsByte byte text = 0 < count_by (λ b. b == byte) text
 
