@@ -1,14 +1,11 @@
 -- What is written of items one after the other.
-use Rattle.std.proofs.Common.{◌≡◌, ◌≢◌, ℕ, ◌+◌, List, [], ◌∷◌, ◌++◌, Option, Some, None, IfSome, Result, Ok, Err}
-use Rattle.std.proofs.Common.{MatchBool, length, take, drop, refl, sym, ap, subst, ◌∙◌, arith, append-nil}
+use Rattle.std.proofs.Common.{◌≡◌, ℕ, ◌+◌, List, [], ◌∷◌, ◌++◌, Option, Some, None, IfSome, Result, Ok, Err}
+use Rattle.std.proofs.Common.{inl, inr, length, take, drop, refl, sym, ap, subst, ◌∙◌, arith, append-nil}
 use Rattle.std.proofs.Common.{length-append, take-append-drop}
 use Rattle.std.proofs.Math.Seq.{take-append-add}
 use Rattle.std.proofs.lemmas.Grind.{flat_map-append}
-use Rattle.std.specs.Bool.{OnTrue}
 use Rattle.std.specs.Result.{IsErrAnd}
 use Rattle.std.proofs.KnownBytes.{Appends-trans}
-use Rattle.cbor_diag.specs.declared.error.Error.{Error}
-use Rattle.cbor_diag.specs.declared.error.Error.TheVariants as refusal
 use Rattle.cbor_diag.specs.Item.{Item}
 use Rattle.cbor_diag.specs.Facts.{IsItem}
 use Rattle.cbor_convert.specs.declared.form.To.{To}
@@ -16,7 +13,8 @@ use Rattle.cbor_view.specs.declared.counted.Counted.{Counted}
 use Rattle.cbor_view.specs.declared.error.ViewError.{ViewError}
 use Rattle.cbor_view.specs.declared.error.ViewError.TheVariants as view_error
 use Rattle.cbor_convert.specs.Output.{output_of}
-use Rattle.cbor_view.specs.Running.{Gains, GainsPart, OnRefusal, is_write_error}
+use Rattle.cbor_view.specs.Running.{Gains, NoFailure, Stops, Writes, WritesPart, IfWriteFailed}
+use Rattle.cbor_view.specs.Running.{OnRefused, OnOutOfMemory, OnWriteFailed}
 use Rattle.cbor_view.specs.Sequence.{ItemsThen, IsOutputOfFirst, EndsTheItems, IsOutputBefore}
 
 -- before any item
@@ -47,15 +45,29 @@ more_written to b out mid more rest first second = record {
   output_is = simp flat_map-append (cc (first.output_is, second.output_is));
 }
 
+-- what follows, after what came before
+pub writes_more : {T : Type 0} (contents : T → Option (List ℕ)) (old mid new : Counted T) (out more : List ℕ)
+    → Writes contents old mid out → Writes contents mid new more → Writes contents old new (out ++ more)
+writes_more contents old mid new out more first then =
+    (Appends-trans _ _ _ out more first.0 then.0, then.1 ∙ first.1)
+
+stops_later : {T : Type 0} (old mid new : Counted T) → NoFailure old mid → Stops mid new → Stops old new
+stops_later old mid new none (inl failed) = inl (rw none at failed)
+stops_later old mid new none (inr stopped) = inr (stopped.0 ∙ none, stopped.1)
+
 -- a beginning of what follows, after all that came before
 pub part_later : {T : Type 0} (contents : T → Option (List ℕ)) (old mid new : Counted T) (out more : List ℕ)
-    → Gains contents old mid out → GainsPart contents mid new more → GainsPart contents old new (out ++ more)
-part_later contents old mid new out more first part = (
-  length out + part.0,
-  omega (arith, length-append out more, part.1),
-  subst (λ (x : List ℕ). Gains contents old new x) (sym (take-append-add out more part.0))
-      (Appends-trans _ _ _ out (take part.0 more) first part.2),
-)
+    → Writes contents old mid out → WritesPart contents mid new more → WritesPart contents old new (out ++ more)
+part_later contents old mid new out more first part =
+    let taken = part.0 in (
+      (
+        length out + taken.0,
+        omega (arith, length-append out more, taken.1),
+        subst (λ (x : List ℕ). Gains contents old new x) (sym (take-append-add out more taken.0))
+            (Appends-trans _ _ _ out (take taken.0 more) first.0 taken.2),
+      ),
+      stops_later old mid new first.1 part.1,
+    )
 
 -- ---- the end after a block
 
@@ -68,43 +80,42 @@ same_end {X = X} (Err v) r e is was = let P : ViewError → Result X ViewError =
 -- the sequence ends.
 module _ {T : Type 0} (contents : T → Option (List ℕ)) (old mid new : Counted T) (to : To)
     (all out rest block after : List ℕ)
-    (first : IsOutputOfFirst to all out rest) (gained : Gains contents old mid out)
+    (first : IsOutputOfFirst to all out rest) (before : Writes contents old mid out)
     (second : IsOutputOfFirst to rest block after) where
   -- the block, or a beginning of it where a write failed
   abbrev pub Took : {X : Type 0} → Result X ViewError → Type 0
-  Took r = MatchBool (is_write_error r) (GainsPart contents mid new block) (Gains contents mid new block)
+  Took r = IfWriteFailed r (WritesPart contents mid new block) (Writes contents mid new block)
 
-  pub end_item : {X : Type 0} (r : Result X ViewError) → Took r
-      → OnRefusal r (λ e. e ≢ refusal.Memory → EndsTheItems after e)
-      → OnRefusal r (λ e. e ≢ refusal.Memory → (written : List ℕ) × IsOutputBefore to all e written
-      × Gains contents old new written)
-  end_item (Ok x) took h = tt
-  end_item (Err (view_error.Item e)) took h =
+  pub end_refused : {X : Type 0} (r : Result X ViewError) → Took r
+      → OnRefused r (EndsTheItems after)
+      → OnRefused r (λ e. (written : List ℕ) × IsOutputBefore to all e written × Writes contents old new written)
+  end_refused (Ok x) took h = tt
+  end_refused (Err (view_error.Item e)) took h =
       λ ample. (
         out ++ block,
         (after, more_written to all out rest block after first second, h ample),
-        Appends-trans _ _ _ out block gained took,
+        writes_more contents old mid new out block before took,
       )
-  end_item (Err view_error.Read) took h = tt
-  end_item (Err view_error.Write) took h = tt
+  end_refused (Err view_error.Read) took h = tt
+  end_refused (Err view_error.Write) took h = tt
 
   pub end_memory : {X : Type 0} (r : Result X ViewError) → Took r
-      → OnRefusal r (λ e. e ≡ refusal.Memory → (written left : List ℕ) × IsOutputOfFirst to all written left
-      × Gains contents old new written)
+      → OnOutOfMemory r ((written left : List ℕ) × IsOutputOfFirst to all written left
+      × Writes contents old new written)
   end_memory (Ok x) took = tt
   end_memory (Err (view_error.Item e)) took =
       λ memory. (
         out ++ block,
         after,
         more_written to all out rest block after first second,
-        Appends-trans _ _ _ out block gained took,
+        writes_more contents old mid new out block before took,
       )
   end_memory (Err view_error.Read) took = tt
   end_memory (Err view_error.Write) took = tt
 
   pub end_write : {X : Type 0} (r : Result X ViewError) → Took r
-      → OnTrue (is_write_error r) ((written left : List ℕ) × IsOutputOfFirst to all written left
-      × GainsPart contents old new written)
+      → OnWriteFailed r ((written left : List ℕ) × IsOutputOfFirst to all written left
+      × WritesPart contents old new written)
   end_write (Ok x) took = tt
   end_write (Err (view_error.Item e)) took = tt
   end_write (Err view_error.Read) took = tt
@@ -112,7 +123,7 @@ module _ {T : Type 0} (contents : T → Option (List ℕ)) (old mid new : Counte
     out ++ block,
     after,
     more_written to all out rest block after first second,
-    part_later contents old mid new out block gained took,
+    part_later contents old mid new out block before took,
   )
 
 -- a reader had some bytes, whether they are known or not
@@ -120,9 +131,13 @@ pub had_some : (told : Option (List ℕ)) → (all : List ℕ) × IfSome told (�
 had_some None = ([], tt)
 had_some (Some bytes) = (bytes, refl)
 
--- what holds for each refusal holds for the one that is answered
-pub for_any_refusal : {X : Type 0} (s : Result X ViewError) (P : Error → Type 0) → ((e : Error) → P e) → OnRefusal s P
-for_any_refusal (Ok x) P h = tt
-for_any_refusal (Err (view_error.Item e)) P h = h e
-for_any_refusal (Err view_error.Read) P h = tt
-for_any_refusal (Err view_error.Write) P h = tt
+-- what holds if memory ran out in a call, holds if `?` hands on its error
+pub memory_passed : {X Y P Q : Type 0} (s : Result X ViewError) (r : Result Y ViewError) (e : ViewError)
+    → IsErrAnd s (λ v. v ≡ e) → r ≡ Err e → OnOutOfMemory r P → (P → Q) → OnOutOfMemory s Q
+memory_passed (Ok x) r e is was h more = absurd is
+memory_passed {Y = Y} {P = P} (Err (view_error.Item d)) r e is was h more =
+    let error : ViewError → Result Y ViewError = λ v. Err v in
+    let then = subst (λ (x : Result Y ViewError). OnOutOfMemory x P) (was ∙ ap error (sym is)) h in
+    λ memory. more (then memory)
+memory_passed (Err view_error.Read) r e is was h more = tt
+memory_passed (Err view_error.Write) r e is was h more = tt

@@ -1,14 +1,13 @@
 //! One run of the program, over any reader and writer.
-ghost use Rattle.std.specs.Prelude.{◌≡◌, ◌≢◌, ℕ, ◌+◌, ◌<◌, ◌≤◌, List, length, take, drop, vec_len};
-ghost use Rattle.std.specs.Prelude.{Ok, Err, IfOk, IfErr, OnOk, OnErr, MatchBool, ◌⊎◌};
-ghost use Rattle.std.specs.Bool.{OnTrue};
+ghost use Rattle.std.specs.Prelude.{◌≡◌, ℕ, ◌+◌, ◌<◌, ◌≤◌, List, length, take, drop, vec_len};
+ghost use Rattle.std.specs.Prelude.{Ok, Err, IfOk, IfErr, OnOk, OnErr, ◌⊎◌};
 ghost use Rattle.std.specs.Io.KnownBytes.{Consumes};
 ghost use Rattle.cbor_diag.specs.declared.error.Error.TheVariants as refusal;
-ghost use Rattle.cbor_view.specs.Counting.{inner_of, failures_of};
 ghost use Rattle.cbor_convert.specs.Output.{IsOutput};
-ghost use Rattle.cbor_view.specs.Running.{HadAll, Gains, GainsPart, IsReadOut, Stops, OnRefusal};
-ghost use Rattle.cbor_view.specs.Running.{OnReadOut, OnUnwritten, is_read_error, is_write_error};
-ghost use Rattle.cbor_view.specs.Running.{failures_then};
+ghost use Rattle.cbor_view.specs.Counting.{inner_of};
+ghost use Rattle.cbor_view.specs.Running.{IsReadOut, NoFailure, OneFailure, ReadsAll};
+ghost use Rattle.cbor_view.specs.Running.{Writes, WritesPart};
+ghost use Rattle.cbor_view.specs.Running.{OnRefused, OnOutOfMemory, OnReadFailed, OnWriteFailed};
 
 use crate::convert::convert;
 use crate::counted::Counted;
@@ -29,31 +28,32 @@ pub fn run<R: Read, W: Write>(
     input: &mut Counted<R>,
     output: &mut Counted<W>,
 ) -> Result<(), ViewError>
-    // The output for all that the reader had was written, and nothing else.
-    ensures ok { OnOk result ((all bytes : List ℕ) × HadAll R.remaining input.old all
+    // All of the input was read, and its output was written and nothing else.
+    ensures done { OnOk result ((all bytes : List ℕ)
+        × ReadsAll R.remaining input.old input.new all
         × IsOutput from to all (Ok bytes)
-        × Gains W.contents output.old output.new bytes) }
+        × Writes W.contents output.old output.new bytes) }
 
-    // Any other error of an item than out of memory is why the whole input is not an item.
-    ensures item { OnRefusal result (λ e. e ≢ refusal.Memory → (all : List ℕ)
-        × HadAll R.remaining input.old all × IsOutput from to all (Err e)) }
+    // All of the input was read, and it is not an item, for this reason. Nothing was written.
+    ensures refused { OnRefused result (λ e. (all : List ℕ)
+        × ReadsAll R.remaining input.old input.new all
+        × IsOutput from to all (Err e)
+        × (output.new ≡ output.old)) }
 
-    // If a write failed, a beginning of the output was written, and nothing else.
-    ensures write { OnTrue (is_write_error result) ((all bytes : List ℕ)
-        × HadAll R.remaining input.old all × IsOutput from to all (Ok bytes)
-        × GainsPart W.contents output.old output.new bytes) }
+    // Memory ran out. No read failed, and nothing was written.
+    ensures out_of_memory { OnOutOfMemory result
+        (NoFailure input.old input.new × (output.new ≡ output.old)) }
 
-    // All was read, unless a read failed or memory ran out.
-    ensures read_out { OnReadOut result (IsReadOut R.remaining input.new) }
+    // A read failed, and nothing was written.
+    ensures read_failed { OnReadFailed result
+        (OneFailure input.old input.new × (output.new ≡ output.old)) }
 
-    // An error of an item and a failed read leave the output as it was.
-    ensures unwritten { OnUnwritten result (output.new ≡ output.old) }
-
-    // Any call that fails ends the run.
-    ensures read_failures { failures_of input.new
-        ≡ failures_then (is_read_error result) (failures_of input.old) }
-    ensures write_failures { MatchBool (is_write_error result) (Stops output.old output.new)
-        (failures_of output.new ≡ failures_of output.old) }
+    // All of the input was read, and a write failed or took nothing. A beginning of the output was
+    // written, and nothing else.
+    ensures write_failed { OnWriteFailed result ((all bytes : List ℕ)
+        × ReadsAll R.remaining input.old input.new all
+        × IsOutput from to all (Ok bytes)
+        × WritesPart W.contents output.old output.new bytes) }
 {
     let all = read_to_end(alloc, input)?;
     let bytes = convert(alloc, from, to, all)?;
@@ -66,10 +66,10 @@ pub(crate) fn read_to_end<R: Read>(
     alloc: Global,
     input: &mut Counted<R>,
 ) -> Result<Vec<u8>, ViewError>
-    ensures all { IfOk result (λ bytes. HadAll R.remaining input.old bytes.items) }
-    ensures read_out { OnOk result (IsReadOut R.remaining input.new) }
-    ensures failures { failures_of input.new
-        ≡ failures_then (is_read_error result) (failures_of input.old) }
+    ensures done { IfOk result (λ bytes.
+        ReadsAll R.remaining input.old input.new bytes.items) }
+    ensures out_of_memory { OnOutOfMemory result (NoFailure input.old input.new) }
+    ensures read_failed { OnReadFailed result (OneFailure input.old input.new) }
     ensures error { IfErr result (λ e. (e ≡ ViewError.Read) ⊎ (e ≡ ViewError.Item refusal.Memory)) }
 {
     let mut bytes = Vec::new(alloc);
@@ -109,8 +109,8 @@ fn read_after<R: Read>(
     ensures read { IfOk result (λ count. Consumes (R.remaining (inner_of input.old))
         (R.remaining (inner_of input.new)) (take count (drop filled bytes.new))) }
     ensures end { IfOk result (λ count. count ≡ 0 → IsReadOut R.remaining input.new) }
-    ensures failures { failures_of input.new
-        ≡ failures_then (is_read_error result) (failures_of input.old) }
+    ensures no_failure { OnOk result (NoFailure input.old input.new) }
+    ensures failure { OnErr result (OneFailure input.old input.new) }
     ensures error { IfErr result (λ e. e ≡ ViewError.Read) }
 {
     match input.read(&mut bytes[filled..]) {
@@ -121,10 +121,9 @@ fn read_after<R: Read>(
 
 /// Writes all of the bytes, or a beginning of them.
 pub(crate) fn write_whole<W: Write>(output: &mut Counted<W>, bytes: &[u8]) -> Result<(), ViewError>
-    ensures ok { OnOk result (Gains W.contents output.old output.new bytes.now) }
-    ensures part { OnErr result (GainsPart W.contents output.old output.new bytes.now) }
-    ensures failures { MatchBool (is_write_error result) (Stops output.old output.new)
-        (failures_of output.new ≡ failures_of output.old) }
+    ensures done { OnOk result (Writes W.contents output.old output.new bytes.now) }
+    ensures write_failed { OnErr result
+        (WritesPart W.contents output.old output.new bytes.now) }
     ensures error { IfErr result (λ e. e ≡ ViewError.Write) }
 {
     let mut written = 0;

@@ -1,12 +1,9 @@
 //! One run of the program over a sequence of items, one after the other (RFC 8742).
-ghost use Rattle.std.specs.Prelude.{◌≡◌, ◌≢◌, ℕ, ◌<◌, ◌≤◌, List, ◌++◌, length, drop, IfOk, OnOk};
-ghost use Rattle.std.specs.Prelude.{OnErr, MatchBool, false};
-ghost use Rattle.std.specs.Bool.{OnTrue};
-ghost use Rattle.cbor_diag.specs.declared.error.Error.TheVariants as refusal;
+ghost use Rattle.std.specs.Prelude.{◌≡◌, ℕ, ◌<◌, ◌≤◌, List, ◌++◌, length, drop, IfOk, OnOk, OnErr};
 ghost use Rattle.cbor_diag.specs.Answer.{RefusedSo};
-ghost use Rattle.cbor_view.specs.Counting.{failures_of};
-ghost use Rattle.cbor_view.specs.Running.{HadAll, Gains, GainsPart, IsReadOut, Stops, OnRefusal};
-ghost use Rattle.cbor_view.specs.Running.{OnReadOut, is_read_error, is_write_error, failures_then};
+ghost use Rattle.cbor_view.specs.Running.{HadAll, NoFailure, OneFailure, ReadsAll};
+ghost use Rattle.cbor_view.specs.Running.{Writes, WritesPart, IfWriteFailed};
+ghost use Rattle.cbor_view.specs.Running.{OnRefused, OnOutOfMemory, OnReadFailed, OnWriteFailed};
 ghost use Rattle.cbor_view.specs.Sequence.{IsOutputOfFirst, IsOutputOfAll, IsOutputBefore};
 ghost use Rattle.cbor_view.specs.Sequence.{EndsTheItems};
 
@@ -35,39 +32,37 @@ pub fn run_seq<R: Read, W: Write>(
     input: &mut Counted<R>,
     output: &mut Counted<W>,
 ) -> Result<(), ViewError>
-    // The input is items alone, and the output of each was written, in order, and nothing else.
-    ensures ok { OnOk result ((all bytes : List ℕ) × HadAll R.remaining input.old all
+    // All of the input was read, and it is items alone. The output of each was written, in order,
+    // and nothing else.
+    ensures done { OnOk result ((all bytes : List ℕ)
+        × ReadsAll R.remaining input.old input.new all
         × IsOutputOfAll to all bytes
-        × Gains W.contents output.old output.new bytes) }
+        × Writes W.contents output.old output.new bytes) }
 
-    // Something else follows the items: any other error of an item than out of memory is why that
-    // is not an item, and the output of all items before it was written.
-    ensures item { OnRefusal result (λ e. e ≢ refusal.Memory → (all bytes : List ℕ)
-        × HadAll R.remaining input.old all × IsOutputBefore to all e bytes
-        × Gains W.contents output.old output.new bytes) }
+    // All of the input was read, and what follows its items is not an item, for this reason. The
+    // output of all items before was written.
+    ensures refused { OnRefused result (λ e. (all bytes : List ℕ)
+        × ReadsAll R.remaining input.old input.new all
+        × IsOutputBefore to all e bytes
+        × Writes W.contents output.old output.new bytes) }
 
-    // If memory ran out, what was written is the output of some first items, each whole.
-    ensures memory { OnRefusal result (λ e. e ≡ refusal.Memory → (all bytes rest : List ℕ)
-        × HadAll R.remaining input.old all × IsOutputOfFirst to all bytes rest
-        × Gains W.contents output.old output.new bytes) }
+    // Memory ran out. No read failed, and what was written is the output of some first items, each
+    // whole.
+    ensures out_of_memory { OnOutOfMemory result ((all bytes rest : List ℕ)
+        × HadAll R.remaining input.old all × NoFailure input.old input.new
+        × IsOutputOfFirst to all bytes rest
+        × Writes W.contents output.old output.new bytes) }
 
-    // If a write failed, a beginning of the output of some first items was written, and not all of
-    // it.
-    ensures write { OnTrue (is_write_error result) ((all bytes rest : List ℕ)
-        × HadAll R.remaining input.old all × IsOutputOfFirst to all bytes rest
-        × GainsPart W.contents output.old output.new bytes) }
+    // A read failed, and nothing was written.
+    ensures read_failed { OnReadFailed result
+        (OneFailure input.old input.new × (output.new ≡ output.old)) }
 
-    // All was read, unless a read failed or memory ran out.
-    ensures read_out { OnReadOut result (IsReadOut R.remaining input.new) }
-
-    // A failed read leaves the output as it was.
-    ensures unread { OnTrue (is_read_error result) (output.new ≡ output.old) }
-
-    // Any call that fails ends the run.
-    ensures read_failures { failures_of input.new
-        ≡ failures_then (is_read_error result) (failures_of input.old) }
-    ensures write_failures { MatchBool (is_write_error result) (Stops output.old output.new)
-        (failures_of output.new ≡ failures_of output.old) }
+    // All of the input was read, and a write failed or took nothing. A beginning of the output of
+    // some first items was written, and not all of it.
+    ensures write_failed { OnWriteFailed result ((all bytes rest : List ℕ)
+        × ReadsAll R.remaining input.old input.new all
+        × IsOutputOfFirst to all bytes rest
+        × WritesPart W.contents output.old output.new bytes) }
 {
     let all = read_to_end(alloc, input)?;
     write_items(alloc, to, &all, output)
@@ -80,19 +75,18 @@ fn write_items<W: Write>(
     bytes: &[u8],
     output: &mut Counted<W>,
 ) -> Result<(), ViewError>
-    ensures ok { OnOk result ((written : List ℕ) × IsOutputOfAll to bytes.now written
-        × Gains W.contents output.old output.new written) }
-    ensures item { OnRefusal result (λ e. e ≢ refusal.Memory → (written : List ℕ)
-        × IsOutputBefore to bytes.now e written × Gains W.contents output.old output.new written) }
-    ensures memory { OnRefusal result (λ e. e ≡ refusal.Memory → (written rest : List ℕ)
+    ensures done { OnOk result ((written : List ℕ) × IsOutputOfAll to bytes.now written
+        × Writes W.contents output.old output.new written) }
+    ensures refused { OnRefused result (λ e. (written : List ℕ)
+        × IsOutputBefore to bytes.now e written
+        × Writes W.contents output.old output.new written) }
+    ensures out_of_memory { OnOutOfMemory result ((written rest : List ℕ)
         × IsOutputOfFirst to bytes.now written rest
-        × Gains W.contents output.old output.new written) }
-    ensures write { OnTrue (is_write_error result) ((written rest : List ℕ)
+        × Writes W.contents output.old output.new written) }
+    ensures write_failed { OnWriteFailed result ((written rest : List ℕ)
         × IsOutputOfFirst to bytes.now written rest
-        × GainsPart W.contents output.old output.new written) }
-    ensures failures { MatchBool (is_write_error result) (Stops output.old output.new)
-        (failures_of output.new ≡ failures_of output.old) }
-    ensures read { is_read_error result ≡ false }
+        × WritesPart W.contents output.old output.new written) }
+    ensures reads_nothing { OnReadFailed result ⊥ }
 {
     let mut block = Vec::new(alloc);
     let mut rest = bytes;
@@ -119,13 +113,10 @@ fn write_block<W: Write>(
     ensures some { OnOk result.1 (1 ≤ result.0) }
     ensures written { (written : List ℕ)
         × IsOutputOfFirst to bytes.now written (drop result.0 bytes.now)
-        × MatchBool (is_write_error result.1) (GainsPart W.contents output.old output.new written)
-        (Gains W.contents output.old output.new written) }
-    ensures item { OnRefusal result.1 (λ e.
-        e ≢ refusal.Memory → EndsTheItems (drop result.0 bytes.now) e) }
-    ensures failures { MatchBool (is_write_error result.1) (Stops output.old output.new)
-        (failures_of output.new ≡ failures_of output.old) }
-    ensures read { is_read_error result.1 ≡ false }
+        × IfWriteFailed result.1 (WritesPart W.contents output.old output.new written)
+        (Writes W.contents output.old output.new written) }
+    ensures refused { OnRefused result.1 (EndsTheItems (drop result.0 bytes.now)) }
+    ensures reads_nothing { OnReadFailed result.1 ⊥ }
 {
     let (used, end) = fill(alloc, to, bytes, block);
     let end = match write_whole(output, block) {

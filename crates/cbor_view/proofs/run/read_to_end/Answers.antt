@@ -18,8 +18,7 @@ loop-bytes-preserved g c =
     let read = c.in_ok-count.ensures in
     let ys = c.read_after.new.bytes in
     let front : take c.loop-bytes.filled ys ≡ take c.loop-bytes.filled c.loop-bytes.bytes.items =
-    c.read_after.ensures.filled ∙ ap (take c.loop-bytes.filled) c.as_mut_slice.ensures.value
-    ∙ c.make_room.ensures.filled in
+    cc (c.read_after.ensures.filled, c.as_mut_slice.ensures.value, c.make_room.ensures.filled) in
     let whole : take c.make_room.new.bytes.len (ys ++ drop (length ys) c.make_room.new.bytes.items) ≡ ys =
     take_at ys _ _ (search (rules, places)) in
     record {

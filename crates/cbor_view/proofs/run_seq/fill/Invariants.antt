@@ -1,5 +1,5 @@
 -- The block is the output of the items so far. It is not full before there is one.
-use Rattle.std.proofs.Common.{◌≡◌, ℕ, ◌-◌, ◌≤◌, ◌⊎◌, length, drop, vec_len, vec_items}
+use Rattle.std.proofs.Common.{◌≡◌, ◌-◌, ◌≤◌, ◌⊎◌, length, drop, vec_len, vec_items}
 use Rattle.cbor_view.specs.Sequence.{IsOutputOfFirst}
 use Rattle.cbor_view.proofs.run_seq.fill.Given as goal
 

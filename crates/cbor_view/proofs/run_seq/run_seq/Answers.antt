@@ -1,11 +1,12 @@
-use Rattle.std.proofs.Common.{[]}
+use Rattle.std.proofs.Common.{[], refl}
 use Rattle.std.proofs.KnownBytes.{Appends-nil}
+use Rattle.cbor_view.proofs.Sequences.{none_written, had_some, memory_passed}
 use Rattle.cbor_view.specs.Counting.{inner_of}
-use Rattle.cbor_view.proofs.Sequences.{none_written, had_some, for_any_refusal}
 use Rattle.cbor_view.proofs.run_seq.run_seq.Goals as goal
 
-pub returns-in_err-all-clause-memory : goal.returns-in_err-all-clause-memory
-returns-in_err-all-clause-memory g c =
+pub returns-in_err-all-clause-out_of_memory : goal.returns-in_err-all-clause-out_of_memory
+returns-in_err-all-clause-out_of_memory g c =
     let all = had_some (g.R.Read.remaining (inner_of c.args.input.now)) in
-    for_any_refusal c.from_residual.result _
-    (λ e is. (all.0, [], all.0, all.1, none_written c.args.to all.0, Appends-nil _))
+    memory_passed c.from_residual.result c.read_to_end.result c.in_err-all.field-0.0 c.from_residual.ensures.1
+    c.in_err-all.was c.read_to_end.ensures.out_of_memory
+    (λ none. (all.0, [], all.0, all.1, none, none_written c.args.to all.0, (Appends-nil _, refl)))
