@@ -5,13 +5,7 @@ use Rattle.std.specs.Fmt.{digits}
 use Rattle.std.specs.List.{join_with_byte, prefix_len}
 use Rattle.std.specs.Net.Addr.{segments_of}
 use Rattle.hex.specs.Hex.{encode_lower}
-
--- the codes of `.` and `:`
-abbrev pub dot : ℕ
-dot = 46
-
-abbrev pub colon : ℕ
-colon = 58
+use Rattle.cbor_notes.specs.Ascii.{dot, colon}
 
 -- the four octets in decimal, with dots between them
 abbrev pub ipv4_text : List ℕ → List ℕ

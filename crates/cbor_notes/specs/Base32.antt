@@ -3,6 +3,7 @@ use Rattle.std.specs.Prelude.{◌≡◌, ℕ, zero, suc, ◌+◌, ◌-◌, ◌*�
 use Rattle.std.specs.Prelude.{replicate, length, slice_index, codes}
 use Rattle.std.specs.Int.Digits.{AllBelowBase, number_from_digits}
 use Rattle.cbor_notes.specs.AreBytes.{AreBytes}
+use Rattle.cbor_notes.specs.Ascii.{equals_sign}
 use Rattle.cbor_notes.specs.declared.base32.Alphabet.{Alphabet}
 use Rattle.cbor_notes.specs.declared.base32.Alphabet.TheVariants.{Standard, ExtendedHex}
 
@@ -39,7 +40,7 @@ IsDigitCount count = (bytes : ℕ) × (0 < bytes) × (bytes ≤ 5) × (count ≡
 abbrev pub encode_group : Alphabet → List ℕ → List ℕ
 encode_group alphabet group =
     map (slice_index (characters alphabet)) (take (digit_count (length group)) (places 32 8 (forty_bits group)))
-    ++ replicate (8 - digit_count (length group)) 61
+    ++ replicate (8 - digit_count (length group)) equals_sign
 
 -- one to five bytes
 abbrev pub IsLastGroup : List ℕ → Type 0

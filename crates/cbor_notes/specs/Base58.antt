@@ -1,6 +1,7 @@
 -- Base 58, in the alphabet of Bitcoin's addresses, which has no `0`, `I`, `O` and `l`.
 use Rattle.std.specs.Prelude.{ℕ, ◌==◌, ◌<◌, List, [], ◌∷◌, ◌++◌, map, replicate, length, take_while, slice_index, codes}
 use Rattle.std.specs.Int.Digits.{digits_of, number_from_digits}
+use Rattle.cbor_notes.specs.Ascii.{digit_one}
 
 -- the 58 characters, at their values
 abbrev pub characters : List ℕ
@@ -14,7 +15,7 @@ leading_zeros bytes = length (take_while (λ byte. byte == 0) bytes)
 -- zero, of the number that the bytes are, the first byte highest
 unfoldable pub base58_of : List ℕ → List ℕ
 base58_of bytes =
-    replicate (leading_zeros bytes) 49 ++ map (slice_index characters) (digits_of 58 (number_from_digits 256 bytes))
+    replicate (leading_zeros bytes) digit_one ++ map (slice_index characters) (digits_of 58 (number_from_digits 256 bytes))
 
 -- the digits are none, or the first one is not zero
 abbrev pub HasNoLeadingZero : List ℕ → Type 0

@@ -1,5 +1,6 @@
 -- Base 64: RFC 4648, section 4, and section 5 without padding.
 use Rattle.std.specs.Prelude.{ℕ, Bool, true, false, ◌==◌, ◌||◌, if◌then◌else◌, Option, List, codes}
+use Rattle.cbor_notes.specs.Ascii.{plus, slash, equals_sign}
 use Rattle.base64.specs.Rfc4648.{encode}
 use Rattle.base64.specs.GeneralPurpose.{decoded_of}
 use Rattle.base64.specs.Engines as engines
@@ -13,15 +14,15 @@ url_safe_alphabet = codes "ABCDEFGHIJKLMNOPQRSTUVWXYZabcdefghijklmnopqrstuvwxyz0
 
 -- the encoding in the standard alphabet, with `=` up to a multiple of four characters
 abbrev pub standard : List ℕ → List ℕ
-standard = encode standard_alphabet 61 true
+standard = encode standard_alphabet equals_sign true
 
 -- the encoding in the alphabet that is safe in URLs, without padding
 abbrev pub url_safe : List ℕ → List ℕ
-url_safe = encode url_safe_alphabet 61 false
+url_safe = encode url_safe_alphabet equals_sign false
 
 -- `+`, `/` and `=`, which only the standard encoding has
 abbrev pub is_standard_only : ℕ → Bool
-is_standard_only digit = (digit == 43) || (digit == 47) || (digit == 61)
+is_standard_only digit = (digit == plus) || (digit == slash) || (digit == equals_sign)
 
 -- the encoding that is safe in URLs, or the standard one
 abbrev pub encoding : Bool → List ℕ → List ℕ

@@ -4,6 +4,7 @@ use Rattle.std.specs.Prelude.{◌≡◌, ℕ, ◌+◌, ◌*◌, ◌/◌, ◌%◌
 use Rattle.std.specs.Prelude.{unsigned_abs, Bool, true, false, ◌&&◌, if◌then◌else◌, Option, Some, None, option_map}
 use Rattle.std.specs.Prelude.{List, [], ◌∷◌, ◌++◌, codes, bytes_eq}
 use Rattle.std.specs.Int.{int_div_euclid, int_rem_euclid}
+use Rattle.cbor_notes.specs.Ascii.{digit_zero}
 use Rattle.jiff.specs.Types.{Date}
 use Rattle.jiff.specs.Words.{epoch_day}
 use Rattle.cbor_notes.specs.Days.{CalendarDay, calendar_day, day_at, day_count, day_number, is_day_number}
@@ -12,7 +13,7 @@ use Rattle.cbor_notes.specs.Text.{grouped}
 
 -- a number below 100 in two digits
 abbrev pub two_digits : ℕ → List ℕ
-two_digits n = (48 + n / 10) ∷ (48 + n % 10) ∷ []
+two_digits n = (digit_zero + n / 10) ∷ (digit_zero + n % 10) ∷ []
 
 -- a number below 10,000 in four digits
 abbrev pub four_digits : ℕ → List ℕ

@@ -7,6 +7,7 @@ use Rattle.std.specs.Char.{is_ascii_digit}
 use Rattle.std.specs.Fmt.{signed_decimal}
 use Rattle.std.specs.List.{ends_with, list_all}
 use Rattle.std.specs.Option.{option_or}
+use Rattle.cbor_notes.specs.Ascii.{dot, digit_zero}
 use Rattle.jiff.specs.Types.{Date}
 use Rattle.cbor_notes.specs.Date.{civil_seconds, clock_text, date_text, day_seconds, day_text, two_digits}
 use Rattle.cbor_notes.specs.Days.{CalendarDay, calendar_day, day_count, day_number}
@@ -15,7 +16,7 @@ use Rattle.cbor_notes.specs.Search.{first_found, first_minute}
 -- `.` and one digit or more, or nothing, and the digits
 pub data IsFraction (text digits : List ℕ) : Type 0 where
   no_fraction : text ≡ [] → digits ≡ [] → IsFraction text digits
-  some_digits : text ≡ 46 ∷ digits → 0 < length digits → IsTrue (list_all is_ascii_digit digits)
+  some_digits : text ≡ dot ∷ digits → 0 < length digits → IsTrue (list_all is_ascii_digit digits)
       → IsFraction text digits
 
 -- a sign with hours and minutes, and the seconds that a clock is ahead of UTC, which are negative where
@@ -56,12 +57,12 @@ pub record IsDateTimeText (text : List ℕ) (seconds : ℤ) (digits : List ℕ) 
 
 -- the first nine digits, filled up with zeros
 abbrev pub nine_digits : List ℕ → List ℕ
-nine_digits digits = take 9 (digits ++ replicate 9 48)
+nine_digits digits = take 9 (digits ++ replicate 9 digit_zero)
 
 -- the fewest of 0, 3, 6 and 9 of nine digits after which all are zeros
 abbrev pub shown : List ℕ → ℕ
 shown nine =
-    if ends_with nat_eq nine (replicate 9 48) then 0
+    if ends_with nat_eq nine (replicate 9 digit_zero) then 0
     else if ends_with nat_eq nine (replicate 6 48) then 3
     else if ends_with nat_eq nine (replicate 3 48) then 6
     else 9
@@ -92,12 +93,12 @@ read_civil text = first_found day_count (λ n. first_minute (λ hour minute. fir
 
 -- the digits right after a dot, where the text begins with one
 abbrev pub read_digits : List ℕ → List ℕ
-read_digits text = if get_or text 0 0 == 46 then take_while is_ascii_digit (drop 1 text) else []
+read_digits text = if get_or text 0 0 == dot then take_while is_ascii_digit (drop 1 text) else []
 
 -- a dot and the digits, or nothing where there are none
 abbrev pub dotted : List ℕ → List ℕ
 dotted [] = []
-dotted (digit ∷ rest) = 46 ∷ digit ∷ rest
+dotted (digit ∷ rest) = dot ∷ digit ∷ rest
 
 -- `+01:30`, of a sign, hours and minutes
 abbrev pub offset_text : List ℕ → ℕ → ℕ → List ℕ

@@ -4,6 +4,7 @@ use Rattle.std.specs.Int.{div_ceil}
 use Rattle.std.specs.List.{range_with_len}
 use Rattle.std.specs.Fork.{slice_chunk}
 use Rattle.hex.specs.Hex.{encode_lower}
+use Rattle.cbor_notes.specs.Ascii.{space}
 use Rattle.cbor_notes.specs.Base64.{decoded}
 use Rattle.cbor_notes.specs.Text.{quoted_bytes}
 
@@ -11,7 +12,7 @@ use Rattle.cbor_notes.specs.Text.{quoted_bytes}
 -- the bytes between quotes
 unfoldable pub decoded_line : ℕ → List ℕ → List ℕ
 decoded_line width piece =
-    encode_lower piece ++ replicate (width - 2 * length piece) 32 ++ codes " # " ++ quoted_bytes piece
+    encode_lower piece ++ replicate (width - 2 * length piece) space ++ codes " # " ++ quoted_bytes piece
 
 -- one line for each piece of sixteen bytes, of which the last may be shorter; the hex digits of each are
 -- as wide as those of the first

@@ -1,6 +1,7 @@
 -- How the lines of a dump are laid out in columns: hex digits on the left, comments on the right.
 use Rattle.std.specs.Prelude.{ℕ, ◌+◌, ◌-◌, ◌*◌, ◌==◌, List, [], ◌∷◌, ◌++◌, length, max, replicate, codes, flat_map}
 use Rattle.std.specs.Prelude.{if◌then◌else◌}
+use Rattle.cbor_notes.specs.Ascii.{space}
 
 -- a line: its depth, its hex digits, of which there may be none, and its comment
 pub record DumpLine : Type 0 where
@@ -9,7 +10,7 @@ pub record DumpLine : Type 0 where
   pub comment : List ℕ
 
 abbrev pub blanks : ℕ → List ℕ
-blanks n = replicate n 32
+blanks n = replicate n space
 
 -- where the digits of a line end, and 0 of a line without digits
 abbrev pub reach : DumpLine → ℕ

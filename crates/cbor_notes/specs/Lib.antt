@@ -1,5 +1,6 @@
 pub mod Address
 pub mod AreBytes
+pub mod Ascii
 pub mod Base32
 pub mod Base58
 pub mod Base64

@@ -5,22 +5,23 @@ use Rattle.std.specs.List.{AllByRecursion, concat}
 use Rattle.std.specs.Fmt.{digits}
 use Rattle.std.specs.Str.{chars}
 use Rattle.hex.specs.Hex.{encode_lower}
+use Rattle.cbor_notes.specs.Ascii.{tab, line_feed, carriage_return, space, quote, apostrophe, comma, backslash}
 
 -- a tab, a carriage return or a line feed by its letter, `\t`, `\r` or `\n`, and any other
 -- character as `otherwise` says
 abbrev pub white_or : ℕ → List ℕ → List ℕ
 white_or c otherwise =
-    if c == 9 then codes "\\t"
-    else if c == 13 then codes "\\r"
-    else if c == 10 then codes "\\n"
+    if c == tab then codes "\\t"
+    else if c == carriage_return then codes "\\r"
+    else if c == line_feed then codes "\\n"
     else otherwise
 
 -- a byte: `'`, `"` and `\` after a backslash, the other characters of ASCII that print as they
 -- are, and any other byte as `\x` and its two hex digits in lower case
 abbrev pub escaped_byte : ℕ → List ℕ
 escaped_byte b = white_or b
-    (if (b == 39) || (b == 34) || (b == 92) then codes "\\" ++ b ∷ []
-    else if nat_le 32 b && nat_le b 126 then b ∷ []
+    (if (b == apostrophe) || (b == quote) || (b == backslash) then codes "\\" ++ b ∷ []
+    else if nat_le space b && nat_le b 126 then b ∷ []
     else codes "\\x" ++ encode_lower (b ∷ []))
 
 -- bytes between quotes, each of them escaped
@@ -35,7 +36,7 @@ is_control c = nat_le c 31 || (nat_le 127 c && nat_le c 159)
 -- lower case and no leading zero, any other as it is, in UTF-8
 abbrev pub escaped_char : ℕ → List ℕ
 escaped_char c = white_or c
-    (if (c == 34) || (c == 92) then codes "\\" ++ c ∷ []
+    (if (c == quote) || (c == backslash) then codes "\\" ++ c ∷ []
     else if is_control c then codes "\\u{" ++ digits 16 false c ++ codes "}"
     else encode_utf8 c)
 
@@ -68,7 +69,7 @@ pub record IsGrouped (digits text : List ℕ) : Type 0 where
   pub short : length first ≤ 3
   pub of_three : AllByRecursion (λ group. length group ≡ 3) others
   pub digits_are : digits ≡ first ++ concat others
-  pub text_is : text ≡ first ++ flat_map (λ group. 44 ∷ group) others
+  pub text_is : text ≡ first ++ flat_map (λ group. comma ∷ group) others
 
 -- the text is a number in decimal digits, grouped so, after a minus if it is negative
 abbrev pub IsGroupedNumber : ℕ → Bool → List ℕ → Type 0

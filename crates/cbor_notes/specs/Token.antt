@@ -4,6 +4,7 @@ use Rattle.std.specs.Prelude.{◌≡◌, ◌≢◌, ◌⊎◌, ℕ, ◌+◌, ◌
 use Rattle.std.specs.Prelude.{IsTrue, List, [], ◌∷◌, ◌++◌, length, flat_map, codes, Option, Some, None}
 use Rattle.std.specs.List.{AllByRecursion}
 use Rattle.std.specs.Str.Parse.{IsNumeral, digits_value}
+use Rattle.cbor_notes.specs.Ascii.{space, tab, line_feed, carriage_return, slash, backslash, apostrophe}
 use Rattle.cbor_notes.specs.declared.token.number.Base.{Base}
 use Rattle.cbor_notes.specs.declared.token.number.Base.TheVariants.{Decimal, Hexadecimal, Octal, Binary}
 
@@ -16,7 +17,7 @@ pub record IsLongest (Is : List ℕ → Type 0) (front rest : List ℕ) : Type 0
 
 -- a space, a tab, a line feed or a carriage return
 abbrev pub is_whitespace : ℕ → Bool
-is_whitespace byte = (byte == 32) || (byte == 9) || (byte == 10) || (byte == 13)
+is_whitespace byte = (byte == space) || (byte == tab) || (byte == line_feed) || (byte == carriage_return)
 
 -- A blank: any run, also empty, of whitespace and, where comments are allowed, of comments. A comment is
 -- `/`, any bytes but `/`, and `/`.
@@ -24,8 +25,8 @@ pub data Blank (comments : Bool) : List ℕ → Type 0 where
   nothing : Blank comments []
   whitespace : {byte : ℕ} {rest : List ℕ} → IsTrue (is_whitespace byte) → Blank comments rest
       → Blank comments (byte ∷ rest)
-  comment : {text : List ℕ} (words rest : List ℕ) → IsTrue comments → AllByRecursion (λ byte. byte ≢ 47) words
-      → Blank comments rest → text ≡ 47 ∷ words ++ 47 ∷ rest → Blank comments text
+  comment : {text : List ℕ} (words rest : List ℕ) → IsTrue comments → AllByRecursion (λ byte. byte ≢ slash) words
+      → Blank comments rest → text ≡ slash ∷ words ++ slash ∷ rest → Blank comments text
 
 -- Numbers
 
@@ -74,12 +75,12 @@ capped value = min value (2 ^ 64 + 1)
 
 -- the quote or the backslash
 abbrev pub is_special : ℕ → ℕ → Bool
-is_special quote byte = (byte == quote) || (byte == 92)
+is_special quote byte = (byte == quote) || (byte == backslash)
 
 -- a byte of the content as it is written between such quotes: a special one after a backslash, any other as
 -- it is
 abbrev pub escaped_byte : ℕ → ℕ → List ℕ
-escaped_byte quote byte = if is_special quote byte then 92 ∷ byte ∷ [] else byte ∷ []
+escaped_byte quote byte = if is_special quote byte then backslash ∷ byte ∷ [] else byte ∷ []
 
 -- content as it is written between such quotes
 abbrev pub in_quotes : ℕ → List ℕ → List ℕ
@@ -88,7 +89,7 @@ in_quotes quote content = flat_map (escaped_byte quote) content
 -- A byte that may be a digit: neither whitespace nor `'`, and where comments are allowed not `/`, which
 -- always opens a comment there. What the digits of a notation are is not said here.
 abbrev pub is_digit : Bool → ℕ → Bool
-is_digit comments byte = not (is_whitespace byte || (byte == 39) || (comments && (byte == 47)))
+is_digit comments byte = not (is_whitespace byte || (byte == apostrophe) || (comments && (byte == slash)))
 
 -- digits with a blank, which may be empty, before each of them and after the last
 pub data Spaced (comments : Bool) : List ℕ → List ℕ → Type 0 where
