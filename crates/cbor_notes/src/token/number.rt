@@ -5,11 +5,11 @@ ghost use Rattle.std.specs.Prelude.{slice_range, IfNone, IfSome, Some};
 ghost use Rattle.cbor_notes.specs.Token.{capped, prefix, radix, IsLongest, IsNumber, IsSomeNumber};
 ghost use Rattle.cbor_notes.specs.TokenReading.{base_of, digit_run, indicator_of, small_run};
 
-/// What all values past 2^64 are answered as.
-const PAST: u128 = (1 << 64) + 1;
+/// The value that is returned for all values past 2^64.
+const CAP: u128 = (1 << 64) + 1;
 
-/// What is less than this fits 64 bits with one more digit of any base.
-const SHORT: u64 = 1 << 60;
+/// A number below this fits 64 bits with one more digit of any base.
+const FITS_ONE_MORE: u64 = 1 << 60;
 
 /// The bases that a number may be written in.
 #[derive(Clone, Copy)]
@@ -135,7 +135,7 @@ fn digits_of_radix(text: &[u8], start: usize, radix: u32) -> (u128, usize)
         let Some(digit) = char::from(text[end]).to_digit(radix) else {
             break;
         };
-        value = (value * u128::from(radix) + u128::from(digit)).min(PAST);
+        value = (value * u128::from(radix) + u128::from(digit)).min(CAP);
         end += 1;
     }
     (value, end)
@@ -153,7 +153,7 @@ fn short_digits_from(text: &[u8], start: usize, radix: u32) -> (u64, usize)
 {
     let mut value = 0;
     let mut end = start;
-    while end < text.len() && value < SHORT {
+    while end < text.len() && value < FITS_ONE_MORE {
         let Some(digit) = char::from(text[end]).to_digit(radix) else {
             break;
         };

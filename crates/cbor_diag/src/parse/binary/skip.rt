@@ -30,8 +30,8 @@ pub use answer::Extent;
 use outer::Outer;
 use to_come::{Count, ToCome};
 
-/// Texts of fewer bytes are tested faster by one byte after the other than by blocks.
-const SHORT: usize = 16;
+/// Texts of fewer bytes are tested faster byte by byte than in blocks.
+const SHORT_TEXT: usize = 16;
 
 /// Why no item is whole.
 #[derive(Clone, Copy)]
@@ -81,7 +81,7 @@ impl Kind {
     {
         match self {
             Kind::Bytes => true,
-            Kind::Text if content.len() < SHORT => std::str::from_utf8(content).is_ok(),
+            Kind::Text if content.len() < SHORT_TEXT => std::str::from_utf8(content).is_ok(),
             Kind::Text => simdutf8::is_utf8(content),
         }
     }
@@ -170,10 +170,10 @@ fn read_item_head(bytes: &[u8], levels: usize) -> Result<(ItemHead, &[u8]), Stop
     ensures level { IfOk result (λ x. 0 < levels) }
     ensures no_break { IfOk result (λ x. x.0 ≢ ItemHead.Break) }
 {
-    let [_, behind @ ..] = bytes else {
+    let [_, after_first @ ..] = bytes else {
         return Err(Stop::Cut);
     };
-    let after = behind.len();
+    let after = after_first.len();
     if levels == 0 {
         let error = Error::TooDeep;
         return Err(Stop::Fault { error, after });
