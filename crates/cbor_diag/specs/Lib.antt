@@ -18,6 +18,7 @@ pub mod Pieces
 pub mod Dump
 pub mod Embedded
 pub mod Estimate
+pub mod Encoding
 pub mod Layout
 pub mod ContainerStyle
 pub mod NotationText

@@ -11,8 +11,7 @@ use Rattle.cbor_diag.specs.declared.syntax.IntegerWidth.{IntegerWidth}
 use Rattle.cbor_diag.specs.declared.syntax.IntegerWidth.TheVariants as width
 use Rattle.cbor_diag.specs.declared.syntax.FloatWidth.{FloatWidth}
 use Rattle.cbor_diag.specs.declared.syntax.FloatWidth.TheVariants as float_width
-use Rattle.cbor_diag.specs.declared.encode.encoding.Encoding.{Encoding}
-use Rattle.cbor_diag.specs.declared.encode.encoding.Encoding.TheVariants.{Base16, Base64, Base64Url}
+use Rattle.cbor_diag.specs.Encoding.{Encoding, Base16, Base64, Base64Url}
 use Rattle.cbor_diag.specs.Layout as content
 use Rattle.cbor_diag.specs.Layout.{Content, Layout, Compact, Pretty, Context}
 use Rattle.cbor_diag.specs.ContainerStyle as style

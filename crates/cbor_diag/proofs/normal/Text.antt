@@ -8,7 +8,7 @@ use Rattle.cbor_diag.specs.declared.syntax.IntegerWidth.TheVariants.{Unknown, Ze
 use Rattle.cbor_diag.specs.declared.syntax.IntegerWidth.TheVariants.{SixtyFour}
 use Rattle.cbor_diag.specs.declared.syntax.FloatWidth.{FloatWidth}
 use Rattle.cbor_diag.specs.declared.syntax.FloatWidth.TheVariants as float_width
-use Rattle.cbor_diag.specs.declared.encode.encoding.Encoding.{Encoding}
+use Rattle.cbor_diag.specs.Encoding.{Encoding}
 use Rattle.cbor_diag.specs.Layout as content
 use Rattle.cbor_diag.specs.Layout.{Compact, Context}
 use Rattle.cbor_diag.specs.ContainerStyle as style

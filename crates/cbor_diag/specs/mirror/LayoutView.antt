@@ -10,6 +10,7 @@ use Rattle.cbor_diag.specs.declared.encode.notation.context.NotationContext.{Not
 use Rattle.cbor_diag.specs.Layout.{Content, Layout, Context}
 use Rattle.cbor_diag.specs.Layout as content
 use Rattle.cbor_diag.specs.ContainerStyle as style
+use Rattle.cbor_diag.specs.mirror.EncodingView.{encoding_view}
 use Rattle.cbor_diag.specs.Item as spec
 use Rattle.cbor_diag.specs.WellFormed.{levels_left}
 use Rattle.cbor_diag.specs.NotationText.{indent_of, line, members, members_layout, inside, colon, item_texts}
@@ -31,7 +32,11 @@ style_view (code_style.OneLine indent) = style.OneLine indent
 style_view (code_style.MultiLine indent) = style.MultiLine indent
 
 abbrev pub context_view : NotationContext → Context
-context_view c = record { layout = layout_view c.layout; encoding = c.encoding; content = content_view c.content }
+context_view c = record {
+  layout = layout_view c.layout;
+  encoding = encoding_view c.encoding;
+  content = content_view c.content;
+}
 
 -- each level is indented by four blanks at most
 abbrev pub IsIndented : NotationContext → Type 0

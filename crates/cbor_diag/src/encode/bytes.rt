@@ -7,7 +7,8 @@
 ghost use Rattle.std.specs.Prelude.{◌≡◌, ◌++◌, if◌then◌else◌, ℕ, List, ◌↔◌, length, map, OnOk};
 ghost use Rattle.std.specs.Prelude.{OnErr, IfOk, IfErr};
 ghost use Rattle.std.specs.List.{AllByRecursion};
-ghost use Rattle.cbor_diag.specs.Head.{FitsWidth, major_number};
+ghost use Rattle.cbor_diag.specs.Head.{FitsWidth};
+ghost use Rattle.cbor_diag.specs.mirror.MajorNumber.{major_number};
 ghost use Rattle.cbor_diag.specs.mirror.Appends.{Appends};
 ghost use Rattle.cbor_diag.specs.View.{view, items_view, pairs_view, byte_chunk, text_chunk};
 ghost use Rattle.cbor_diag.specs.WellFormed.{WellFormed, WellFormedItems, WellFormedPairs};

@@ -4,6 +4,7 @@
 
 ghost use Rattle.std.specs.Prelude.{◌∷◌, [], ◌++◌, ◌<◌, ◌≤◌, ◌^◌, map, codes};
 ghost use Rattle.cbor_diag.specs.mirror.Appends.{AppendsText};
+ghost use Rattle.cbor_diag.specs.mirror.EncodingView.{encoding_view};
 ghost use Rattle.cbor_diag.specs.View.{byte_chunk, text_chunk};
 ghost use Rattle.cbor_diag.specs.Item as spec;
 ghost use Rattle.cbor_diag.specs.WellFormed.{deepest};
@@ -135,7 +136,7 @@ pub(crate) fn push_byte_chunks(
     requires level { context.now.level ≤ deepest }
     requires indent { IsIndented context.now }
     ensures { AppendsText result out.old out.new
-        (byte_chunks_text context.now.encoding (chunks_style context.now
+        (byte_chunks_text (encoding_view context.now.encoding) (chunks_style context.now
         (spec.byte_chunks (map byte_chunk chunks.now))) (map byte_chunk chunks.now)) }
 {
     if chunks.is_empty() {

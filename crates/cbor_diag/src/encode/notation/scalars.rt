@@ -6,6 +6,7 @@ ghost use Rattle.std.specs.Prelude.{◌≡◌, ◌+◌, ◌++◌, codes};
 ghost use Rattle.std.specs.Fmt.{decimal};
 ghost use Rattle.std.specs.List.{flat_map, list_any};
 ghost use Rattle.cbor_diag.specs.mirror.Appends.{AppendsText};
+ghost use Rattle.cbor_diag.specs.mirror.EncodingView.{encoding_view};
 ghost use Rattle.cbor_notes.specs.Base64.{standard, url_safe};
 ghost use Rattle.cbor_diag.specs.WellFormed.{FitsFloat};
 ghost use Rattle.cbor_diag.specs.NotationText.{indicator, number, prefix, encoded_bytes, quoted};
@@ -79,7 +80,7 @@ pub(crate) fn push_negative(
 
 /// Writes the prefix of quoted bytes.
 fn push_prefix(out: &mut String, encoding: Encoding) -> Result<(), AllocError>
-    ensures { AppendsText result out.old out.new (prefix encoding) }
+    ensures { AppendsText result out.old out.new (prefix (encoding_view encoding)) }
 {
     match encoding {
         Encoding::Base16 => out.push('h'),
@@ -93,7 +94,7 @@ pub(crate) fn push_quoted(
     bytes: &[u8],
     encoding: Encoding,
 ) -> Result<(), AllocError>
-    ensures { AppendsText result out.old out.new (quoted encoding bytes.now) }
+    ensures { AppendsText result out.old out.new (quoted (encoding_view encoding) bytes.now) }
 {
     push_prefix(out, encoding)?;
     out.push('\'')?;
@@ -103,7 +104,7 @@ pub(crate) fn push_quoted(
 
 /// Writes bytes as they are between quotes.
 fn push_encoded(out: &mut String, bytes: &[u8], encoding: Encoding) -> Result<(), AllocError>
-    ensures { AppendsText result out.old out.new (encoded_bytes encoding bytes.now) }
+    ensures { AppendsText result out.old out.new (encoded_bytes (encoding_view encoding) bytes.now) }
 {
     match encoding {
         Encoding::Base16 => push_hex(out, bytes),

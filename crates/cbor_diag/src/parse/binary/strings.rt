@@ -3,7 +3,7 @@ ghost use Rattle.std.specs.Prelude.{◌≡◌, ◌+◌, ◌*◌, ◌^◌, ◌<�
 ghost use Rattle.cbor_diag.specs.View.{byte_chunk, text_chunk};
 ghost use Rattle.cbor_diag.specs.Item.{Chunk};
 ghost use Rattle.cbor_diag.specs.Bytes.{StringKind, bytes_kind, text_kind, major_of};
-ghost use Rattle.cbor_diag.specs.Head.{major_number};
+ghost use Rattle.cbor_diag.specs.mirror.MajorNumber.{major_number};
 ghost use Rattle.cbor_diag.specs.Reading.{Gives, split_at, read_content, read_chunk_length};
 ghost use Rattle.cbor_diag.specs.Reading.{read_chunk};
 ghost use Rattle.cbor_diag.specs.mirror.Counting.{Runs, counted_chunks};

@@ -8,6 +8,7 @@ use Rattle.cbor_diag.specs.Item.{text_chunks, float, simple}
 use Rattle.cbor_diag.specs.View.{view, items_view, pairs_view, byte_chunk, text_chunk}
 use Rattle.cbor_diag.specs.declared.encode.notation.context.NotationContext.{NotationContext}
 use Rattle.cbor_diag.specs.Layout.{Context}
+use Rattle.cbor_diag.specs.mirror.EncodingView.{encoding_view}
 use Rattle.cbor_diag.specs.mirror.LayoutView.{style_view, context_view, item_text, content_there, chunks_style}
 use Rattle.cbor_diag.specs.NotationText.{text, inside, members, members_layout, colon, item_texts, pair_texts}
 use Rattle.cbor_diag.specs.NotationText.{rest_text}
@@ -90,7 +91,7 @@ push_item-returns-in-IndefiniteByteString t c =
     shown c.push_byte_chunks.result context.level (context_view context) (view c.args.item.now)
     (atom (byte_chunks (map byte_chunk c.in-IndefiniteByteString.chunks.items))) old new c.requires.well_formed seen
     (subst (λ vs. Appends c.push_byte_chunks.result old new
-    (byte_chunks_text context.encoding (chunks_style context (byte_chunks (map byte_chunk vs))) (map byte_chunk vs)))
+    (byte_chunks_text (encoding_view context.encoding) (chunks_style context (byte_chunks (map byte_chunk vs))) (map byte_chunk vs)))
     c.deref-in-IndefiniteByteString.ensures.value c.push_byte_chunks.ensures)
 
 pub push_item-returns-in-IndefiniteTextString : goal.push_item-returns-in-IndefiniteTextString

@@ -3,6 +3,7 @@ use Rattle.std.proofs.lemmas.List.{drop_all, length-map}
 use Rattle.std.specs.String.{string_bytes}
 use Rattle.cbor_diag.specs.Item.{Chunk}
 use Rattle.cbor_diag.specs.View.{byte_chunk}
+use Rattle.cbor_diag.specs.mirror.EncodingView.{encoding_view}
 use Rattle.cbor_diag.specs.mirror.LayoutView.{style_view}
 use Rattle.cbor_diag.specs.NotationText.{quoted, chunks_text}
 use Rattle.cbor_diag.proofs.shared.Appending.{begins_after_member, appends_last}
@@ -17,7 +18,7 @@ chunks-preserved c =
     let here : drop i all ≡ c.chunk-item.result ∷ drop (i + 1) all =
     drop_here all i c.chunk-item.result c.chunks-test.true c.chunk-item.is in
     let written = c.in_ok-push_quoted.ensures
-    ∙ ap (λ b. string_bytes c.push_start.new.out ++ quoted c.args.context.now.encoding b) c.deref.ensures.value in
+    ∙ ap (λ b. string_bytes c.push_start.new.out ++ quoted (encoding_view c.args.context.now.encoding) b) c.deref.ensures.value in
     let begun = begins_after_member (string_bytes c.args.out.now) (string_bytes c.chunks.out)
     (string_bytes c.push_start.new.out)
     (string_bytes c.push_quoted.new.out) (string_bytes c.push_end.new.out) _ _ _ c.chunks.invariant.1
@@ -37,7 +38,7 @@ returns c =
     let out = string_bytes c.args.out.now in
     let l = style_view c.byte_chunks_style-style.result in
     let none : drop c.chunks.chunk-index all ≡ [] = drop_all c.chunks.chunk-index all c.chunks-test.false in
-    let f : Chunk → List ℕ = λ s. quoted c.args.context.now.encoding s.bytes in
+    let f : Chunk → List ℕ = λ s. quoted (encoding_view c.args.context.now.encoding) s.bytes in
     let whole = members_end l c.chunks.first (string_bytes c.chunks.out) _ _ (rw none at c.chunks.invariant.0) in
     let some : eqb (length cs) 0 ≡ false = rw length-map (sym c.is_empty.ensures ∙ c.if-is_empty.false) in
     appends_last c.push_closing.result out (string_bytes c.chunks.out) (string_bytes c.push_closing.new.out) _ _
