@@ -3,6 +3,7 @@ pub mod Item
 pub mod View
 pub mod Same
 pub mod Head
+pub mod StringKind
 pub mod WellFormed
 pub mod Written
 pub mod Bytes

@@ -10,4 +10,5 @@ pub mod HeadErrors
 pub mod EncodingView
 pub mod LayoutView
 pub mod MajorNumber
+pub mod StringView
 pub mod SameDecides
