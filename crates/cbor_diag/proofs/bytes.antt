@@ -2,6 +2,7 @@ pub mod Heads
 pub mod Chunks
 pub mod Shorter
 pub mod Found
+pub mod FoundAgain
 pub mod HeadRefusals
 pub mod StringRefusals
 pub mod MemberRefusals

@@ -1,5 +1,6 @@
 pub mod Form
 pub mod WellFormed
+pub mod Stated
 pub mod Text
 pub mod TextsAlike
 pub mod ReadTokens

@@ -1,5 +1,5 @@
 -- Which bytes are an item (RFC 7049 section 2).
-use Rattle.std.specs.Prelude.{◌≡◌, ℕ, ◌+◌, ◌<◌, ◌≤◌, List, [], ◌∷◌, ◌++◌, length, Option, Some, None, IsUtf8, ◌⊎◌}
+use Rattle.std.specs.Prelude.{◌≡◌, ℕ, ◌+◌, ◌<◌, ◌≤◌, List, [], ◌∷◌, ◌++◌, length, Option, Some, None, ◌⊎◌}
 use Rattle.std.specs.Int.{w16, w32, w64, to_be_bytes}
 use Rattle.cbor_diag.specs.declared.syntax.IntegerWidth.{IntegerWidth}
 use Rattle.cbor_diag.specs.declared.syntax.FloatWidth.{FloatWidth}
@@ -9,20 +9,8 @@ use Rattle.cbor_diag.specs.Item.{Chunk, Atom, integer, negative, byte_string, te
 use Rattle.cbor_diag.specs.Item.{float, simple, Item, atom, array, tagged, Items, no_items, item, Pairs, no_pairs}
 use Rattle.cbor_diag.specs.Item.{pair, item_count, pair_count}
 use Rattle.cbor_diag.specs.Head.{opening, break_byte, HeadThen}
+use Rattle.cbor_diag.specs.StringKind.{StringKind, bytes_kind, text_kind, major_of, IsContent}
 use Rattle.cbor_diag.specs.WellFormed.{deepest, FitsFloat}
-
--- Byte strings are of major type 2 and hold any bytes, text strings are of major type 3 and hold UTF-8.
-pub data StringKind : Type 0 where
-  bytes_kind : StringKind
-  text_kind : StringKind
-
-abbrev pub major_of : StringKind → ℕ
-major_of bytes_kind = 2
-major_of text_kind = 3
-
-abbrev pub IsContent : StringKind → List ℕ → Type 0
-IsContent bytes_kind content = Unit {0}
-IsContent text_kind content = IsUtf8 content
 
 -- An item whose widths are stated has one spelling, but for simple values below 24 (RFC 7049 section
 -- 2.3): `any` allows their byte and also `f8` and the value, `strict` the byte alone.

@@ -1,6 +1,6 @@
 -- Diagnostic notation on one line, without blanks (RFC 7049 section 6).
 use Rattle.std.specs.Prelude.{ℕ, List}
-use Rattle.cbor_diag.specs.declared.encode.encoding.Encoding.{Encoding}
+use Rattle.cbor_diag.specs.Encoding.{Encoding}
 use Rattle.cbor_diag.specs.Layout.{Compact}
 use Rattle.cbor_diag.specs.Item.{Item}
 use Rattle.cbor_diag.specs.NotationText.{in_encoding, text_at_level}

@@ -1,8 +1,9 @@
 -- How long a text would be on one line, roughly: what pretty text goes by.
-use Rattle.std.specs.Prelude.{ℕ, ◌+◌, ◌*◌, length, sum_by}
+use Rattle.std.specs.Prelude.{ℕ, ◌+◌, ◌*◌, List, length, sum_by}
 use Rattle.std.specs.Fmt.{decimal}
 use Rattle.cbor_diag.specs.declared.syntax.FloatWidth.{FloatWidth}
 use Rattle.cbor_diag.specs.declared.syntax.FloatWidth.TheVariants as float_width
+use Rattle.cbor_diag.specs.StringKind.{StringKind, bytes_kind, text_kind}
 use Rattle.cbor_diag.specs.Item as spec
 use Rattle.cbor_diag.specs.Item.{Chunk, Atom, integer, negative, byte_string, text_string, byte_chunks, text_chunks}
 use Rattle.cbor_diag.specs.Item.{float, simple, Item, atom, array, tagged, Items, no_items, item, Pairs, no_pairs, pair}
@@ -11,11 +12,13 @@ use Rattle.cbor_diag.specs.Item.{float, simple, Item, atom, array, tagged, Items
 abbrev pub digit_count : ℕ → ℕ
 digit_count n = length (decimal n)
 
-abbrev pub estimated_bytes : Chunk → ℕ
-estimated_bytes c = 2 * length c.bytes + 4
+-- bytes as digits of base 16
+abbrev pub estimated_string : StringKind → Chunk → ℕ
+estimated_string bytes_kind c = 2 * length c.bytes + 4
+estimated_string text_kind c = length c.bytes + 2
 
-abbrev pub estimated_text : Chunk → ℕ
-estimated_text c = length c.bytes + 2
+abbrev pub estimated_chunks : StringKind → List Chunk → ℕ
+estimated_chunks kind cs = sum_by (λ c. estimated_string kind c + 2) cs
 
 abbrev pub estimated_float : FloatWidth → ℕ
 estimated_float float_width.Sixteen = 11
@@ -26,10 +29,10 @@ estimated_float _ = 23
 abbrev pub estimated_atom : Atom → ℕ
 estimated_atom (integer n w) = digit_count n + 2
 estimated_atom (negative n w) = digit_count n + 3
-estimated_atom (byte_string c) = estimated_bytes c
-estimated_atom (text_string c) = estimated_text c
-estimated_atom (byte_chunks cs) = 4 + sum_by (λ c. estimated_bytes c + 2) cs
-estimated_atom (text_chunks cs) = 4 + sum_by (λ c. estimated_text c + 2) cs
+estimated_atom (byte_string c) = estimated_string bytes_kind c
+estimated_atom (text_string c) = estimated_string text_kind c
+estimated_atom (byte_chunks cs) = 4 + estimated_chunks bytes_kind cs
+estimated_atom (text_chunks cs) = 4 + estimated_chunks text_kind cs
 estimated_atom (float bits w) = estimated_float w
 estimated_atom (simple n) = digit_count n + 8
 

@@ -5,7 +5,7 @@ use Rattle.cbor_diag.specs.Item.{Item}
 use Rattle.cbor_diag.specs.WellFormed.{WellFormed}
 use Rattle.cbor_diag.specs.Bytes.{any, strict, Spells}
 use Rattle.cbor_diag.specs.Refused.{Cut, Fault}
-use Rattle.cbor_diag.specs.declared.encode.encoding.Encoding.TheVariants.{Base16}
+use Rattle.cbor_diag.specs.Encoding.{Base16}
 use Rattle.cbor_diag.specs.Compact.{compact}
 use Rattle.cbor_diag.specs.Pretty.{pretty}
 use Rattle.cbor_diag.specs.Normal.{normal}

@@ -4,19 +4,6 @@ use Rattle.std.specs.Int.{w8, w16, w32, w64, to_be_bytes}
 use Rattle.cbor_diag.specs.declared.syntax.IntegerWidth.{IntegerWidth}
 use Rattle.cbor_diag.specs.declared.syntax.IntegerWidth.TheVariants.{Unknown, Zero, Eight, Sixteen, ThirtyTwo}
 use Rattle.cbor_diag.specs.declared.syntax.IntegerWidth.TheVariants.{SixtyFour}
-use Rattle.cbor_diag.specs.declared.syntax.major.Major.{Major}
-use Rattle.cbor_diag.specs.declared.syntax.major.Major.TheVariants as major
-
--- the number of a major type (RFC 7049 section 2.1)
-abbrev pub major_number : Major → ℕ
-major_number major.Unsigned = 0
-major_number major.Negative = 1
-major_number major.Bytes = 2
-major_number major.Text = 3
-major_number major.Array = 4
-major_number major.Map = 5
-major_number major.Tag = 6
-major_number major.Special = 7
 
 -- the number can be written in this width; an unstated width is the shortest that fits
 abbrev pub FitsWidth : IntegerWidth → ℕ → Type 0

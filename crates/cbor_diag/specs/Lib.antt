@@ -3,6 +3,7 @@ pub mod Item
 pub mod View
 pub mod Same
 pub mod Head
+pub mod StringKind
 pub mod WellFormed
 pub mod Written
 pub mod Bytes
@@ -18,6 +19,7 @@ pub mod Pieces
 pub mod Dump
 pub mod Embedded
 pub mod Estimate
+pub mod Encoding
 pub mod Layout
 pub mod ContainerStyle
 pub mod NotationText

@@ -17,7 +17,7 @@ use Rattle.cbor_diag.specs.Item.{Chunk, Atom, integer, negative, byte_string, te
 use Rattle.cbor_diag.specs.Item.{float, simple, Item, atom, array, tagged, Items, no_items, item, Pairs, no_pairs, pair}
 use Rattle.cbor_diag.specs.Head.{FitsWidth}
 use Rattle.cbor_diag.specs.WellFormed.{deepest}
-use Rattle.cbor_diag.specs.Bytes.{StringKind, bytes_kind, text_kind, IsContent}
+use Rattle.cbor_diag.specs.StringKind.{StringKind, bytes_kind, text_kind, IsContent}
 use Rattle.cbor_diag.specs.Written.{encoded_items}
 
 -- whitespace and comments, perhaps none

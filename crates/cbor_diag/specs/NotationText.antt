@@ -11,12 +11,12 @@ use Rattle.cbor_diag.specs.declared.syntax.IntegerWidth.{IntegerWidth}
 use Rattle.cbor_diag.specs.declared.syntax.IntegerWidth.TheVariants as width
 use Rattle.cbor_diag.specs.declared.syntax.FloatWidth.{FloatWidth}
 use Rattle.cbor_diag.specs.declared.syntax.FloatWidth.TheVariants as float_width
-use Rattle.cbor_diag.specs.declared.encode.encoding.Encoding.{Encoding}
-use Rattle.cbor_diag.specs.declared.encode.encoding.Encoding.TheVariants.{Base16, Base64, Base64Url}
+use Rattle.cbor_diag.specs.Encoding.{Encoding, Base16, Base64, Base64Url}
 use Rattle.cbor_diag.specs.Layout as content
 use Rattle.cbor_diag.specs.Layout.{Content, Layout, Compact, Pretty, Context}
 use Rattle.cbor_diag.specs.ContainerStyle as style
 use Rattle.cbor_diag.specs.ContainerStyle.{ContainerStyle, OneLine, MultiLine}
+use Rattle.cbor_diag.specs.StringKind.{StringKind, bytes_kind, text_kind}
 use Rattle.cbor_diag.specs.Item as spec
 use Rattle.cbor_diag.specs.Item.{Chunk, Atom, integer, negative, byte_string, text_string, byte_chunks, text_chunks}
 use Rattle.cbor_diag.specs.Item.{float, simple, Item, atom, array, tagged, Items, no_items, item, Pairs, no_pairs, pair}
@@ -229,24 +229,31 @@ content_text left write content.Bytes c b = quoted c.encoding b
 content_text left write content.Item c b = embedded_text write c b (embedded_at left b)
 content_text left write content.Sequence c b = sequence_text write c (sequence_at left b)
 
--- The chunks of an indefinite string; where there are none, `empty` keeps their kind (RFC 8949 section 8.1).
-abbrev pub chunks_text : ContainerStyle → List ℕ → List (List ℕ) → List ℕ
-chunks_text l empty [] = empty
-chunks_text l empty ms = bracketed l (opened l (codes "(") None) ms (codes ")")
+-- A string of definite length, the bytes of a byte string in the encoding that is in force.
+abbrev pub string_text : StringKind → Encoding → List ℕ → List ℕ
+string_text bytes_kind e b = quoted e b
+string_text text_kind e b = text b
 
-abbrev pub byte_chunks_text : Encoding → ContainerStyle → List Chunk → List ℕ
-byte_chunks_text e l cs = chunks_text l (codes "''_") (map (λ s. quoted e s.bytes) cs)
+-- An indefinite string of no chunks keeps its kind (RFC 8949 section 8.1).
+abbrev pub no_chunks : StringKind → List ℕ
+no_chunks bytes_kind = codes "''_"
+no_chunks text_kind = codes "\"\"_"
 
-abbrev pub text_chunks_text : ContainerStyle → List Chunk → List ℕ
-text_chunks_text l cs = chunks_text l (codes "\"\"_") (map (λ s. text s.bytes) cs)
+-- an indefinite string by the texts of its chunks
+abbrev pub chunks_listed : ContainerStyle → List ℕ → List (List ℕ) → List ℕ
+chunks_listed l empty [] = empty
+chunks_listed l empty ms = bracketed l (opened l (codes "(") None) ms (codes ")")
+
+abbrev pub chunks_text : StringKind → Encoding → ContainerStyle → List Chunk → List ℕ
+chunks_text kind e l cs = chunks_listed l (no_chunks kind) (map (λ c. string_text kind e c.bytes) cs)
 
 abbrev pub atom_text : ℕ → Writer → Context → Atom → List ℕ
 atom_text left write c (integer n w) = number n w
 atom_text left write c (negative n w) = codes "-" ++ number (n + 1) w
 atom_text left write c (byte_string s) = content_text left write c.content c s.bytes
 atom_text left write c (text_string s) = text s.bytes
-atom_text left write c (byte_chunks cs) = byte_chunks_text c.encoding (item_style c (atom (byte_chunks cs))) cs
-atom_text left write c (text_chunks cs) = text_chunks_text (item_style c (atom (text_chunks cs))) cs
+atom_text left write c (byte_chunks cs) = chunks_text bytes_kind c.encoding (item_style c (atom (byte_chunks cs))) cs
+atom_text left write c (text_chunks cs) = chunks_text text_kind c.encoding (item_style c (atom (text_chunks cs))) cs
 atom_text left write c (float n w) = float_text n w
 atom_text left write c (simple n) = simple_text n
 

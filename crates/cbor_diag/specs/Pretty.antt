@@ -2,14 +2,15 @@
 -- another each member has a line.
 use Rattle.std.specs.Prelude.{ℕ, ◌+◌, ◌++◌, List, codes}
 use Rattle.cbor_diag.specs.declared.syntax.IntegerWidth.{IntegerWidth}
-use Rattle.cbor_diag.specs.declared.encode.encoding.Encoding.{Encoding}
+use Rattle.cbor_diag.specs.Encoding.{Encoding}
 use Rattle.cbor_diag.specs.Layout.{Pretty}
 use Rattle.cbor_diag.specs.ContainerStyle.{ContainerStyle, OneLine, MultiLine}
+use Rattle.cbor_diag.specs.StringKind.{bytes_kind, text_kind}
 use Rattle.cbor_diag.specs.Item as spec
 use Rattle.cbor_diag.specs.Item.{Chunk, Item, atom, array, tagged, byte_string, byte_chunks, text_chunks}
 use Rattle.cbor_diag.specs.Embedded.{sequence}
 use Rattle.cbor_diag.specs.NotationText.{number, in_encoding, below, array_text, map_text, sequence_listed}
-use Rattle.cbor_diag.specs.NotationText.{byte_chunks_text, text_chunks_text, text_at_level}
+use Rattle.cbor_diag.specs.NotationText.{chunks_text, text_at_level}
 
 -- an item at this level, its byte strings in this encoding, its lines with this many blanks
 abbrev pub pretty : Encoding → ℕ → ℕ → Item → List ℕ
@@ -21,8 +22,8 @@ laid_out l e level indent (array is w) =
     array_text (text_at_level (level + 1)) (in_encoding (Pretty indent) e) l is w
 laid_out l e level indent (spec.map ps w) =
     map_text (text_at_level (level + 1)) (in_encoding (Pretty indent) e) l ps w
-laid_out l e level indent (atom (byte_chunks cs)) = byte_chunks_text e l cs
-laid_out l e level indent (atom (text_chunks cs)) = text_chunks_text l cs
+laid_out l e level indent (atom (byte_chunks cs)) = chunks_text bytes_kind e l cs
+laid_out l e level indent (atom (text_chunks cs)) = chunks_text text_kind e l cs
 laid_out l e level indent i = pretty e level indent i
 
 -- on one line, and with a line for each member

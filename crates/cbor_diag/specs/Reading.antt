@@ -18,7 +18,7 @@ use Rattle.cbor_diag.specs.Item as spec
 use Rattle.cbor_diag.specs.Item.{Chunk, integer, negative, byte_string, text_string, byte_chunks, text_chunks, float}
 use Rattle.cbor_diag.specs.Item.{simple, Item, atom, array, tagged, Items, no_items, item, Pairs, no_pairs, pair}
 use Rattle.cbor_diag.specs.Head.{FitsStated, break_byte}
-use Rattle.cbor_diag.specs.Bytes.{StringKind, bytes_kind, text_kind, major_of}
+use Rattle.cbor_diag.specs.StringKind.{StringKind, bytes_kind, text_kind, major_of}
 
 -- a value and the bytes after it
 abbrev pub Read : Type 0 → Type 0
@@ -103,11 +103,14 @@ read_head (first ∷ b) = read_info (first % 32) b >>= λ i. head_of (first / 32
 abbrev pub split_at : ℕ → List ℕ → Read (List ℕ)
 split_at n b = if nat_lt (length b) n then Err refusal.CutShort else Ok (take n b, drop n b)
 
+-- the string of that content, where its kind may hold it
+abbrev pub checked_chunk : StringKind → IntegerWidth → List ℕ → Result Chunk Error
+checked_chunk bytes_kind w content = Ok (record { bytes = content; width = w })
+checked_chunk text_kind w content = if is_utf8 content then Ok (record { bytes = content; width = w }) else Err refusal.Utf8
+
 -- a string of that length and its content
 unfoldable pub read_content : StringKind → ℕ → IntegerWidth → List ℕ → Read Chunk
-read_content bytes_kind n w b = split_at n b >>= λ s. Ok (record { bytes = s.0; width = w }, s.1)
-read_content text_kind n w b = split_at n b >>= λ s.
-    if is_utf8 s.0 then Ok (record { bytes = s.0; width = w }, s.1) else Err refusal.Utf8
+read_content kind n w b = split_at n b >>= λ s. checked_chunk kind w s.0 >>= λ c. Ok (c, s.1)
 
 -- the length in a chunk's head
 abbrev pub length_of : Info → List ℕ → Read (Option (ℕ × IntegerWidth))

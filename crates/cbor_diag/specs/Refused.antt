@@ -8,7 +8,8 @@ use Rattle.cbor_diag.specs.declared.error.Error.TheVariants.{Head, Utf8, TooDeep
 use Rattle.cbor_diag.specs.Item.{Chunk, Item}
 use Rattle.cbor_diag.specs.Head.{opening, break_byte, HeadThen}
 use Rattle.cbor_diag.specs.WellFormed.{deepest}
-use Rattle.cbor_diag.specs.Bytes.{StringKind, text_kind, major_of, any, Spells, SpellsChunks}
+use Rattle.cbor_diag.specs.Bytes.{any, Spells, SpellsChunks}
+use Rattle.cbor_diag.specs.StringKind.{StringKind, text_kind, major_of}
 
 -- A head asks for more bytes than follow it: info 24, 25, 26 and 27 ask for 1, 2, 4 and 8.
 pub data CutHead : List ℕ → Type 0 where

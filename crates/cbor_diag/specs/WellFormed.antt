@@ -1,5 +1,5 @@
 -- Which items have an encoding (RFC 7049 section 2).
-use Rattle.std.specs.Prelude.{ℕ, ◌+◌, ◌-◌, ◌^◌, ◌<◌, ◌≤◌, length, Option, Some, None, IsUtf8}
+use Rattle.std.specs.Prelude.{ℕ, ◌+◌, ◌-◌, ◌^◌, ◌<◌, ◌≤◌, length, Option, Some, None}
 use Rattle.std.specs.List.{AllByRecursion}
 use Rattle.cbor_diag.specs.declared.syntax.IntegerWidth.{IntegerWidth}
 use Rattle.cbor_diag.specs.declared.syntax.FloatWidth.{FloatWidth}
@@ -9,6 +9,7 @@ use Rattle.cbor_diag.specs.Item.{Chunk, Atom, integer, negative, byte_string, te
 use Rattle.cbor_diag.specs.Item.{float, simple, Item, atom, array, tagged, Items, no_items, item, Pairs, no_pairs}
 use Rattle.cbor_diag.specs.Item.{pair, item_count, pair_count}
 use Rattle.cbor_diag.specs.Head.{FitsWidth}
+use Rattle.cbor_diag.specs.StringKind.{StringKind, bytes_kind, text_kind, IsContent}
 
 -- the deepest level of an item; the outermost is at level 1
 abbrev pub deepest : ℕ
@@ -18,16 +19,17 @@ deepest = 128
 abbrev pub levels_left : ℕ → ℕ
 levels_left level = deepest + 1 - level
 
--- the length fits its width, and the bytes are bytes
-pub record IsByteChunk (c : Chunk) : Type 0 where
+-- the length fits its width, and the content is what a string of this kind may hold
+pub record IsChunk (kind : StringKind) (c : Chunk) : Type 0 where
   pub fits : FitsWidth c.width (length c.bytes)
   pub bytes : AllByRecursion (λ b. b < 256) c.bytes
+  pub content : IsContent kind c.bytes
 
--- the same, and the bytes are UTF-8
-pub record IsTextChunk (c : Chunk) : Type 0 where
-  pub fits : FitsWidth c.width (length c.bytes)
-  pub bytes : AllByRecursion (λ b. b < 256) c.bytes
-  pub utf8 : IsUtf8 c.bytes
+abbrev pub IsByteChunk : Chunk → Type 0
+IsByteChunk = IsChunk bytes_kind
+
+abbrev pub IsTextChunk : Chunk → Type 0
+IsTextChunk = IsChunk text_kind
 
 -- the bits of a float can be written in this width; an unstated one is 64 bits
 abbrev pub FitsFloat : FloatWidth → ℕ → Type 0
@@ -40,10 +42,10 @@ FitsFloat float_width.SixtyFour bits = bits < 2 ^ 64
 abbrev pub WellFormedAtom : Atom → Type 0
 WellFormedAtom (integer n w) = FitsWidth w n
 WellFormedAtom (negative n w) = FitsWidth w n
-WellFormedAtom (byte_string c) = IsByteChunk c
-WellFormedAtom (text_string c) = IsTextChunk c
-WellFormedAtom (byte_chunks cs) = AllByRecursion IsByteChunk cs
-WellFormedAtom (text_chunks cs) = AllByRecursion IsTextChunk cs
+WellFormedAtom (byte_string c) = IsChunk bytes_kind c
+WellFormedAtom (text_string c) = IsChunk text_kind c
+WellFormedAtom (byte_chunks cs) = AllByRecursion (IsChunk bytes_kind) cs
+WellFormedAtom (text_chunks cs) = AllByRecursion (IsChunk text_kind) cs
 WellFormedAtom (float bits w) = FitsFloat w bits
 WellFormedAtom (simple n) = n < 256
 

@@ -7,5 +7,8 @@ pub mod Appends
 pub mod Passes
 pub mod ShownLines
 pub mod HeadErrors
+pub mod EncodingView
 pub mod LayoutView
+pub mod MajorNumber
+pub mod StringView
 pub mod SameDecides

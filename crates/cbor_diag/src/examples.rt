@@ -12,7 +12,7 @@ ghost use Rattle.cbor_diag.specs.WellFormed.{WellFormed};
 ghost use Rattle.cbor_diag.specs.Written.{encoded, encoded_open, resolve};
 ghost use Rattle.cbor_diag.specs.Bytes.{any, strict, Spells};
 ghost use Rattle.cbor_diag.specs.Refused.{Cut, Fault};
-ghost use Rattle.cbor_diag.specs.declared.encode.encoding.Encoding.TheVariants.{Base16};
+ghost use Rattle.cbor_diag.specs.Encoding.{Base16};
 ghost use Rattle.cbor_diag.specs.Embedded.{embedded, sequence};
 ghost use Rattle.cbor_diag.specs.Compact.{compact};
 ghost use Rattle.cbor_diag.specs.Dump.{dump, lines};

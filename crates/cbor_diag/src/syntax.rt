@@ -2,6 +2,7 @@
 mod clone;
 mod equal;
 pub(crate) mod major;
+pub(crate) mod strings;
 mod tags;
 mod well_formed;
 mod width;

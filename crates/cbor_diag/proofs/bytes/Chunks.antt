@@ -1,5 +1,5 @@
 -- Strings: a content, a chunk or chunks that were read are what the bytes begin with, and the other way round.
-use Rattle.std.proofs.Common.{◌≡◌, ℕ, zero, suc, ◌+◌, ◌*◌, ◌/◌, ◌%◌, ◌<◌, ◌≤◌, ◌≢◌, false, cond, ltb, List, [], ◌∷◌}
+use Rattle.std.proofs.Common.{◌≡◌, ℕ, zero, suc, ◌+◌, ◌*◌, ◌/◌, ◌%◌, ◌<◌, ◌≤◌, ◌≢◌, false, ltb, List, [], ◌∷◌}
 use Rattle.std.proofs.Common.{◌++◌, length, take, drop, Option, Some, None, Ok, Err, ◌⊎◌, inl, inr, refl, sym, ap}
 use Rattle.std.proofs.Common.{subst, ◌∙◌, append_assoc, arith}
 use Rattle.std.specs.Str.{is_utf8}
@@ -12,8 +12,9 @@ use Rattle.cbor_diag.specs.declared.parse.binary.head.Info.{Info}
 use Rattle.cbor_diag.specs.declared.parse.binary.head.Info.TheVariants as info
 use Rattle.cbor_diag.specs.Item.{Chunk}
 use Rattle.cbor_diag.specs.Head.{break_byte}
-use Rattle.cbor_diag.specs.Bytes.{StringKind, bytes_kind, text_kind, major_of, IsContent, ChunkThen, SpellsChunks}
-use Rattle.cbor_diag.specs.Reading.{Read, ◌>>=◌, read_info, split_at, read_content, chunk_of, read_chunk, more_chunks}
+use Rattle.cbor_diag.specs.Bytes.{ChunkThen, SpellsChunks}
+use Rattle.cbor_diag.specs.StringKind.{StringKind, bytes_kind, text_kind, major_of, IsContent}
+use Rattle.cbor_diag.specs.Reading.{checked_chunk, Read, ◌>>=◌, read_info, split_at, read_content, chunk_of, read_chunk, more_chunks}
 use Rattle.cbor_diag.specs.Reading.{read_chunks}
 use Rattle.cbor_diag.proofs.bytes.Heads.{IsBytes, IsBytes-drop, IsBytes-rest, bind_ok, guard_ok, guard_held, ok_is}
 use Rattle.cbor_diag.proofs.bytes.Heads.{head_append, head_front, head_shorter, InfoIs, info_takes, head_then, opened}
@@ -33,26 +34,27 @@ split_again s rest =
     let long : ltb (length (s ++ rest)) (length s) ≡ false = le-ltb _ _ (omega (arith, length-append s rest)) in
     rw (long, take_at s rest (length s) refl, drop_at s rest (length s) refl) refl
 
-abbrev ContentIs : StringKind → ℕ → IntegerWidth → List ℕ → Chunk → List ℕ → Type 0
+abbrev pub ContentIs : StringKind → ℕ → IntegerWidth → List ℕ → Chunk → List ℕ → Type 0
 ContentIs kind n w b c rest = (c.width ≡ w) × (length c.bytes ≡ n) × IsContent kind c.bytes × (b ≡ c.bytes ++ rest)
     × IsBytes rest
 
+chunk_held : (kind : StringKind) (w : IntegerWidth) (s : List ℕ) (c : Chunk) → checked_chunk kind w s ≡ Ok c
+    → (record { bytes = s; width = w } ≡ c) × IsContent kind s
+chunk_held bytes_kind w s c e = (ok_is (record { bytes = s; width = w }) c e, tt)
+chunk_held text_kind w s c e =
+    let g = guard_held (is_utf8 s) refusal.Utf8 (record { bytes = s; width = w }) c e in
+    (g.1, IsUtf8-from_is_utf8 s g.0)
+
 pub content_takes : (kind : StringKind) (n : ℕ) (w : IntegerWidth) (b rest : List ℕ) (c : Chunk) → IsBytes b
-    → read_content kind n w b ≡ Ok (c, rest) → (c.width ≡ w) × (length c.bytes ≡ n) × IsContent kind c.bytes
-    × (b ≡ c.bytes ++ rest) × IsBytes rest
+    → read_content kind n w b ≡ Ok (c, rest) → ContentIs kind n w b c rest
 unfolding read_content
-content_takes bytes_kind n w b rest c fits e =
-    let a = bind_ok (split_at n b) (λ s. Ok (record { bytes = s.0; width = w }, s.1)) (c, rest) e in
+content_takes kind n w b rest c fits e =
+    let a = bind_ok (split_at n b) (λ s. checked_chunk kind w s.0 >>= λ c. Ok (c, s.1)) (c, rest) e in
     let t = split_takes n b a.0.0 a.0.1 fits a.1 in
-    subst (λ (x : Chunk × List ℕ). ContentIs bytes_kind n w b x.0 x.1)
-    (ok_is (record { bytes = a.0.0; width = w }, a.0.1) (c, rest) a.2) (refl, t.0, tt, t.1, t.2)
-content_takes text_kind n w b rest c fits e =
-    let a = bind_ok (split_at n b) (λ s. cond (is_utf8 s.0) (Ok (record { bytes = s.0; width = w }, s.1))
-    (Err refusal.Utf8)) (c, rest) e in
-    let t = split_takes n b a.0.0 a.0.1 fits a.1 in
-    let g = guard_held (is_utf8 a.0.0) refusal.Utf8 (record { bytes = a.0.0; width = w }, a.0.1) (c, rest) a.2 in
-    subst (λ (x : Chunk × List ℕ). ContentIs text_kind n w b x.0 x.1) g.1
-    (refl, t.0, IsUtf8-from_is_utf8 a.0.0 g.0, t.1, t.2)
+    let m = bind_ok (checked_chunk kind w a.0.0) (λ c. Ok (c, a.0.1)) (c, rest) a.2 in
+    let held = chunk_held kind w a.0.0 m.0 m.1 in
+    subst (λ (x : Chunk × List ℕ). ContentIs kind n w b x.0 x.1) (ok_is (m.0, a.0.1) (c, rest) m.2)
+    (subst (λ (x : Chunk). ContentIs kind n w b x a.0.1) held.0 (refl, t.0, held.1, t.1, t.2))
 
 pub content_again : (kind : StringKind) (c : Chunk) (rest : List ℕ) → IsContent kind c.bytes
     → read_content kind (length c.bytes) c.width (c.bytes ++ rest) ≡ Ok (c, rest)

@@ -12,7 +12,8 @@ use Rattle.cbor_diag.specs.Answer.{Outcome, spelled, cut, fault, IsOutcome, OneO
 use Rattle.cbor_diag.specs.Reading.{Read, read_item}
 use Rattle.cbor_diag.proofs.bytes.Heads.{IsBytes, ok_is}
 use Rattle.cbor_diag.proofs.bytes.HeadRefusals.{err_is}
-use Rattle.cbor_diag.proofs.bytes.Found.{item_takes, spelled_level, item_again}
+use Rattle.cbor_diag.proofs.bytes.Found.{item_takes}
+use Rattle.cbor_diag.proofs.bytes.FoundAgain.{spelled_level, item_again}
 use Rattle.cbor_diag.proofs.bytes.Refusals.{Refusal, is_cut, is_fault, refused}
 use Rattle.cbor_diag.proofs.bytes.CutShort.{fault_no_cut, cut_again}
 use Rattle.cbor_diag.proofs.bytes.Faults.{left_at, fault_refuses, fault_append}

@@ -11,7 +11,8 @@ use Rattle.cbor_diag.specs.Reading.{Read, ◌>>=◌, read_items, read_pair, read
 use Rattle.cbor_diag.specs.Reading.{read_open_items, read_open_pairs}
 use Rattle.cbor_diag.proofs.bytes.Heads.{IsBytes, bind_ok, bind_err, ok_is}
 use Rattle.cbor_diag.proofs.bytes.HeadRefusals.{err_is}
-use Rattle.cbor_diag.proofs.bytes.Found.{Finds, FindsAgain, break_ways, spelled_begins, no_break_at, begins_longer}
+use Rattle.cbor_diag.proofs.bytes.Found.{Finds, break_ways}
+use Rattle.cbor_diag.proofs.bytes.FoundAgain.{FindsAgain, spelled_begins, no_break_at, begins_longer}
 
 -- what is known of the reader of a container's members
 pub record Reads (level : ℕ) (read : List ℕ → Read Item) : Type 0 where

@@ -14,7 +14,7 @@ use Rattle.cbor_diag.specs.Refused.{Cut, Fault}
 use Rattle.cbor_diag.specs.Answer.{Outcome, spelled, cut, fault, IsOutcome, OneOutcome, HasOutcome, HasAnswer, Gave}
 use Rattle.cbor_diag.specs.Answer.{GaveItem, GaveRefusal, IsRefused, RefusedSo, size}
 use Rattle.cbor_diag.proofs.bytes.Heads.{IsBytes, IsBytes-take}
-use Rattle.cbor_diag.proofs.bytes.Found.{spelled_begins}
+use Rattle.cbor_diag.proofs.bytes.FoundAgain.{spelled_begins}
 use Rattle.cbor_diag.proofs.bytes.Faults.{fault_append}
 use Rattle.cbor_diag.proofs.bytes.Strict.{strict_only}
 use Rattle.cbor_diag.proofs.bytes.Resolved.{spells_well, encoded_strict}

@@ -10,7 +10,7 @@ use Rattle.cbor_diag.specs.Item as spec
 use Rattle.cbor_diag.specs.Item.{Item, atom, byte_string, text_string, byte_chunks, text_chunks, array, tagged}
 use Rattle.cbor_diag.specs.Head.{opening, break_byte, HeadThen}
 use Rattle.cbor_diag.specs.WellFormed.{deepest}
-use Rattle.cbor_diag.specs.Bytes.{StringKind, bytes_kind, text_kind, major_of}
+use Rattle.cbor_diag.specs.StringKind.{StringKind, bytes_kind, text_kind, major_of}
 use Rattle.cbor_diag.specs.Refused as spelled
 use Rattle.cbor_diag.specs.Refused.{Next, part, part_or_break, Inside, in_tag, in_array, in_map, in_open_array}
 use Rattle.cbor_diag.specs.Refused.{at_open_key, at_open_value, InsideString, Cut, nothing, in_head, in_content}
@@ -24,7 +24,8 @@ use Rattle.cbor_diag.proofs.bytes.HeadRefusals.{HeadRefusal, no_head, short_head
 use Rattle.cbor_diag.proofs.bytes.StringRefusals.{ContentRefusal, short_content, bad_content, content_refused}
 use Rattle.cbor_diag.proofs.bytes.StringRefusals.{content_refuses, ChunkRefusal, cut_chunk, bad_chunk, bad_text}
 use Rattle.cbor_diag.proofs.bytes.StringRefusals.{ChunksStop, chunks_stop, chunks_refuse}
-use Rattle.cbor_diag.proofs.bytes.Found.{item_takes, item_again}
+use Rattle.cbor_diag.proofs.bytes.Found.{item_takes}
+use Rattle.cbor_diag.proofs.bytes.FoundAgain.{item_again}
 use Rattle.cbor_diag.proofs.bytes.MemberRefusals.{Reads, Stops, items_stop, pairs_stop, open_items_stop}
 use Rattle.cbor_diag.proofs.bytes.MemberRefusals.{open_pairs_stop, items_refuse, pairs_refuse, open_items_refuse}
 use Rattle.cbor_diag.proofs.bytes.MemberRefusals.{open_pairs_refuse}

@@ -11,10 +11,11 @@ use Rattle.cbor_diag.specs.Item as spec
 use Rattle.cbor_diag.specs.Item.{Chunk, Atom, integer, negative, byte_string, text_string, byte_chunks, text_chunks}
 use Rattle.cbor_diag.specs.Item.{float, simple, Item, atom, array, tagged, Items, no_items, item, Pairs, no_pairs, pair}
 use Rattle.cbor_diag.specs.Item.{item_count, pair_count}
-use Rattle.cbor_diag.specs.Head.{FitsWidth, stated, head, opening, break_byte}
-use Rattle.cbor_diag.specs.WellFormed.{FitsFloat, WellFormedAtom, FitsCount, WellFormed, WellFormedItems}
+use Rattle.cbor_diag.specs.Head.{stated, head, opening, break_byte}
+use Rattle.cbor_diag.specs.WellFormed.{IsChunk, FitsFloat, WellFormedAtom, FitsCount, WellFormed, WellFormedItems}
 use Rattle.cbor_diag.specs.WellFormed.{WellFormedPairs}
-use Rattle.cbor_diag.specs.Bytes.{StringKind, bytes_kind, text_kind, major_of, IsContent, any, strict, SpellsFloat}
+use Rattle.cbor_diag.specs.Bytes.{any, strict, SpellsFloat}
+use Rattle.cbor_diag.specs.StringKind.{StringKind, bytes_kind, text_kind, major_of}
 use Rattle.cbor_diag.specs.Bytes.{ChunkThen, OpenThen, SpellsChunks, SpellsAtom, MembersThen, Spells, SpellsItems}
 use Rattle.cbor_diag.specs.Bytes.{SpellsPairs}
 use Rattle.cbor_diag.specs.Written.{encoded, resolve_chunk, resolve_float, resolve_atom, resolve_count, resolve}
@@ -22,8 +23,8 @@ use Rattle.cbor_diag.specs.Written.{resolve_items, resolve_pairs}
 use Rattle.cbor_diag.specs.Reading.{read_item}
 use Rattle.cbor_diag.proofs.bytes.Heads.{IsBytes, IsBytes-take, IsBytes-drop, ok_is}
 use Rattle.cbor_diag.proofs.bytes.Chunks.{chunk_parts}
-use Rattle.cbor_diag.proofs.bytes.Found.{item_again}
-use Rattle.cbor_diag.proofs.bytes.Strict.{fits_stated, stated_is, IsChunk, strict_any, strict_encoded, encoded-resolve}
+use Rattle.cbor_diag.proofs.bytes.FoundAgain.{item_again}
+use Rattle.cbor_diag.proofs.bytes.Strict.{fits_stated, stated_is, strict_any, strict_encoded, encoded-resolve}
 
 -- ---- parts of bytes
 
@@ -137,11 +138,6 @@ mutual
 
 -- ---- a spelled item is well formed
 
-chunk_made : (kind : StringKind) (c : Chunk) → FitsWidth c.width (length c.bytes)
-    → AllByRecursion (λ x. x < 256) c.bytes → IsContent kind c.bytes → IsChunk kind c
-chunk_made bytes_kind c fits bytes content = record { fits = fits; bytes = bytes }
-chunk_made text_kind c fits bytes content = record { fits = fits; bytes = bytes; utf8 = content }
-
 chunk_well : (kind : StringKind) (c : Chunk) (b rest : List ℕ) → IsBytes b → ChunkThen kind c b (λ r. r ≡ rest)
     → IsChunk kind c × IsBytes rest
 chunk_well kind c b rest bytes h =
@@ -150,8 +146,11 @@ chunk_well kind c b rest bytes h =
     let is : b ≡ front ++ (c.bytes ++ rest) = h.1.2
     ∙ ap (λ (x : List ℕ). front ++ x) (s.1 ∙ ap (λ (x : List ℕ). c.bytes ++ x) s.2) in
     let inside : IsBytes (c.bytes ++ rest) = IsBytes-behind front (c.bytes ++ rest) (subst IsBytes is bytes) in (
-      chunk_made kind c (fits_stated c.width (length c.bytes) h.1.0)
-          (all_bytes c.bytes (IsBytes-front c.bytes rest inside)) h.0,
+      record {
+        fits = fits_stated c.width (length c.bytes) h.1.0;
+        bytes = all_bytes c.bytes (IsBytes-front c.bytes rest inside);
+        content = h.0;
+      },
       IsBytes-behind c.bytes rest inside,
     )
 

@@ -1,7 +1,6 @@
 -- What is left after an item that was read is shorter than the bytes that it was read from.
 use Rattle.std.proofs.Common.{◌≡◌, ℕ, zero, suc, ◌/◌, ◌%◌, ◌<◌, ◌≤◌, cond, ltb, eqb, List, [], ◌∷◌, length, take, drop}
 use Rattle.std.proofs.Common.{Option, Some, None, Result, Ok, Err, inl, inr, subst, arith}
-use Rattle.std.specs.Str.{is_utf8}
 use Rattle.std.specs.Int.{Width, w8, w16, w32, w64, byte_len, from_be_bytes}
 use Rattle.std.proofs.lemmas.Bool.{cases_lt, cases_eq, cond_both, lt-ltb, le-ltb, ne_eqb}
 use Rattle.std.proofs.lemmas.List.{length-drop}
@@ -17,8 +16,8 @@ use Rattle.cbor_diag.specs.Item as spec
 use Rattle.cbor_diag.specs.Item.{Chunk, byte_string, text_string, byte_chunks, text_chunks, Item, atom, array, tagged}
 use Rattle.cbor_diag.specs.Item.{Items, no_items, item, Pairs, no_pairs, pair}
 use Rattle.cbor_diag.specs.Head.{break_byte}
-use Rattle.cbor_diag.specs.Bytes.{StringKind, bytes_kind, text_kind, major_of}
-use Rattle.cbor_diag.specs.Reading.{Read, ◌>>=◌, read_number, read_wide, read_info, head_of, read_head, split_at}
+use Rattle.cbor_diag.specs.StringKind.{StringKind, bytes_kind, text_kind, major_of}
+use Rattle.cbor_diag.specs.Reading.{checked_chunk, Read, ◌>>=◌, read_number, read_wide, read_info, head_of, read_head, split_at}
 use Rattle.cbor_diag.specs.Reading.{read_content, chunk_of, read_chunk, more_chunks, read_chunks, read_items, read_pair}
 use Rattle.cbor_diag.specs.Reading.{read_pairs, after_break, unless_break, read_open_items, read_open_pairs, read_body}
 use Rattle.cbor_diag.specs.Reading.{no_level_left, read_item}
@@ -79,26 +78,23 @@ info_leaves bits b =
       ]
     ]
 
-head_of_leaves : (n : ℕ) (r : Result ItemHead Error) (rest : List ℕ) → length rest < n
-    → Leaves n (r >>= λ h. Ok (h, rest))
-head_of_leaves n (Ok h) rest lt = lt
-head_of_leaves n (Err e) rest lt = tt
+made_leaves : {X : Type 0} (n : ℕ) (r : Result X Error) (rest : List ℕ) → length rest < n
+    → Leaves n (r >>= λ x. Ok (x, rest))
+made_leaves n (Ok x) rest lt = lt
+made_leaves n (Err e) rest lt = tt
 
 head_leaves : (b : List ℕ) → Leaves (length b) (read_head b)
 unfolding read_head
 head_leaves [] = tt
 head_leaves (first ∷ b) = leaves_then (suc (length b)) (suc (length b)) (read_info (first % 32) b) _
-    (info_leaves (first % 32) b) (λ i lt. head_of_leaves (suc (length b)) (head_of (first / 32) i.0) i.1 lt)
+    (info_leaves (first % 32) b) (λ i lt. made_leaves (suc (length b)) (head_of (first / 32) i.0) i.1 lt)
 
 content_leaves : (kind : StringKind) (n : ℕ) (w : IntegerWidth) (b : List ℕ)
     → Leaves (suc (length b)) (read_content kind n w b)
 unfolding read_content
-content_leaves bytes_kind n w b = leaves_made (suc (length b)) (suc (length b)) (split_at n b)
-    (λ s. record { bytes = s; width = w }) (omega arith) (leaves_cut n n b (take n b))
-content_leaves text_kind n w b =
-    leaves_then (suc (length b)) (suc (length b)) (split_at n b) _ (leaves_cut n n b (take n b)) (λ s lt.
-    cond_both (is_utf8 s.0) (Ok (record { bytes = s.0; width = w }, s.1)) (Err refusal.Utf8)
-    (Leaves {X = Chunk} (suc (length b))) (λ e. lt) (λ e. tt))
+content_leaves kind n w b =
+    leaves_then (suc (length b)) (suc (length b)) (split_at n b) _ (leaves_cut n n b (take n b))
+    (λ s lt. made_leaves (suc (length b)) (checked_chunk kind w s.0) s.1 lt)
 
 chunk_of_leaves : (kind : StringKind) (i : Info) (b : List ℕ) → Leaves (suc (length b)) (chunk_of kind i b)
 chunk_of_leaves kind (info.Number n w) b =

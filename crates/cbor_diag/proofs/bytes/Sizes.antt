@@ -7,12 +7,13 @@ use Rattle.cbor_diag.specs.Item.{Chunk, Atom, integer, negative, byte_string, te
 use Rattle.cbor_diag.specs.Item.{float, simple, Item, atom, array, tagged, Items, no_items, item, Pairs, no_pairs, pair}
 use Rattle.cbor_diag.specs.Item.{item_count, pair_count}
 use Rattle.cbor_diag.specs.Head.{break_byte}
-use Rattle.cbor_diag.specs.Bytes.{StringKind, bytes_kind, text_kind, any, OpenThen, SpellsChunks, MembersThen, Spells}
+use Rattle.cbor_diag.specs.Bytes.{any, OpenThen, SpellsChunks, MembersThen, Spells}
+use Rattle.cbor_diag.specs.StringKind.{StringKind, bytes_kind, text_kind}
 use Rattle.cbor_diag.specs.Bytes.{SpellsItems, SpellsPairs}
 use Rattle.cbor_diag.specs.Answer.{atom_size, size, items_size, pairs_size}
 use Rattle.cbor_diag.proofs.bytes.Heads.{head_shorter}
 use Rattle.cbor_diag.proofs.bytes.Chunks.{chunk_parts}
-use Rattle.cbor_diag.proofs.bytes.Found.{spelled_begins}
+use Rattle.cbor_diag.proofs.bytes.FoundAgain.{spelled_begins}
 
 chunks_bound : (kind : StringKind) (cs : List Chunk) (b end : List ℕ) → SpellsChunks kind b cs end
     → length cs ≤ length b

@@ -15,9 +15,10 @@ use Rattle.cbor_diag.specs.Item.{Chunk, Atom, integer, negative, byte_string, te
 use Rattle.cbor_diag.specs.Item.{float, simple, Item, atom, array, tagged, Items, no_items, item, Pairs, no_pairs, pair}
 use Rattle.cbor_diag.specs.Item.{item_count, pair_count}
 use Rattle.cbor_diag.specs.Head.{FitsWidth, FitsStated, shortest, stated, head, opening, break_byte, HeadThen}
-use Rattle.cbor_diag.specs.WellFormed.{IsByteChunk, IsTextChunk, FitsFloat, WellFormedAtom, FitsCount, WellFormed}
+use Rattle.cbor_diag.specs.WellFormed.{IsChunk, FitsFloat, WellFormedAtom, FitsCount, WellFormed}
 use Rattle.cbor_diag.specs.WellFormed.{WellFormedItems, WellFormedPairs}
-use Rattle.cbor_diag.specs.Bytes.{StringKind, bytes_kind, text_kind, major_of, IsContent, any, strict, SpellsSimple}
+use Rattle.cbor_diag.specs.Bytes.{any, strict, SpellsSimple}
+use Rattle.cbor_diag.specs.StringKind.{StringKind, bytes_kind, text_kind, major_of}
 use Rattle.cbor_diag.specs.Bytes.{SpellsFloat, ChunkThen, SpellsChunks, SpellsAtom, MembersThen, Spells, SpellsItems}
 use Rattle.cbor_diag.specs.Bytes.{SpellsPairs}
 use Rattle.cbor_diag.specs.Written.{encoded_head, encoded_chunk, encoded_float, encoded_simple, encoded_atom}
@@ -157,29 +158,18 @@ mutual
 
 -- ---- the encoding of a well-formed item spells what it reads as
 
--- a chunk of such a string that can be written
-abbrev pub IsChunk : StringKind → Chunk → Type 0
-IsChunk bytes_kind c = IsByteChunk c
-IsChunk text_kind c = IsTextChunk c
-
-chunk_is : (kind : StringKind) (c : Chunk) → IsChunk kind c
-    → IsContent kind c.bytes × FitsWidth c.width (length c.bytes)
-chunk_is bytes_kind c h = (tt, h.fits)
-chunk_is text_kind c h = (h.utf8, h.fits)
-
 chunk_enc : (kind : StringKind) (c : Chunk) (b end : List ℕ) (Rest : List ℕ → Type 0) → IsChunk kind c
     → b ≡ encoded_chunk (major_of kind) c ++ end → Rest end → ChunkThen kind (resolve_chunk c) b Rest
-chunk_enc kind c b end Rest h is holds =
-    let w = chunk_is kind c h in (
-      w.0,
-      (
-        stated_fits c.width (length c.bytes) w.1,
-        c.bytes ++ end,
-        is
-            ∙ append_assoc (encoded_head (major_of kind) (length c.bytes) c.width) c.bytes end,
-        (end, refl, holds),
-      ),
-    )
+chunk_enc kind c b end Rest h is holds = (
+  h.content,
+  (
+    stated_fits c.width (length c.bytes) h.fits,
+    c.bytes ++ end,
+    is
+        ∙ append_assoc (encoded_head (major_of kind) (length c.bytes) c.width) c.bytes end,
+    (end, refl, holds),
+  ),
+)
 
 string_enc : (kind : StringKind) (c : Chunk) → IsChunk kind c
     → ChunkThen kind (resolve_chunk c) (encoded_chunk (major_of kind) c) (λ rest. rest ≡ [])

@@ -1,5 +1,5 @@
 -- Where a string is refused: in its content, or in a chunk of it.
-use Rattle.std.proofs.Common.{◌≡◌, ℕ, zero, suc, ◌+◌, ◌*◌, ◌/◌, ◌%◌, ◌<◌, ◌≤◌, ◌≢◌, false, ltb, List, [], ◌∷◌, ◌++◌}
+use Rattle.std.proofs.Common.{Result, ◌≡◌, ℕ, zero, suc, ◌+◌, ◌*◌, ◌/◌, ◌%◌, ◌<◌, ◌≤◌, ◌≢◌, false, ltb, List, [], ◌∷◌, ◌++◌}
 use Rattle.std.proofs.Common.{length, take, drop, Option, Some, None, Ok, Err, ◌⊎◌, inl, inr, refl, sym, ap, subst, ◌∙◌}
 use Rattle.std.proofs.Common.{arith}
 use Rattle.std.specs.Prelude.{IsUtf8}
@@ -14,9 +14,10 @@ use Rattle.cbor_diag.specs.declared.parse.binary.head.Info.{Info}
 use Rattle.cbor_diag.specs.declared.parse.binary.head.Info.TheVariants as info
 use Rattle.cbor_diag.specs.Item.{Chunk}
 use Rattle.cbor_diag.specs.Head.{break_byte, HeadThen}
-use Rattle.cbor_diag.specs.Bytes.{StringKind, bytes_kind, text_kind, major_of, SpellsChunks}
+use Rattle.cbor_diag.specs.Bytes.{SpellsChunks}
+use Rattle.cbor_diag.specs.StringKind.{StringKind, bytes_kind, text_kind, major_of}
 use Rattle.cbor_diag.specs.Refused.{CutHead, cut_head, BadText, CutChunk, NoChunk, no_chunk}
-use Rattle.cbor_diag.specs.Reading.{read_info, split_at, read_content, chunk_of, read_chunk, more_chunks, read_chunks}
+use Rattle.cbor_diag.specs.Reading.{◌>>=◌, checked_chunk, read_info, split_at, read_content, chunk_of, read_chunk, more_chunks, read_chunks}
 use Rattle.cbor_diag.proofs.bytes.Heads.{IsBytes, IsBytes-rest, bind_err, branch, info_takes, head_then, opened}
 use Rattle.cbor_diag.proofs.bytes.Chunks.{chunk_ways, chunk_takes, chunk_again, chunk_with, chunk_parts}
 use Rattle.cbor_diag.proofs.bytes.HeadRefusals.{err_is, InfoRefusal, cut_info, bad_info, info_refused, info_refuses}
@@ -42,6 +43,11 @@ short_is : (kind : StringKind) (n : ℕ) (b : List ℕ) (e : Error) → length b
     → ContentRefusal kind n b e
 short_is kind n b e short is = subst (λ (d : Error). ContentRefusal kind n b d) is (short_content short)
 
+made_err : (r : Result Chunk Error) (rest : List ℕ) (e : Error)
+    → ◌>>=◌ {B = Chunk × List ℕ} r (λ c. Ok (c, rest)) ≡ Err e → r ≡ Err e
+made_err (Ok c) rest e h = absurd cc
+made_err (Err d) rest e h = cc
+
 pub content_refused : (kind : StringKind) (n : ℕ) (w : IntegerWidth) (b : List ℕ) (e : Error)
     → read_content kind n w b ≡ Err e → ContentRefusal kind n b e
 unfolding read_content
@@ -55,7 +61,8 @@ content_refused text_kind n w b e h =
       | inl s ↦ short_is text_kind n b e s.0 (let f = rw s.1 at h in cc)
       | inr s ↦
           let f = rw s.1 at h in
-          elim (branch (is_utf8 (take n b)) _ _ (Err e) f) [
+          elim (branch (is_utf8 (take n b)) _ _ (Err e)
+          (made_err (checked_chunk text_kind w (take n b)) (drop n b) e f)) [
             | inl t ↦ absurd cc
             | inr t ↦
                 let is : refusal.Utf8 ≡ e = cc in

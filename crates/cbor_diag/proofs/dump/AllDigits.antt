@@ -14,7 +14,7 @@ use Rattle.cbor_notes.specs.Columns.{digits_of}
 use Rattle.cbor_notes.proofs.bases.DecodedLineLemmas.{encode_with-append}
 use Rattle.cbor_notes.proofs.columns.OneLine.{Free, free_hex, from_test}
 use Rattle.cbor_diag.specs.declared.syntax.IntegerWidth.{IntegerWidth}
-use Rattle.cbor_diag.specs.declared.encode.encoding.Encoding.{Encoding}
+use Rattle.cbor_diag.specs.Encoding.{Encoding}
 use Rattle.cbor_diag.specs.Item as spec
 use Rattle.cbor_diag.specs.Item.{Chunk, Atom, integer, negative, byte_string, text_string, byte_chunks, text_chunks}
 use Rattle.cbor_diag.specs.Item.{float, simple, Item, atom, array, tagged, Items, no_items, item, Pairs, no_pairs, pair}

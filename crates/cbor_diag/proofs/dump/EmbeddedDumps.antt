@@ -21,7 +21,7 @@ use Rattle.cbor_diag.specs.Dump.{whole_note}
 use Rattle.cbor_diag.specs.mirror.Passes.{taken, Held, step}
 use Rattle.cbor_diag.specs.Reading.{read_item}
 use Rattle.cbor_diag.proofs.dump.Fits.{row_line}
-use Rattle.cbor_diag.proofs.bytes.Found.{item_again}
+use Rattle.cbor_diag.proofs.bytes.FoundAgain.{item_again}
 use Rattle.cbor_diag.proofs.bytes.Heads.{IsBytes, IsBytes-drop}
 use Rattle.cbor_diag.proofs.bytes.Refusals.{item_nothing}
 use Rattle.cbor_diag.proofs.bytes.Sizes.{one_byte}

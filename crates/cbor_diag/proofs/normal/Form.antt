@@ -1,24 +1,17 @@
 -- The normal form of a well-formed item is well formed, and its encoding is no longer.
-use Rattle.std.proofs.Common.{◌≡◌, ℕ, zero, suc, ◌+◌, ◌^◌, ◌<◌, ◌≤◌, List, [], ◌∷◌, ◌++◌, length, Option, Some, None}
-use Rattle.std.proofs.Common.{inl, inr, refl, sym, ap, subst, append_assoc, arith}
-use Rattle.std.specs.List.{AllByRecursion, flat_map}
+use Rattle.std.proofs.Common.{◌≡◌, ℕ, ◌^◌, ◌<◌, ◌≤◌, length}
+use Rattle.std.proofs.Common.{inl, inr, refl, ap, arith}
 use Rattle.std.proofs.lemmas.Bool.{cases_lt, lt-ltb, le-ltb}
 use Rattle.cbor_diag.specs.declared.syntax.IntegerWidth.{IntegerWidth}
 use Rattle.cbor_diag.specs.declared.syntax.IntegerWidth.TheVariants.{Unknown, Zero, Eight, Sixteen, ThirtyTwo}
 use Rattle.cbor_diag.specs.declared.syntax.IntegerWidth.TheVariants.{SixtyFour}
 use Rattle.cbor_diag.specs.declared.syntax.FloatWidth.{FloatWidth}
 use Rattle.cbor_diag.specs.declared.syntax.FloatWidth.TheVariants as float_width
-use Rattle.cbor_diag.specs.Item as spec
-use Rattle.cbor_diag.specs.Item.{Chunk, Atom, integer, negative, byte_string, text_string, byte_chunks, text_chunks}
-use Rattle.cbor_diag.specs.Item.{float, simple, Item, atom, array, tagged, Items, no_items, item, Pairs, no_pairs, pair}
-use Rattle.cbor_diag.specs.Item.{item_count, pair_count}
-use Rattle.cbor_diag.specs.Head.{FitsWidth, FitsStated, shortest, stated, head, break_byte}
-use Rattle.cbor_diag.specs.WellFormed.{IsByteChunk, IsTextChunk, FitsFloat, WellFormedAtom, FitsCount, WellFormed}
-use Rattle.cbor_diag.specs.WellFormed.{WellFormedItems, WellFormedPairs}
-use Rattle.cbor_diag.specs.Written.{encoded_head, encoded_chunk, encoded_float, encoded_simple, encoded_atom}
-use Rattle.cbor_diag.specs.Written.{encoded_open, encoded_close, encoded, encoded_items, encoded_pairs, resolve_float}
+use Rattle.cbor_diag.specs.Head.{FitsWidth, FitsStated, shortest, stated, head}
+use Rattle.cbor_diag.specs.WellFormed.{FitsFloat}
+use Rattle.cbor_diag.specs.Written.{encoded_head, encoded_float}
+use Rattle.cbor_diag.specs.Written.{resolve_float}
 use Rattle.cbor_diag.specs.Normal.{normal_width}
-use Rattle.cbor_diag.proofs.bytes.Heads.{IsBytes}
 use Rattle.cbor_diag.proofs.bytes.Strict.{stated_fits}
 
 -- ---- lengths of heads
@@ -147,147 +140,3 @@ float_fits bits float_width.Unknown fits = fits
 float_fits bits float_width.Sixteen fits = fits
 float_fits bits float_width.ThirtyTwo fits = fits
 float_fits bits float_width.SixtyFour fits = fits
-
--- ---- the encoding of a well-formed item is bytes
-
-abbrev pub AllBytes : List ℕ → Type 0
-AllBytes b = AllByRecursion (λ x. x < 256) b
-
-pub all_bytes-append : (a b : List ℕ) → AllBytes a → AllBytes b → AllBytes (a ++ b)
-all_bytes-append [] b h k = k
-all_bytes-append (x ∷ a) b h k = (h.0, all_bytes-append a b h.1 k)
-
-pub all_bytes-front : (a b : List ℕ) → AllBytes (a ++ b) → AllBytes a
-all_bytes-front [] b h = tt
-all_bytes-front (x ∷ a) b h = (h.0, all_bytes-front a b h.1)
-
-pub all_bytes-rest : (a b : List ℕ) → AllBytes (a ++ b) → AllBytes b
-all_bytes-rest [] b h = h
-all_bytes-rest (x ∷ a) b h = all_bytes-rest a b h.1
-
-pub bytes_at : (b : List ℕ) → AllBytes b → IsBytes b
-bytes_at [] h i = omega arith
-bytes_at (x ∷ b) h zero = h.0
-bytes_at (x ∷ b) h (suc i) = bytes_at b h.1 i
-
-head_bytes : (major n : ℕ) (w : IntegerWidth) → major ≤ 7 → FitsStated w n → AllBytes (head major n w)
-head_bytes major n Unknown le fits = absurd fits
-head_bytes major n Zero le fits = let lt : n < 24 = fits in (omega arith, tt)
-head_bytes major n Eight le fits = (omega arith, (omega arith, tt))
-head_bytes major n Sixteen le fits = (omega arith, (omega arith, (omega arith, tt)))
-head_bytes major n ThirtyTwo le fits = (omega arith, (omega arith, (omega arith, (omega arith, (omega arith, tt)))))
-head_bytes major n SixtyFour le fits = (
-  omega arith,
-  (
-    omega arith,
-    (
-      omega arith,
-      (
-        omega arith,
-        (omega arith, (omega arith, (omega arith, (omega arith, (omega arith, tt))))),
-      ),
-    ),
-  ),
-)
-
-written_bytes : (major n : ℕ) (w : IntegerWidth) → major ≤ 7 → FitsWidth w n → AllBytes (encoded_head major n w)
-written_bytes major n w le fits = head_bytes major n (stated w n) le (stated_fits w n fits)
-
-chunk_bytes : (major : ℕ) (c : Chunk) → major ≤ 7 → FitsWidth c.width (length c.bytes) → AllBytes c.bytes
-    → AllBytes (encoded_chunk major c)
-chunk_bytes major c le fits all = all_bytes-append (encoded_head major (length c.bytes) c.width) c.bytes
-    (written_bytes major (length c.bytes) c.width le fits) all
-
-byte_chunks_bytes : (cs : List Chunk) → AllByRecursion IsByteChunk cs
-    → AllBytes (flat_map (encoded_chunk 2) cs ++ break_byte ∷ [])
-byte_chunks_bytes [] h = (omega arith, tt)
-byte_chunks_bytes (c ∷ cs) h = subst AllBytes
-    (sym (append_assoc (encoded_chunk 2 c) (flat_map (encoded_chunk 2) cs) (break_byte ∷ [])))
-    (all_bytes-append (encoded_chunk 2 c) (flat_map (encoded_chunk 2) cs ++ break_byte ∷ [])
-    (chunk_bytes 2 c (omega arith) h.0.fits h.0.bytes) (byte_chunks_bytes cs h.1))
-
-text_chunks_bytes : (cs : List Chunk) → AllByRecursion IsTextChunk cs
-    → AllBytes (flat_map (encoded_chunk 3) cs ++ break_byte ∷ [])
-text_chunks_bytes [] h = (omega arith, tt)
-text_chunks_bytes (c ∷ cs) h = subst AllBytes
-    (sym (append_assoc (encoded_chunk 3 c) (flat_map (encoded_chunk 3) cs) (break_byte ∷ [])))
-    (all_bytes-append (encoded_chunk 3 c) (flat_map (encoded_chunk 3) cs ++ break_byte ∷ [])
-    (chunk_bytes 3 c (omega arith) h.0.fits h.0.bytes) (text_chunks_bytes cs h.1))
-
-float_bytes : (bits : ℕ) (w : FloatWidth) → AllBytes (encoded_float bits w)
-float_bytes bits float_width.Unknown = (
-  omega arith,
-  (
-    omega arith,
-    (
-      omega arith,
-      (
-        omega arith,
-        (omega arith, (omega arith, (omega arith, (omega arith, (omega arith, tt))))),
-      ),
-    ),
-  ),
-)
-float_bytes bits float_width.Sixteen = (omega arith, (omega arith, (omega arith, tt)))
-float_bytes bits float_width.ThirtyTwo = (omega arith, (omega arith, (omega arith, (omega arith, (omega arith, tt)))))
-float_bytes bits float_width.SixtyFour = (
-  omega arith,
-  (
-    omega arith,
-    (
-      omega arith,
-      (
-        omega arith,
-        (omega arith, (omega arith, (omega arith, (omega arith, (omega arith, tt))))),
-      ),
-    ),
-  ),
-)
-
-simple_bytes : (n : ℕ) → n < 256 → AllBytes (encoded_simple n)
-simple_bytes n lt = elim (cases_lt n 24) [
-  | inl low ↦ rw (lt-ltb n 24 low) (omega arith, tt)
-  | inr high ↦ rw
-      (le-ltb n 24 high) (omega arith, (lt, tt))
-]
-
-atom_bytes : (a : Atom) → WellFormedAtom a → AllBytes (encoded_atom a)
-atom_bytes (integer n w) h = written_bytes 0 n w (omega arith) h
-atom_bytes (negative n w) h = written_bytes 1 n w (omega arith) h
-atom_bytes (byte_string c) h = chunk_bytes 2 c (omega arith) h.fits h.bytes
-atom_bytes (text_string c) h = chunk_bytes 3 c (omega arith) h.fits h.bytes
-atom_bytes (byte_chunks cs) h = (omega arith, byte_chunks_bytes cs h)
-atom_bytes (text_chunks cs) h = (omega arith, text_chunks_bytes cs h)
-atom_bytes (float bits w) h = float_bytes bits w
-atom_bytes (simple n) h = simple_bytes n h
-
-open_bytes : (major n : ℕ) (w : Option IntegerWidth) → major ≤ 6 → FitsCount w n → AllBytes (encoded_open major n w)
-open_bytes major n (Some w) le fits = written_bytes major n w (omega arith) fits
-open_bytes major n None le fits = (omega arith, tt)
-
-close_bytes : (w : Option IntegerWidth) → AllBytes (encoded_close w)
-close_bytes (Some w) = tt
-close_bytes None = (omega arith, tt)
-
-mutual
-  pub encoded_bytes : (level : ℕ) (i : Item) → WellFormed level i → AllBytes (encoded i)
-  encoded_bytes level (atom a) h = atom_bytes a h.1
-  encoded_bytes level (array is w) h = all_bytes-append (encoded_open 4 (item_count is) w)
-      (encoded_items is ++ encoded_close w) (open_bytes 4 (item_count is) w (omega arith) h.1)
-      (all_bytes-append (encoded_items is) (encoded_close w) (items_bytes (level + 1) is h.2) (close_bytes w))
-  encoded_bytes level (spec.map ps w) h = all_bytes-append (encoded_open 5 (pair_count ps) w)
-      (encoded_pairs ps ++ encoded_close w) (open_bytes 5 (pair_count ps) w (omega arith) h.1)
-      (all_bytes-append (encoded_pairs ps) (encoded_close w) (pairs_bytes (level + 1) ps h.2) (close_bytes w))
-  encoded_bytes level (tagged t w i) h = all_bytes-append (encoded_head 6 t w) (encoded i)
-      (written_bytes 6 t w (omega arith) h.1) (encoded_bytes (level + 1) i h.2)
-
-  pub items_bytes : (level : ℕ) (is : Items) → WellFormedItems level is → AllBytes (encoded_items is)
-  items_bytes level no_items h = tt
-  items_bytes level (item i is) h = all_bytes-append (encoded i) (encoded_items is) (encoded_bytes level i h.0)
-      (items_bytes level is h.1)
-
-  pairs_bytes : (level : ℕ) (ps : Pairs) → WellFormedPairs level ps → AllBytes (encoded_pairs ps)
-  pairs_bytes level no_pairs h = tt
-  pairs_bytes level (pair k v ps) h = all_bytes-append (encoded k) (encoded v ++ encoded_pairs ps)
-      (encoded_bytes level k h.0) (all_bytes-append (encoded v) (encoded_pairs ps) (encoded_bytes level v h.1)
-      (pairs_bytes level ps h.2))

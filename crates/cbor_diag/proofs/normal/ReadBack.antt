@@ -6,31 +6,32 @@ use Rattle.std.proofs.lemmas.List.{append-nil}
 use Rattle.cbor_notes.specs.Token.{nothing}
 use Rattle.cbor_notes.proofs.tokens.Blanks.{Blank-append}
 use Rattle.cbor_diag.specs.declared.syntax.IntegerWidth.TheVariants.{Unknown}
+use Rattle.cbor_diag.specs.Encoding.{Encoding}
 use Rattle.cbor_diag.specs.Layout.{Content, Layout, Compact, Pretty, Context}
 use Rattle.cbor_diag.specs.ContainerStyle.{ContainerStyle}
 use Rattle.cbor_diag.specs.ContainerStyle as style
 use Rattle.cbor_diag.specs.Item as spec
 use Rattle.cbor_diag.specs.Item.{Chunk, Atom, integer, negative, byte_string, text_string, byte_chunks, text_chunks}
 use Rattle.cbor_diag.specs.Item.{float, simple, Item, atom, array, tagged, Items, no_items, item, Pairs, no_pairs, pair}
-use Rattle.cbor_diag.specs.WellFormed.{IsByteChunk, IsTextChunk, WellFormedAtom, WellFormed, WellFormedItems}
+use Rattle.cbor_diag.specs.WellFormed.{IsChunk, WellFormedAtom, WellFormed, WellFormedItems}
 use Rattle.cbor_diag.specs.WellFormed.{WellFormedPairs}
-use Rattle.cbor_diag.specs.Bytes.{bytes_kind, text_kind}
+use Rattle.cbor_diag.specs.StringKind.{StringKind, bytes_kind, text_kind}
 use Rattle.cbor_diag.specs.Written.{encoded, encoded_items}
 use Rattle.cbor_diag.specs.Reading.{read_item}
 use Rattle.cbor_diag.specs.Embedded.{if_whole, embedded_at, sequence_at}
-use Rattle.cbor_diag.specs.Estimate.{estimated_atom, estimated_length}
+use Rattle.cbor_diag.specs.Estimate.{estimated_length}
 use Rattle.cbor_diag.specs.Notation.{IsBlank, Blanked, list_of, pairs_list, PairOf, Notation, as_items, Joined, one}
-use Rattle.cbor_diag.specs.Notation.{more, StringOf, AtomCore, Core, Reads}
-use Rattle.cbor_diag.specs.NotationText.{number, quoted, text, container_style, members_layout, colon, rest_gap, below}
+use Rattle.cbor_diag.specs.Notation.{more, StringOf, ChunksOf, AtomCore, Core, Reads}
+use Rattle.cbor_diag.specs.NotationText.{number, quoted, container_style, members_layout, colon, rest_gap, below}
 use Rattle.cbor_diag.specs.NotationText.{inside, item_texts, pair_texts, embedded_text, rest_text, items_text}
-use Rattle.cbor_diag.specs.NotationText.{sequence_text, content_text, chunks_text, atom_text, text_with, text_at}
+use Rattle.cbor_diag.specs.NotationText.{item_style, sequence_text, content_text, string_text, chunks_text, atom_text, text_with, text_at}
 use Rattle.cbor_diag.specs.Normal.{normal_chunk, normal_items, normal_pairs, normal_embedded, normal_sequence}
 use Rattle.cbor_diag.specs.Normal.{normal_content, normal_atom, normal_with, normal_at}
 use Rattle.cbor_diag.proofs.bytes.Refusals.{item_nothing}
 use Rattle.cbor_diag.proofs.bytes.Resolved.{spells_well}
 use Rattle.cbor_diag.proofs.text.Parts.{content_of, well_level}
 use Rattle.cbor_diag.proofs.shared.EmbeddedItems.{embedded_spells, sequence_spells}
-use Rattle.cbor_diag.proofs.normal.Form.{AllBytes, bytes_at}
+use Rattle.cbor_diag.proofs.bytes.Laws.{AllBytes, bytes_at}
 use Rattle.cbor_diag.proofs.normal.WellFormed.{tag_kind, items_well}
 use Rattle.cbor_diag.proofs.normal.ReadTokens.{one_space, number_read, negative_read, quoted_read, bytes_read}
 use Rattle.cbor_diag.proofs.normal.ReadTokens.{text_read, float_read, simple_read}
@@ -59,45 +60,29 @@ reads_after (suc left) gap t i b h = blank_before (λ core. Core (Reads left) co
 
 -- ---- chunks
 
-byte_chunks_each : (Read : List ℕ → Item → Type 0) (c : Context) (cs : List Chunk) → AllByRecursion IsByteChunk cs
-    → Each (λ m x. Blanked (λ core. StringOf bytes_kind Read core x) m) (map (λ s. quoted c.encoding s.bytes) cs)
+string_core : (kind : StringKind) (Read : List ℕ → Item → Type 0) (e : Encoding) (s : Chunk) → IsChunk kind s
+    → StringOf kind Read (string_text kind e s.bytes) (normal_chunk s)
+string_core bytes_kind Read e s h = bytes_read Read e s.bytes h.bytes
+string_core text_kind Read e s h = text_read Read s.bytes h.content
+
+chunks_each : (kind : StringKind) (Read : List ℕ → Item → Type 0) (e : Encoding) (cs : List Chunk)
+    → AllByRecursion (IsChunk kind) cs
+    → Each (λ m x. Blanked (λ core. StringOf kind Read core x) m) (map (λ s. string_text kind e s.bytes) cs)
     (map normal_chunk cs)
-byte_chunks_each Read c [] h = tt
-byte_chunks_each Read c (s ∷ cs) h =
-    let Is : List ℕ → Type 0 = λ core. StringOf bytes_kind Read core (normal_chunk s) in (
-      λ gap b. blank_before Is gap (quoted c.encoding s.bytes) b
-          (plain Is (quoted c.encoding s.bytes) (bytes_read Read c.encoding s.bytes h.0.bytes)),
-      byte_chunks_each Read c cs h.1,
+chunks_each kind Read e [] h = tt
+chunks_each kind Read e (s ∷ cs) h =
+    let Is : List ℕ → Type 0 = λ core. StringOf kind Read core (normal_chunk s) in
+    let one = string_text kind e s.bytes in (
+      λ gap b. blank_before Is gap one b (plain Is one (string_core kind Read e s h.0)),
+      chunks_each kind Read e cs h.1,
     )
 
-text_chunks_each : (Read : List ℕ → Item → Type 0) (cs : List Chunk) → AllByRecursion IsTextChunk cs
-    → Each (λ m x. Blanked (λ core. StringOf text_kind Read core x) m) (map (λ s. text s.bytes) cs)
-    (map normal_chunk cs)
-text_chunks_each Read [] h = tt
-text_chunks_each Read (s ∷ cs) h =
-    let Is : List ℕ → Type 0 = λ core. StringOf text_kind Read core (normal_chunk s) in (
-      λ gap b. blank_before Is gap (text s.bytes) b (plain Is (text s.bytes) (text_read Read s.bytes h.0.utf8)),
-      text_chunks_each Read cs h.1,
-    )
-
-byte_chunks_read : (Read : List ℕ → Item → Type 0) (c : Context) (l : ContainerStyle) (cs : List Chunk)
-    → AllByRecursion IsByteChunk cs
-    → AtomCore Read (chunks_text l (codes "''_") (map (λ s. quoted c.encoding s.bytes) cs))
-    (byte_chunks (map normal_chunk cs))
-byte_chunks_read Read c l [] h = inl (refl, refl)
-byte_chunks_read Read c l (s ∷ cs) h = inr
-    (listed {X = Chunk} (λ m x. Blanked (λ core. StringOf bytes_kind Read core x) m) l (codes "(") (codes ")") None _
-    (map normal_chunk (s ∷ cs)) (byte_chunks_each Read c (s ∷ cs) h))
-
-text_chunks_read : (Read : List ℕ → Item → Type 0) (l : ContainerStyle) (cs : List Chunk)
-    → AllByRecursion IsTextChunk cs
-    → AtomCore Read (chunks_text l (codes "\"\"_") (map (λ s. text s.bytes) cs)) (text_chunks (map normal_chunk cs))
-text_chunks_read Read l [] h = inl (refl, refl)
-text_chunks_read Read l (s ∷ cs) h = inr (
-  omega arith,
-  listed {X = Chunk} (λ m x. Blanked (λ core. StringOf text_kind Read core x) m) l (codes "(") (codes ")") None _
-      (map normal_chunk (s ∷ cs)) (text_chunks_each Read (s ∷ cs) h),
-)
+chunks_read : (kind : StringKind) (Read : List ℕ → Item → Type 0) (e : Encoding) (l : ContainerStyle) (c : Chunk)
+    (cs : List Chunk) → AllByRecursion (IsChunk kind) (c ∷ cs)
+    → ChunksOf kind Read (chunks_text kind e l (c ∷ cs)) (map normal_chunk (c ∷ cs))
+chunks_read kind Read e l c cs h =
+    listed {X = Chunk} (λ m x. Blanked (λ core. StringOf kind Read core x) m) l (codes "(") (codes ")") None _
+    (map normal_chunk (c ∷ cs)) (chunks_each kind Read e (c ∷ cs) h)
 
 gap_blank : (l : Layout) → IsBlank (rest_gap l)
 gap_blank Compact = nothing
@@ -222,11 +207,15 @@ module _ (level left : ℕ) (levels : level + left ≡ 129) (reads : IsRead leve
       let Shows = λ (x : Content). Joined (Notation (Reads left)) (content_text left (text_at left) x c s.bytes)
       bytes in
       (refl, tt, subst Shows (sym is) (content_read tag c s.bytes h.bytes), tt)
-  atom_read c tag (text_string s) is h = text_read (Reads left) s.bytes h.utf8
-  atom_read c tag (byte_chunks cs) is h =
-      byte_chunks_read (Reads left) c (container_style c.layout (estimated_atom (byte_chunks cs))) cs h
-  atom_read c tag (text_chunks cs) is h =
-      text_chunks_read (Reads left) (container_style c.layout (estimated_atom (text_chunks cs))) cs h
+  atom_read c tag (text_string s) is h = text_read (Reads left) s.bytes h.content
+  atom_read c tag (byte_chunks []) is h = inl (refl, refl)
+  atom_read c tag (byte_chunks (s ∷ cs)) is h =
+      inr (chunks_read bytes_kind (Reads left) c.encoding (item_style c (atom (byte_chunks (s ∷ cs)))) s cs h)
+  atom_read c tag (text_chunks []) is h = inl (refl, refl)
+  atom_read c tag (text_chunks (s ∷ cs)) is h = inr (
+    omega arith,
+    chunks_read text_kind (Reads left) c.encoding (item_style c (atom (text_chunks (s ∷ cs)))) s cs h,
+  )
   atom_read c tag (float n w) is h = float_read n w h
   atom_read c tag (simple n) is h = simple_read n h
 

@@ -24,18 +24,18 @@ use Rattle.cbor_diag.specs.declared.syntax.IntegerWidth.TheVariants.{Unknown, Ze
 use Rattle.cbor_diag.specs.declared.syntax.IntegerWidth.TheVariants.{SixtyFour}
 use Rattle.cbor_diag.specs.declared.syntax.FloatWidth.{FloatWidth}
 use Rattle.cbor_diag.specs.declared.syntax.FloatWidth.TheVariants as float_width
-use Rattle.cbor_diag.specs.declared.encode.encoding.Encoding.{Encoding}
-use Rattle.cbor_diag.specs.declared.encode.encoding.Encoding.TheVariants.{Base16, Base64, Base64Url}
+use Rattle.cbor_diag.specs.Encoding.{Encoding, Base16, Base64, Base64Url}
 use Rattle.cbor_diag.specs.Item.{Chunk, Item}
 use Rattle.cbor_diag.specs.Head.{FitsWidth}
 use Rattle.cbor_diag.specs.WellFormed.{FitsFloat}
-use Rattle.cbor_diag.specs.Bytes.{bytes_kind, text_kind}
+use Rattle.cbor_diag.specs.StringKind.{bytes_kind, text_kind}
 use Rattle.cbor_diag.specs.Written.{resolve_float}
 use Rattle.cbor_diag.specs.Notation.{NumberOf, NegativeOf, number_width, Notation, in_base16, in_base64, StringOf, one}
 use Rattle.cbor_diag.specs.Notation.{SimpleOf, FloatOf}
 use Rattle.cbor_diag.specs.NotationText.{indicator, number, quoted, text, float_text, simple_text}
 use Rattle.cbor_diag.specs.Normal.{normal_width}
-use Rattle.cbor_diag.proofs.normal.Form.{AllBytes, normal_fits}
+use Rattle.cbor_diag.proofs.bytes.Laws.{AllBytes}
+use Rattle.cbor_diag.proofs.normal.Form.{normal_fits}
 
 -- ---- blanks
 

@@ -13,9 +13,10 @@ use Rattle.cbor_diag.specs.Item.{Chunk, Atom, integer, negative, byte_string, te
 use Rattle.cbor_diag.specs.Item.{float, simple, Item, atom, array, tagged, Items, no_items, item, Pairs, no_pairs, pair}
 use Rattle.cbor_diag.specs.Item.{item_count, pair_count}
 use Rattle.cbor_diag.specs.Head.{FitsWidth, head, break_byte, HeadThen}
-use Rattle.cbor_diag.specs.WellFormed.{IsByteChunk, IsTextChunk, WellFormedAtom, FitsCount, WellFormed, WellFormedItems}
+use Rattle.cbor_diag.specs.WellFormed.{IsChunk, WellFormedAtom, FitsCount, WellFormed, WellFormedItems}
 use Rattle.cbor_diag.specs.WellFormed.{WellFormedPairs}
-use Rattle.cbor_diag.specs.Bytes.{StringKind, bytes_kind, text_kind, major_of, any, ChunkThen, SpellsChunks, SpellsAtom}
+use Rattle.cbor_diag.specs.Bytes.{any, ChunkThen, SpellsChunks, SpellsAtom}
+use Rattle.cbor_diag.specs.StringKind.{StringKind, bytes_kind, text_kind, major_of}
 use Rattle.cbor_diag.specs.Bytes.{SpellsFloat, SpellsSimple, MembersThen, Spells, SpellsItems, SpellsPairs}
 use Rattle.cbor_diag.specs.Written.{encoded_head, encoded_chunk, encoded_float, encoded_simple, encoded_atom}
 use Rattle.cbor_diag.specs.Written.{encoded_open, encoded_close, encoded, encoded_items, encoded_pairs}
@@ -26,9 +27,9 @@ use Rattle.cbor_diag.specs.Normal.{normal_at}
 use Rattle.cbor_diag.proofs.bytes.Strict.{stated_is}
 use Rattle.cbor_diag.proofs.bytes.Resolved.{spells_well}
 use Rattle.cbor_diag.proofs.shared.EmbeddedItems.{embedded_spells, sequence_spells}
-use Rattle.cbor_diag.proofs.normal.Form.{AllBytes, all_bytes-append, all_bytes-front, all_bytes-rest, bytes_at}
+use Rattle.cbor_diag.proofs.bytes.Laws.{AllBytes, all_bytes-append, all_bytes-front, all_bytes-rest, bytes_at}
+use Rattle.cbor_diag.proofs.bytes.Laws.{item_bytes, items_bytes}
 use Rattle.cbor_diag.proofs.normal.Form.{open_fits, head_no_longer, normal_fits, normal_head, normal_float, float_fits}
-use Rattle.cbor_diag.proofs.normal.Form.{encoded_bytes, items_bytes}
 
 -- ---- the encoding of a spelled item is no longer than its spelling
 
@@ -227,7 +228,7 @@ module _ (level left : ℕ) (levels : level + left ≡ 129) (into : Item → Ite
       let s = embedded_spells level left b e levels (bytes_at b all) h in
       let t = serves e (spells_well level b e (bytes_at b all) s) in
       record {
-        bytes = encoded_bytes level (into e) t.well;
+        bytes = item_bytes level (into e) t.well;
         no_longer =
             omega (arith, t.no_longer, spelled_len level b e s);
       }
@@ -288,44 +289,34 @@ string_no_longer major c x fits le =
       length-append (encoded_head major (length c.bytes) c.width) c.bytes,
     )
 
-byte_chunks_serve : (cs : List Chunk) → AllByRecursion IsByteChunk cs → AllByRecursion IsByteChunk (map normal_chunk cs)
-    × (length (flat_map (encoded_chunk 2) (map normal_chunk cs)) ≤ length (flat_map (encoded_chunk 2) cs))
-byte_chunks_serve [] h = (tt, omega arith)
-byte_chunks_serve (c ∷ cs) h =
-    let others = byte_chunks_serve cs h.1 in (
-      (
-        record { fits = open_fits (length c.bytes) (length c.bytes) c.width (omega arith) h.0.fits; bytes = h.0.bytes },
-        others.0,
-      ),
-      omega (
-        arith,
-        string_no_longer 2 c c.bytes h.0.fits (omega arith),
-        others.1,
-        length-append (encoded_chunk 2 c) (flat_map (encoded_chunk 2) cs),
-        length-append (encoded_chunk 2 (normal_chunk c)) (flat_map (encoded_chunk 2) (map normal_chunk cs)),
-      ),
-    )
+chunk_serves : (kind : StringKind) (c : Chunk) → IsChunk kind c → IsChunk kind (normal_chunk c)
+chunk_serves kind c h = record {
+  fits = open_fits (length c.bytes) (length c.bytes) c.width (omega arith) h.fits;
+  bytes = h.bytes;
+  content = h.content;
+}
 
-text_chunks_serve : (cs : List Chunk) → AllByRecursion IsTextChunk cs → AllByRecursion IsTextChunk (map normal_chunk cs)
-    × (length (flat_map (encoded_chunk 3) (map normal_chunk cs)) ≤ length (flat_map (encoded_chunk 3) cs))
-text_chunks_serve [] h = (tt, omega arith)
-text_chunks_serve (c ∷ cs) h =
-    let others = text_chunks_serve cs h.1 in (
-      (
-        record {
-          fits = open_fits (length c.bytes) (length c.bytes) c.width (omega arith) h.0.fits;
-          bytes =
-              h.0.bytes;
-          utf8 = h.0.utf8;
-        },
-        others.0,
-      ),
+chunks_serve : (kind : StringKind) (cs : List Chunk) → AllByRecursion (IsChunk kind) cs
+    → AllByRecursion (IsChunk kind) (map normal_chunk cs)
+    × (length (flat_map (encoded_chunk (major_of kind)) (map normal_chunk cs) ++ break_byte ∷ [])
+    ≤ length (flat_map (encoded_chunk (major_of kind)) cs ++ break_byte ∷ []))
+chunks_serve kind [] h = (tt, omega arith)
+chunks_serve kind (c ∷ cs) h =
+    let major = major_of kind in
+    let others = chunks_serve kind cs h.1 in
+    let rest = flat_map (encoded_chunk major) cs in
+    let normal_rest = flat_map (encoded_chunk major) (map normal_chunk cs) in (
+      (chunk_serves kind c h.0, others.0),
       omega (
         arith,
-        string_no_longer 3 c c.bytes h.0.fits (omega arith),
+        string_no_longer major c c.bytes h.0.fits (omega arith),
         others.1,
-        length-append (encoded_chunk 3 c) (flat_map (encoded_chunk 3) cs),
-        length-append (encoded_chunk 3 (normal_chunk c)) (flat_map (encoded_chunk 3) (map normal_chunk cs)),
+        length-append (encoded_chunk major c) rest,
+        length-append (encoded_chunk major (normal_chunk c)) normal_rest,
+        length-append rest (break_byte ∷ []),
+        length-append normal_rest (break_byte ∷ []),
+        length-append (encoded_chunk major c ++ rest) (break_byte ∷ []),
+        length-append (encoded_chunk major (normal_chunk c) ++ normal_rest) (break_byte ∷ []),
       ),
     )
 
@@ -367,38 +358,13 @@ module _ (level left : ℕ) (levels : (level + 1) + left ≡ 129) (into : Option
   atom_serves tag (byte_string c) h =
       let x = normal_content left (into None) tag c.bytes in
       let s = content_serves (level + 1) left levels (into None) (serves None) tag c.bytes h.bytes in (
-        record { fits = open_fits (length x) (length c.bytes) c.width s.no_longer h.fits; bytes = s.bytes },
+        record { fits = open_fits (length x) (length c.bytes) c.width s.no_longer h.fits; bytes = s.bytes; content = tt },
         string_no_longer 2 c x h.fits s.no_longer,
       )
-  atom_serves tag (text_string c) h = (
-    record {
-      fits = open_fits (length c.bytes) (length c.bytes) c.width (omega arith) h.fits;
-      bytes = h.bytes;
-      utf8 =
-          h.utf8;
-    },
-    string_no_longer 3 c c.bytes h.fits (omega arith),
-  )
-  atom_serves tag (byte_chunks cs) h =
-      let s = byte_chunks_serve cs h in (
-        s.0,
-        omega (
-          arith,
-          s.1,
-          length-append (flat_map (encoded_chunk 2) (map normal_chunk cs)) (break_byte ∷ []),
-          length-append (flat_map (encoded_chunk 2) cs) (break_byte ∷ []),
-        ),
-      )
-  atom_serves tag (text_chunks cs) h =
-      let s = text_chunks_serve cs h in (
-        s.0,
-        omega (
-          arith,
-          s.1,
-          length-append (flat_map (encoded_chunk 3) (map normal_chunk cs)) (break_byte ∷ []),
-          length-append (flat_map (encoded_chunk 3) cs) (break_byte ∷ []),
-        ),
-      )
+  atom_serves tag (text_string c) h =
+      (chunk_serves text_kind c h, string_no_longer 3 c c.bytes h.fits (omega arith))
+  atom_serves tag (byte_chunks cs) h = let s = chunks_serve bytes_kind cs h in (s.0, omega (arith, s.1))
+  atom_serves tag (text_chunks cs) h = let s = chunks_serve text_kind cs h in (s.0, omega (arith, s.1))
   atom_serves tag (float bits w) h = (float_fits bits w h, omega (arith, ap length (normal_float bits w)))
   atom_serves tag (simple n) h = (h, omega arith)
 

@@ -6,7 +6,7 @@ use Rattle.cbor_notes.specs.Token.{nothing}
 use Rattle.cbor_diag.specs.Item as spec
 use Rattle.cbor_diag.specs.Item.{Chunk, Atom, integer, negative, byte_string, text_string, byte_chunks, text_chunks}
 use Rattle.cbor_diag.specs.Item.{float, simple, Item, atom, array, tagged}
-use Rattle.cbor_diag.specs.Bytes.{StringKind, bytes_kind, text_kind}
+use Rattle.cbor_diag.specs.StringKind.{StringKind, bytes_kind, text_kind}
 use Rattle.cbor_diag.specs.Reading.{Read}
 use Rattle.cbor_diag.specs.Notation.{IsBlank, Opens, StringOf, ChunksOf, AtomCore, Core, Reads}
 use Rattle.cbor_diag.specs.mirror.NotationReading.{skip_blank, byte_string_of, read_byte_string, text_string_of}

@@ -6,7 +6,7 @@ use Rattle.std.proofs.lemmas.List.{append_assoc}
 use Rattle.cbor_diag.specs.declared.parse.notation.start.Start.{Start}
 use Rattle.cbor_diag.specs.declared.parse.notation.start.Start.TheVariants as start
 use Rattle.cbor_diag.specs.Item.{Chunk, Atom, byte_chunks, text_chunks, Item, atom}
-use Rattle.cbor_diag.specs.Bytes.{StringKind, bytes_kind, text_kind}
+use Rattle.cbor_diag.specs.StringKind.{StringKind, bytes_kind, text_kind}
 use Rattle.cbor_diag.specs.Reading.{Read, ◌>>=◌}
 use Rattle.cbor_diag.specs.Notation.{Blanked, Closes, Members, StringOf, ChunksOf}
 use Rattle.cbor_diag.specs.mirror.NotationReading.{skip_blank, start_of, first_start, begins_string, read_chunk}

@@ -14,7 +14,7 @@ use Rattle.cbor_diag.specs.declared.parse.notation.start.Start.TheVariants as st
 use Rattle.cbor_diag.specs.Item.{Item, item_count, pair_count}
 use Rattle.cbor_diag.specs.View.{view, items_view, pairs_view}
 use Rattle.cbor_diag.specs.WellFormed.{WellFormed, WellFormedItems, WellFormedPairs, FitsCount}
-use Rattle.cbor_diag.specs.Bytes.{StringKind, text_kind}
+use Rattle.cbor_diag.specs.StringKind.{StringKind, text_kind}
 use Rattle.cbor_diag.specs.Reading.{Read, ◌>>=◌, Fails}
 use Rattle.cbor_diag.specs.mirror.NotationReading.{or_refused, after_byte, skip_blank, read_pair, first_start, rest_of}
 use Rattle.cbor_diag.specs.mirror.NotationReading.{core_of, read_core, read_item, piece_of, read_piece, begins_piece}

@@ -8,7 +8,7 @@ use Rattle.cbor_diag.specs.declared.error.Error.TheVariants as refusal
 use Rattle.cbor_diag.specs.declared.parse.notation.start.Start.{Start}
 use Rattle.cbor_diag.specs.declared.parse.notation.start.Start.TheVariants as start
 use Rattle.cbor_diag.specs.Item.{Item}
-use Rattle.cbor_diag.specs.Bytes.{StringKind, bytes_kind, text_kind}
+use Rattle.cbor_diag.specs.StringKind.{StringKind, bytes_kind, text_kind}
 use Rattle.cbor_diag.specs.Reading.{Read, ◌>>=◌}
 use Rattle.cbor_diag.specs.mirror.NotationReading.{or_refused, after_byte, after_word, read_unsigned_number}
 use Rattle.cbor_diag.specs.mirror.NotationReading.{integer_or_tag, read_integer, after_end, more_members, members_from}

@@ -11,7 +11,7 @@ use Rattle.cbor_notes.proofs.tokens.Quoted.{unquoted-plain, closes}
 use Rattle.cbor_notes.proofs.tokens.TextPlaces.{first_at}
 use Rattle.cbor_diag.specs.declared.error.Error.{Error}
 use Rattle.cbor_diag.specs.Item.{Item, Atom, Chunk, atom, text_string}
-use Rattle.cbor_diag.specs.Bytes.{bytes_kind, text_kind}
+use Rattle.cbor_diag.specs.StringKind.{bytes_kind, text_kind}
 use Rattle.cbor_diag.specs.Reading.{Read, ◌>>=◌}
 use Rattle.cbor_diag.specs.mirror.NotationReading.{after_word, or_refused, skip_blank, start_of, first_start}
 use Rattle.cbor_diag.specs.mirror.NotationReading.{begins_piece, ends_string, one_string, read_piece, read_pieces}

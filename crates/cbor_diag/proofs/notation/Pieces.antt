@@ -9,7 +9,7 @@ use Rattle.cbor_notes.proofs.tokens.Quoted.{unquoted-in_quotes}
 use Rattle.cbor_notes.proofs.tokens.Spaced.{digits_of-DigitsBetween}
 use Rattle.cbor_diag.specs.Item.{Item, Items, no_items, item}
 use Rattle.cbor_diag.specs.View.{items_of}
-use Rattle.cbor_diag.specs.Bytes.{StringKind, bytes_kind, text_kind}
+use Rattle.cbor_diag.specs.StringKind.{StringKind, bytes_kind, text_kind}
 use Rattle.cbor_diag.specs.Written.{encoded_items}
 use Rattle.cbor_diag.specs.Reading.{Read, ◌>>=◌}
 use Rattle.cbor_diag.specs.Notation.{IsBlank, QuotedBy, DigitsIn, Notation, in_base16, in_base32, in_base32hex}

@@ -8,7 +8,7 @@ use Rattle.cbor_notes.specs.Token.{in_quotes, escaped_byte}
 use Rattle.cbor_diag.specs.declared.syntax.IntegerWidth.{IntegerWidth}
 use Rattle.cbor_diag.specs.declared.syntax.IntegerWidth.TheVariants.{Unknown}
 use Rattle.cbor_diag.specs.Item.{Chunk, Item}
-use Rattle.cbor_diag.specs.Bytes.{StringKind, bytes_kind, text_kind, IsContent}
+use Rattle.cbor_diag.specs.StringKind.{StringKind, bytes_kind, text_kind, IsContent}
 use Rattle.cbor_diag.specs.Reading.{Read}
 use Rattle.cbor_diag.specs.Notation.{IsBlank, QuotedBy, Notation, in_base16, in_base32, in_base32hex, in_base64}
 use Rattle.cbor_diag.specs.Notation.{as_text, as_items, PieceOf, Joined, one, more, StringOf}

@@ -17,7 +17,8 @@ use Rattle.cbor_diag.specs.WellFormed.{WellFormed, WellFormedItems}
 use Rattle.cbor_diag.proofs.bytes.Heads.{IsBytes, IsBytes-drop, IsBytes-take}
 use Rattle.cbor_diag.proofs.bytes.PublicReaders.{whole_well_formed}
 use Rattle.cbor_diag.proofs.bytes.Sizes.{one_byte}
-use Rattle.cbor_diag.proofs.bytes.Found.{item_again, item_takes}
+use Rattle.cbor_diag.proofs.bytes.Found.{item_takes}
+use Rattle.cbor_diag.proofs.bytes.FoundAgain.{item_again}
 use Rattle.cbor_diag.proofs.bytes.Refusals.{item_nothing}
 use Rattle.cbor_diag.proofs.bytes.ExactlyOne.{outcome_reads}
 use Rattle.cbor_diag.proofs.notation.ChunkLoops.{joined, joined-none, item_joins}

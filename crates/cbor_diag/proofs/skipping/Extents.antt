@@ -16,7 +16,7 @@ use Rattle.cbor_diag.specs.Reading.{Read, read_item}
 use Rattle.cbor_diag.specs.Extent.{IfItem, IfFault, FaultEnds, IsExtent}
 use Rattle.cbor_diag.specs.mirror.Skipping.{rest_of, here, Goes, Shows, skip_item}
 use Rattle.cbor_diag.proofs.bytes.Heads.{IsBytes, IsBytes-take}
-use Rattle.cbor_diag.proofs.bytes.Found.{spelled_begins, item_again}
+use Rattle.cbor_diag.proofs.bytes.FoundAgain.{spelled_begins, item_again}
 use Rattle.cbor_diag.proofs.bytes.CutShort.{cut_takes, cut_again, fault_no_cut}
 use Rattle.cbor_diag.proofs.bytes.Faults.{fault_takes, fault_refuses, fault_append}
 use Rattle.cbor_diag.proofs.bytes.Outcomes.{found_outcome}

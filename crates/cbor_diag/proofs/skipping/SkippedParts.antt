@@ -17,7 +17,7 @@ use Rattle.cbor_diag.specs.Item.{Item, atom, byte_string, text_string, byte_chun
 use Rattle.cbor_diag.specs.Item.{no_items, item, no_pairs, pair}
 use Rattle.cbor_diag.specs.Head.{break_byte}
 use Rattle.cbor_diag.specs.WellFormed.{deepest}
-use Rattle.cbor_diag.specs.Bytes.{bytes_kind, text_kind}
+use Rattle.cbor_diag.specs.StringKind.{bytes_kind, text_kind}
 use Rattle.cbor_diag.specs.Reading.{Read, ◌>>=◌, read_content, read_chunks, read_items, read_pair, read_pairs}
 use Rattle.cbor_diag.specs.Reading.{after_break, unless_break, read_open_items, read_open_pairs, read_item}
 use Rattle.cbor_diag.specs.declared.syntax.IntegerWidth.{IntegerWidth}

@@ -16,7 +16,7 @@ use Rattle.cbor_diag.specs.declared.parse.binary.skip.Stop.{Stop}
 use Rattle.cbor_diag.specs.declared.parse.binary.skip.Stop.TheVariants as stops
 use Rattle.cbor_diag.specs.Item.{Chunk}
 use Rattle.cbor_diag.specs.Head.{break_byte}
-use Rattle.cbor_diag.specs.Bytes.{StringKind, bytes_kind, text_kind, major_of, IsContent}
+use Rattle.cbor_diag.specs.StringKind.{StringKind, bytes_kind, text_kind, major_of, IsContent}
 use Rattle.cbor_diag.specs.Refused.{BadHead, no_info, no_length}
 use Rattle.cbor_diag.specs.Reading.{Read, ◌>>=◌, read_info, head_of, read_head, read_content, chunk_of, read_chunk}
 use Rattle.cbor_diag.specs.Reading.{more_chunks, read_chunks, read_body, read_item}

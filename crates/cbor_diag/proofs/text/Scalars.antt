@@ -5,7 +5,7 @@ use Rattle.std.specs.List.{flat_map, list_any}
 use Rattle.std.proofs.lemmas.List.{length-take, take_more, drop_more, drop-append-le, drop_at, append-nil}
 use Rattle.std.proofs.lemmas.Grind.{flat_map-append}
 use Rattle.std.proofs.lemmas.Bool.Decides.{nat_tests}
-use Rattle.cbor_diag.specs.NotationText.{is_escaped, escaped, members, bracketed, opened, chunks_text}
+use Rattle.cbor_diag.specs.NotationText.{is_escaped, escaped, members, bracketed, opened, chunks_listed}
 use Rattle.cbor_diag.specs.ContainerStyle as style
 use Rattle.cbor_diag.specs.ContainerStyle.{ContainerStyle, OneLine, MultiLine}
 use Rattle.cbor_diag.specs.mirror.LayoutView.{before_member, after_member}
@@ -111,6 +111,6 @@ members_end l first out old ms h = sym (append-nil out) ∙ h ∙ ap (λ r. old 
 -- the chunks of a string that has some
 pub chunks_written : {X : Type 0} (l : ContainerStyle) (empty : List ℕ) (f : X → List ℕ) (xs : List X)
     → eqb (length xs) 0 ≡ false
-    → chunks_text l empty (map f xs) ≡ bracketed l (opened l (codes "(") None) (map f xs) (codes ")")
+    → chunks_listed l empty (map f xs) ≡ bracketed l (opened l (codes "(") None) (map f xs) (codes ")")
 chunks_written l empty f [] some = absurd cc
 chunks_written l empty f (x ∷ xs) some = refl

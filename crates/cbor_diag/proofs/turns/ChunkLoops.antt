@@ -5,7 +5,7 @@ use Rattle.std.proofs.lemmas.List.{append-nil}
 use Rattle.cbor_diag.specs.declared.error.Error.{Error}
 use Rattle.cbor_diag.specs.declared.error.Error.TheVariants as refusal
 use Rattle.cbor_diag.specs.Item.{Chunk}
-use Rattle.cbor_diag.specs.Bytes.{StringKind}
+use Rattle.cbor_diag.specs.StringKind.{StringKind}
 use Rattle.cbor_diag.specs.Reading.{Read, Fails, read_chunk}
 use Rattle.cbor_diag.specs.mirror.Counting.{Counted, later, go_on, ◌>>-◌, Stops, counted_more, counted_chunks}
 use Rattle.cbor_diag.proofs.turns.Counting.{later_later, then_later, then_then, then_same, then_grows}

@@ -8,7 +8,8 @@ use Rattle.cbor_diag.specs.declared.parse.binary.head.ItemHead.TheVariants as it
 use Rattle.cbor_diag.specs.Item as spec
 use Rattle.cbor_diag.specs.Item.{Chunk, Atom, byte_string, text_string, byte_chunks, text_chunks, Item, atom, array}
 use Rattle.cbor_diag.specs.Item.{tagged, Items, no_items, item, Pairs, no_pairs, pair, item_count, pair_count}
-use Rattle.cbor_diag.specs.Bytes.{StringKind, bytes_kind, text_kind, any, MembersThen, Spells, SpellsItems, SpellsPairs}
+use Rattle.cbor_diag.specs.Bytes.{any, MembersThen, Spells, SpellsItems, SpellsPairs}
+use Rattle.cbor_diag.specs.StringKind.{StringKind, bytes_kind, text_kind}
 use Rattle.cbor_diag.specs.Head.{break_byte}
 use Rattle.cbor_diag.specs.Reading.{Read, ◌>>=◌, read_head, read_content, read_chunk, after_break, read_item}
 use Rattle.cbor_diag.specs.Turns.{atom_turns, item_turns, items_turns, pairs_turns}
@@ -16,7 +17,7 @@ use Rattle.cbor_diag.specs.mirror.Counting.{Counted, go_on, ◌>>-◌, counted_m
 use Rattle.cbor_diag.specs.mirror.Counting.{so_many, to_break, Frame, items_in, pairs_in, value_of, tag_of, tagged_with}
 use Rattle.cbor_diag.specs.mirror.Counting.{put, goes_on, opened, read_part, counted_item}
 use Rattle.cbor_diag.proofs.bytes.Heads.{head_shorter}
-use Rattle.cbor_diag.proofs.bytes.Found.{item_again}
+use Rattle.cbor_diag.proofs.bytes.FoundAgain.{item_again}
 use Rattle.cbor_diag.proofs.bytes.Sizes.{open_bound, one_byte}
 use Rattle.cbor_diag.proofs.turns.Uncounted.{break_cases, item_first}
 

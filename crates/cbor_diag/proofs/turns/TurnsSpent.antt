@@ -7,7 +7,8 @@ use Rattle.cbor_diag.specs.declared.error.Error.TheVariants as refusal
 use Rattle.cbor_diag.specs.declared.parse.binary.head.ItemHead.TheVariants as item_head
 use Rattle.cbor_diag.specs.Item.{Chunk, Item, no_items, no_pairs}
 use Rattle.cbor_diag.specs.Head.{HeadThen}
-use Rattle.cbor_diag.specs.Bytes.{StringKind, bytes_kind, text_kind, major_of, SpellsChunks}
+use Rattle.cbor_diag.specs.Bytes.{SpellsChunks}
+use Rattle.cbor_diag.specs.StringKind.{StringKind, bytes_kind, text_kind, major_of}
 use Rattle.cbor_diag.specs.Refused.{SpelledParts, Next, Inside, in_tag, in_array, in_map, in_open_array, at_open_key}
 use Rattle.cbor_diag.specs.Refused.{at_open_value, InsideString, Cut, nothing, in_head, in_content, in_chunk, in_part}
 use Rattle.cbor_diag.specs.Refused.{BeginsWithBreak, NoBreakAt, BadHead, Fault, too_deep, bad_head, bad_text}
@@ -27,7 +28,7 @@ use Rattle.cbor_diag.proofs.bytes.MemberRefusals.{break_none}
 use Rattle.cbor_diag.proofs.bytes.Refusals.{cut_no_break}
 use Rattle.cbor_diag.proofs.bytes.CutShort.{cut_again}
 use Rattle.cbor_diag.proofs.bytes.Faults.{left_at, fault_level}
-use Rattle.cbor_diag.proofs.bytes.Found.{spelled_begins, no_break_at}
+use Rattle.cbor_diag.proofs.bytes.FoundAgain.{spelled_begins, no_break_at}
 use Rattle.cbor_diag.proofs.turns.Counting.{parts_more}
 use Rattle.cbor_diag.proofs.turns.Uncounted.{item_shortens}
 use Rattle.cbor_diag.proofs.turns.ItemTurns.{counted_again}

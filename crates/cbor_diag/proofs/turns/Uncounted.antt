@@ -8,7 +8,7 @@ use Rattle.cbor_diag.specs.declared.parse.binary.head.ItemHead.TheVariants as it
 use Rattle.cbor_diag.specs.Item as spec
 use Rattle.cbor_diag.specs.Item.{Chunk, Item, byte_chunks, text_chunks, atom, array, tagged, Items, no_items, item}
 use Rattle.cbor_diag.specs.Item.{Pairs, no_pairs, pair}
-use Rattle.cbor_diag.specs.Bytes.{StringKind, bytes_kind, text_kind}
+use Rattle.cbor_diag.specs.StringKind.{StringKind, bytes_kind, text_kind}
 use Rattle.cbor_diag.specs.Reading.{Read, ◌>>=◌, read_head, read_chunk, more_chunks, read_chunks, after_break}
 use Rattle.cbor_diag.specs.Reading.{read_items, read_pairs, read_open_items, read_open_pairs, read_body, read_item}
 use Rattle.cbor_diag.specs.mirror.Counting.{Counted, go_on, ◌>>-◌, counted_more, counted_chunks, joined, joined_pairs}

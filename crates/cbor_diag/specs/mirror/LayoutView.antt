@@ -10,11 +10,14 @@ use Rattle.cbor_diag.specs.declared.encode.notation.context.NotationContext.{Not
 use Rattle.cbor_diag.specs.Layout.{Content, Layout, Context}
 use Rattle.cbor_diag.specs.Layout as content
 use Rattle.cbor_diag.specs.ContainerStyle as style
+use Rattle.cbor_diag.specs.mirror.EncodingView.{encoding_view}
+use Rattle.cbor_diag.specs.StringKind.{StringKind}
 use Rattle.cbor_diag.specs.Item as spec
+use Rattle.cbor_diag.specs.Estimate.{estimated_chunks}
 use Rattle.cbor_diag.specs.WellFormed.{levels_left}
 use Rattle.cbor_diag.specs.NotationText.{indent_of, line, members, members_layout, inside, colon, item_texts}
 use Rattle.cbor_diag.specs.NotationText.{pair_texts}
-use Rattle.cbor_diag.specs.NotationText.{item_style, content_text, text_at_level}
+use Rattle.cbor_diag.specs.NotationText.{container_style, chunks_text, content_text, text_at_level}
 
 abbrev pub content_view : declared_content.Content → content.Content
 content_view code_content.Bytes = content.Bytes
@@ -31,7 +34,11 @@ style_view (code_style.OneLine indent) = style.OneLine indent
 style_view (code_style.MultiLine indent) = style.MultiLine indent
 
 abbrev pub context_view : NotationContext → Context
-context_view c = record { layout = layout_view c.layout; encoding = c.encoding; content = content_view c.content }
+context_view c = record {
+  layout = layout_view c.layout;
+  encoding = encoding_view c.encoding;
+  content = content_view c.content;
+}
 
 -- each level is indented by four blanks at most
 abbrev pub IsIndented : NotationContext → Type 0
@@ -51,9 +58,13 @@ abbrev pub after_member : style.ContainerStyle → List ℕ
 after_member (style.MultiLine indent) = codes ","
 after_member _ = []
 
--- the style of a chunked string there
-abbrev pub chunks_style : NotationContext → spec.Atom → style.ContainerStyle
-chunks_style c a = item_style (context_view c) (spec.atom a)
+-- the style of an indefinite string of these chunks there
+abbrev chunks_style : NotationContext → StringKind → List spec.Chunk → style.ContainerStyle
+chunks_style c kind cs = container_style (layout_view c.layout) (4 + estimated_chunks kind cs)
+
+-- the text of an indefinite string of these chunks there
+abbrev pub chunks_there : NotationContext → StringKind → List spec.Chunk → List ℕ
+chunks_there c kind cs = chunks_text kind (encoding_view c.encoding) (chunks_style c kind cs) cs
 
 -- the texts of the members of a container there, in this style
 abbrev pub items_there : NotationContext → style.ContainerStyle → spec.Items → List ℕ

@@ -6,7 +6,6 @@ use Rattle.std.specs.Prelude.{position, codes, Option, Some, None, option_and_th
 use Rattle.std.specs.Prelude.{true, false, not, nat_lt, nat_le, nat_eq, bytes_eq, ◌==◌, ◌&&◌, ◌||◌, if◌then◌else◌}
 use Rattle.std.specs.List.{starts_with, before_first, list_all}
 use Rattle.std.specs.Char.{digit_value}
-use Rattle.std.specs.Str.{is_utf8}
 use Rattle.std.specs.Str.Parse.{digits_value}
 use Rattle.std.specs.Int.Digits.{number_from_digits}
 use Rattle.hex.specs.declared.error.FromHexError.{FromHexError}
@@ -27,8 +26,8 @@ use Rattle.cbor_diag.specs.Item as spec
 use Rattle.cbor_diag.specs.Item.{Chunk, integer, negative, byte_string, text_string, byte_chunks, text_chunks, float}
 use Rattle.cbor_diag.specs.Item.{simple, Item, atom, array, tagged}
 use Rattle.cbor_diag.specs.View.{items_of, pairs_of}
-use Rattle.cbor_diag.specs.Bytes.{StringKind, bytes_kind, text_kind}
-use Rattle.cbor_diag.specs.Reading.{Read, ◌>>=◌}
+use Rattle.cbor_diag.specs.StringKind.{StringKind, bytes_kind, text_kind}
+use Rattle.cbor_diag.specs.Reading.{Read, ◌>>=◌, checked_chunk}
 use Rattle.cbor_diag.specs.Written.{encoded_items}
 use Rattle.cbor_diag.specs.Notation.{width_of, number_width}
 
@@ -315,9 +314,7 @@ may_have_texts text_kind = true
 
 -- the content of a string, which is UTF-8 in a text string
 abbrev pub checked : StringKind → List ℕ → Result Chunk Error
-checked bytes_kind content = Ok (record { bytes = content; width = Unknown })
-checked text_kind content = if is_utf8 content then Ok (record { bytes = content; width = Unknown })
-    else Err refusal.Utf8
+checked kind content = checked_chunk kind Unknown content
 
 abbrev pub string_of : (List ℕ → Read Item) → StringKind → List ℕ → Bool → Read Chunk
 string_of read kind text false = Err refusal.Notation

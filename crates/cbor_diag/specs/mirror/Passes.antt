@@ -8,6 +8,7 @@ use Rattle.cbor_diag.specs.declared.encode.dump.context.DumpContext.{DumpContext
 use Rattle.cbor_diag.specs.declared.encode.dump.pass.Pass.{Pass}
 use Rattle.cbor_diag.specs.declared.encode.dump.pass.Pass.TheVariants as pass
 use Rattle.cbor_diag.specs.Dump.{At}
+use Rattle.cbor_diag.specs.mirror.EncodingView.{in_force}
 use Rattle.cbor_diag.specs.mirror.ShownLines.{Takes, most_width}
 
 -- ---- where an item is
@@ -17,7 +18,7 @@ tag_number (Some t) = Some t.0
 tag_number None = None
 
 abbrev pub at_of : DumpContext → At
-at_of c = record { depth = c.depth; encoding = c.encoding; tag = tag_number c.tag; shared = c.shared }
+at_of c = record { depth = c.depth; encoding = in_force c.encoding; tag = tag_number c.tag; shared = c.shared }
 
 -- an item is less deep than its level, which is at most one past the deepest
 abbrev pub IsContext : DumpContext → Type 0

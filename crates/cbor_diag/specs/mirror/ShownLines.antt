@@ -13,6 +13,7 @@ use Rattle.cbor_diag.specs.declared.encode.dump.hex_style.HexStyle.TheVariants.{
 use Rattle.cbor_diag.specs.Comments.{unsigned_comment, negative_comment, float_comment, simple_comment, counted_comment}
 use Rattle.cbor_diag.specs.Comments.{tag_comment, bytes_comment, text_comment, empty_comment, break_comment}
 use Rattle.cbor_diag.specs.Dump.{head_hex}
+use Rattle.cbor_diag.specs.mirror.EncodingView.{in_force}
 
 -- the word of a string or a container
 abbrev pub major_word : Major → List ℕ
@@ -37,7 +38,7 @@ comment_text (comment.Float bytes) = float_comment bytes.now
 comment_text (comment.Simple n) = simple_comment n
 comment_text comment.Break = break_comment
 comment_text comment.Empty = empty_comment
-comment_text (comment.Bytes encoding whole piece) = bytes_comment encoding whole.now piece.now
+comment_text (comment.Bytes encoding whole piece) = bytes_comment (in_force encoding) whole.now piece.now
 comment_text (comment.Text piece) = text_comment piece.now
 comment_text (comment.Element tag piece) = unwrap_or (element_text tag.0 piece.now) []
 comment_text (comment.Note text) = text.now

@@ -19,7 +19,7 @@ use Rattle.cbor_diag.specs.declared.parse.binary.skip.to_come.Count.TheVariants.
 use Rattle.cbor_diag.specs.declared.parse.binary.skip.to_come.ToCome.{ToCome}
 use Rattle.cbor_diag.specs.declared.parse.binary.skip.to_come.ToCome.TheVariants.{Items, Pairs, Value}
 use Rattle.cbor_diag.specs.WellFormed.{deepest}
-use Rattle.cbor_diag.specs.Bytes.{StringKind, bytes_kind, text_kind}
+use Rattle.cbor_diag.specs.StringKind.{StringKind, bytes_kind, text_kind}
 use Rattle.cbor_diag.specs.Reading.{Read, ◌>>=◌, read_content, read_chunks, read_items, read_pairs, after_break}
 use Rattle.cbor_diag.specs.Reading.{read_open_items}
 use Rattle.cbor_diag.specs.Reading.{read_open_pairs, read_body, read_item}

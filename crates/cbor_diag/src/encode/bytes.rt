@@ -7,11 +7,13 @@
 ghost use Rattle.std.specs.Prelude.{◌≡◌, ◌++◌, if◌then◌else◌, ℕ, List, ◌↔◌, length, map, OnOk};
 ghost use Rattle.std.specs.Prelude.{OnErr, IfOk, IfErr};
 ghost use Rattle.std.specs.List.{AllByRecursion};
-ghost use Rattle.cbor_diag.specs.Head.{FitsWidth, major_number};
+ghost use Rattle.cbor_diag.specs.Head.{FitsWidth};
+ghost use Rattle.cbor_diag.specs.mirror.MajorNumber.{major_number};
 ghost use Rattle.cbor_diag.specs.mirror.Appends.{Appends};
-ghost use Rattle.cbor_diag.specs.View.{view, items_view, pairs_view, byte_chunk, text_chunk};
+ghost use Rattle.cbor_diag.specs.StringKind.{major_of};
+ghost use Rattle.cbor_diag.specs.View.{view, items_view, pairs_view};
 ghost use Rattle.cbor_diag.specs.WellFormed.{WellFormed, WellFormedItems, WellFormedPairs};
-ghost use Rattle.cbor_diag.specs.WellFormed.{IsByteChunk, IsTextChunk};
+ghost use Rattle.cbor_diag.specs.WellFormed.{IsChunk};
 ghost use Rattle.cbor_diag.specs.Facts.{IsItem, IsStrictItem, IsWellFormed};
 ghost use Rattle.cbor_diag.specs.Item as spec;
 ghost use Rattle.cbor_diag.specs.Item.{Item};
@@ -21,7 +23,8 @@ ghost use Rattle.cbor_diag.specs.Written.{encoded_chunk, encoded_chunks};
 use super::head::{push_close, push_float, push_head, push_open, push_simple};
 use crate::error::Error;
 use crate::syntax::major::Major;
-use crate::syntax::{ByteString, DataItem, IntegerWidth, Tag, TextString};
+use crate::syntax::strings::DefiniteString;
+use crate::syntax::{DataItem, IntegerWidth, Tag};
 use std::alloc::{AllocError, Global};
 
 /// Writes a string of definite length: its bytes, or its UTF-8.
@@ -41,34 +44,18 @@ fn push_string(
     Ok(())
 }
 
-/// Writes the chunks of an indefinite byte string, from its opening byte to its break.
+/// Writes the chunks of an indefinite string, from its opening byte to its break.
 #[inline(never)]
-fn push_byte_chunks(out: &mut Vec<u8>, chunks: &[ByteString]) -> Result<(), AllocError>
-    requires { AllByRecursion IsByteChunk (map byte_chunk chunks.now) }
+fn push_chunks<S: DefiniteString>(out: &mut Vec<u8>, chunks: &[S]) -> Result<(), AllocError>
+    requires { AllByRecursion (IsChunk S.kind) (map S.chunk chunks.now) }
     ensures { Appends result out.old.items out.new.items
-        (encoded_chunks 2 (map byte_chunk chunks.now)) }
+        (encoded_chunks (major_of S.kind) (map S.chunk chunks.now)) }
 {
-    out.push(0x5f)?;
+    push_open(out, S::major(), chunks.len(), None)?;
     'chunks: for chunk in chunks {
-        push_string(out, Major::Bytes, &chunk.content, chunk.bitwidth)?;
+        push_string(out, S::major(), chunk.content().as_bytes(), chunk.width())?;
     }
-    out.push(0xff)?;
-    Ok(())
-}
-
-/// Writes the chunks of an indefinite text string, from its opening byte to its break.
-#[inline(never)]
-fn push_text_chunks(out: &mut Vec<u8>, chunks: &[TextString]) -> Result<(), AllocError>
-    requires { AllByRecursion IsTextChunk (map text_chunk chunks.now) }
-    ensures { Appends result out.old.items out.new.items
-        (encoded_chunks 3 (map text_chunk chunks.now)) }
-{
-    out.push(0x7f)?;
-    'chunks: for chunk in chunks {
-        push_string(out, Major::Text, chunk.content.as_bytes(), chunk.bitwidth)?;
-    }
-    out.push(0xff)?;
-    Ok(())
+    push_close(out, None)
 }
 
 /// The major type of an integer.
@@ -103,8 +90,8 @@ fn push_item(out: &mut Vec<u8>, item: &DataItem) -> Result<(), AllocError>
         DataItem::TextString(string) => {
             push_string(out, Major::Text, string.content.as_bytes(), string.bitwidth)
         }
-        DataItem::IndefiniteByteString(chunks) => push_byte_chunks(out, chunks),
-        DataItem::IndefiniteTextString(chunks) => push_text_chunks(out, chunks),
+        DataItem::IndefiniteByteString(chunks) => push_chunks(out, chunks),
+        DataItem::IndefiniteTextString(chunks) => push_chunks(out, chunks),
         DataItem::Array { content, bitwidth } => push_array(out, content, *bitwidth),
         DataItem::Map { content, bitwidth } => push_map(out, content, *bitwidth),
         DataItem::Tag {

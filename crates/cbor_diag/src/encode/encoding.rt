@@ -1,6 +1,7 @@
 //! How the bytes of a byte string are shown.
 ghost use Rattle.std.specs.Prelude.{◌≡◌};
 ghost use Rattle.cbor_diag.specs.Comments as spec;
+ghost use Rattle.cbor_diag.specs.mirror.EncodingView.{in_force};
 
 use crate::syntax::Tag;
 
@@ -18,7 +19,7 @@ pub(crate) enum Encoding {
 /// The encoding in which a dump shows byte strings below a tag: the tag's own (RFC 7049 section
 /// 2.4.4.2; base 16 below UUIDs and addresses, too), or the one outside.
 pub(crate) fn encoding_below(tag: Tag, outside: Option<Encoding>) -> Option<Encoding>
-    ensures { result ≡ spec.encoding_below tag.0 outside }
+    ensures { in_force result ≡ spec.encoding_below tag.0 (in_force outside) }
 {
     match tag {
         Tag::ENCODED_BASE64URL => Some(Encoding::Base64Url),

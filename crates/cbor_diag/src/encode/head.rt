@@ -4,7 +4,8 @@
 
 ghost use Rattle.cbor_diag.specs.mirror.Appends.{Appends};
 ghost use Rattle.std.specs.Prelude.{◌≡◌};
-ghost use Rattle.cbor_diag.specs.Head.{FitsWidth, major_number};
+ghost use Rattle.cbor_diag.specs.Head.{FitsWidth};
+ghost use Rattle.cbor_diag.specs.mirror.MajorNumber.{major_number};
 ghost use Rattle.cbor_diag.specs.WellFormed.{FitsFloat, FitsCount};
 ghost use Rattle.cbor_diag.specs.Written.{encoded_head, encoded_float, encoded_simple};
 ghost use Rattle.cbor_diag.specs.Written.{encoded_open, encoded_close};

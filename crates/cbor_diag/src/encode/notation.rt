@@ -16,8 +16,7 @@ ghost use Rattle.std.specs.String.{string_bytes};
 ghost use Rattle.cbor_diag.specs.mirror.Appends.{AppendsText};
 ghost use Rattle.cbor_diag.specs.View.{view, items_view, pairs_view};
 ghost use Rattle.cbor_diag.specs.Notation.{IsNotation};
-ghost use Rattle.cbor_diag.specs.declared.encode.encoding.Encoding.{Encoding};
-ghost use Rattle.cbor_diag.specs.declared.encode.encoding.Encoding.TheVariants.{Base16};
+ghost use Rattle.cbor_diag.specs.Encoding.{Encoding, Base16};
 ghost use Rattle.cbor_diag.specs.declared.syntax.IntegerWidth.{IntegerWidth};
 ghost use Rattle.cbor_diag.specs.Item as spec;
 ghost use Rattle.cbor_diag.specs.Item.{Chunk, Item, tagged};
@@ -40,8 +39,7 @@ use crate::syntax::{ByteString, DataItem, IntegerWidth, Tag, TextString};
 use context::{ContainerStyle, Content, Layout, NotationContext};
 use embedded::{embedded, sequence};
 use members::{
-    push_byte_chunks, push_closing, push_colon, push_end, push_opening, push_rest, push_start,
-    push_text_chunks,
+    push_chunks, push_closing, push_colon, push_end, push_opening, push_rest, push_start,
 };
 pub(crate) use scalars::push_quoted;
 use scalars::{push_float, push_negative, push_number, push_simple, push_text};
@@ -62,8 +60,8 @@ fn push_item(out: &mut String, item: &DataItem, context: &NotationContext) -> Re
         DataItem::Negative { value, bitwidth } => push_negative(out, *value, *bitwidth),
         DataItem::ByteString(string) => push_content(out, &string.content, context),
         DataItem::TextString(string) => push_text(out, string.content.as_str()),
-        DataItem::IndefiniteByteString(chunks) => push_byte_chunks(out, chunks, context),
-        DataItem::IndefiniteTextString(chunks) => push_text_chunks(out, chunks, context),
+        DataItem::IndefiniteByteString(chunks) => push_chunks(out, chunks, context),
+        DataItem::IndefiniteTextString(chunks) => push_chunks(out, chunks, context),
         DataItem::Array { content, bitwidth } => push_array(out, content, *bitwidth, context),
         DataItem::Map { content, bitwidth } => push_map(out, content, *bitwidth, context),
         DataItem::Tag {

@@ -35,7 +35,7 @@ use head::{ItemHead, read_head};
 pub use skip::{Extent, extent};
 use stack::Stack;
 use std::alloc::Global;
-use strings::{DefiniteString, read_chunks};
+use strings::{read_chunks, read_string};
 
 /// The error below the deepest level: `TooDeep` if there are bytes for an item, and else
 /// `CutShort`.
@@ -87,11 +87,11 @@ fn read_atom<'a>(
         ItemHead::Float(bits, bitwidth) => Ok((DataItem::Float { bits, bitwidth }, bytes)),
         ItemHead::Simple(value) => Ok((DataItem::Simple(Simple(value)), bytes)),
         ItemHead::Bytes(count, bitwidth) => {
-            let (string, rest) = ByteString::read(alloc, count, bitwidth, bytes)?;
+            let (string, rest) = read_string(alloc, count, bitwidth, bytes)?;
             Ok((DataItem::ByteString(string), rest))
         }
         ItemHead::Text(count, bitwidth) => {
-            let (string, rest) = TextString::read(alloc, count, bitwidth, bytes)?;
+            let (string, rest) = read_string(alloc, count, bitwidth, bytes)?;
             Ok((DataItem::TextString(string), rest))
         }
         ItemHead::OpenBytes => {

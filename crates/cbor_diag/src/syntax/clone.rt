@@ -3,6 +3,7 @@
 ghost use Rattle.std.specs.Prelude.{◌≡◌, IfErr, IfOk, map};
 ghost use Rattle.cbor_diag.specs.View.{view, items_view, pairs_view, byte_chunk, text_chunk};
 
+use super::strings::DefiniteString;
 use super::{ByteString, DataItem, TextString};
 use crate::error::{Error, Result};
 use std::alloc::Global;
@@ -37,26 +38,14 @@ impl TextString {
     }
 }
 
-/// Copies of the chunks of a byte string, in order.
-fn clone_byte_chunks(alloc: Global, chunks: &[ByteString]) -> Result<Vec<ByteString>>
-    ensures equal { IfOk result (λ v. map byte_chunk v.items ≡ map byte_chunk chunks.now) }
+/// Copies of the chunks of a string, in order.
+fn clone_chunks<S: DefiniteString>(alloc: Global, chunks: &[S]) -> Result<Vec<S>>
+    ensures equal { IfOk result (λ v. map S.chunk v.items ≡ map S.chunk chunks.now) }
     ensures refused { IfErr result (λ e. e ≡ Error.Memory) }
 {
     let mut copies = Vec::with_capacity(alloc, chunks.len())?;
     'chunks: for chunk in chunks {
-        copies.push(chunk.clone(alloc)?)?;
-    }
-    Ok(copies)
-}
-
-/// Copies of the chunks of a text string, in order.
-fn clone_text_chunks(alloc: Global, chunks: &[TextString]) -> Result<Vec<TextString>>
-    ensures equal { IfOk result (λ v. map text_chunk v.items ≡ map text_chunk chunks.now) }
-    ensures refused { IfErr result (λ e. e ≡ Error.Memory) }
-{
-    let mut copies = Vec::with_capacity(alloc, chunks.len())?;
-    'chunks: for chunk in chunks {
-        copies.push(chunk.clone(alloc)?)?;
+        copies.push(chunk.copy(alloc)?)?;
     }
     Ok(copies)
 }
@@ -77,11 +66,11 @@ impl DataItem {
             DataItem::ByteString(ref string) => Ok(DataItem::ByteString(string.clone(alloc)?)),
             DataItem::TextString(ref string) => Ok(DataItem::TextString(string.clone(alloc)?)),
             DataItem::IndefiniteByteString(ref chunks) => {
-                let chunks = clone_byte_chunks(alloc, chunks)?;
+                let chunks = clone_chunks(alloc, chunks)?;
                 Ok(DataItem::IndefiniteByteString(chunks))
             }
             DataItem::IndefiniteTextString(ref chunks) => {
-                let chunks = clone_text_chunks(alloc, chunks)?;
+                let chunks = clone_chunks(alloc, chunks)?;
                 Ok(DataItem::IndefiniteTextString(chunks))
             }
             DataItem::Array {

@@ -9,6 +9,7 @@ ghost use Rattle.cbor_diag.specs.View.{view, items_view, pairs_view, byte_chunk,
 ghost use Rattle.cbor_diag.specs.Same.{same_item};
 ghost use Rattle.cbor_diag.specs.mirror.SameDecides.{same_equivalence};
 
+use super::strings::DefiniteString;
 use super::{ByteString, DataItem, FloatWidth, IntegerWidth, Simple, Tag, TextString};
 
 impl PartialEq for DataItem {
@@ -29,16 +30,9 @@ impl Eq for DataItem {
     ghost laws = { on_equiv view same_equivalence };
 }
 
-/// Whether the chunks of two byte strings are equal.
-fn byte_chunks_equal(a: &[ByteString], b: &[ByteString]) -> bool
-    ensures { IsTrue result ↔ (map byte_chunk a.now ≡ map byte_chunk b.now) }
-{
-    a == b
-}
-
-/// Whether the chunks of two text strings are equal.
-fn text_chunks_equal(a: &[TextString], b: &[TextString]) -> bool
-    ensures { IsTrue result ↔ (map text_chunk a.now ≡ map text_chunk b.now) }
+/// Whether the chunks of two strings are equal.
+fn chunks_equal<S: DefiniteString>(a: &[S], b: &[S]) -> bool
+    ensures { IsTrue result ↔ (map S.chunk a.now ≡ map S.chunk b.now) }
 {
     a == b
 }
@@ -109,7 +103,7 @@ impl DataItem {
         ensures { IsTrue result ↔ (view self.now ≡ atom (byte_chunks (map byte_chunk chunks.now))) }
     {
         match self {
-            DataItem::IndefiniteByteString(own) => byte_chunks_equal(own, chunks),
+            DataItem::IndefiniteByteString(own) => chunks_equal(own, chunks),
             _ => false,
         }
     }
@@ -119,7 +113,7 @@ impl DataItem {
         ensures { IsTrue result ↔ (view self.now ≡ atom (text_chunks (map text_chunk chunks.now))) }
     {
         match self {
-            DataItem::IndefiniteTextString(own) => text_chunks_equal(own, chunks),
+            DataItem::IndefiniteTextString(own) => chunks_equal(own, chunks),
             _ => false,
         }
     }

@@ -1,6 +1,6 @@
 //! Major types (RFC 7049 section 2.1).
 ghost use Rattle.std.specs.Prelude.{◌≡◌, ◌≤◌, ◌*◌, ◌/◌};
-ghost use Rattle.cbor_diag.specs.Head.{major_number};
+ghost use Rattle.cbor_diag.specs.mirror.MajorNumber.{major_number};
 
 /// The major type of a head: the three high bits of its first byte (RFC 7049 section 2.1).
 #[derive(Clone, Copy)]

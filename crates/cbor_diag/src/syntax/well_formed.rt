@@ -1,46 +1,28 @@
 //! Whether an item has an encoding: each number fits its width, and no level is deeper than 128.
 ghost use Rattle.std.specs.Prelude.{◌↔◌, IsTrue, map};
 ghost use Rattle.std.specs.List.{AllByRecursion};
-ghost use Rattle.cbor_diag.specs.View.{view, items_view, pairs_view, byte_chunk, text_chunk};
+ghost use Rattle.cbor_diag.specs.View.{view, items_view, pairs_view};
 ghost use Rattle.cbor_diag.specs.Facts.{IsWellFormed};
 ghost use Rattle.cbor_diag.specs.WellFormed.{WellFormed, WellFormedItems, WellFormedPairs};
-ghost use Rattle.cbor_diag.specs.WellFormed.{IsByteChunk, IsTextChunk};
+ghost use Rattle.cbor_diag.specs.WellFormed.{IsChunk};
 
+use super::strings::DefiniteString;
 use super::width::count_fits;
-use super::{ByteString, DEEPEST, DataItem, TextString};
+use super::{DEEPEST, DataItem};
 
-impl ByteString {
-    /// Whether the length fits its width.
-    fn length_fits(&self) -> bool
-        ensures { IsTrue result ↔ IsByteChunk (byte_chunk self.now) }
-    {
-        let content = self.content.as_slice();
-        self.bitwidth.fits(content.len() as u64)
-    }
-}
-
-impl TextString {
-    /// Whether the length, in bytes of UTF-8, fits its width.
-    fn length_fits(&self) -> bool
-        ensures { IsTrue result ↔ IsTextChunk (text_chunk self.now) }
-    {
-        let content = self.content.as_str();
-        self.bitwidth.fits(content.len() as u64)
-    }
-}
-
-/// Whether the length of each chunk of a byte string fits its width.
-fn byte_chunks_fit(chunks: &[ByteString]) -> bool
-    ensures { IsTrue result ↔ AllByRecursion IsByteChunk (map byte_chunk chunks.now) }
+/// Whether the length of the content fits its width.
+fn length_fits<S: DefiniteString>(string: &S) -> bool
+    ensures { IsTrue result ↔ IsChunk S.kind (S.chunk string.now) }
 {
-    chunks.iter().all(ByteString::length_fits)
+    let content = string.content().as_bytes();
+    string.width().fits(content.len() as u64)
 }
 
-/// Whether the length of each chunk of a text string fits its width.
-fn text_chunks_fit(chunks: &[TextString]) -> bool
-    ensures { IsTrue result ↔ AllByRecursion IsTextChunk (map text_chunk chunks.now) }
+/// Whether the length of each chunk fits its width.
+fn chunks_fit<S: DefiniteString>(chunks: &[S]) -> bool
+    ensures { IsTrue result ↔ AllByRecursion (IsChunk S.kind) (map S.chunk chunks.now) }
 {
-    chunks.iter().all(TextString::length_fits)
+    chunks.iter().all(length_fits)
 }
 
 /// Whether an item at this level is well formed; what is past the deepest level is
@@ -56,10 +38,10 @@ fn well_formed_at_level(item: &DataItem, level: u8) -> bool
         DataItem::Integer { value, bitwidth } | DataItem::Negative { value, bitwidth } => {
             bitwidth.fits(*value)
         }
-        DataItem::ByteString(string) => string.length_fits(),
-        DataItem::TextString(string) => string.length_fits(),
-        DataItem::IndefiniteByteString(chunks) => byte_chunks_fit(chunks),
-        DataItem::IndefiniteTextString(chunks) => text_chunks_fit(chunks),
+        DataItem::ByteString(string) => length_fits(string),
+        DataItem::TextString(string) => length_fits(string),
+        DataItem::IndefiniteByteString(chunks) => chunks_fit(chunks),
+        DataItem::IndefiniteTextString(chunks) => chunks_fit(chunks),
         DataItem::Array { content, bitwidth } => {
             count_fits(*bitwidth, content.len()) && items_well_formed(content, level + 1)
         }

@@ -1,6 +1,6 @@
 use Rattle.std.proofs.Common.{[], ◌∷◌, refl, arith, inl}
 use Rattle.cbor_diag.specs.declared.syntax.IntegerWidth.TheVariants.{Zero}
-use Rattle.cbor_diag.specs.Bytes.{bytes_kind, text_kind}
+use Rattle.cbor_diag.specs.StringKind.{bytes_kind, text_kind}
 use Rattle.cbor_diag.specs.Refused.{cut_head, nothing, in_content, in_chunk, in_part, part, in_map}
 use Rattle.cbor_diag.specs.Examples.{small}
 use Rattle.cbor_diag.proofs.examples.cut.Goals as goal

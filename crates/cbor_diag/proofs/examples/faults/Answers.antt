@@ -3,7 +3,7 @@ use Rattle.std.proofs.Common.{◌≡◌, false, [], ◌∷◌, refl, sym, ◌∙
 use Rattle.std.proofs.lemmas.Bool.{false≢true}
 use Rattle.std.specs.Str.{chars, is_utf8}
 use Rattle.cbor_diag.specs.declared.syntax.IntegerWidth.TheVariants.{Zero}
-use Rattle.cbor_diag.specs.Bytes.{bytes_kind}
+use Rattle.cbor_diag.specs.StringKind.{bytes_kind}
 use Rattle.cbor_diag.specs.Refused.{no_length, part, at_open_value, no_chunk, too_deep, bad_head, bad_text}
 use Rattle.cbor_diag.specs.Refused.{bad_chunk_head, bad_part}
 use Rattle.cbor_diag.specs.Examples.{small}

@@ -10,7 +10,7 @@ use Rattle.cbor_diag.specs.Item as spec
 use Rattle.cbor_diag.specs.Item.{Chunk, byte_string, text_string, byte_chunks, text_chunks, Item, atom, array, no_items}
 use Rattle.cbor_diag.specs.Item.{item, no_pairs, pair}
 use Rattle.cbor_diag.specs.View.{items_of, pairs_of}
-use Rattle.cbor_diag.specs.Bytes.{StringKind, bytes_kind, text_kind}
+use Rattle.cbor_diag.specs.StringKind.{StringKind, bytes_kind, text_kind}
 use Rattle.cbor_diag.specs.Reading.{Read, ◌>>=◌}
 use Rattle.cbor_diag.specs.Notation.{IsBlank, Blanked, Closes, Members, pairs_list, PairOf, StringOf, Core, Reads}
 use Rattle.cbor_diag.specs.mirror.NotationReading.{or_refused, skip_blank, after_byte, after_word, read_members}

@@ -3,6 +3,7 @@ ghost use Rattle.std.specs.Prelude.{◌≡◌, ◌++◌, OnOk, decimal};
 ghost use Rattle.std.specs.String.{string_bytes};
 ghost use Rattle.cbor_notes.specs.TagNames.{tag_name};
 ghost use Rattle.cbor_diag.specs.Comments as spec;
+ghost use Rattle.cbor_diag.specs.mirror.EncodingView.{in_force};
 ghost use Rattle.cbor_diag.specs.mirror.ShownLines.{comment_text, head_comment, major_word};
 
 use crate::encode::encoding::Encoding;
@@ -179,7 +180,7 @@ fn push_bytes(
     piece: &[u8],
 ) -> Result<(), AllocError>
     ensures { OnOk result (string_bytes out.new
-        ≡ string_bytes out.old ++ spec.bytes_comment encoding whole.now piece.now) }
+        ≡ string_bytes out.old ++ spec.bytes_comment (in_force encoding) whole.now piece.now) }
 {
     match encoding {
         None => push_quoted_bytes(out, piece),

@@ -2,7 +2,8 @@
 ghost use Rattle.std.specs.Prelude.{◌≡◌, ◌<◌, ◌+◌, ◌^◌, ◌∷◌, [], length, map, OnOk, IfOk};
 ghost use Rattle.std.specs.List.{AllByRecursion};
 ghost use Rattle.std.specs.Str.{IsCharBoundary};
-ghost use Rattle.cbor_diag.specs.Head.{FitsWidth, major_number};
+ghost use Rattle.cbor_diag.specs.Head.{FitsWidth};
+ghost use Rattle.cbor_diag.specs.mirror.MajorNumber.{major_number};
 ghost use Rattle.cbor_diag.specs.View.{byte_chunk, text_chunk};
 ghost use Rattle.cbor_diag.specs.WellFormed.{FitsCount, FitsFloat, IsByteChunk, IsTextChunk};
 ghost use Rattle.cbor_diag.specs.Written.{encoded_head, encoded_float, encoded_simple};
@@ -11,6 +12,7 @@ ghost use Rattle.cbor_diag.specs.Pieces.{text_pieces};
 ghost use Rattle.cbor_diag.specs.Pieces.{text_cut as cut_of};
 ghost use Rattle.cbor_diag.specs.Dump as spec;
 ghost use Rattle.cbor_diag.specs.mirror.ShownLines.{comment_text, head_comment, major_word};
+ghost use Rattle.cbor_diag.specs.mirror.EncodingView.{in_force};
 ghost use Rattle.cbor_diag.specs.mirror.Passes.{at_of, tag_number, IsContext, CanTake, Took};
 
 use super::comment::Comment;
@@ -184,9 +186,9 @@ impl Lines {
         encoding: Option<Encoding>,
         bytes: &[u8],
     ) -> Result<(), AllocError>
-        requires { CanTake self.old.pass (spec.bytes_lines depth encoding bytes.now) }
+        requires { CanTake self.old.pass (spec.bytes_lines depth (in_force encoding) bytes.now) }
         ensures { OnOk result (Took self.old.pass self.new.pass
-            (spec.bytes_lines depth encoding bytes.now)) }
+            (spec.bytes_lines depth (in_force encoding) bytes.now)) }
     {
         if bytes.is_empty() {
             return self.piece_line(depth, bytes, &Comment::Empty);
@@ -222,10 +224,10 @@ impl Lines {
     fn tagged_content(&mut self, context: DumpContext, bytes: &[u8]) -> Result<(), AllocError>
         requires context { IsContext context }
         requires takes { CanTake self.old.pass (spec.tagged_lines (context.depth + 1)
-            context.encoding (tag_number context.tag) bytes.now) }
+            (in_force context.encoding) (tag_number context.tag) bytes.now) }
         ensures { OnOk result (Took self.old.pass self.new.pass
             (spec.tagged_lines (context.depth + 1)
-            context.encoding (tag_number context.tag) bytes.now)) }
+            (in_force context.encoding) (tag_number context.tag) bytes.now)) }
     {
         let depth = context.depth + 1;
         let Some(tag) = context.tag else {

@@ -1,6 +1,6 @@
 //! Where in a text an item is: what decides how it is written, beside the item itself.
 ghost use Rattle.std.specs.Prelude.{◌≡◌, ◌+◌, ◌<◌, ◌≤◌, ◌^◌};
-ghost use Rattle.cbor_diag.specs.declared.encode.encoding.Encoding.TheVariants.{Base16};
+ghost use Rattle.cbor_diag.specs.Encoding.{Base16};
 ghost use Rattle.cbor_diag.specs.WellFormed.{deepest};
 ghost use Rattle.cbor_diag.specs.mirror.LayoutView.{layout_view, style_view, context_view};
 ghost use Rattle.cbor_diag.specs.NotationText.{in_encoding, below, inside, members_layout};

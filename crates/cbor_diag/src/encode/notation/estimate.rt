@@ -4,19 +4,19 @@
 //! Each function takes a budget of characters and returns what its part leaves of it: 0 where
 //! the part takes all of it or more. Nothing after that is looked at, so an item is looked at
 //! in steps that the budget bounds, however large it is.
-ghost use Rattle.std.specs.Prelude.{◌≡◌, ◌+◌, ◌-◌, ◌*◌, ◌^◌, ◌≤◌, nat_lt, map, sum_by};
+ghost use Rattle.std.specs.Prelude.{◌≡◌, ◌+◌, ◌-◌, ◌*◌, ◌^◌, ◌≤◌, nat_lt, map};
 ghost use Rattle.std.specs.Prelude.{if◌then◌else◌};
-ghost use Rattle.cbor_diag.specs.View.{view, items_view, pairs_view, byte_chunk, text_chunk};
+ghost use Rattle.cbor_diag.specs.View.{view, items_view, pairs_view};
 ghost use Rattle.cbor_diag.specs.ContainerStyle as style;
 ghost use Rattle.cbor_diag.specs.mirror.LayoutView.{layout_view, style_view};
 ghost use Rattle.cbor_diag.specs.NotationText.{container_style};
-ghost use Rattle.cbor_diag.specs.Item as spec;
-ghost use Rattle.cbor_diag.specs.Estimate.{digit_count, estimated_bytes, estimated_text};
-ghost use Rattle.cbor_diag.specs.Estimate.{estimated_float, estimated_atom, estimated_length};
+ghost use Rattle.cbor_diag.specs.Estimate.{digit_count, estimated_string, estimated_chunks};
+ghost use Rattle.cbor_diag.specs.Estimate.{estimated_float, estimated_length};
 ghost use Rattle.cbor_diag.specs.Estimate.{estimated_items, estimated_pairs};
 
 use super::context::{ContainerStyle, Layout};
-use crate::syntax::{ByteString, DataItem, FloatWidth, TextString};
+use crate::syntax::strings::{DefiniteString, StringContent};
+use crate::syntax::{DataItem, FloatWidth};
 
 /// The budget for the members of a container, which is long where they take all of it: 60 less
 /// the 4 that are for its brackets.
@@ -47,31 +47,14 @@ impl Layout {
         }
     }
 
-    /// The style of an indefinite byte string of these chunks.
-    pub(crate) fn byte_chunks_style(self, chunks: &[ByteString]) -> ContainerStyle
+    /// The style of an indefinite string of these chunks.
+    pub(crate) fn chunks_style<S: DefiniteString>(self, chunks: &[S]) -> ContainerStyle
         ensures { style_view result ≡ container_style (layout_view self)
-            (estimated_atom (spec.byte_chunks (map byte_chunk chunks.now))) }
+            (4 + estimated_chunks S.kind (map S.chunk chunks.now)) }
     {
         match self {
             Layout::Compact => ContainerStyle::Compact,
-            Layout::Pretty { indent } => pretty_style(
-                indent,
-                left_after_byte_chunks(chunks, BUDGET),
-            ),
-        }
-    }
-
-    /// The style of an indefinite text string of these chunks.
-    pub(crate) fn text_chunks_style(self, chunks: &[TextString]) -> ContainerStyle
-        ensures { style_view result ≡ container_style (layout_view self)
-            (estimated_atom (spec.text_chunks (map text_chunk chunks.now))) }
-    {
-        match self {
-            Layout::Compact => ContainerStyle::Compact,
-            Layout::Pretty { indent } => pretty_style(
-                indent,
-                left_after_text_chunks(chunks, BUDGET),
-            ),
+            Layout::Pretty { indent } => pretty_style(indent, left_after_chunks(chunks, BUDGET)),
         }
     }
 }
@@ -99,49 +82,29 @@ fn digit_count(number: u64) -> usize
         .map_or(1, |power| power as usize + 1)
 }
 
-/// What a byte string leaves of the budget.
-fn left_after_bytes(string: &ByteString, budget: usize) -> usize
-    ensures { result ≡ budget - estimated_bytes (byte_chunk string.now) }
+/// What a string leaves of the budget.
+fn left_after_string<S: DefiniteString>(string: &S, budget: usize) -> usize
+    ensures { result ≡ budget - estimated_string S.kind (S.chunk string.now) }
 {
-    let len = string.content.as_slice().len();
-    budget
-        .saturating_sub(4)
-        .saturating_sub(len)
-        .saturating_sub(len)
-}
-
-/// What a text leaves of the budget.
-fn left_after_text(string: &TextString, budget: usize) -> usize
-    ensures { result ≡ budget - estimated_text (text_chunk string.now) }
-{
-    let len = string.content.as_str().len();
-    budget.saturating_sub(2).saturating_sub(len)
-}
-
-/// What the chunks of a byte string leave of the budget, two characters more for each.
-fn left_after_byte_chunks(chunks: &[ByteString], budget: usize) -> usize
-    ensures { result ≡ budget - sum_by (λ c. estimated_bytes c + 2) (map byte_chunk chunks.now) }
-{
-    let mut left = budget;
-    'chunks: for chunk in chunks {
-        if left == 0 {
-            return 0;
-        }
-        left = left_after_bytes(chunk, left).saturating_sub(2);
+    match string.content() {
+        StringContent::Bytes(bytes) => budget
+            .saturating_sub(4)
+            .saturating_sub(bytes.len())
+            .saturating_sub(bytes.len()),
+        StringContent::Text(text) => budget.saturating_sub(2).saturating_sub(text.len()),
     }
-    left
 }
 
-/// What the chunks of a text string leave of the budget, two characters more for each.
-fn left_after_text_chunks(chunks: &[TextString], budget: usize) -> usize
-    ensures { result ≡ budget - sum_by (λ c. estimated_text c + 2) (map text_chunk chunks.now) }
+/// What the chunks of a string leave of the budget, two characters more for each.
+fn left_after_chunks<S: DefiniteString>(chunks: &[S], budget: usize) -> usize
+    ensures { result ≡ budget - estimated_chunks S.kind (map S.chunk chunks.now) }
 {
     let mut left = budget;
     'chunks: for chunk in chunks {
         if left == 0 {
             return 0;
         }
-        left = left_after_text(chunk, left).saturating_sub(2);
+        left = left_after_string(chunk, left).saturating_sub(2);
     }
     left
 }
@@ -165,13 +128,13 @@ fn left_after_item(item: &DataItem, budget: usize) -> usize
     match item {
         DataItem::Integer { value, .. } => budget.saturating_sub(digit_count(*value) + 2),
         DataItem::Negative { value, .. } => budget.saturating_sub(digit_count(*value) + 3),
-        DataItem::ByteString(string) => left_after_bytes(string, budget),
-        DataItem::TextString(string) => left_after_text(string, budget),
-        DataItem::IndefiniteByteString(chunks) => left_after_byte_chunks(
+        DataItem::ByteString(string) => left_after_string(string, budget),
+        DataItem::TextString(string) => left_after_string(string, budget),
+        DataItem::IndefiniteByteString(chunks) => left_after_chunks(
             chunks,
             budget.saturating_sub(4),
         ),
-        DataItem::IndefiniteTextString(chunks) => left_after_text_chunks(
+        DataItem::IndefiniteTextString(chunks) => left_after_chunks(
             chunks,
             budget.saturating_sub(4),
         ),

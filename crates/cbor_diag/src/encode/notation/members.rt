@@ -2,21 +2,23 @@
 //! has it. What is short and called at each member is inlined.
 #![tactic(auto, using(crate::proofs::shared::Appending::appending_steps))]
 
-ghost use Rattle.std.specs.Prelude.{◌∷◌, [], ◌++◌, ◌<◌, ◌≤◌, ◌^◌, map, codes};
+ghost use Rattle.std.specs.Prelude.{◌≡◌, ◌∷◌, [], ◌++◌, ◌<◌, ◌≤◌, ◌^◌, map};
 ghost use Rattle.cbor_diag.specs.mirror.Appends.{AppendsText};
-ghost use Rattle.cbor_diag.specs.View.{byte_chunk, text_chunk};
-ghost use Rattle.cbor_diag.specs.Item as spec;
+ghost use Rattle.cbor_diag.specs.StringKind.{StringKind, major_of};
 ghost use Rattle.cbor_diag.specs.WellFormed.{deepest};
-ghost use Rattle.cbor_diag.specs.mirror.LayoutView.{style_view, context_view, chunks_style};
+ghost use Rattle.cbor_diag.specs.mirror.LayoutView.{style_view, context_view, chunks_there};
 ghost use Rattle.cbor_diag.specs.mirror.LayoutView.{IsIndented};
+ghost use Rattle.cbor_diag.specs.mirror.MajorNumber.{major_number};
 ghost use Rattle.cbor_diag.specs.mirror.LayoutView.{before_member, after_member};
 ghost use Rattle.cbor_diag.specs.NotationText.{line, last_line, opened, colon};
 ghost use Rattle.cbor_diag.specs.NotationText.{style_indent};
-ghost use Rattle.cbor_diag.specs.NotationText.{byte_chunks_text, text_chunks_text, rest_text};
+ghost use Rattle.cbor_diag.specs.NotationText.{no_chunks, rest_text};
 
 use super::context::{ContainerStyle, Layout, NotationContext};
-use super::scalars::{push_quoted, push_text};
-use crate::syntax::{ByteString, IntegerWidth, TextString};
+use super::scalars::{push_quoted, push_string};
+use crate::syntax::IntegerWidth;
+use crate::syntax::major::Major;
+use crate::syntax::strings::DefiniteString;
 use std::alloc::AllocError;
 
 /// A line feed, and as many blanks as are written with it at once.
@@ -125,60 +127,42 @@ pub(crate) fn push_closing(
     out.push(bracket)
 }
 
-/// Writes the chunks of an indefinite byte string; one of no chunks keeps its kind.
+/// Writes the chunks of an indefinite string; one of no chunks keeps its kind.
 #[inline(never)]
-pub(crate) fn push_byte_chunks(
+pub(crate) fn push_chunks<S: DefiniteString>(
     out: &mut String,
-    chunks: &[ByteString],
+    chunks: &[S],
     context: &NotationContext,
 ) -> Result<(), AllocError>
     requires level { context.now.level ≤ deepest }
     requires indent { IsIndented context.now }
     ensures { AppendsText result out.old out.new
-        (byte_chunks_text context.now.encoding (chunks_style context.now
-        (spec.byte_chunks (map byte_chunk chunks.now))) (map byte_chunk chunks.now)) }
+        (chunks_there context.now S.kind (map S.chunk chunks.now)) }
 {
     if chunks.is_empty() {
-        return out.push_str("''_");
+        return push_no_chunks(out, S::major());
     }
-    let style = context.layout.byte_chunks_style(chunks);
+    let style = context.layout.chunks_style(chunks);
     push_opening(out, '(', None, style)?;
     let mut first = true;
     'chunks: for chunk in chunks {
         push_start(out, style, first)?;
-        push_quoted(out, &chunk.content, context.encoding)?;
+        push_string(out, chunk.content(), context.encoding)?;
         push_end(out, style)?;
         first = false;
     }
     push_closing(out, style, ')')
 }
 
-/// Writes the chunks of an indefinite text string; one of no chunks keeps its kind.
-#[inline(never)]
-pub(crate) fn push_text_chunks(
-    out: &mut String,
-    chunks: &[TextString],
-    context: &NotationContext,
-) -> Result<(), AllocError>
-    requires level { context.now.level ≤ deepest }
-    requires indent { IsIndented context.now }
-    ensures { AppendsText result out.old out.new
-        (text_chunks_text (chunks_style context.now
-        (spec.text_chunks (map text_chunk chunks.now))) (map text_chunk chunks.now)) }
+/// Writes an indefinite string of no chunks, of this major type.
+fn push_no_chunks(out: &mut String, major: Major) -> Result<(), AllocError>
+    ensures { (kind : StringKind) → major_number major ≡ major_of kind
+        → AppendsText result out.old out.new (no_chunks kind) }
 {
-    if chunks.is_empty() {
-        return out.push_str("\"\"_");
+    match major {
+        Major::Text => out.push_str("\"\"_"),
+        _ => out.push_str("''_"),
     }
-    let style = context.layout.text_chunks_style(chunks);
-    push_opening(out, '(', None, style)?;
-    let mut first = true;
-    'chunks: for chunk in chunks {
-        push_start(out, style, first)?;
-        push_text(out, chunk.content.as_str())?;
-        push_end(out, style)?;
-        first = false;
-    }
-    push_closing(out, style, ')')
 }
 
 /// Writes the rest of a sequence, which can't be read as an item.

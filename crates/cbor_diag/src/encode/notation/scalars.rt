@@ -6,12 +6,15 @@ ghost use Rattle.std.specs.Prelude.{◌≡◌, ◌+◌, ◌++◌, codes};
 ghost use Rattle.std.specs.Fmt.{decimal};
 ghost use Rattle.std.specs.List.{flat_map, list_any};
 ghost use Rattle.cbor_diag.specs.mirror.Appends.{AppendsText};
+ghost use Rattle.cbor_diag.specs.mirror.EncodingView.{encoding_view};
+ghost use Rattle.cbor_diag.specs.mirror.StringView.{bytes_of, kind_of};
 ghost use Rattle.cbor_notes.specs.Base64.{standard, url_safe};
 ghost use Rattle.cbor_diag.specs.WellFormed.{FitsFloat};
 ghost use Rattle.cbor_diag.specs.NotationText.{indicator, number, prefix, encoded_bytes, quoted};
-ghost use Rattle.cbor_diag.specs.NotationText.{is_escaped, escaped, text, float_text, simple_text};
+ghost use Rattle.cbor_diag.specs.NotationText.{is_escaped, escaped, text, string_text, float_text, simple_text};
 
 use crate::encode::encoding::Encoding;
+use crate::syntax::strings::StringContent;
 use crate::syntax::{FloatWidth, IntegerWidth, Simple};
 use base64::engine::general_purpose::{STANDARD, URL_SAFE_NO_PAD};
 use cbor_notes::push_hex;
@@ -79,7 +82,7 @@ pub(crate) fn push_negative(
 
 /// Writes the prefix of quoted bytes.
 fn push_prefix(out: &mut String, encoding: Encoding) -> Result<(), AllocError>
-    ensures { AppendsText result out.old out.new (prefix encoding) }
+    ensures { AppendsText result out.old out.new (prefix (encoding_view encoding)) }
 {
     match encoding {
         Encoding::Base16 => out.push('h'),
@@ -93,7 +96,7 @@ pub(crate) fn push_quoted(
     bytes: &[u8],
     encoding: Encoding,
 ) -> Result<(), AllocError>
-    ensures { AppendsText result out.old out.new (quoted encoding bytes.now) }
+    ensures { AppendsText result out.old out.new (quoted (encoding_view encoding) bytes.now) }
 {
     push_prefix(out, encoding)?;
     out.push('\'')?;
@@ -103,7 +106,7 @@ pub(crate) fn push_quoted(
 
 /// Writes bytes as they are between quotes.
 fn push_encoded(out: &mut String, bytes: &[u8], encoding: Encoding) -> Result<(), AllocError>
-    ensures { AppendsText result out.old out.new (encoded_bytes encoding bytes.now) }
+    ensures { AppendsText result out.old out.new (encoded_bytes (encoding_view encoding) bytes.now) }
 {
     match encoding {
         Encoding::Base16 => push_hex(out, bytes),
@@ -136,6 +139,21 @@ pub(crate) fn push_text(out: &mut String, content: &str) -> Result<(), AllocErro
     out.push('"')?;
     push_escaped(out, content)?;
     out.push('"')
+}
+
+/// Writes a string of definite length.
+pub(crate) fn push_string(
+    out: &mut String,
+    content: StringContent<'_>,
+    encoding: Encoding,
+) -> Result<(), AllocError>
+    ensures { AppendsText result out.old out.new
+        (string_text (kind_of content.entry) (encoding_view encoding) (bytes_of content.entry)) }
+{
+    match content {
+        StringContent::Bytes(bytes) => push_quoted(out, bytes, encoding),
+        StringContent::Text(text) => push_text(out, text),
+    }
 }
 
 /// Whether the text has a byte that is escaped by a backslash. It is looked at to its end,

@@ -1,7 +1,8 @@
 //! Heads (RFC 7049 section 2): the first byte of an item, and the number that goes with it.
 ghost use Rattle.std.specs.Prelude.{◌≡◌, ◌<◌, ◌≤◌, length, IfOk};
 ghost use Rattle.std.specs.Int.{w8, w16, w32, w64};
-ghost use Rattle.cbor_diag.specs.Head.{FitsStated, major_number};
+ghost use Rattle.cbor_diag.specs.Head.{FitsStated};
+ghost use Rattle.cbor_diag.specs.mirror.MajorNumber.{major_number};
 ghost use Rattle.cbor_diag.specs.mirror.HeadErrors.{Finds, head_error};
 ghost use Rattle.cbor_diag.specs.Reading.{FitsInfo, read_number, read_info, numbered, unnumbered};
 ghost use Rattle.cbor_diag.specs.Reading.{simple_or_float, head_of, read_head};

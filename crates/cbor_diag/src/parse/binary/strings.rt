@@ -1,9 +1,6 @@
 //! Strings of definite length, and the chunks of indefinite ones (RFC 7049 sections 2.1 and 2.2.2).
 ghost use Rattle.std.specs.Prelude.{◌≡◌, ◌+◌, ◌*◌, ◌^◌, ◌<◌, ◌≤◌, length, IfOk, map, option_map};
-ghost use Rattle.cbor_diag.specs.View.{byte_chunk, text_chunk};
-ghost use Rattle.cbor_diag.specs.Item.{Chunk};
-ghost use Rattle.cbor_diag.specs.Bytes.{StringKind, bytes_kind, text_kind, major_of};
-ghost use Rattle.cbor_diag.specs.Head.{major_number};
+ghost use Rattle.cbor_diag.specs.mirror.MajorNumber.{major_number};
 ghost use Rattle.cbor_diag.specs.Reading.{Gives, split_at, read_content, read_chunk_length};
 ghost use Rattle.cbor_diag.specs.Reading.{read_chunk};
 ghost use Rattle.cbor_diag.specs.mirror.Counting.{Runs, counted_chunks};
@@ -11,8 +8,9 @@ ghost use Rattle.cbor_diag.specs.mirror.Counting.{Runs, counted_chunks};
 use super::head::{Info, read_info};
 use crate::error::{Error, Result};
 use crate::parse::turns::Turns;
+use crate::syntax::IntegerWidth;
 use crate::syntax::major::Major;
-use crate::syntax::{ByteString, IntegerWidth, TextString};
+use crate::syntax::strings::DefiniteString;
 use std::alloc::Global;
 
 /// The first `count` bytes.
@@ -26,73 +24,21 @@ fn split_at(bytes: &[u8], count: u64) -> Result<(&[u8], &[u8])>
     Ok(bytes.split_at(count as usize))
 }
 
-/// A string of definite length, which may be a chunk of an indefinite one.
-pub(super) trait DefiniteString: Drop {
-    ghost chunk: { Self → Chunk };
-
-    ghost kind: { StringKind };
-
-    /// The major type of its head.
-    fn major() -> Major
-        ensures { major_number result ≡ major_of kind };
-
-    /// Reads the string after a head with this length.
-    fn read(
-        alloc: Global,
-        count: u64,
-        bitwidth: IntegerWidth,
-        bytes: &[u8],
-    ) -> Result<(Self, &[u8])>
-        ensures gives { Gives (λ x. (chunk x.0, x.1.now)) result
-            (read_content kind count bitwidth bytes.now) }
-        ensures shorter { IfOk result (λ x. length x.1.now ≤ length bytes.now) };
-}
-
-impl DefiniteString for ByteString {
-    ghost chunk = { byte_chunk };
-
-    ghost kind = { bytes_kind };
-
-    fn major() -> Major {
-        Major::Bytes
-    }
-
-    #[tactic(auto, unfolding(crate::specs::Reading::read_content))]
-    fn read(
-        alloc: Global,
-        count: u64,
-        bitwidth: IntegerWidth,
-        bytes: &[u8],
-    ) -> Result<(ByteString, &[u8])> {
-        let (content, rest) = split_at(bytes, count)?;
-        let content = Vec::from_slice(alloc, content)?;
-        Ok((ByteString { content, bitwidth }, rest))
-    }
-}
-
-impl DefiniteString for TextString {
-    ghost chunk = { text_chunk };
-
-    ghost kind = { text_kind };
-
-    fn major() -> Major {
-        Major::Text
-    }
-
-    #[tactic(auto, unfolding(crate::specs::Reading::read_content), using(crate::proofs::shared::Utf8::utf8_fails, crate::proofs::shared::Utf8::utf8_passes))]
-    fn read(
-        alloc: Global,
-        count: u64,
-        bitwidth: IntegerWidth,
-        bytes: &[u8],
-    ) -> Result<(TextString, &[u8])> {
-        let (content, rest) = split_at(bytes, count)?;
-        let Ok(text) = std::str::from_utf8(content) else {
-            return Err(Error::Utf8);
-        };
-        let content = String::from_str(alloc, text)?;
-        Ok((TextString { content, bitwidth }, rest))
-    }
+/// A string of definite length after a head with its length.
+#[tactic(auto, unfolding(crate::specs::Reading::read_content))]
+pub(super) fn read_string<S: DefiniteString>(
+    alloc: Global,
+    count: u64,
+    bitwidth: IntegerWidth,
+    bytes: &[u8],
+) -> Result<(S, &[u8])>
+    ensures gives { Gives (λ x. (S.chunk x.0, x.1.now)) result
+        (read_content S.kind count bitwidth bytes.now) }
+    ensures shorter { IfOk result (λ x. length x.1.now ≤ length bytes.now) }
+{
+    let (content, rest) = split_at(bytes, count)?;
+    let content = Vec::from_slice(alloc, content)?;
+    Ok((S::new(content, bitwidth)?, rest))
 }
 
 /// The length of the next chunk of an indefinite string of that major type, or `None` at its break.
@@ -129,7 +75,7 @@ fn read_chunk<S: DefiniteString>(alloc: Global, bytes: &[u8]) -> Result<(Option<
     let Some((length, bitwidth)) = length else {
         return Ok((None, rest));
     };
-    let (chunk, rest) = S::read(alloc, length, bitwidth, rest)?;
+    let (chunk, rest) = read_string(alloc, length, bitwidth, rest)?;
     Ok((Some(chunk), rest))
 }
 

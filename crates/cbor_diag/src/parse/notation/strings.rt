@@ -10,7 +10,7 @@ ghost use Rattle.cbor_diag.specs.declared.syntax.IntegerWidth.TheVariants.{Unkno
 ghost use Rattle.cbor_diag.specs.View.{view, items_view, byte_chunk, text_chunk};
 ghost use Rattle.cbor_diag.specs.WellFormed.{levels_left, WellFormed, WellFormedItems, IsByteChunk};
 ghost use Rattle.cbor_diag.specs.WellFormed.{IsTextChunk};
-ghost use Rattle.cbor_diag.specs.Bytes.{bytes_kind, text_kind};
+ghost use Rattle.cbor_diag.specs.StringKind.{bytes_kind, text_kind};
 ghost use Rattle.cbor_diag.specs.Written.{encoded_items};
 ghost use Rattle.cbor_diag.specs.Item.{Item};
 ghost use Rattle.cbor_diag.specs.Reading.{Gives, Read};

@@ -8,10 +8,11 @@ use Rattle.cbor_diag.specs.Item.{text_chunks, float, simple}
 use Rattle.cbor_diag.specs.View.{view, items_view, pairs_view, byte_chunk, text_chunk}
 use Rattle.cbor_diag.specs.declared.encode.notation.context.NotationContext.{NotationContext}
 use Rattle.cbor_diag.specs.Layout.{Context}
-use Rattle.cbor_diag.specs.mirror.LayoutView.{style_view, context_view, item_text, content_there, chunks_style}
+use Rattle.cbor_diag.specs.StringKind.{bytes_kind, text_kind}
+use Rattle.cbor_diag.specs.mirror.LayoutView.{style_view, context_view, item_text, content_there, chunks_there}
 use Rattle.cbor_diag.specs.NotationText.{text, inside, members, members_layout, colon, item_texts, pair_texts}
 use Rattle.cbor_diag.specs.NotationText.{rest_text}
-use Rattle.cbor_diag.specs.NotationText.{byte_chunks_text, text_chunks_text, array_text, map_text, below, sequence_text}
+use Rattle.cbor_diag.specs.NotationText.{array_text, map_text, below, sequence_text}
 use Rattle.cbor_diag.specs.NotationText.{sequence_listed, text_at_level}
 use Rattle.cbor_diag.specs.WellFormed.{WellFormedItems, WellFormedPairs}
 use Rattle.cbor_diag.proofs.shared.Appending.{begins_still, begins_two, begins_after_member, appends_last}
@@ -85,25 +86,23 @@ pub push_item-returns-in-IndefiniteByteString : goal.push_item-returns-in-Indefi
 push_item-returns-in-IndefiniteByteString t c =
     let seen = ap view c.in-IndefiniteByteString.is ∙ view-IndefiniteByteString c.in-IndefiniteByteString.chunks in
     let old = string_bytes c.args.out.now in
-    let new = string_bytes c.push_byte_chunks.new.out in
-    let context = c.args.context.now in
-    shown c.push_byte_chunks.result context.level (context_view context) (view c.args.item.now)
+    let new = string_bytes c.push_chunks.new.out in
+    shown c.push_chunks.result c.args.context.now.level (context_view c.args.context.now) (view c.args.item.now)
     (atom (byte_chunks (map byte_chunk c.in-IndefiniteByteString.chunks.items))) old new c.requires.well_formed seen
-    (subst (λ vs. Appends c.push_byte_chunks.result old new
-    (byte_chunks_text context.encoding (chunks_style context (byte_chunks (map byte_chunk vs))) (map byte_chunk vs)))
-    c.deref-in-IndefiniteByteString.ensures.value c.push_byte_chunks.ensures)
+    (subst (λ vs. Appends c.push_chunks.result old new (chunks_there c.args.context.now bytes_kind (map byte_chunk vs)))
+    c.deref-in-IndefiniteByteString.ensures.value c.push_chunks.ensures)
 
 pub push_item-returns-in-IndefiniteTextString : goal.push_item-returns-in-IndefiniteTextString
 push_item-returns-in-IndefiniteTextString t c =
     let seen = ap view c.in-IndefiniteTextString.is ∙ view-IndefiniteTextString c.in-IndefiniteTextString.chunks in
     let old = string_bytes c.args.out.now in
-    let new = string_bytes c.push_text_chunks.new.out in
-    let context = c.args.context.now in
-    shown c.push_text_chunks.result context.level (context_view context) (view c.args.item.now)
+    let new = string_bytes c.push_chunks-in-IndefiniteTextString.new.out in
+    shown c.push_chunks-in-IndefiniteTextString.result c.args.context.now.level (context_view c.args.context.now)
+    (view c.args.item.now)
     (atom (text_chunks (map text_chunk c.in-IndefiniteTextString.chunks.items))) old new c.requires.well_formed seen
-    (subst (λ vs. Appends c.push_text_chunks.result old new
-    (text_chunks_text (chunks_style context (text_chunks (map text_chunk vs))) (map text_chunk vs)))
-    c.deref-in-IndefiniteTextString.ensures.value c.push_text_chunks.ensures)
+    (subst (λ vs. Appends c.push_chunks-in-IndefiniteTextString.result old new
+    (chunks_there c.args.context.now text_kind (map text_chunk vs)))
+    c.deref-in-IndefiniteTextString.ensures.value c.push_chunks-in-IndefiniteTextString.ensures)
 
 pub push_array-returns : goal.push_array-returns
 push_array-returns t c =

@@ -8,7 +8,7 @@ use Rattle.cbor_diag.specs.Item as spec
 use Rattle.cbor_diag.specs.Item.{Item, atom, negative, array, byte_chunks, text_chunks}
 use Rattle.cbor_diag.specs.View.{view, items_of, pairs_of, items_view, pairs_view, byte_chunk, text_chunk}
 use Rattle.cbor_diag.specs.WellFormed.{IsByteChunk, IsTextChunk}
-use Rattle.cbor_diag.specs.Bytes.{bytes_kind, text_kind}
+use Rattle.cbor_diag.specs.StringKind.{bytes_kind, text_kind}
 use Rattle.cbor_diag.specs.Reading.{◌>>=◌, Fails}
 use Rattle.cbor_diag.specs.mirror.NotationReading.{skip_blank, after_end, read_negative_number, read_length, read_pair}
 use Rattle.cbor_diag.specs.mirror.NotationReading.{read_chunk, read_item, read_core, read_members, read_pieces, checked}

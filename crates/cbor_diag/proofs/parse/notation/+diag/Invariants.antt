@@ -2,7 +2,7 @@ use Rattle.std.proofs.Common.{◌≡◌, ℕ, suc, ◌+◌, ◌-◌, ◌*◌, �
 use Rattle.std.specs.List.{AllByRecursion}
 use Rattle.cbor_diag.specs.View.{view, items_view, pairs_view, byte_chunk, text_chunk}
 use Rattle.cbor_diag.specs.WellFormed.{WellFormedItems, WellFormedPairs, IsByteChunk, IsTextChunk}
-use Rattle.cbor_diag.specs.Bytes.{bytes_kind, text_kind}
+use Rattle.cbor_diag.specs.StringKind.{bytes_kind, text_kind}
 use Rattle.cbor_diag.specs.mirror.NotationReading.{read_item, read_pair, read_chunk, read_members, members_from}
 use Rattle.cbor_diag.specs.mirror.NotationReading.{read_pieces}
 use Rattle.cbor_diag.proofs.notation.ChunkLoops.{onto}

@@ -1,5 +1,5 @@
 use Rattle.std.proofs.Common.{◌++◌, None, refl, ap, sym, subst, ◌∙◌, arith}
-use Rattle.cbor_diag.specs.declared.encode.encoding.Encoding.TheVariants.{Base16}
+use Rattle.cbor_diag.specs.Encoding.{Base16}
 use Rattle.cbor_diag.specs.View.{view}
 use Rattle.cbor_diag.specs.Layout.{Compact}
 use Rattle.cbor_diag.specs.Facts.{diag_of}

@@ -11,7 +11,7 @@ use Rattle.cbor_diag.specs.HexText.{strip}
 use Rattle.cbor_diag.specs.Item.{Item}
 use Rattle.cbor_diag.specs.View.{view}
 use Rattle.cbor_diag.specs.Written.{encoded, resolve}
-use Rattle.cbor_diag.proofs.bytes.Laws.{is_bytes, item_bytes}
+use Rattle.cbor_diag.proofs.bytes.Laws.{bytes_at, item_bytes}
 use Rattle.cbor_diag.proofs.dump.AllDigits.{item_are}
 use Rattle.cbor_diag.proofs.dump.Fits.{one_line_of}
 use Rattle.cbor_diag.proofs.bytes.Strict.{strict_any, strict_encoded}
@@ -47,7 +47,7 @@ returns-clause-digits c =
 pub returns-clause-read_back : goal.returns-clause-read_back
 returns-clause-read_back c =
     let i = view c.args.self.now in
-    let bytes = is_bytes (encoded i) (item_bytes 1 i c.requires) in (
+    let bytes = bytes_at (encoded i) (item_bytes 1 i c.requires) in (
       encoded i,
       ap decode_of (returns-clause-digits c) ∙ decode_of-encode_lower (encoded i) bytes,
       strict_any 1 (encoded i) (resolve i) (strict_encoded 1 i c.requires),

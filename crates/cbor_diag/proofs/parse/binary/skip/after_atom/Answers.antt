@@ -1,4 +1,4 @@
-use Rattle.cbor_diag.specs.Bytes.{bytes_kind, text_kind}
+use Rattle.cbor_diag.specs.StringKind.{bytes_kind, text_kind}
 use Rattle.std.proofs.lemmas.Result.{IfOk-weaker, IfErr-weaker}
 use Rattle.cbor_diag.specs.mirror.Skipping.{skip_content}
 use Rattle.cbor_diag.proofs.skipping.Skips.{goes_from, stops_from}

@@ -1,6 +1,6 @@
 use Rattle.std.proofs.Common.{List, ℕ, length, take, subst, sym, arith}
 use Rattle.cbor_diag.specs.declared.error.Error.TheVariants.{Utf8}
-use Rattle.cbor_diag.specs.Bytes.{IsContent}
+use Rattle.cbor_diag.specs.StringKind.{IsContent}
 use Rattle.cbor_diag.specs.mirror.Skipping.{here, Goes, Shows, kind_of, skip_content}
 use Rattle.cbor_diag.proofs.skipping.Skips.{content_cut, content_goes, content_shows}
 use Rattle.cbor_diag.proofs.parse.binary.skip.after_content.Goals as goal

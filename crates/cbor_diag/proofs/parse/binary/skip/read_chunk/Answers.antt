@@ -3,7 +3,7 @@ use Rattle.std.proofs.lemmas.Result.{err_from_is_err_and}
 use Rattle.cbor_diag.specs.declared.error.Error.TheVariants.{Head}
 use Rattle.cbor_diag.specs.declared.parse.binary.head.Info.{Info}
 use Rattle.cbor_diag.specs.Head.{break_byte}
-use Rattle.cbor_diag.specs.Bytes.{major_of}
+use Rattle.cbor_diag.specs.StringKind.{major_of}
 use Rattle.cbor_diag.specs.Reading.{◌>>=◌}
 use Rattle.cbor_diag.specs.mirror.HeadErrors.{head_error}
 use Rattle.cbor_diag.specs.mirror.Skipping.{here, Goes, Shows, StopsSo, stop_of, kind_of, skip_content, skip_chunks}

@@ -1,0 +1,7 @@
+use Rattle.std.proofs.Common.{◌≡◌, map, take}
+use Rattle.cbor_diag.proofs.syntax.clone.clone_chunks.Given as goal
+
+abbrev pub invariant-chunks : goal.invariant-chunks
+invariant-chunks g l =
+    let chunk = g.S.DefiniteString.chunk in
+    map chunk l.copies.items ≡ map chunk (take l.chunk-index l.chunks)

@@ -1,0 +1,6 @@
+use Rattle.cbor_diag.proofs.shared.Compared.{lists_compared}
+use Rattle.cbor_diag.proofs.syntax.equal.chunks_equal.Goals as goal
+
+pub returns : goal.returns
+returns g c =
+    rw c.eq.ensures (lists_compared _ g.S.DefiniteString.chunk g.met.S.DefiniteString.compared c.args.a.now c.args.b.now)

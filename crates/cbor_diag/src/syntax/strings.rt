@@ -1,0 +1,129 @@
+//! What byte strings and text strings have in common.
+ghost use Rattle.std.proofs.Common.{rules};
+ghost use Rattle.std.specs.Prelude.{◌≡◌, ◌↔◌, IsTrue, IfErr, IfOk};
+ghost use Rattle.cbor_diag.specs.Item.{Chunk};
+ghost use Rattle.cbor_diag.specs.Reading.{Gives, checked_chunk};
+ghost use Rattle.cbor_diag.specs.StringKind.{StringKind, bytes_kind, text_kind, major_of, IsContent};
+ghost use Rattle.cbor_diag.specs.View.{byte_chunk, text_chunk};
+ghost use Rattle.cbor_diag.specs.mirror.MajorNumber.{major_number};
+ghost use Rattle.cbor_diag.specs.mirror.StringView.{bytes_of, kind_of};
+
+use super::major::Major;
+use super::{ByteString, IntegerWidth, TextString};
+use crate::error::{Error, Result};
+use std::alloc::Global;
+
+/// The content of a string of definite length.
+#[derive(Clone, Copy)]
+pub(crate) enum StringContent<'a> {
+    /// The bytes of a byte string.
+    Bytes(&'a [u8]),
+    /// The text of a text string.
+    Text(&'a str),
+}
+
+impl<'a> StringContent<'a> {
+    /// The bytes, or the UTF-8 of the text.
+    pub(crate) fn as_bytes(self) -> &'a [u8]
+        ensures bytes { result.now ≡ bytes_of self.entry }
+        ensures content { IsContent (kind_of self.entry) result.now }
+    {
+        match self {
+            StringContent::Bytes(bytes) => bytes,
+            StringContent::Text(text) => text.as_bytes(),
+        }
+    }
+}
+
+/// A string of definite length, which may be a chunk of an indefinite one.
+pub(crate) trait DefiniteString: PartialEq + Drop {
+    ghost chunk: { Self → Chunk };
+
+    ghost kind: { StringKind };
+
+    /// The major type of its head.
+    fn major() -> Major
+        ensures { major_number result ≡ major_of kind };
+
+    /// The string of this content; a text string if that is UTF-8.
+    fn new(content: Vec<u8>, bitwidth: IntegerWidth) -> Result<Self>
+        ensures { Gives chunk result (checked_chunk kind bitwidth content.items) };
+
+    /// A string with the same content and width, in memory of its own.
+    fn copy(&self, alloc: Global) -> Result<Self>
+        ensures equal { IfOk result (λ v. chunk v ≡ chunk self.now) }
+        ensures refused { IfErr result (λ e. e ≡ Error.Memory) };
+
+    /// The content.
+    fn content(&self) -> StringContent<'_>
+        ensures bytes { bytes_of result ≡ (chunk self.now).bytes }
+        ensures kind { kind_of result ≡ kind };
+
+    /// The width of the length.
+    fn width(&self) -> IntegerWidth
+        ensures { result ≡ (chunk self.now).width };
+
+    ghost compared: { (a b : Self) → IsTrue (Self.eq a b) ↔ (chunk a ≡ chunk b) };
+}
+
+impl DefiniteString for ByteString {
+    ghost chunk = { byte_chunk };
+
+    ghost kind = { bytes_kind };
+
+    ghost compared = { λ a b. Prim.search rules };
+
+    fn major() -> Major {
+        Major::Bytes
+    }
+
+    fn new(content: Vec<u8>, bitwidth: IntegerWidth) -> Result<ByteString> {
+        Ok(ByteString { content, bitwidth })
+    }
+
+    fn copy(&self, alloc: Global) -> Result<ByteString> {
+        self.clone(alloc)
+    }
+
+    fn content(&self) -> StringContent<'_> {
+        StringContent::Bytes(&self.content)
+    }
+
+    fn width(&self) -> IntegerWidth {
+        self.bitwidth
+    }
+}
+
+impl DefiniteString for TextString {
+    ghost chunk = { text_chunk };
+
+    ghost kind = { text_kind };
+
+    ghost compared = { λ a b. Prim.search rules };
+
+    fn major() -> Major {
+        Major::Text
+    }
+
+    #[tactic(auto, using(crate::proofs::shared::Utf8::utf8_fails, crate::proofs::shared::Utf8::utf8_passes))]
+    fn new(content: Vec<u8>, bitwidth: IntegerWidth) -> Result<TextString> {
+        let Ok(content) = String::from_utf8(content) else {
+            return Err(Error::Utf8);
+        };
+        // A text is UTF-8: the proof has it from this.
+        let _text = content.as_str();
+        Ok(TextString { content, bitwidth })
+    }
+
+    fn copy(&self, alloc: Global) -> Result<TextString> {
+        self.clone(alloc)
+    }
+
+    fn content(&self) -> StringContent<'_> {
+        StringContent::Text(self.content.as_str())
+    }
+
+    fn width(&self) -> IntegerWidth {
+        self.bitwidth
+    }
+}
