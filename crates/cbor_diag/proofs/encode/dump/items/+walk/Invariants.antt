@@ -14,34 +14,34 @@ abbrev pub decreases-dump : goal.decreases-dump
 decreases-dump l = (130 - l.level) * 8 + 4
 
 abbrev pub decreases-dump_item : goal.decreases-dump_item
-decreases-dump_item l = (130 - l.context.level) * 8 + 2
-
-abbrev pub decreases-dump_content : goal.decreases-dump_content
-decreases-dump_content l = (130 - l.context.level) * 8 + 1
+decreases-dump_item l = (130 - l.context.now.level) * 8 + 2
 
 abbrev pub decreases-dump_array : goal.decreases-dump_array
-decreases-dump_array l = (130 - l.context.level) * 8
+decreases-dump_array l = (130 - l.context.now.level) * 8
 
 abbrev pub decreases-dump_map : goal.decreases-dump_map
-decreases-dump_map l = (130 - l.context.level) * 8
+decreases-dump_map l = (130 - l.context.now.level) * 8
+
+abbrev pub decreases-dump_tagged : goal.decreases-dump_tagged
+decreases-dump_tagged l = (130 - l.context.now.level) * 8
 
 abbrev pub decreases-dump_items : goal.decreases-dump_items
-decreases-dump_items l = (130 - l.context.level) * 8 + 3
+decreases-dump_items l = (130 - l.context.now.level) * 8 + 3
 
 abbrev pub decreases-dump_pairs : goal.decreases-dump_pairs
-decreases-dump_pairs l = (130 - l.context.level) * 8 + 3
+decreases-dump_pairs l = (130 - l.context.now.level) * 8 + 3
 
 abbrev pub decreases-dump_notes : goal.decreases-dump_notes
-decreases-dump_notes l = (129 - l.context.level) * 8 + 7
+decreases-dump_notes l = (129 - l.context.now.level) * 8 + 7
 
 abbrev pub decreases-embedded_item : goal.decreases-embedded_item
-decreases-embedded_item l = (129 - l.context.level) * 8 + 6
+decreases-embedded_item l = (129 - l.context.now.level) * 8 + 6
 
 abbrev pub decreases-embedded_sequence : goal.decreases-embedded_sequence
-decreases-embedded_sequence l = (129 - l.context.level) * 8 + 6
+decreases-embedded_sequence l = (129 - l.context.now.level) * 8 + 6
 
 abbrev pub decreases-embedded_dump : goal.decreases-embedded_dump
-decreases-embedded_dump l = (129 - l.context.level) * 8 + 5
+decreases-embedded_dump l = (129 - l.context.now.level) * 8 + 5
 
 -- the lines that are left, and those that were taken, are the whole
 abbrev pub invariant-dump_items-items : goal.invariant-dump_items-items
