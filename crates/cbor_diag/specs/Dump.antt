@@ -24,6 +24,7 @@ use Rattle.cbor_diag.specs.Notes.{one, value_note}
 use Rattle.cbor_diag.specs.Pieces.{pieces_of, byte_pieces, text_pieces}
 use Rattle.cbor_diag.specs.Reading.{Read, read_item}
 use Rattle.cbor_diag.specs.Refusals.{text_of}
+use Rattle.cbor_diag.specs.WellFormed.{levels_left}
 
 -- the digits of a head: its first byte, and after a blank the bytes that follow it, if any do
 abbrev pub head_hex : List ℕ → List ℕ
@@ -256,17 +257,21 @@ parts_lines write p known (tagged t w i) =
     head_line p.depth (encoded_head 6 t w) (tag_comment t)
     ∷ write (below t known p) (shared_from t known) i
 
--- An item with `left` levels left for it and what is nested in it, embedded items included: 129 less the
--- level of the item. Its notes follow it, as deep as it is. An embedded item has a dump of its own,
--- which counts shared values from 0. Where no level is left there is no item.
+-- An item with this many levels left for it and what is nested in it, embedded items included: `levels_left` of its
+-- level. Its notes follow it, as deep as it is. An embedded item has a dump of its own, which counts shared values
+-- from 0. Where no level is left there is no item.
 unfoldable pub lines_at : ℕ → At → ℕ → Item → List DumpLine
 lines_at zero p known i = []
 lines_at (suc left) p known i =
     parts_lines (lines_at left) p known i ++ notes_lines p.depth left (lines_at left top 0) p.shared p.tag i
 
+-- the lines of an item at this level
+abbrev pub lines_at_level : ℕ → At → ℕ → Item → List DumpLine
+lines_at_level level = lines_at (levels_left level)
+
 -- the lines of a whole item, and its dump
 abbrev pub lines : Item → List DumpLine
-lines i = lines_at 128 top 0 i
+lines i = lines_at_level 1 top 0 i
 
 abbrev pub dump : Item → List ℕ
 dump i = layout (lines i)

@@ -12,9 +12,9 @@ use Rattle.cbor_diag.specs.declared.encode.dump.pass.Pass.TheVariants as pass
 use Rattle.cbor_diag.specs.Comments.{tag_comment}
 use Rattle.cbor_diag.specs.Item.{Item, tagged}
 use Rattle.cbor_diag.specs.View.{view, items_view, pairs_view}
-use Rattle.cbor_diag.specs.WellFormed.{WellFormed, WellFormedItems, WellFormedPairs}
+use Rattle.cbor_diag.specs.WellFormed.{levels_left, WellFormed, WellFormedItems, WellFormedPairs}
 use Rattle.cbor_diag.specs.Written.{encoded_head}
-use Rattle.cbor_diag.specs.Dump.{At, below, inside, head_line, container_line, close_lines, items_lines, lines_at}
+use Rattle.cbor_diag.specs.Dump.{At, below, inside, head_line, container_line, close_lines, items_lines, lines_at, lines_at_level}
 use Rattle.cbor_diag.specs.Dump.{note_lines, notes_lines, pairs_lines, parts_lines, shared_from, shared_in}
 use Rattle.cbor_diag.specs.Dump.{shared_in_items, shared_in_pairs, top}
 use Rattle.cbor_diag.specs.mirror.Passes.{at_of, writes, CanTake, Took, item_lines, embedded_lines, notes_there}
@@ -23,26 +23,26 @@ use Rattle.cbor_diag.proofs.dump.Walks.{part_here, part_left, left_then, Left}
 
 -- An item is its parts and its notes.
 pub item_opens : (level : ℕ) (p : At) (known : ℕ) (i : Item) → level ≤ 128
-    → lines_at (129 - level) p known i ≡ parts_lines (lines_at (129 - (level + 1))) p known i
-    ++ notes_lines p.depth (129 - (level + 1)) (lines_at (129 - (level + 1)) top 0) p.shared p.tag i
+    → lines_at_level level p known i ≡ parts_lines (lines_at_level (level + 1)) p known i
+    ++ notes_lines p.depth (levels_left (level + 1)) (lines_at_level (level + 1) top 0) p.shared p.tag i
 unfolding lines_at
 item_opens level p known i le =
-    let levels : 129 - level ≡ suc (129 - (level + 1)) = omega arith in
+    let levels : levels_left level ≡ suc (levels_left (level + 1)) = omega arith in
     ap (λ left. lines_at left p known i) levels
 
 -- Where no tag is right above it, it has no notes.
 pub untagged : (level : ℕ) (p : At) (known : ℕ) (i : Item) → level ≤ 128 → p.tag ≡ None
-    → lines_at (129 - level) p known i ≡ parts_lines (lines_at (129 - (level + 1))) p known i
+    → lines_at_level level p known i ≡ parts_lines (lines_at_level (level + 1)) p known i
 untagged level p known i le none =
-    let write = lines_at (129 - (level + 1)) in
+    let write = lines_at_level (level + 1) in
     item_opens level p known i le
-    ∙ ap (λ tag. parts_lines write p known i ++ notes_lines p.depth (129 - (level + 1)) (write top 0) p.shared tag i)
+    ∙ ap (λ tag. parts_lines write p known i ++ notes_lines p.depth (levels_left (level + 1)) (write top 0) p.shared tag i)
     none ∙ append-nil (parts_lines write p known i)
 
 -- what the items in a context are written by
 pub written_in : (c : DumpContext) (level : ℕ) (p : At) → c.level ≡ level → at_of c ≡ p
-    → lines_at (129 - c.level) (at_of c) ≡ lines_at (129 - level) p
-written_in c level p deep here = ap (λ n. lines_at (129 - n) (at_of c)) deep ∙ ap (lines_at (129 - level)) here
+    → lines_at_level c.level (at_of c) ≡ lines_at_level level p
+written_in c level p deep here = ap (λ n. lines_at_level n (at_of c)) deep ∙ ap (lines_at_level level) here
 
 -- the pass that measures leaves the notes out
 pub notes_left : (now : Pass) → writes now ≡ false → (depth : ℕ) (all : List (List (List ℕ)))
@@ -59,19 +59,19 @@ module _ (outer inner : DumpContext) (t : ℕ) (w : IntegerWidth) (known shared 
   tag_line = head_line outer.depth (encoded_head 6 t w) (tag_comment t)
 
   abbrev below_tag : List DumpLine
-  below_tag = lines_at (129 - (outer.level + 1)) (below t known (at_of outer)) (shared_from t known) i
+  below_tag = lines_at_level (outer.level + 1) (below t known (at_of outer)) (shared_from t known) i
 
   abbrev value : List DumpLine
   value = item_lines inner shared i
 
   below_opens : below_tag ≡ value ++ notes_there inner t i
   below_opens =
-      ap (λ n. lines_at (129 - (outer.level + 1)) (below t known (at_of outer)) n i) (sym counted)
+      ap (λ n. lines_at_level (outer.level + 1) (below t known (at_of outer)) n i) (sym counted)
       ∙ sym (ap (λ write. write shared i)
       (written_in inner (outer.level + 1) (below t known (at_of outer)) deep here))
       ∙ item_opens inner.level (at_of inner) shared i le
       ∙ ap (λ (tag : Option ℕ). value
-      ++ notes_lines inner.depth (129 - (inner.level + 1)) (embedded_lines inner) inner.shared tag i)
+      ++ notes_lines inner.depth (levels_left (inner.level + 1)) (embedded_lines inner) inner.shared tag i)
       (ap (λ (p : At). p.tag) here)
 
   module _ (opened : Pass) (took : Took old opened (tag_line ∷ [])) where
@@ -98,7 +98,7 @@ module _ (major : ℕ) (name : List ℕ) (count counted : ℕ) (same : count ≡
   count_line n = container_line outer.depth major name n w
 
   abbrev members_lines : List DumpLine
-  members_lines = members (lines_at (129 - (outer.level + 1)) (inside (at_of outer)))
+  members_lines = members (lines_at_level (outer.level + 1) (inside (at_of outer)))
 
   abbrev end : List DumpLine
   end = close_lines (outer.depth + 1) w
@@ -113,7 +113,7 @@ module _ (major : ℕ) (name : List ℕ) (count counted : ℕ) (same : count ≡
     module _ (opened : Pass) (took : Took old opened (count_line counted ∷ [])) (inner : DumpContext)
         (deep : inner.level ≡ outer.level + 1) (here : at_of inner ≡ inside (at_of outer)) where
       abbrev members_there : List DumpLine
-      members_there = members (lines_at (129 - inner.level) (at_of inner))
+      members_there = members (lines_at_level inner.level (at_of inner))
 
       there : members_there ≡ members_lines
       there = ap members (written_in inner (outer.level + 1) (inside (at_of outer)) deep here)

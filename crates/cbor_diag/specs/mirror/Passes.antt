@@ -9,10 +9,10 @@ use Rattle.cbor_diag.specs.declared.encode.dump.items.Walk.{Walk}
 use Rattle.cbor_diag.specs.declared.encode.dump.pass.Pass.{Pass}
 use Rattle.cbor_diag.specs.declared.encode.dump.pass.Pass.TheVariants as pass
 use Rattle.cbor_diag.specs.Item.{Item, Items, Pairs}
-use Rattle.cbor_diag.specs.WellFormed.{levels_left}
-use Rattle.cbor_diag.specs.Embedded.{sequence_at}
+use Rattle.cbor_diag.specs.WellFormed.{deepest, levels_left}
+use Rattle.cbor_diag.specs.Embedded.{sequence}
 use Rattle.cbor_diag.specs.Reading.{read_item}
-use Rattle.cbor_diag.specs.Dump.{At, lines_at, parts_lines, items_lines, pairs_lines, notes, note_lines, top}
+use Rattle.cbor_diag.specs.Dump.{At, lines_at_level, parts_lines, items_lines, pairs_lines, notes, note_lines, top}
 use Rattle.cbor_diag.specs.Dump.{embedded_note, whole_note, sequence_notes}
 use Rattle.cbor_diag.specs.mirror.ShownLines.{Takes, most_width}
 
@@ -27,7 +27,7 @@ at_of c = record { depth = c.depth; encoding = c.encoding; tag = tag_number c.ta
 
 -- an item is less deep than its level, which is at most one past the deepest
 abbrev pub IsContext : DumpContext → Type 0
-IsContext c = (c.depth < c.level) × (c.level ≤ 129)
+IsContext c = (c.depth < c.level) × (c.level ≤ deepest + 1)
 
 -- no tag is right above it
 abbrev pub IsUntagged : DumpContext → Type 0
@@ -37,18 +37,18 @@ IsUntagged c = tag_number c.tag ≡ None
 
 -- an item, without the notes on it
 abbrev pub item_lines : DumpContext → ℕ → Item → List DumpLine
-item_lines c known i = parts_lines (lines_at (levels_left (c.level + 1))) (at_of c) known i
+item_lines c known i = parts_lines (lines_at_level (c.level + 1)) (at_of c) known i
 
 -- items one after the other, with the notes on them
 abbrev pub items_there : DumpContext → ℕ → Items → List DumpLine
-items_there c known is = items_lines (lines_at (levels_left c.level) (at_of c)) known is
+items_there c known is = items_lines (lines_at_level c.level (at_of c)) known is
 
 abbrev pub pairs_there : DumpContext → ℕ → Pairs → List DumpLine
-pairs_there c known ps = pairs_lines (lines_at (levels_left c.level) (at_of c)) known ps
+pairs_there c known ps = pairs_lines (lines_at_level c.level (at_of c)) known ps
 
 -- an item that is embedded in the one there
 abbrev pub embedded_lines : DumpContext → Item → List DumpLine
-embedded_lines c = lines_at (levels_left (c.level + 1)) top 0
+embedded_lines c = lines_at_level (c.level + 1) top 0
 
 -- the notes on the item there, right below a tag
 abbrev pub notes_there : DumpContext → ℕ → Item → List DumpLine
@@ -64,7 +64,7 @@ whole_note_there c b = note_lines c.depth (whole_note (embedded_lines c) (read_i
 abbrev pub sequence_notes_there : DumpContext → List ℕ → List DumpLine
 sequence_notes_there c b =
     flat_map (note_lines c.depth)
-    (sequence_notes (levels_left (c.level + 1)) (embedded_lines c) (sequence_at (levels_left (c.level + 1)) b))
+    (sequence_notes (levels_left (c.level + 1)) (embedded_lines c) (sequence (c.level + 1) b))
 
 -- ---- what a pass has of the lines so far
 

@@ -4,7 +4,7 @@ ghost use Rattle.std.specs.String.{string_bytes};
 ghost use Rattle.cbor_notes.specs.Layout.{layout};
 ghost use Rattle.cbor_diag.specs.Item.{array, map, tagged};
 ghost use Rattle.cbor_diag.specs.View.{view, items_view, pairs_view};
-ghost use Rattle.cbor_diag.specs.WellFormed.{deepest, levels_left, WellFormed, WellFormedItems};
+ghost use Rattle.cbor_diag.specs.WellFormed.{deepest, WellFormed, WellFormedItems};
 ghost use Rattle.cbor_diag.specs.WellFormed.{WellFormedPairs};
 ghost use Rattle.cbor_diag.specs.Dump as spec;
 ghost use Rattle.cbor_diag.specs.mirror.Passes.{IsContext, IsUntagged, CanWalk, Took, Walked};
@@ -63,7 +63,7 @@ pub(super) fn dump(alloc: Global, item: &DataItem, level: u8) -> Result<String, 
     requires level { 1 ≤ level }
     requires well_formed { WellFormed level (view item.now) }
     ensures { IfOk result (λ text. string_bytes text
-        ≡ layout (spec.lines_at (levels_left level) spec.top 0 (view item.now))) }
+        ≡ layout (spec.lines_at_level level spec.top 0 (view item.now))) }
 {
     let context = DumpContext {
         level,

@@ -1,6 +1,6 @@
 use Rattle.std.proofs.Common.{◌≡◌, ◌∙◌, ◌==◌, ◌∷◌, [], true, refl, rules, List, None}
-use Rattle.std.proofs.Common.{option_copied, ◌<◌, ◌≤◌, ◌+◌, ◌-◌, ℕ, Ok, OnOk, Result, map, codes, take, length, ap, sym, subst}
-use Rattle.std.proofs.Common.{arith}
+use Rattle.std.proofs.Common.{option_copied, ◌<◌, ◌≤◌, ◌+◌, ℕ, Ok, OnOk, Result, map, codes, take, length, ap, sym}
+use Rattle.std.proofs.Common.{subst, arith}
 use Rattle.std.specs.List.{flat_map}
 use Rattle.std.proofs.lemmas.List.{nil_from_length}
 use Rattle.std.proofs.lemmas.Bool.Decides.{nat_tests}
@@ -15,8 +15,8 @@ use Rattle.cbor_diag.specs.Written.{encoded_head}
 use Rattle.cbor_diag.specs.Item.{Item, item_count, pair_count}
 use Rattle.cbor_diag.specs.View.{view, items_view, pairs_view, byte_chunk, text_chunk}
 use Rattle.cbor_diag.specs.WellFormed.{levels_left, WellFormed, WellFormedItems, WellFormedPairs, FitsCount}
-use Rattle.cbor_diag.specs.Dump.{At, head_line, bytes_in, byte_chunks_lines, text_chunks_lines, items_lines, lines_at, note_line}
-use Rattle.cbor_diag.specs.Dump.{note_lines, notes, pairs_lines, row, top}
+use Rattle.cbor_diag.specs.Dump.{At, head_line, bytes_in, byte_chunks_lines, text_chunks_lines, items_lines}
+use Rattle.cbor_diag.specs.Dump.{lines_at_level, note_line, note_lines, notes, pairs_lines, row, top}
 use Rattle.cbor_diag.specs.mirror.ShownLines.{head_comment, most_width}
 use Rattle.cbor_diag.specs.mirror.Passes.{at_of, embedded_lines, held, item_lines, room, step, taken, CanTake, Took}
 use Rattle.cbor_diag.proofs.dump.Pieces.{some_left}
@@ -44,7 +44,7 @@ dump-dump_item-requires t c =
     let walk = c.in_ok-walk.walk in
     let begun = c.in_ok-walk.ensures in
     let deep = well_level level i c.requires.well_formed in
-    let wide = subst (λ p. width_of (lines_at (129 - level) top 0 i) ≤ room p) (sym begun.0)
+    let wide = subst (λ p. width_of (lines_at_level level top 0 i) ≤ room p) (sym begun.0)
     (narrow level i c.requires.level c.requires.well_formed) in (
       omega (arith, c.decreases),
       (
@@ -77,7 +77,7 @@ dump-dump_item-requires-2 t c =
     let measured = found level i c.requires.level c.requires.well_formed c.in_ok-walk.walk.shared first.1
     c.in_ok-walk.walk.lines.pass c.dump_item.new.walk.lines.pass first.0 c.in_ok-dump_item.ensures.took in
     let same = c.new-writer.ensures.width ∙ (c.width.ensures ∙ measured) in
-    let wide = subst (λ p. width_of (lines_at (129 - level) top 0 i) ≤ room p) (sym begun.0) (omega (arith, same)) in (
+    let wide = subst (λ p. width_of (lines_at_level level top 0 i) ≤ room p) (sym begun.0) (omega (arith, same)) in (
       omega (arith, c.decreases),
       (
         (omega (arith, c.requires.level), omega (arith, deep)),
@@ -310,7 +310,7 @@ dump_map-returns-clause-took t c =
 pub dump_items-dump_item-requires : goal.dump_items-dump_item-requires
 dump_items-dump_item-requires t c =
     let here = c.args.context.now in
-    let write = lines_at (129 - here.level) (at_of here) in
+    let write = lines_at_level here.level (at_of here) in
     let all = c.deref-item-items.result.now in
     let v = c.item-item.result in
     let lines = items_lines write c.args.walk.now.shared (items_view all) in
@@ -326,7 +326,7 @@ dump_items-dump_item-requires t c =
 pub dump_items-items-preserved : goal.dump_items-items-preserved
 dump_items-items-preserved t c =
     let here = c.args.context.now in
-    let write = lines_at (129 - here.level) (at_of here) in
+    let write = lines_at_level here.level (at_of here) in
     let all = c.deref-item-items.result.now in
     let v = c.item-item.result in
     let lines = items_lines write c.args.walk.now.shared (items_view all) in
@@ -344,7 +344,7 @@ dump_items-items-preserved t c =
 pub dump_pairs-dump_item-requires : goal.dump_pairs-dump_item-requires
 dump_pairs-dump_item-requires t c =
     let here = c.args.context.now in
-    let write = lines_at (129 - here.level) (at_of here) in
+    let write = lines_at_level here.level (at_of here) in
     let all = c.deref-key-items.result.now in
     let v = c.pairs-item.result in
     let lines = pairs_lines write c.args.walk.now.shared (pairs_view all) in
@@ -360,7 +360,7 @@ dump_pairs-dump_item-requires t c =
 pub dump_pairs-dump_item-requires-in-pairs : goal.dump_pairs-dump_item-requires-in-pairs
 dump_pairs-dump_item-requires-in-pairs t c =
     let here = c.args.context.now in
-    let write = lines_at (129 - here.level) (at_of here) in
+    let write = lines_at_level here.level (at_of here) in
     let all = c.deref-key-items.result.now in
     let v = c.pairs-item.result in
     let lines = pairs_lines write c.args.walk.now.shared (pairs_view all) in
@@ -381,7 +381,7 @@ dump_pairs-dump_item-requires-in-pairs t c =
 pub dump_pairs-pairs-preserved : goal.dump_pairs-pairs-preserved
 dump_pairs-pairs-preserved t c =
     let here = c.args.context.now in
-    let write = lines_at (129 - here.level) (at_of here) in
+    let write = lines_at_level here.level (at_of here) in
     let all = c.deref-key-items.result.now in
     let v = c.pairs-item.result in
     let lines = pairs_lines write c.args.walk.now.shared (pairs_view all) in
@@ -414,7 +414,7 @@ dump_notes-returns-in-None-clause-took t c =
     let is : c.args.tag.0 ≡ 24 = search rules in
     let none = sym c.bytes_in.ensures ∙ ap option_copied c.in-None.is in
     subst (λ lines. OnOk c.note_line.result (Took c.args.walk.now.lines.pass c.note_line.new.self.pass lines))
-    (invalid_item c.args.context.now.depth (129 - level) (lines_at (129 - level) top 0) c.args.context.now.shared
+    (invalid_item c.args.context.now.depth (levels_left level) (lines_at_level level top 0) c.args.context.now.shared
     c.args.tag.0 (view c.args.value.now) is none)
     c.note_line.ensures
 
@@ -424,7 +424,7 @@ pub embedded_dump-returns : goal.embedded_dump-returns
 embedded_dump-returns t c =
     let i = view c.args.item in
     let level = c.args.context.now.level + 1 in
-    let all = lines_at (129 - level) top 0 i in
+    let all = lines_at_level level top 0 i in
     on_ok_weaker c.rows.result
     (λ taken_so.
     let rows = taken_so (width_of all) all (plain level i (omega arith) c.requires.well_formed)
@@ -451,7 +451,7 @@ embedded_item-embedded_dump-requires t c = (
 pub embedded_item-returns-in-Ok : goal.embedded_item-returns-in-Ok
 embedded_item-returns-in-Ok t c =
     let level = c.args.context.now.level + 1 in
-    let whole = whole_dumped level c.args.bytes.now (omega (arith, c.requires.level)) (lines_at (129 - level) top 0)
+    let whole = whole_dumped level c.args.bytes.now (omega (arith, c.requires.level)) (lines_at_level level top 0)
     (view c.in-Ok.item) c.in-Ok.ensures.answer in
     subst (λ n. OnOk c.embedded_dump.result (Took c.args.lines.now.pass c.embedded_dump.new.lines.pass
     (note_lines c.args.context.now.depth n))) (sym whole) c.embedded_dump.ensures
@@ -460,7 +460,7 @@ pub embedded_item-returns-in_default : goal.embedded_item-returns-in_default
 embedded_item-returns-in_default t c =
     let level = c.args.context.now.level + 1 in
     let refused = refused_is level c.args.bytes.now c.in-Err.error c.in_default.not-Memory c.in-Err.ensures.answer in
-    let failed = whole_failed level c.args.bytes.now (omega (arith, c.requires.level)) (lines_at (129 - level) top 0)
+    let failed = whole_failed level c.args.bytes.now (omega (arith, c.requires.level)) (lines_at_level level top 0)
     c.in-Err.error refused in
     subst (λ n. OnOk c.failed_note.result (Took c.args.lines.now.pass c.failed_note.new.self.pass
     (note_lines c.args.context.now.depth n))) (sym failed) c.failed_note.ensures
@@ -474,7 +474,8 @@ embedded_sequence-embedded_dump-requires t c =
         c.requires.context,
         (
           c.requires.level,
-          whole_well_formed (c.args.context.now.level + 1) (take c.in-Ok-Some.used c.items.rest.now) (Ok c.in-Ok-Some.item)
+          whole_well_formed (c.args.context.now.level + 1) (take c.in-Ok-Some.used c.items.rest.now)
+              (Ok c.in-Ok-Some.item)
               (IsBytes-take c.in-Ok-Some.used c.items.rest.now left.bytes) here.1,
         ),
       ),
@@ -498,7 +499,8 @@ embedded_sequence-returns-in-Ok-None t c =
     on_ok_weaker c.failed_note.result
     (λ took. (
       sequence_failed level c.args.context.now.depth low (held c.items.lines.pass) rest _ c.items.invariant.0
-          refusal.CutShort (held c.failed_note.new.self.pass) (some_left (length rest) c.items-test.ensures) ends took.0,
+          refusal.CutShort (held c.failed_note.new.self.pass) (some_left (length rest) c.items-test.ensures) ends
+          took.0,
       took.1 ∙ c.items.invariant.1,
     ))
     c.failed_note.ensures
