@@ -8,4 +8,5 @@ pub mod Passes
 pub mod ShownLines
 pub mod HeadErrors
 pub mod LayoutView
+pub mod NotesView
 pub mod SameDecides

@@ -1,5 +1,5 @@
 -- The dump of an embedded item as lines of a note, and the dumps of a sequence one after the other.
-use Rattle.std.proofs.Common.{◌≡◌, ℕ, zero, suc, ◌+◌, ◌-◌, ◌==◌, ◌<◌, ◌≤◌, List, [], ◌∷◌, ◌++◌, map, length, take, drop}
+use Rattle.std.proofs.Common.{◌≡◌, ℕ, zero, suc, ◌+◌, ◌==◌, ◌<◌, ◌≤◌, List, [], ◌∷◌, ◌++◌, map, length, take, drop}
 use Rattle.std.proofs.Common.{get_or, codes, Ok, Err, refl, sym, ap, subst, ◌∙◌, append_assoc, append-nil, arith}
 use Rattle.std.specs.List.{AllByRecursion, flat_map, before_first, after_first, position_or_len}
 use Rattle.std.specs.Str.{IsUtf8}
@@ -17,7 +17,9 @@ use Rattle.cbor_diag.specs.Answer.{cut, fault, spelled, IsOutcome, IsRefused}
 use Rattle.cbor_diag.specs.Bytes.{any, Spells}
 use Rattle.cbor_diag.specs.Embedded.{and_then, sequence_of, before as item_before}
 use Rattle.cbor_diag.specs.WellFormed.{levels_left}
-use Rattle.cbor_diag.specs.Dump.{note_line, note_lines, row, sequence_notes, failed_note, embedded_note, lines_at, lines_at_level, top}
+use Rattle.cbor_diag.specs.Notes.{Note}
+use Rattle.cbor_diag.specs.Dump.{note_line, note_lines, row, sequence_notes, failed_note, embedded_note, lines_at}
+use Rattle.cbor_diag.specs.Dump.{lines_at_level, top}
 use Rattle.cbor_diag.specs.Dump.{whole_note}
 use Rattle.cbor_diag.specs.mirror.Passes.{taken, Held, step}
 use Rattle.cbor_diag.specs.Reading.{read_item}
@@ -105,7 +107,7 @@ utf8_after bs xs ys utf8 e =
 
 -- ---- a sequence
 
-abbrev pub sequence_dumps : ℕ → List ℕ → ℕ → List (List (List ℕ))
+abbrev pub sequence_dumps : ℕ → List ℕ → ℕ → List Note
 sequence_dumps level rest steps = sequence_notes (levels_left level) (lines_at_level level top 0)
     (sequence_of (read_item (levels_left level)) steps rest)
 
@@ -202,7 +204,8 @@ module _ (level : ℕ) (b : List ℕ) (le : level ≤ 129) (dump : Item → List
   rest_failed i (x ∷ r) some = refl
 
   pub whole_failed : (e : Error) → IsRefused level b e
-      → whole_note dump (read_item (levels_left level) b) ≡ failed_note (codes "failed to parse encoded cbor data item") e
+      → whole_note dump (read_item (levels_left level) b)
+      ≡ failed_note (codes "failed to parse encoded cbor data item") e
   whole_failed refusal.CutShort h = ap (whole_note dump) (outcome_reads level (levels_left level) b cut (omega arith) h)
   whole_failed refusal.Head h = ap (whole_note dump)
       (outcome_reads level (levels_left level) b (fault refusal.Head) (omega arith) h)

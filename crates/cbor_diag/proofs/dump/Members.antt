@@ -1,5 +1,5 @@
 -- What the walk does with an item, its notes, a container and its members.
-use Rattle.std.proofs.Common.{◌≡◌, ℕ, suc, ◌+◌, ◌-◌, ◌<◌, ◌≤◌, refl, false, List, [], None, ◌∷◌, ◌++◌, length}
+use Rattle.std.proofs.Common.{◌≡◌, ℕ, suc, ◌+◌, ◌<◌, ◌≤◌, refl, false, List, [], None, ◌∷◌, ◌++◌, length}
 use Rattle.std.proofs.Common.{drop, get_or, Option, Result, OnOk, sym, ap, subst, append-nil, ◌∙◌, arith}
 use Rattle.std.specs.List.{flat_map}
 use Rattle.std.proofs.lemmas.List.{drop_more}
@@ -11,6 +11,7 @@ use Rattle.cbor_diag.specs.declared.encode.dump.pass.Pass.{Pass}
 use Rattle.cbor_diag.specs.declared.encode.dump.pass.Pass.TheVariants as pass
 use Rattle.cbor_diag.specs.Comments.{tag_comment}
 use Rattle.cbor_diag.specs.Item.{Item, tagged}
+use Rattle.cbor_diag.specs.Notes.{Note}
 use Rattle.cbor_diag.specs.View.{view, items_view, pairs_view}
 use Rattle.cbor_diag.specs.WellFormed.{levels_left, WellFormed, WellFormedItems, WellFormedPairs}
 use Rattle.cbor_diag.specs.Written.{encoded_head}
@@ -45,7 +46,7 @@ pub written_in : (c : DumpContext) (level : ℕ) (p : At) → c.level ≡ level 
 written_in c level p deep here = ap (λ n. lines_at_level n (at_of c)) deep ∙ ap (lines_at_level level) here
 
 -- the pass that measures leaves the notes out
-pub notes_left : (now : Pass) → writes now ≡ false → (depth : ℕ) (all : List (List (List ℕ)))
+pub notes_left : (now : Pass) → writes now ≡ false → (depth : ℕ) (all : List Note)
     → Took now now (flat_map (note_lines depth) all)
 notes_left (pass.Measure width) silent depth all = (sym (notes_passed width depth all), refl)
 notes_left (pass.Write w) silent depth all = absurd cc

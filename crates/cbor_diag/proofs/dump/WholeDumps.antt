@@ -1,5 +1,5 @@
 -- The two passes that make a dump.
-use Rattle.std.proofs.Common.{◌≡◌, ℕ, ◌-◌, ◌≤◌, max, List, [], ◌++◌, ◌+◌, refl, sym, ap, subst, ◌∙◌, arith}
+use Rattle.std.proofs.Common.{◌≡◌, ℕ, ◌≤◌, max, List, [], ◌++◌, ◌+◌, refl, sym, ap, subst, ◌∙◌, arith}
 use Rattle.std.specs.List.{AllByRecursion, flat_map}
 use Rattle.std.specs.String.{string_bytes}
 use Rattle.cbor_notes.specs.Columns.{IsPlain}
@@ -10,7 +10,7 @@ use Rattle.cbor_diag.specs.declared.encode.dump.pass.Pass.{Pass}
 use Rattle.cbor_diag.specs.declared.encode.dump.pass.Pass.TheVariants as pass
 use Rattle.cbor_diag.specs.declared.encode.dump.writer.Writer.{Writer}
 use Rattle.cbor_diag.specs.Item.{Item}
-use Rattle.cbor_diag.specs.Dump.{lines_at, lines_at_level, parts_lines, top}
+use Rattle.cbor_diag.specs.Dump.{lines_at_level, parts_lines, top}
 use Rattle.cbor_diag.specs.mirror.ShownLines.{most_width}
 use Rattle.cbor_diag.specs.mirror.Passes.{taken, held, room, step, text_in, width_in, CanTake, Took}
 use Rattle.cbor_diag.specs.WellFormed.{levels_left, WellFormed}

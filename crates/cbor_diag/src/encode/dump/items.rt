@@ -289,10 +289,10 @@ fn dump_notes(
             Some(bytes) => embedded_sequence(&mut walk.lines, walk.alloc, context, bytes),
             None => walk.lines.note_line(context.depth, INVALID_SEQUENCE),
         },
-        _ => {
-            let texts = value_note(walk.alloc, context.shared, tag, value)?;
-            walk.lines.note(context.depth, &texts)
-        }
+        _ => match value_note(walk.alloc, context.shared, tag, value)? {
+            Some(note) => walk.lines.note(context.depth, &note),
+            None => Ok(()),
+        },
     }
 }
 

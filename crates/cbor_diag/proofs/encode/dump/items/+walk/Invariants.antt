@@ -2,7 +2,7 @@ use Rattle.std.proofs.Common.{◌≡◌, ◌+◌, ◌-◌, ◌*◌, drop, length
 use Rattle.std.specs.List.{flat_map}
 use Rattle.cbor_diag.specs.View.{items_view, pairs_view}
 use Rattle.cbor_diag.specs.WellFormed.{levels_left}
-use Rattle.cbor_diag.specs.Dump.{items_lines, lines_at, lines_at_level, note_lines, pairs_lines, sequence_notes, shared_in_items}
+use Rattle.cbor_diag.specs.Dump.{items_lines, lines_at_level, note_lines, pairs_lines, sequence_notes, shared_in_items}
 use Rattle.cbor_diag.specs.Dump.{shared_in_pairs, top}
 use Rattle.cbor_diag.specs.Embedded.{sequence_at}
 use Rattle.cbor_diag.specs.mirror.Passes.{at_of, held, room, step, taken}
