@@ -1,8 +1,9 @@
 -- The lines of the dump of an item: what its bytes are, in their order, each with a comment, and notes on what
--- tags say of their values. How the lines are laid out is no matter of the item.
+-- tags say of their values. The layout of the lines depends on the lines alone.
 use Rattle.std.specs.Prelude.{ℕ, zero, suc, ◌+◌, ◌%◌, ◌*◌, ◌==◌, List, [], ◌∷◌, ◌++◌, length, min, map, Option, Some}
 use Rattle.std.specs.Prelude.{None, Ok, Err, unwrap_or, codes, nat_le, take, drop, if◌then◌else◌}
 use Rattle.std.specs.List.{flat_map}
+use Rattle.std.specs.Option.{option_to_list}
 use Rattle.hex.specs.Hex.{encode_lower}
 use Rattle.cbor_notes.specs.Element.{element_size, element_text}
 use Rattle.cbor_notes.specs.Layout.{DumpLine, layout, blanks, left_column, width_of}
@@ -20,10 +21,11 @@ use Rattle.cbor_diag.specs.Comments.{unsigned_comment, negative_comment, float_c
 use Rattle.cbor_diag.specs.Comments.{tag_comment, bytes_comment, text_comment, empty_comment, break_comment}
 use Rattle.cbor_diag.specs.Comments.{encoding_below}
 use Rattle.cbor_diag.specs.Embedded.{sequence_at}
-use Rattle.cbor_diag.specs.Notes.{one, value_note}
+use Rattle.cbor_diag.specs.Notes.{Note, plain_note, value_note}
 use Rattle.cbor_diag.specs.Pieces.{pieces_of, byte_pieces, text_pieces}
 use Rattle.cbor_diag.specs.Reading.{Read, read_item}
 use Rattle.cbor_diag.specs.Refusals.{text_of}
+use Rattle.cbor_diag.specs.WellFormed.{levels_left}
 
 -- the digits of a head: its first byte, and after a blank the bytes that follow it, if any do
 abbrev pub head_hex : List ℕ → List ℕ
@@ -142,7 +144,7 @@ close_lines depth None = break_line depth ∷ []
 
 -- ---- shared values
 
--- one value more is shared where a tag is 28
+-- how many values were shared when the value below a tag begins: one more below tag 28
 abbrev pub shared_from : ℕ → ℕ → ℕ
 shared_from t n = if t == 28 then suc n else n
 
@@ -169,21 +171,20 @@ abbrev pub note_line : ℕ → List ℕ → DumpLine
 note_line depth text = record { depth = depth; hex = []; comment = text }
 
 -- a note, and what belongs to it one deeper
-abbrev pub note_lines : ℕ → List (List ℕ) → List DumpLine
-note_lines depth [] = []
-note_lines depth (text ∷ texts) = note_line depth text ∷ map (note_line (depth + 1)) texts
+abbrev pub note_lines : ℕ → Note → List DumpLine
+note_lines depth note = note_line depth note.text ∷ map (note_line (depth + 1)) note.below
 
 -- a line as it is in a dump of that width, without its line feed
 abbrev pub row : ℕ → DumpLine → List ℕ
 row width line = left_column width line ++ codes " # " ++ blanks (2 * line.depth) ++ line.comment
 
--- an embedded item: its own dump, as wide as that is
-abbrev pub embedded_note : List DumpLine → List (List ℕ)
-embedded_note lines = codes "encoded cbor data item" ∷ map (row (width_of lines)) lines
+-- an embedded item: its own dump in columns of its own, a text for each line
+abbrev pub embedded_note : List DumpLine → Note
+embedded_note lines = record { text = codes "encoded cbor data item"; below = map (row (width_of lines)) lines }
 
--- what can't be read, and why
-abbrev pub failed_note : List ℕ → Error → List (List ℕ)
-failed_note what e = what ∷ text_of e ∷ []
+-- what cannot be read, and the error
+abbrev pub failed_note : List ℕ → Error → Note
+failed_note what e = record { text = what; below = text_of e ∷ [] }
 
 -- the bytes of a byte string of definite length
 abbrev pub bytes_in : Item → Option (List ℕ)
@@ -191,40 +192,40 @@ bytes_in (atom (byte_string c)) = Some c.bytes
 bytes_in _ = None
 
 -- tag 24: the item that the bytes are, whose dump is given by `dump` (RFC 7049 section 2.4.4.1)
-abbrev pub whole_note : (Item → List DumpLine) → Read Item → List (List ℕ)
+abbrev pub whole_note : (Item → List DumpLine) → Read Item → Note
 whole_note dump (Ok (i, [])) = embedded_note (dump i)
 whole_note dump (Ok (i, rest)) = failed_note (codes "failed to parse encoded cbor data item") Remaining
 whole_note dump (Err e) = failed_note (codes "failed to parse encoded cbor data item") e
 
-abbrev pub encoded_item_note : ℕ → (Item → List DumpLine) → Option (List ℕ) → List (List ℕ)
+abbrev pub encoded_item_note : ℕ → (Item → List DumpLine) → Option (List ℕ) → Note
 encoded_item_note left dump (Some bytes) = whole_note dump (read_item left bytes)
-encoded_item_note left dump None = one (codes "invalid type for encoded cbor data item")
+encoded_item_note left dump None = plain_note (codes "invalid type for encoded cbor data item")
 
 -- tag 63: each item of a sequence, and what follows that is none (RFC 8742)
-abbrev pub items_notes : (Item → List DumpLine) → Items → List (List (List ℕ))
+abbrev pub items_notes : (Item → List DumpLine) → Items → List Note
 items_notes dump no_items = []
 items_notes dump (item i is) = embedded_note (dump i) ∷ items_notes dump is
 
--- a rest that an item could be read from would belong to the sequence
-abbrev pub rest_note : List ℕ → Read Item → List (List ℕ)
-rest_note [] read = []
-rest_note rest (Ok x) = []
-rest_note rest (Err e) = failed_note (codes "failed to parse remaining encoded cbor sequence") e
+-- the bytes after a sequence, if there are any, and the error; no item begins with them
+abbrev pub rest_note : List ℕ → Read Item → Option Note
+rest_note [] read = None
+rest_note rest (Ok x) = None
+rest_note rest (Err e) = Some (failed_note (codes "failed to parse remaining encoded cbor sequence") e)
 
-abbrev pub sequence_notes : ℕ → (Item → List DumpLine) → Items × List ℕ → List (List (List ℕ))
-sequence_notes left dump s = items_notes dump s.0 ++ rest_note s.1 (read_item left s.1) ∷ []
+abbrev pub sequence_notes : ℕ → (Item → List DumpLine) → Items × List ℕ → List Note
+sequence_notes left dump s = items_notes dump s.0 ++ option_to_list (rest_note s.1 (read_item left s.1))
 
-abbrev pub encoded_sequence_notes : ℕ → (Item → List DumpLine) → Option (List ℕ) → List (List (List ℕ))
+abbrev pub encoded_sequence_notes : ℕ → (Item → List DumpLine) → Option (List ℕ) → List Note
 encoded_sequence_notes left dump (Some bytes) = sequence_notes left dump (sequence_at left bytes)
-encoded_sequence_notes left dump None = one (codes "invalid type for encoded cbor sequence") ∷ []
+encoded_sequence_notes left dump None = plain_note (codes "invalid type for encoded cbor sequence") ∷ []
 
--- What is said of the value right below a tag, where `left` levels are left for what is embedded in it and
+-- The notes on the value right below a tag, where `left` levels are left for what is embedded in it and
 -- `known` values were shared before the tag.
-abbrev pub notes : ℕ → (Item → List DumpLine) → ℕ → ℕ → Item → List (List (List ℕ))
+abbrev pub notes : ℕ → (Item → List DumpLine) → ℕ → ℕ → Item → List Note
 notes left dump known t i =
     if t == 24 then encoded_item_note left dump (bytes_in i) ∷ []
     else if t == 63 then encoded_sequence_notes left dump (bytes_in i)
-    else value_note known t i ∷ []
+    else option_to_list (value_note known t i)
 
 abbrev pub notes_lines : ℕ → ℕ → (Item → List DumpLine) → ℕ → Option ℕ → Item → List DumpLine
 notes_lines depth left dump known None i = []
@@ -256,17 +257,21 @@ parts_lines write p known (tagged t w i) =
     head_line p.depth (encoded_head 6 t w) (tag_comment t)
     ∷ write (below t known p) (shared_from t known) i
 
--- An item with `left` levels left for it and what is nested in it, embedded items included: 129 less the
--- level of the item. Its notes follow it, as deep as it is. An embedded item has a dump of its own,
--- which counts shared values from 0. Where no level is left there is no item.
+-- An item with this many levels left for it and what is nested in it, embedded items included: `levels_left` of its
+-- level. Its notes follow it, as deep as it is. An embedded item has a dump of its own, which counts shared values
+-- from 0. Where no level is left there is no item.
 unfoldable pub lines_at : ℕ → At → ℕ → Item → List DumpLine
 lines_at zero p known i = []
 lines_at (suc left) p known i =
     parts_lines (lines_at left) p known i ++ notes_lines p.depth left (lines_at left top 0) p.shared p.tag i
 
+-- the lines of an item at this level
+abbrev pub lines_at_level : ℕ → At → ℕ → Item → List DumpLine
+lines_at_level level = lines_at (levels_left level)
+
 -- the lines of a whole item, and its dump
 abbrev pub lines : Item → List DumpLine
-lines i = lines_at 128 top 0 i
+lines i = lines_at_level 1 top 0 i
 
 abbrev pub dump : Item → List ℕ
 dump i = layout (lines i)

@@ -1,10 +1,10 @@
 -- Items that are embedded in the bytes of a byte string (RFC 7049 section 2.4.4.1, RFC 8742).
-use Rattle.std.specs.Prelude.{◌≡◌, ◌↔◌, ℕ, zero, suc, ◌+◌, ◌-◌, ◌<◌, ◌≤◌, List, [], ◌++◌, length, take, drop}
+use Rattle.std.specs.Prelude.{◌≡◌, ◌↔◌, ℕ, zero, suc, ◌+◌, ◌<◌, ◌≤◌, List, [], ◌++◌, length, take, drop}
 use Rattle.std.specs.Prelude.{slice_index}
 use Rattle.std.specs.Prelude.{Option, Some, None, Ok, Err}
 use Rattle.cbor_diag.specs.declared.error.Error.{Error}
 use Rattle.cbor_diag.specs.declared.error.Error.TheVariants.{CutShort}
-use Rattle.cbor_diag.specs.WellFormed.{deepest}
+use Rattle.cbor_diag.specs.WellFormed.{deepest, levels_left}
 use Rattle.cbor_diag.specs.Bytes.{any, Spells, SpellsItems}
 use Rattle.cbor_diag.specs.Refused.{Cut, Fault}
 use Rattle.cbor_diag.specs.Item.{Item, Items, no_items, item}
@@ -22,7 +22,7 @@ embedded_at left b = if_whole (read_item left b)
 -- The item that the bytes spell at this level, if there is one: `embedded level b` is `Some e` exactly
 -- where `Spells any level b e`, as `Embeds` below says.
 abbrev pub embedded : ℕ → List ℕ → Option Item
-embedded level b = embedded_at (129 - level) b
+embedded level b = embedded_at (levels_left level) b
 
 -- an item before others and their rest
 abbrev pub before : Item → Items × List ℕ → Items × List ℕ
@@ -46,7 +46,7 @@ sequence_at left b = sequence_of (read_item left) (length b) b
 -- the items are spelled one after the other and then the rest follows, which begins with no item, as
 -- `Embeds` below says.
 abbrev pub sequence : ℕ → List ℕ → Items × List ℕ
-sequence level b = sequence_at (129 - level) b
+sequence level b = sequence_at (levels_left level) b
 
 -- What `embedded` and `sequence` mean at this level, by the grammar of bytes alone: the item that the bytes
 -- spell; the longest list of items that are spelled one after the other, and a rest that begins with none.
@@ -55,7 +55,7 @@ pub record Embeds (level : ℕ) (b : List ℕ) : Type 0 where
   pub items : SpellsItems any level b (sequence level b).0 (sequence level b).1
   pub longest : (x rest : List ℕ) (e : Item) → (sequence level b).1 ≡ x ++ rest → ¬ (Spells any level x e)
 
--- They mean so of all bytes, read from any level from 1 to 129. At level 129 there is no item.
+-- They mean so of all bytes, read from any level from 1 to one past the deepest, where there is no item.
 abbrev pub EmbedsExactly : Type 0
 EmbedsExactly = (level : ℕ) (b : List ℕ) → 1 ≤ level → level ≤ deepest + 1
     → ((i : ℕ) → slice_index b i < 256) → Embeds level b
@@ -63,11 +63,11 @@ EmbedsExactly = (level : ℕ) (b : List ℕ) → 1 ≤ level → level ≤ deepe
 -- What reading bytes that are not one item answers at this level, by the grammar of bytes alone: that they are
 -- cut, which fault they have, or the item that some first bytes are and the bytes that remain.
 pub record Rejects (level : ℕ) (b : List ℕ) : Type 0 where
-  pub cut : Cut level b → read_item (deepest + 1 - level) b ≡ Err CutShort
-  pub fault : (e : Error) → Fault level b e → read_item (deepest + 1 - level) b ≡ Err e
+  pub cut : Cut level b → read_item (levels_left level) b ≡ Err CutShort
+  pub fault : (e : Error) → Fault level b e → read_item (levels_left level) b ≡ Err e
   pub front : (n : ℕ) (i : Item) → n ≤ length b → Spells any level (take n b) i
-      → read_item (deepest + 1 - level) b ≡ Ok (i, drop n b)
+      → read_item (levels_left level) b ≡ Ok (i, drop n b)
 
--- It answers so of all bytes, read from any level up to 129.
+-- It answers so of all bytes, read from any level up to one past the deepest.
 abbrev pub RejectsExactly : Type 0
 RejectsExactly = (level : ℕ) (b : List ℕ) → level ≤ deepest + 1 → Rejects level b

@@ -11,4 +11,5 @@ pub mod EncodingView
 pub mod LayoutView
 pub mod MajorNumber
 pub mod StringView
+pub mod NotesView
 pub mod SameDecides

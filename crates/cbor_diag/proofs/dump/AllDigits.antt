@@ -31,6 +31,7 @@ use Rattle.cbor_diag.specs.Dump.{bytes_lines, element_lines, sized_lines, tagged
 use Rattle.cbor_diag.specs.Dump.{notes_lines}
 use Rattle.cbor_diag.specs.Dump.{count_if_definite, break_line, atom_lines, close_lines, inside, below, shared_in}
 use Rattle.cbor_diag.specs.Dump.{shared_from, items_lines, pairs_lines, parts_lines, lines_at, top}
+use Rattle.cbor_diag.specs.Notes.{Note}
 use Rattle.cbor_diag.specs.WellFormed.{WellFormed, WellFormedItems, WellFormedPairs}
 use Rattle.cbor_diag.proofs.dump.Digits.{head_short, head_long}
 use Rattle.cbor_diag.proofs.dump.Elements.{Small, element_small, element_cut, element_cuts}
@@ -214,11 +215,10 @@ texts_are : (depth : ℕ) (texts : List (List ℕ)) → Are (map (note_line dept
 texts_are depth [] = none
 texts_are depth (text ∷ texts) = texts_are depth texts
 
-note_are : (depth : ℕ) (texts : List (List ℕ)) → Are (note_lines depth texts) []
-note_are depth [] = none
-note_are depth (text ∷ texts) = texts_are (depth + 1) texts
+note_are : (depth : ℕ) (note : Note) → Are (note_lines depth note) []
+note_are depth note = texts_are (depth + 1) note.below
 
-all_notes_are : (depth : ℕ) (all : List (List (List ℕ))) → Are (flat_map (note_lines depth) all) []
+all_notes_are : (depth : ℕ) (all : List Note) → Are (flat_map (note_lines depth) all) []
 all_notes_are depth [] = none
 all_notes_are depth (n ∷ ns) = both (note_lines depth n) (flat_map (note_lines depth) ns) [] [] (note_are depth n)
     (all_notes_are depth ns)

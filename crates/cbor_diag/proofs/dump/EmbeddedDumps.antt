@@ -1,5 +1,5 @@
 -- The dump of an embedded item as lines of a note, and the dumps of a sequence one after the other.
-use Rattle.std.proofs.Common.{◌≡◌, ℕ, zero, suc, ◌+◌, ◌-◌, ◌==◌, ◌<◌, ◌≤◌, List, [], ◌∷◌, ◌++◌, map, length, take, drop}
+use Rattle.std.proofs.Common.{◌≡◌, ℕ, zero, suc, ◌+◌, ◌==◌, ◌<◌, ◌≤◌, List, [], ◌∷◌, ◌++◌, map, length, take, drop}
 use Rattle.std.proofs.Common.{get_or, codes, Ok, Err, refl, sym, ap, subst, ◌∙◌, append_assoc, append-nil, arith}
 use Rattle.std.specs.List.{AllByRecursion, flat_map, before_first, after_first, position_or_len}
 use Rattle.std.specs.Str.{IsUtf8}
@@ -16,7 +16,10 @@ use Rattle.cbor_diag.specs.Item.{Item}
 use Rattle.cbor_diag.specs.Answer.{cut, fault, spelled, IsOutcome, IsRefused}
 use Rattle.cbor_diag.specs.Bytes.{any, Spells}
 use Rattle.cbor_diag.specs.Embedded.{and_then, sequence_of, before as item_before}
-use Rattle.cbor_diag.specs.Dump.{note_line, note_lines, row, sequence_notes, failed_note, embedded_note, lines_at, top}
+use Rattle.cbor_diag.specs.WellFormed.{levels_left}
+use Rattle.cbor_diag.specs.Notes.{Note}
+use Rattle.cbor_diag.specs.Dump.{note_line, note_lines, row, sequence_notes, failed_note, embedded_note, lines_at}
+use Rattle.cbor_diag.specs.Dump.{lines_at_level, top}
 use Rattle.cbor_diag.specs.Dump.{whole_note}
 use Rattle.cbor_diag.specs.mirror.Passes.{taken, Held, step}
 use Rattle.cbor_diag.specs.Reading.{read_item}
@@ -104,9 +107,9 @@ utf8_after bs xs ys utf8 e =
 
 -- ---- a sequence
 
-abbrev pub sequence_dumps : ℕ → List ℕ → ℕ → List (List (List ℕ))
-sequence_dumps level rest steps = sequence_notes (129 - level) (lines_at (129 - level) top 0)
-    (sequence_of (read_item (129 - level)) steps rest)
+abbrev pub sequence_dumps : ℕ → List ℕ → ℕ → List Note
+sequence_dumps level rest steps = sequence_notes (levels_left level) (lines_at_level level top 0)
+    (sequence_of (read_item (levels_left level)) steps rest)
 
 -- Of a sequence, these bytes are left, and the sink has taken the items before.
 pub record SequenceLeft (level depth : ℕ) (now : Held) (rest : List ℕ) (whole : Held) : Type 0 where
@@ -116,11 +119,11 @@ pub record SequenceLeft (level depth : ℕ) (now : Held) (rest : List ℕ) (whol
   pub same : taken step now (flat_map (note_lines depth) (sequence_dumps level rest steps)) ≡ whole
 
 module _ (level depth : ℕ) (le : level ≤ 129) (now : Held) (rest : List ℕ) (whole : Held) where
-  levels : level + (129 - level) ≡ 129
+  levels : level + (levels_left level) ≡ 129
   levels = omega arith
 
   abbrev left : ℕ
-  left = 129 - level
+  left = levels_left level
 
   -- an item more was read
   more_of : (steps : ℕ) (i : Item) (used : ℕ) → length rest ≤ steps → 1 ≤ used → used ≤ length rest
@@ -190,10 +193,10 @@ module _ (level depth : ℕ) (le : level ≤ 129) (now : Held) (rest : List ℕ)
 
 module _ (level : ℕ) (b : List ℕ) (le : level ≤ 129) (dump : Item → List DumpLine) where
   pub whole_dumped : (i : Item) → Spells any level b i
-      → whole_note dump (read_item (129 - level) b) ≡ embedded_note (dump i)
+      → whole_note dump (read_item (levels_left level) b) ≡ embedded_note (dump i)
   whole_dumped i s =
-      ap (whole_note dump) (ap (read_item (129 - level)) (sym (append-nil b))
-      ∙ item_again level (129 - level) b i [] (omega arith) s)
+      ap (whole_note dump) (ap (read_item (levels_left level)) (sym (append-nil b))
+      ∙ item_again level (levels_left level) b i [] (omega arith) s)
 
   rest_failed : (i : Item) (r : List ℕ) → 0 < length r
       → whole_note dump (Ok (i, r)) ≡ failed_note (codes "failed to parse encoded cbor data item") refusal.Remaining
@@ -201,16 +204,17 @@ module _ (level : ℕ) (b : List ℕ) (le : level ≤ 129) (dump : Item → List
   rest_failed i (x ∷ r) some = refl
 
   pub whole_failed : (e : Error) → IsRefused level b e
-      → whole_note dump (read_item (129 - level) b) ≡ failed_note (codes "failed to parse encoded cbor data item") e
-  whole_failed refusal.CutShort h = ap (whole_note dump) (outcome_reads level (129 - level) b cut (omega arith) h)
+      → whole_note dump (read_item (levels_left level) b)
+      ≡ failed_note (codes "failed to parse encoded cbor data item") e
+  whole_failed refusal.CutShort h = ap (whole_note dump) (outcome_reads level (levels_left level) b cut (omega arith) h)
   whole_failed refusal.Head h = ap (whole_note dump)
-      (outcome_reads level (129 - level) b (fault refusal.Head) (omega arith) h)
+      (outcome_reads level (levels_left level) b (fault refusal.Head) (omega arith) h)
   whole_failed refusal.Utf8 h = ap (whole_note dump)
-      (outcome_reads level (129 - level) b (fault refusal.Utf8) (omega arith) h)
+      (outcome_reads level (levels_left level) b (fault refusal.Utf8) (omega arith) h)
   whole_failed refusal.TooDeep h = ap (whole_note dump)
-      (outcome_reads level (129 - level) b (fault refusal.TooDeep) (omega arith) h)
+      (outcome_reads level (levels_left level) b (fault refusal.TooDeep) (omega arith) h)
   whole_failed refusal.Remaining h =
-      ap (whole_note dump) (outcome_reads level (129 - level) b (spelled h.0 h.1) (omega arith)
+      ap (whole_note dump) (outcome_reads level (levels_left level) b (spelled h.0 h.1) (omega arith)
       (omega (arith, h.2), h.3)) ∙ rest_failed h.0 (drop h.1 b) (omega (arith, length-drop h.1 b, h.2))
   whole_failed refusal.Memory h = absurd h
   whole_failed refusal.OddHex h = absurd h

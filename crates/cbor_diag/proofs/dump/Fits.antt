@@ -4,6 +4,7 @@ use Rattle.std.proofs.Common.{unwrap_or, IfSome, Ok, Err, List, [], ◌∷◌, �
 use Rattle.std.proofs.Common.{nat_le, inl, inr, codes, Option, Some, None, refl, sym, ap, subst, ◌∙◌, arith}
 use Rattle.std.proofs.Common.{append_assoc, append-nil}
 use Rattle.std.specs.List.{AllByRecursion, flat_map}
+use Rattle.std.specs.Option.{option_to_list}
 use Rattle.std.specs.Str.{IsAscii}
 use Rattle.std.proofs.lemmas.Bool.Decides.{nat_tests}
 use Rattle.std.proofs.lemmas.Bool.{cases_lt}
@@ -46,7 +47,7 @@ use Rattle.cbor_diag.specs.Dump.{bytes_in, encoded_item_note, encoded_sequence_n
 use Rattle.cbor_diag.specs.Dump.{count_if_definite, break_line, atom_lines, container_line, close_lines, inside, below}
 use Rattle.cbor_diag.specs.Dump.{shared_in, shared_from, items_lines, pairs_lines, parts_lines, lines_at, top}
 use Rattle.cbor_diag.specs.Embedded.{if_whole, sequence_at}
-use Rattle.cbor_diag.specs.Notes.{value_note}
+use Rattle.cbor_diag.specs.Notes.{Note, value_note}
 use Rattle.cbor_diag.specs.Reading.{Read, read_item}
 use Rattle.cbor_diag.specs.Refusals.{text_of}
 use Rattle.cbor_diag.proofs.dump.Elements.{Small, element_small, element_cut}
@@ -54,7 +55,7 @@ use Rattle.cbor_diag.proofs.shared.EmbeddedItems.{embedded_spells, sequence_spel
 use Rattle.cbor_diag.proofs.bytes.Laws.{AllBytes, bytes_at}
 use Rattle.cbor_diag.proofs.normal.WellFormed.{items_well}
 use Rattle.cbor_diag.proofs.bytes.Resolved.{spells_well}
-use Rattle.cbor_diag.proofs.dump.NoteTexts.{value_note_line}
+use Rattle.cbor_diag.proofs.dump.NoteTexts.{FreeNote, value_note_line}
 use Rattle.cbor_diag.proofs.text.Parts.{well_level}
 use Rattle.cbor_diag.specs.mirror.ShownLines.{Takes}
 use Rattle.cbor_diag.specs.mirror.Passes.{taken, step, widest, written}
@@ -319,18 +320,21 @@ texts_fit : (depth : ℕ) (texts : List (List ℕ)) → depth < 140 → AllByRec
 texts_fit depth [] low said = tt
 texts_fit depth (text ∷ texts) low said = (note_fits depth text low said.0, texts_fit depth texts low said.1)
 
-one_note_fits : (depth : ℕ) (texts : List (List ℕ)) → depth + 1 < 140 → AllByRecursion (Free 10) texts
-    → AllByRecursion IsGood (note_lines depth texts)
-one_note_fits depth [] low said = tt
-one_note_fits depth (text ∷ texts) low said =
-    (note_fits depth text (omega arith) said.0, texts_fit (depth + 1) texts low said.1)
+one_note_fits : (depth : ℕ) (note : Note) → depth + 1 < 140 → FreeNote note
+    → AllByRecursion IsGood (note_lines depth note)
+one_note_fits depth note low said =
+    (note_fits depth note.text (omega arith) said.0, texts_fit (depth + 1) note.below low said.1)
 
-all_notes_fit : (depth : ℕ) (all : List (List (List ℕ))) → depth + 1 < 140
-    → AllByRecursion (AllByRecursion (Free 10)) all → AllByRecursion IsGood (flat_map (note_lines depth) all)
+all_notes_fit : (depth : ℕ) (all : List Note) → depth + 1 < 140
+    → AllByRecursion FreeNote all → AllByRecursion IsGood (flat_map (note_lines depth) all)
 all_notes_fit depth [] low said = tt
 all_notes_fit depth (n ∷ ns) low said =
     all_both IsGood (note_lines depth n) (flat_map (note_lines depth) ns) (one_note_fits depth n low said.0)
     (all_notes_fit depth ns low said.1)
+
+free_option : (note : Option Note) → IfSome note FreeNote → AllByRecursion FreeNote (option_to_list note)
+free_option (Some note) said = (said, tt)
+free_option None said = tt
 
 -- ---- what is embedded
 
@@ -358,7 +362,7 @@ rows_line : (width : ℕ) (lines : List DumpLine) → AllByRecursion IsGood line
 rows_line width [] good = tt
 rows_line width (line ∷ lines) good = (row_line width line good.0.plain, rows_line width lines good.1)
 
-embedded_line : (lines : List DumpLine) → AllByRecursion IsGood lines → AllByRecursion (Free 10) (embedded_note lines)
+embedded_line : (lines : List DumpLine) → AllByRecursion IsGood lines → FreeNote (embedded_note lines)
 embedded_line lines good = (from_test 10 (codes "encoded cbor data item") refl, rows_line (width_of lines) lines good)
 
 error_line : (e : Error) → Free 10 (text_of e)
@@ -373,21 +377,21 @@ error_line refusal.BadHex = from_test 10 (text_of refusal.BadHex) refl
 error_line refusal.Notation = from_test 10 (text_of refusal.Notation) refl
 error_line refusal.PastWidth = from_test 10 (text_of refusal.PastWidth) refl
 
-failed_line : (what : List ℕ) (e : Error) → Free 10 what → AllByRecursion (Free 10) (failed_note what e)
+failed_line : (what : List ℕ) (e : Error) → Free 10 what → FreeNote (failed_note what e)
 failed_line what e said = (said, (error_line e, tt))
 
-item_failed : (e : Error) → AllByRecursion (Free 10) (failed_note (codes "failed to parse encoded cbor data item") e)
+item_failed : (e : Error) → FreeNote (failed_note (codes "failed to parse encoded cbor data item") e)
 item_failed e = failed_line (codes "failed to parse encoded cbor data item") e
     (from_test 10 (codes "failed to parse encoded cbor data item") refl)
 
 whole_line : (dump : Item → List DumpLine) (read : Read Item)
     → ((e : Item) → read ≡ Ok (e, []) → AllByRecursion IsGood (dump e))
-    → AllByRecursion (Free 10) (whole_note dump read)
+    → FreeNote (whole_note dump read)
 whole_line dump (Ok (i, [])) good = embedded_line (dump i) (good i refl)
 whole_line dump (Ok (i, b ∷ rest)) good = item_failed refusal.Remaining
 whole_line dump (Err e) good = item_failed e
 
-rest_line : (rest : List ℕ) (read : Read Item) → AllByRecursion (Free 10) (rest_note rest read)
+rest_line : (rest : List ℕ) (read : Read Item) → IfSome (rest_note rest read) FreeNote
 rest_line [] read = tt
 rest_line (b ∷ rest) (Ok x) = tt
 rest_line (b ∷ rest) (Err e) =
@@ -411,20 +415,20 @@ bytes_well level (tagged t w i) well = tt
 -- what is embedded is at a level, and its dump is good
 module _ (level left : ℕ) (levels : level + left ≡ 129) (dump : Item → List DumpLine) (each : (e : Item)
     → WellFormed level e → AllByRecursion IsGood (dump e)) where
-  item_embedded : (b : List ℕ) → AllBytes b → AllByRecursion (Free 10) (whole_note dump (read_item left b))
+  item_embedded : (b : List ℕ) → AllBytes b → FreeNote (whole_note dump (read_item left b))
   item_embedded b all =
       whole_line dump (read_item left b) (λ e is. each e
       (spells_well level b e (bytes_at b all)
       (embedded_spells level left b e levels (bytes_at b all) (ap if_whole is))))
 
-  items_embedded : (is : Items) → WellFormedItems level is → (rest : List (List ℕ)) → AllByRecursion (Free 10) rest
-      → AllByRecursion (AllByRecursion (Free 10)) (items_notes dump is ++ rest ∷ [])
-  items_embedded no_items well rest said = (said, tt)
+  items_embedded : (is : Items) → WellFormedItems level is → (rest : Option Note) → IfSome rest FreeNote
+      → AllByRecursion FreeNote (items_notes dump is ++ option_to_list rest)
+  items_embedded no_items well rest said = free_option rest said
   items_embedded (item i is) well rest said =
       (embedded_line (dump i) (each i well.0), items_embedded is well.1 rest said)
 
   sequence_embedded : (b : List ℕ) → AllBytes b
-      → AllByRecursion (AllByRecursion (Free 10)) (sequence_notes left dump (sequence_at left b))
+      → AllByRecursion FreeNote (sequence_notes left dump (sequence_at left b))
   sequence_embedded b all =
       let s = sequence_at left b in
       let so = sequence_spells level left levels (length b) b (omega arith) (bytes_at b all) in
@@ -432,29 +436,29 @@ module _ (level left : ℕ) (levels : level + left ≡ 129) (dump : Item → Lis
       (rest_line s.1 (read_item left s.1))
 
   encoded_item_line : (bytes : Option (List ℕ)) → IfSome bytes AllBytes
-      → AllByRecursion (Free 10) (encoded_item_note left dump bytes)
+      → FreeNote (encoded_item_note left dump bytes)
   encoded_item_line (Some b) all = item_embedded b all
   encoded_item_line None all = (from_test 10 (codes "invalid type for encoded cbor data item") refl, tt)
 
   encoded_sequence_line : (bytes : Option (List ℕ)) → IfSome bytes AllBytes
-      → AllByRecursion (AllByRecursion (Free 10)) (encoded_sequence_notes left dump bytes)
+      → AllByRecursion FreeNote (encoded_sequence_notes left dump bytes)
   encoded_sequence_line (Some b) all = sequence_embedded b all
   encoded_sequence_line None all = ((from_test 10 (codes "invalid type for encoded cbor sequence") refl, tt), tt)
 
   notes_line : (above known t : ℕ) (i : Item) → WellFormed above i
-      → AllByRecursion (AllByRecursion (Free 10)) (notes left dump known t i)
+      → AllByRecursion FreeNote (notes left dump known t i)
   notes_line above known t i well =
-      let of_item : AllByRecursion (AllByRecursion (Free 10)) (encoded_item_note left dump (bytes_in i) ∷ []) =
+      let of_item : AllByRecursion FreeNote (encoded_item_note left dump (bytes_in i) ∷ []) =
       (encoded_item_line (bytes_in i) (bytes_well above i well), tt) in
-      let of_value : AllByRecursion (AllByRecursion (Free 10)) (value_note known t i ∷ []) =
-      (value_note_line known t i, tt) in
-      elim (t == 24) as (λ v. AllByRecursion (AllByRecursion (Free 10))
+      let of_value : AllByRecursion FreeNote (option_to_list (value_note known t i)) =
+      free_option (value_note known t i) (value_note_line known t i) in
+      elim (t == 24) as (λ v. AllByRecursion FreeNote
       (cond v (encoded_item_note left dump (bytes_in i) ∷ [])
-      (cond (t == 63) (encoded_sequence_notes left dump (bytes_in i)) (value_note known t i ∷ [])))) [
+      (cond (t == 63) (encoded_sequence_notes left dump (bytes_in i)) (option_to_list (value_note known t i))))) [
         | true ↦ of_item
         | false ↦
-            elim (t == 63) as (λ v. AllByRecursion (AllByRecursion (Free 10))
-            (cond v (encoded_sequence_notes left dump (bytes_in i)) (value_note known t i ∷ []))) [
+            elim (t == 63) as (λ v. AllByRecursion FreeNote
+            (cond v (encoded_sequence_notes left dump (bytes_in i)) (option_to_list (value_note known t i)))) [
               | true ↦ encoded_sequence_line (bytes_in i) (bytes_well above i well)
               | false ↦ of_value
             ]

@@ -1,91 +1,143 @@
 -- What the walk does with an item, its notes, a container and its members.
-use Rattle.std.proofs.Common.{◌≡◌, ℕ, suc, ◌+◌, ◌-◌, ◌<◌, ◌≤◌, refl, false, List, [], Some, None, ◌∷◌, ◌++◌, length}
-use Rattle.std.proofs.Common.{drop, get_or, Option, Result, OnOk, sym, ap, subst, ◌∙◌, arith}
+use Rattle.std.proofs.Common.{◌≡◌, ℕ, suc, ◌+◌, ◌<◌, ◌≤◌, refl, false, List, [], None, ◌∷◌, ◌++◌, length}
+use Rattle.std.proofs.Common.{drop, get_or, Option, Result, OnOk, sym, ap, subst, append-nil, ◌∙◌, arith}
+use Rattle.std.specs.List.{flat_map}
 use Rattle.std.proofs.lemmas.List.{drop_more}
 use Rattle.cbor_notes.specs.Layout.{DumpLine}
 use Rattle.cbor_diag.specs.declared.syntax.DataItem.{DataItem}
+use Rattle.cbor_diag.specs.declared.syntax.IntegerWidth.{IntegerWidth}
 use Rattle.cbor_diag.specs.declared.encode.dump.context.DumpContext.{DumpContext}
 use Rattle.cbor_diag.specs.declared.encode.dump.pass.Pass.{Pass}
 use Rattle.cbor_diag.specs.declared.encode.dump.pass.Pass.TheVariants as pass
-use Rattle.cbor_diag.specs.Item.{Item}
+use Rattle.cbor_diag.specs.Comments.{tag_comment}
+use Rattle.cbor_diag.specs.Item.{Item, tagged}
+use Rattle.cbor_diag.specs.Notes.{Note}
 use Rattle.cbor_diag.specs.View.{view, items_view, pairs_view}
-use Rattle.cbor_diag.specs.WellFormed.{WellFormed, WellFormedItems, WellFormedPairs}
-use Rattle.cbor_diag.specs.Dump.{At, items_lines, lines_at, notes, notes_lines, pairs_lines, parts_lines, shared_in}
+use Rattle.cbor_diag.specs.WellFormed.{levels_left, WellFormed, WellFormedItems, WellFormedPairs}
+use Rattle.cbor_diag.specs.Written.{encoded_head}
+use Rattle.cbor_diag.specs.Dump.{At, below, inside, head_line, container_line, close_lines, items_lines, lines_at, lines_at_level}
+use Rattle.cbor_diag.specs.Dump.{note_lines, notes_lines, pairs_lines, parts_lines, shared_from, shared_in}
 use Rattle.cbor_diag.specs.Dump.{shared_in_items, shared_in_pairs, top}
-use Rattle.cbor_diag.specs.mirror.Passes.{at_of, writes, CanTake, Took}
+use Rattle.cbor_diag.specs.mirror.Passes.{at_of, writes, CanTake, Took, item_lines, embedded_lines, notes_there}
 use Rattle.cbor_diag.proofs.dump.NoteSteps.{notes_passed}
 use Rattle.cbor_diag.proofs.dump.Walks.{part_here, part_left, left_then, Left}
 
 -- An item is its parts and its notes.
 pub item_opens : (level : ℕ) (p : At) (known : ℕ) (i : Item) → level ≤ 128
-    → lines_at (129 - level) p known i ≡ parts_lines (lines_at (129 - (level + 1))) p known i
-    ++ notes_lines p.depth (129 - (level + 1)) (lines_at (129 - (level + 1)) top 0) p.shared p.tag i
+    → lines_at_level level p known i ≡ parts_lines (lines_at_level (level + 1)) p known i
+    ++ notes_lines p.depth (levels_left (level + 1)) (lines_at_level (level + 1) top 0) p.shared p.tag i
 unfolding lines_at
 item_opens level p known i le =
-    let levels : 129 - level ≡ suc (129 - (level + 1)) = omega arith in
+    let levels : levels_left level ≡ suc (levels_left (level + 1)) = omega arith in
     ap (λ left. lines_at left p known i) levels
 
--- The pass takes the one, and then the other.
-module _ (level : ℕ) (p : At) (known : ℕ) (i : Item) (le : level ≤ 128) where
-  abbrev write : At → ℕ → Item → List DumpLine
-  write = lines_at (129 - (level + 1))
-
-  abbrev all : List DumpLine
-  all = lines_at (129 - level) p known i
-
-  abbrev said : Option ℕ → List DumpLine
-  said tag = notes_lines p.depth (129 - (level + 1)) (write top 0) p.shared tag i
-
-  pub content_takes : (old : Pass) → CanTake old all → CanTake old (parts_lines write p known i)
-  content_takes = part_here all (parts_lines write p known i) (said p.tag) (item_opens level p known i le)
-
-  pub item_took : {T E : Type 0} (r : Result T E) (old now next : Pass) → CanTake old all
-      → Took old now (parts_lines write p known i) → OnOk r (Took now next (said p.tag)) → OnOk r (Took old next all)
-  item_took r old now next takes content notes =
-      let left = part_left all (parts_lines write p known i) (said p.tag) (item_opens level p known i le) old old now
-      all content (refl, takes, refl) in
-      left_then r old now next (said p.tag) all left notes
-
--- the pass that measures leaves the notes out
-pub notes_left : (now : Pass) → writes now ≡ false
-    → (depth left : ℕ) (dump : Item → List DumpLine) (known : ℕ) (tag : Option ℕ) (i : Item)
-    → Took now now (notes_lines depth left dump known tag i)
-notes_left (pass.Measure width) silent depth left dump known None i = (refl, refl)
-notes_left (pass.Measure width) silent depth left dump known (Some t) i =
-    (sym (notes_passed width depth (notes left dump known t i)), refl)
-notes_left (pass.Write w) silent depth left dump known tag i = absurd cc
+-- Where no tag is right above it, it has no notes.
+pub untagged : (level : ℕ) (p : At) (known : ℕ) (i : Item) → level ≤ 128 → p.tag ≡ None
+    → lines_at_level level p known i ≡ parts_lines (lines_at_level (level + 1)) p known i
+untagged level p known i le none =
+    let write = lines_at_level (level + 1) in
+    item_opens level p known i le
+    ∙ ap (λ tag. parts_lines write p known i ++ notes_lines p.depth (levels_left (level + 1)) (write top 0) p.shared tag i)
+    none ∙ append-nil (parts_lines write p known i)
 
 -- what the items in a context are written by
 pub written_in : (c : DumpContext) (level : ℕ) (p : At) → c.level ≡ level → at_of c ≡ p
-    → lines_at (129 - c.level) (at_of c) ≡ lines_at (129 - level) p
-written_in c level p deep here = ap (λ n. lines_at (129 - n) (at_of c)) deep ∙ ap (lines_at (129 - level)) here
+    → lines_at_level c.level (at_of c) ≡ lines_at_level level p
+written_in c level p deep here = ap (λ n. lines_at_level n (at_of c)) deep ∙ ap (lines_at_level level) here
 
--- A container is a line, the lines of its members, and those after them.
-module _ (first : DumpLine) (members end : List DumpLine) (old : Pass)
-    (takes : CanTake old (first ∷ (members ++ end))) where
+-- the pass that measures leaves the notes out
+pub notes_left : (now : Pass) → writes now ≡ false → (depth : ℕ) (all : List Note)
+    → Took now now (flat_map (note_lines depth) all)
+notes_left (pass.Measure width) silent depth all = (sym (notes_passed width depth all), refl)
+notes_left (pass.Write w) silent depth all = absurd cc
+
+-- A tag is a line, the value right below it, and the notes on the value.
+module _ (outer inner : DumpContext) (t : ℕ) (w : IntegerWidth) (known shared : ℕ)
+    (counted : shared ≡ shared_from t known) (i : Item) (deep : inner.level ≡ outer.level + 1)
+    (here : at_of inner ≡ below t known (at_of outer)) (le : inner.level ≤ 128) (old : Pass)
+    (takes : CanTake old (item_lines outer known (tagged t w i))) where
+  abbrev tag_line : DumpLine
+  tag_line = head_line outer.depth (encoded_head 6 t w) (tag_comment t)
+
+  abbrev below_tag : List DumpLine
+  below_tag = lines_at_level (outer.level + 1) (below t known (at_of outer)) (shared_from t known) i
+
+  abbrev value : List DumpLine
+  value = item_lines inner shared i
+
+  below_opens : below_tag ≡ value ++ notes_there inner t i
+  below_opens =
+      ap (λ n. lines_at_level (outer.level + 1) (below t known (at_of outer)) n i) (sym counted)
+      ∙ sym (ap (λ write. write shared i)
+      (written_in inner (outer.level + 1) (below t known (at_of outer)) deep here))
+      ∙ item_opens inner.level (at_of inner) shared i le
+      ∙ ap (λ (tag : Option ℕ). value
+      ++ notes_lines inner.depth (levels_left (inner.level + 1)) (embedded_lines inner) inner.shared tag i)
+      (ap (λ (p : At). p.tag) here)
+
+  module _ (opened : Pass) (took : Took old opened (tag_line ∷ [])) where
+    below_left : Left old opened below_tag (tag_line ∷ below_tag)
+    below_left = part_left (tag_line ∷ below_tag) (tag_line ∷ []) below_tag refl old old opened (tag_line ∷ below_tag)
+        took (refl, takes, refl)
+
+    pub below_takes : CanTake opened value
+    below_takes = part_here below_tag value (notes_there inner t i) below_opens opened below_left.1
+
+    pub tag_took : {T E : Type 0} (r : Result T E) (filled next : Pass) → Took opened filled value
+        → OnOk r (Took filled next (notes_there inner t i))
+        → OnOk r (Took old next (item_lines outer known (tagged t w i)))
+    tag_took r filled next took_value =
+        left_then r old filled next (notes_there inner t i) (tag_line ∷ below_tag)
+        (part_left below_tag value (notes_there inner t i) below_opens old opened filled (tag_line ∷ below_tag)
+        took_value below_left)
+
+-- A container is a line, the lines of its members, and those after them. Its members are `count`, and the code has
+-- counted as many.
+module _ (major : ℕ) (name : List ℕ) (count counted : ℕ) (same : count ≡ counted) (w : Option IntegerWidth)
+    (outer : DumpContext) (members : (ℕ → Item → List DumpLine) → List DumpLine) where
+  abbrev count_line : ℕ → DumpLine
+  count_line n = container_line outer.depth major name n w
+
+  abbrev members_lines : List DumpLine
+  members_lines = members (lines_at_level (outer.level + 1) (inside (at_of outer)))
+
+  abbrev end : List DumpLine
+  end = close_lines (outer.depth + 1) w
+
   abbrev whole : List DumpLine
-  whole = first ∷ (members ++ end)
+  whole = count_line count ∷ (members_lines ++ end)
 
-  pub first_here : CanTake old (first ∷ [])
-  first_here = (takes.0, tt)
+  module _ (old : Pass) (takes : CanTake old whole) where
+    pub line_takes : CanTake old (count_line counted ∷ [])
+    line_takes = subst (λ n. CanTake old (count_line n ∷ [])) same (takes.0, tt)
 
-  module _ (opened : Pass) (took : Took old opened (first ∷ [])) where
-    members_left : Left old opened (members ++ end) whole
-    members_left = part_left whole (first ∷ []) (members ++ end) refl old old opened whole took (refl, takes, refl)
+    module _ (opened : Pass) (took : Took old opened (count_line counted ∷ [])) (inner : DumpContext)
+        (deep : inner.level ≡ outer.level + 1) (here : at_of inner ≡ inside (at_of outer)) where
+      abbrev members_there : List DumpLine
+      members_there = members (lines_at_level inner.level (at_of inner))
 
-    pub members_here : CanTake opened members
-    members_here = part_here (members ++ end) members end refl opened members_left.1
+      there : members_there ≡ members_lines
+      there = ap members (written_in inner (outer.level + 1) (inside (at_of outer)) deep here)
 
-    module _ (filled : Pass) (took_members : Took opened filled members) where
-      end_left : Left old filled end whole
-      end_left = part_left (members ++ end) members end refl old opened filled whole took_members members_left
+      members_left : Left old opened (members_lines ++ end) whole
+      members_left = part_left whole (count_line count ∷ []) (members_lines ++ end) refl old old opened whole
+          (subst (λ n. Took old opened (count_line n ∷ [])) (sym same) took) (refl, takes, refl)
 
-      pub end_here : CanTake filled end
-      end_here = end_left.1
+      pub members_take : CanTake opened members_there
+      members_take = subst (CanTake opened) (sym there)
+          (part_here (members_lines ++ end) members_lines end refl opened members_left.1)
 
-      pub whole_took : {T E : Type 0} (r : Result T E) (closed : Pass) → OnOk r (Took filled closed end)
-          → OnOk r (Took old closed whole)
-      whole_took r closed = left_then r old filled closed end whole end_left
+      module _ (filled : Pass) (took_members : Took opened filled members_there) where
+        end_left : Left old filled end whole
+        end_left = part_left (members_lines ++ end) members_lines end refl old opened filled whole
+            (subst (Took opened filled) there took_members) members_left
+
+        pub end_takes : CanTake filled end
+        end_takes = end_left.1
+
+        pub container_took : {T E : Type 0} (r : Result T E) (closed : Pass) → OnOk r (Took filled closed end)
+            → OnOk r (Took old closed whole)
+        container_took r closed = left_then r old filled closed end whole end_left
 
 -- Of items, some are left.
 abbrev pub ItemsLeft : (ℕ → Item → List DumpLine) → ℕ → Pass → Pass → ℕ → List DataItem → List DumpLine → ℕ → Type 0

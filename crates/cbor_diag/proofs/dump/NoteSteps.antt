@@ -3,6 +3,7 @@ use Rattle.std.proofs.Common.{◌≡◌, ℕ, ◌+◌, ◌<◌, List, [], ◌∷
 use Rattle.std.specs.List.{flat_map}
 use Rattle.cbor_notes.proofs.texts.HexLemmas.{IsAscii-from_test}
 use Rattle.cbor_diag.specs.Dump.{note_line, note_lines}
+use Rattle.cbor_diag.specs.Notes.{Note}
 use Rattle.cbor_diag.specs.mirror.ShownLines.{Takes}
 use Rattle.cbor_diag.specs.mirror.Passes.{taken, step, widest}
 use Rattle.cbor_diag.proofs.dump.Walks.{taken-append}
@@ -23,14 +24,13 @@ texts_passed width depth (text ∷ texts) =
     let same : max width 0 ≡ width = omega arith in
     ap (λ n. taken step (widest n) (map (note_line depth) texts)) same ∙ texts_passed width depth texts
 
-note_passed : (width depth : ℕ) (texts : List (List ℕ))
-    → taken step (widest width) (note_lines depth texts) ≡ widest width
-note_passed width depth [] = refl
-note_passed width depth (text ∷ texts) =
+note_passed : (width depth : ℕ) (note : Note) → taken step (widest width) (note_lines depth note) ≡ widest width
+note_passed width depth note =
     let same : max width 0 ≡ width = omega arith in
-    ap (λ n. taken step (widest n) (map (note_line (depth + 1)) texts)) same ∙ texts_passed width (depth + 1) texts
+    ap (λ n. taken step (widest n) (map (note_line (depth + 1)) note.below)) same
+    ∙ texts_passed width (depth + 1) note.below
 
-pub notes_passed : (width depth : ℕ) (all : List (List (List ℕ)))
+pub notes_passed : (width depth : ℕ) (all : List Note)
     → taken step (widest width) (flat_map (note_lines depth) all) ≡ widest width
 notes_passed width depth [] = refl
 notes_passed width depth (n ∷ ns) =

@@ -1,21 +1,22 @@
 -- The notes of a dump: what the functions of a note meet, and that no text of a note has a line feed.
 use Rattle.std.proofs.Common.{◌≡◌, ◌<◌, ◌≤◌, ℕ, ℤ, ◌≤ℤ◌, neg_ℤ, ◌+◌, ◌/◌, ◌-◌, ◌%◌, ◌==◌, Bool, true, false, cond}
-use Rattle.std.proofs.Common.{nat_lt, nat_eq, pos, negsuc, List, [], ◌∷◌, ◌++◌, length, take, drop, replicate, codes}
-use Rattle.std.proofs.Common.{decimal, if◌then◌else◌, Option, Some, None, unwrap_or, FitsSigned, w64, refl, sym, ap}
+use Rattle.std.proofs.Common.{nat_lt, nat_eq, pos, negsuc, List, [], ◌∷◌, ◌++◌, length, map, take, drop, replicate, codes}
+use Rattle.std.proofs.Common.{decimal, if◌then◌else◌, Option, Some, None, IfSome, unwrap_or, FitsSigned, w64, refl, sym, ap}
 use Rattle.std.proofs.Common.{◌∙◌, arith}
 use Rattle.std.proofs.Math.Seq.{take-append-add}
+use Rattle.std.specs.Prelude.{slice_index_or}
 use Rattle.std.proofs.lemmas.Bool.{eq-eqb, lt-ltb, le-ltb}
 use Rattle.std.proofs.lemmas.List.{drop-replicate, take-replicate}
 use Rattle.std.proofs.lemmas.Int.{ints}
 use Rattle.std.specs.Array.{IsWholeChunk}
 use Rattle.std.specs.Int.{int_div_euclid}
-use Rattle.std.specs.List.{AllByRecursion, ends_with}
+use Rattle.std.specs.List.{AllByRecursion, ends_with, remove}
 use Rattle.cbor_notes.specs.Address.{ipv4_text, ipv6_text, mac_text}
 use Rattle.cbor_notes.specs.Date.{date_of_epoch, epoch_of_date, datetime_of_epoch}
 use Rattle.cbor_notes.specs.DateTime.{epoch_of_datetime}
 use Rattle.cbor_notes.specs.DecodedLines.{base64_lines}
 use Rattle.cbor_notes.specs.Element.{element_size}
-use Rattle.cbor_notes.specs.Identifier.{uuid_lines}
+use Rattle.cbor_notes.specs.Identifier.{uuid_lines, fields_line, base16_line, base58_line, base64_line as base64_text}
 use Rattle.cbor_notes.specs.Text.{grouped}
 use Rattle.cbor_notes.specs.Url.{is_url}
 use Rattle.cbor_notes.proofs.columns.CommentTexts.{ipv4_line, ipv6_line, mac_line, uuid_lines_line, base64_lines_line}
@@ -24,15 +25,13 @@ use Rattle.cbor_notes.proofs.columns.DateLines.{epoch_of_datetime_line}
 use Rattle.cbor_notes.proofs.columns.OneLine.{Free, from_test, free_both, free_cond, decimal_line, grouped_line}
 use Rattle.cbor_notes.proofs.columns.OneLine.{escaped_line}
 use Rattle.cbor_diag.proofs.dump.CommentLines.{brackets_line}
-use Rattle.cbor_diag.specs.declared.encode.dump.notes.addresses.Family.{Family}
-use Rattle.cbor_diag.specs.declared.encode.dump.notes.addresses.Family.TheVariants.{IPv4, IPv6}
 use Rattle.cbor_diag.specs.declared.syntax.IntegerWidth.{IntegerWidth}
 use Rattle.cbor_diag.specs.Comments.{in_brackets}
 use Rattle.cbor_diag.specs.Item.{Chunk, Item, Items, atom, integer, negative, byte_string, text_string, float, simple}
 use Rattle.cbor_diag.specs.Item.{array, item}
-use Rattle.cbor_diag.specs.Notes.{one, word_or, datetime_note, epoch_datetime_note, epoch_date_note, date_note}
+use Rattle.cbor_diag.specs.Notes.{Note, plain_note, Family, ipv4, ipv6, Zone, no_zone, zone_text, not_zone, null_value, word_or, datetime_note, epoch_datetime_note, epoch_date_note, date_note}
 use Rattle.cbor_diag.specs.Notes.{shareable_note, reference_note, url_words, url_note, base64_name, decoded_note}
-use Rattle.cbor_diag.specs.Notes.{base64_note, uuid_note, family_name, family_size, address_text, shown}
+use Rattle.cbor_diag.specs.Notes.{base64_note, uuid_fields, uuid_note, family_name, family_size, address_text, shown}
 use Rattle.cbor_diag.specs.Notes.{invalid_address, invalid_length, plain_address, prefix_note, zone_at, with_length}
 use Rattle.cbor_diag.specs.Notes.{with_zone, interface_note, members_note, address_note, network_address, network_note}
 use Rattle.cbor_diag.specs.Notes.{typed_array_note, value_note}
@@ -41,10 +40,25 @@ use Rattle.cbor_diag.specs.Notes.{typed_array_note, value_note}
 
 -- sixteen bytes are those of a UUID
 pub uuid_is : (i : Item) (c : Chunk) (bytes octets : List ℕ) → i ≡ atom (byte_string c) → bytes ≡ c.bytes
-    → IsWholeChunk bytes octets 16 → uuid_note i ≡ uuid_lines octets
+    → IsWholeChunk bytes octets 16 → uuid_note i ≡ uuid_fields octets
 uuid_is i c bytes octets seen are whole =
     let long : (length c.bytes == 16) ≡ true = eq-eqb (length c.bytes) 16 (rw (sym are) whole.long) in
     rw (seen, long, whole.same, are) refl
+
+-- the first of its four texts, and below it the others
+pub first_some : {X : Type 0} (show : X → List ℕ) (lines : List X) (octets : List ℕ)
+    → map show lines ≡ uuid_lines octets → 0 < length lines
+first_some show [] octets e = absurd cc
+first_some show (x ∷ xs) octets e = omega arith
+
+pub fields_are : {X : Type 0} (show : X → List ℕ) (lines : List X) (octets : List ℕ) (first : X) (others : List X)
+    → map show lines ≡ uuid_lines octets → first ≡ slice_index_or lines 0 first → others ≡ remove lines 0
+    → record { text = show first; below = map show others } ≡ uuid_fields octets
+fields_are show [] octets first others e is rest = absurd cc
+fields_are show (x ∷ xs) octets first others e is rest =
+    let text : show x ≡ fields_line octets = cc in
+    let below : map show xs ≡ base16_line octets ∷ base58_line octets ∷ base64_text octets ∷ [] = cc in
+    rw (is, rest, text, below) refl
 
 pub reference_is : (known n : ℕ) (w : IntegerWidth) (i : Item) (note unknown whole : List ℕ) → i ≡ atom (integer n w)
     → note ≡ in_brackets (codes "reference-to") (grouped n false)
@@ -70,8 +84,8 @@ filled_up bytes octets size n are is short small =
     ∙ ap (λ zeros. bytes ++ zeros) (take-replicate (size - length bytes) (16 - length bytes) 0 (omega arith)))
 
 pub size_small : (f : Family) → family_size f ≤ 16
-size_small IPv4 = omega arith
-size_small IPv6 = omega arith
+size_small ipv4 = omega arith
+size_small ipv6 = omega arith
 
 pub prefix_is : (f : Family) (len : ℕ) (bytes : List ℕ) → ends_with nat_eq bytes (0 ∷ []) ≡ false
     → length bytes ≤ family_size f
@@ -91,15 +105,19 @@ moment_fits_64 (negsuc a) low high = let day : a / 86400 ≤ 4371586 = omega (ar
 
 -- ---- no text of a note has a line feed
 
-abbrev All10 : List (List ℕ) → Type 0
-All10 texts = AllByRecursion (Free 10) texts
+abbrev pub FreeNote : Note → Type 0
+FreeNote note = Free 10 note.text × AllByRecursion (Free 10) note.below
 
-one_line : (text : List ℕ) → Free 10 text → All10 (one text)
-one_line text free = (free, tt)
+plain_free : (text : List ℕ) → Free 10 text → FreeNote (plain_note text)
+plain_free text free = (free, tt)
 
-all_cond : (b : Bool) (x y : List (List ℕ)) → All10 x → All10 y → All10 (cond b x y)
-all_cond true x y h k = h
-all_cond false x y h k = k
+note_cond : (b : Bool) (x y : Note) → FreeNote x → FreeNote y → FreeNote (cond b x y)
+note_cond true x y h k = h
+note_cond false x y h k = k
+
+some_cond : (b : Bool) (x y : Option Note) → IfSome x FreeNote → IfSome y FreeNote → IfSome (cond b x y) FreeNote
+some_cond true x y h k = h
+some_cond false x y h k = k
 
 word_line : (word otherwise : List ℕ) (found : Option (List ℕ)) → Free 10 word → Free 10 otherwise
     → Free 10 (unwrap_or found []) → Free 10 (word_or word otherwise found)
@@ -171,8 +189,8 @@ base64_name_line : (url : Bool) → Free 10 (base64_name url)
 base64_name_line url = free_cond 10 url (codes "base64url") (codes "base64") (from_test 10 (codes "base64url") refl)
     (from_test 10 (codes "base64") refl)
 
-decoded_line : (name : List ℕ) (found : Option (List (List ℕ))) → Free 10 name → All10 (unwrap_or found [])
-    → All10 (decoded_note name found)
+decoded_line : (name : List ℕ) (found : Option (List (List ℕ))) → Free 10 name → AllByRecursion (Free 10) (unwrap_or found [])
+    → FreeNote (decoded_note name found)
 decoded_line name (Some lines) h k = (free_both 10 name (codes " decoded") h (from_test 10 (codes " decoded") refl), k)
 decoded_line name None h k = (
   free_both 10 (codes "invalid data for ") name
@@ -180,7 +198,7 @@ decoded_line name None h k = (
   tt,
 )
 
-base64_line : (url : Bool) (i : Item) → All10 (base64_note url i)
+base64_line : (url : Bool) (i : Item) → FreeNote (base64_note url i)
 base64_line url (atom (text_string c)) = decoded_line (base64_name url) (base64_lines url c.bytes)
     (base64_name_line url) (base64_lines_line url c.bytes)
 base64_line url _ = (
@@ -189,21 +207,21 @@ base64_line url _ = (
   tt,
 )
 
-uuid_line : (i : Item) → All10 (uuid_note i)
+uuid_line : (i : Item) → FreeNote (uuid_note i)
 uuid_line (atom (byte_string c)) =
-    all_cond (length c.bytes == 16) (uuid_lines c.bytes) (one (codes "invalid data length for uuid"))
+    note_cond (length c.bytes == 16) (uuid_fields c.bytes) (plain_note (codes "invalid data length for uuid"))
     (uuid_lines_line c.bytes)
     (from_test 10 (codes "invalid data length for uuid") refl, tt)
 uuid_line _ = (from_test 10 (codes "invalid type for uuid") refl, tt)
 
 -- network addresses
 name_line : (f : Family) → Free 10 (family_name f)
-name_line IPv4 = from_test 10 (codes "IPv4") refl
-name_line IPv6 = from_test 10 (codes "IPv6") refl
+name_line ipv4 = from_test 10 (codes "IPv4") refl
+name_line ipv6 = from_test 10 (codes "IPv6") refl
 
 text_line : (f : Family) (bytes : List ℕ) → Free 10 (address_text f bytes)
-text_line IPv4 bytes = ipv4_line bytes
-text_line IPv6 bytes = ipv6_line bytes
+text_line ipv4 bytes = ipv4_line bytes
+text_line ipv6 bytes = ipv6_line bytes
 
 shown_line : (f : Family) (what text : List ℕ) → Free 10 what → Free 10 text → Free 10 (shown f what text)
 shown_line f what text h k =
@@ -215,8 +233,8 @@ invalid_line : Free 10 invalid_address
 invalid_line = from_test 10 invalid_address refl
 
 length_line : (f : Family) → Free 10 (invalid_length f)
-length_line IPv4 = from_test 10 (invalid_length IPv4) refl
-length_line IPv6 = from_test 10 (invalid_length IPv6) refl
+length_line ipv4 = from_test 10 (invalid_length ipv4) refl
+length_line ipv6 = from_test 10 (invalid_length ipv6) refl
 
 plain_line : (f : Family) (bytes : List ℕ) → Free 10 (plain_address f bytes)
 plain_line f bytes =
@@ -244,8 +262,8 @@ prefix_line f len bytes =
     (shown_line f (codes "prefix") (filled ++ codes "/" ++ decimal len) (from_test 10 (codes "prefix") refl)
     (slash_line filled len (text_line f (bytes ++ replicate (family_size f - length bytes) 0)))))
 
-abbrev FreeZone : Option (Option (List ℕ)) → Type 0
-FreeZone (Some (Some zone)) = Free 10 zone
+abbrev FreeZone : Zone → Type 0
+FreeZone (zone_text z) = Free 10 z
 FreeZone _ = Unit
 
 zone_line : (is : Items) → FreeZone (zone_at is)
@@ -253,31 +271,31 @@ zone_line (item (atom (integer n w)) is) = decimal_line n
 zone_line (item (atom (text_string c)) is) = escaped_line c.bytes
 zone_line _ = tt
 
-with_length_line : (f : Family) (bytes : List ℕ) (len : ℕ) (zone : Option (Option (List ℕ))) → FreeZone zone
+with_length_line : (f : Family) (bytes : List ℕ) (len : ℕ) (zone : Zone) → FreeZone zone
     → Free 10 (with_length f bytes len zone)
-with_length_line f bytes len (Some (Some zone)) h =
-    let text = address_text f bytes ++ codes "%" ++ zone in
+with_length_line f bytes len (zone_text z) h =
+    let text = address_text f bytes ++ codes "%" ++ z in
     shown_line f (codes "address-and-zone-and-prefix") (text ++ codes "/" ++ decimal len)
     (from_test 10 (codes "address-and-zone-and-prefix") refl)
-    (slash_line text len (percent_line (address_text f bytes) zone (text_line f bytes) h))
-with_length_line f bytes len (Some None) h =
+    (slash_line text len (percent_line (address_text f bytes) z (text_line f bytes) h))
+with_length_line f bytes len no_zone h =
     shown_line f (codes "address-and-prefix") (address_text f bytes ++ codes "/" ++ decimal len)
     (from_test 10 (codes "address-and-prefix") refl)
     (slash_line (address_text f bytes) len (text_line f bytes))
-with_length_line f bytes len None h = invalid_line
+with_length_line f bytes len not_zone h = invalid_line
 
-with_zone_line : (f : Family) (bytes : List ℕ) (zone : Option (Option (List ℕ))) → FreeZone zone
+with_zone_line : (f : Family) (bytes : List ℕ) (zone : Zone) → FreeZone zone
     → Free 10 (with_zone f bytes zone)
-with_zone_line f bytes (Some (Some zone)) h =
-    shown_line f (codes "address-and-zone") (address_text f bytes ++ codes "%" ++ zone)
+with_zone_line f bytes (zone_text z) h =
+    shown_line f (codes "address-and-zone") (address_text f bytes ++ codes "%" ++ z)
     (from_test 10 (codes "address-and-zone") refl)
-    (percent_line (address_text f bytes) zone (text_line f bytes) h)
+    (percent_line (address_text f bytes) z (text_line f bytes) h)
 with_zone_line f bytes _ h = invalid_line
 
 interface_line : (f : Family) (bytes : List ℕ) (is : Items) → Free 10 (interface_note f bytes is)
 interface_line f bytes (item (atom (integer len w)) is) = with_length_line f bytes len (zone_at is) (zone_line is)
 interface_line f bytes (item (atom (simple n)) is) =
-    free_cond 10 (n == 22) (with_zone f bytes (zone_at is)) invalid_address
+    free_cond 10 (n == null_value) (with_zone f bytes (zone_at is)) invalid_address
     (with_zone_line f bytes (zone_at is) (zone_line is)) invalid_line
 interface_line f bytes _ = invalid_line
 
@@ -311,28 +329,28 @@ network_line (atom (byte_string c)) = network_bytes_line c.bytes
 network_line _ = invalid_line
 
 -- typed arrays
-typed_array_line : (size : Option ℕ) (i : Item) → All10 (typed_array_note size i)
+typed_array_line : (size : Option ℕ) (i : Item) → IfSome (typed_array_note size i) FreeNote
 typed_array_line None _ = tt
 typed_array_line (Some size) (atom (byte_string c)) =
-    all_cond (length c.bytes % size == 0) [] (one (codes "invalid data length for typed array")) tt
+    some_cond (length c.bytes % size == 0) None (Some (plain_note (codes "invalid data length for typed array"))) tt
     (from_test 10 (codes "invalid data length for typed array") refl, tt)
 typed_array_line (Some size) _ = (from_test 10 (codes "invalid type for typed array") refl, tt)
 
-pub value_note_line : (known t : ℕ) (i : Item) → AllByRecursion (Free 10) (value_note known t i)
+pub value_note_line : (known t : ℕ) (i : Item) → IfSome (value_note known t i) FreeNote
 unfolding value_note
 value_note_line known t i =
-    all_cond (t == 0) (one (datetime_note i)) _ (one_line (datetime_note i) (datetime_line i))
-    (all_cond (t == 1) (one (epoch_datetime_note i)) _ (one_line (epoch_datetime_note i) (epoch_datetime_line i))
-    (all_cond (t == 28) (one (shareable_note known)) _ (one_line (shareable_note known) (shareable_line known))
-    (all_cond (t == 29) (one (reference_note known i)) _ (one_line (reference_note known i) (reference_line known i))
-    (all_cond (t == 32) (one (url_note i)) _ (one_line (url_note i) (url_line i))
-    (all_cond (t == 33) (base64_note true i) _ (base64_line true i)
-    (all_cond (t == 34) (base64_note false i) _ (base64_line false i)
-    (all_cond (t == 37) (uuid_note i) _ (uuid_line i)
-    (all_cond (t == 52) (one (address_note IPv4 i)) _ (one_line (address_note IPv4 i) (address_line IPv4 i))
-    (all_cond (t == 54) (one (address_note IPv6 i)) _ (one_line (address_note IPv6 i) (address_line IPv6 i))
-    (all_cond (t == 100) (one (epoch_date_note i)) _ (one_line (epoch_date_note i) (epoch_date_line i))
-    (all_cond (t == 260) (one (network_note i)) _ (one_line (network_note i) (network_line i))
-    (all_cond (t == 1004) (one (date_note i)) (typed_array_note (element_size t) i)
-    (one_line (date_note i) (date_line i))
+    some_cond (t == 0) (Some (plain_note (datetime_note i))) _ (plain_free (datetime_note i) (datetime_line i))
+    (some_cond (t == 1) (Some (plain_note (epoch_datetime_note i))) _ (plain_free (epoch_datetime_note i) (epoch_datetime_line i))
+    (some_cond (t == 28) (Some (plain_note (shareable_note known))) _ (plain_free (shareable_note known) (shareable_line known))
+    (some_cond (t == 29) (Some (plain_note (reference_note known i))) _ (plain_free (reference_note known i) (reference_line known i))
+    (some_cond (t == 32) (Some (plain_note (url_note i))) _ (plain_free (url_note i) (url_line i))
+    (some_cond (t == 33) (Some (base64_note true i)) _ (base64_line true i)
+    (some_cond (t == 34) (Some (base64_note false i)) _ (base64_line false i)
+    (some_cond (t == 37) (Some (uuid_note i)) _ (uuid_line i)
+    (some_cond (t == 52) (Some (plain_note (address_note ipv4 i))) _ (plain_free (address_note ipv4 i) (address_line ipv4 i))
+    (some_cond (t == 54) (Some (plain_note (address_note ipv6 i))) _ (plain_free (address_note ipv6 i) (address_line ipv6 i))
+    (some_cond (t == 100) (Some (plain_note (epoch_date_note i))) _ (plain_free (epoch_date_note i) (epoch_date_line i))
+    (some_cond (t == 260) (Some (plain_note (network_note i))) _ (plain_free (network_note i) (network_line i))
+    (some_cond (t == 1004) (Some (plain_note (date_note i))) (typed_array_note (element_size t) i)
+    (plain_free (date_note i) (date_line i))
     (typed_array_line (element_size t) i)))))))))))))

@@ -1,5 +1,5 @@
 -- The two passes that make a dump.
-use Rattle.std.proofs.Common.{◌≡◌, ℕ, ◌-◌, ◌≤◌, max, List, [], ◌++◌, sym, ap, subst, ◌∙◌, arith}
+use Rattle.std.proofs.Common.{◌≡◌, ℕ, ◌≤◌, max, List, [], ◌++◌, ◌+◌, refl, sym, ap, subst, ◌∙◌, arith}
 use Rattle.std.specs.List.{AllByRecursion, flat_map}
 use Rattle.std.specs.String.{string_bytes}
 use Rattle.cbor_notes.specs.Columns.{IsPlain}
@@ -10,19 +10,20 @@ use Rattle.cbor_diag.specs.declared.encode.dump.pass.Pass.{Pass}
 use Rattle.cbor_diag.specs.declared.encode.dump.pass.Pass.TheVariants as pass
 use Rattle.cbor_diag.specs.declared.encode.dump.writer.Writer.{Writer}
 use Rattle.cbor_diag.specs.Item.{Item}
-use Rattle.cbor_diag.specs.Dump.{lines_at, top}
+use Rattle.cbor_diag.specs.Dump.{lines_at_level, parts_lines, top}
 use Rattle.cbor_diag.specs.mirror.ShownLines.{most_width}
 use Rattle.cbor_diag.specs.mirror.Passes.{taken, held, room, step, text_in, width_in, CanTake, Took}
-use Rattle.cbor_diag.specs.WellFormed.{WellFormed}
+use Rattle.cbor_diag.specs.WellFormed.{levels_left, WellFormed}
 use Rattle.cbor_diag.proofs.dump.Fits.{IsGood, fits_of, item_fits, plain_of, takes_all, widest_is, written_is}
+use Rattle.cbor_diag.proofs.dump.Members.{untagged}
 use Rattle.cbor_diag.proofs.text.Parts.{well_level}
 
 module _ (level : ℕ) (i : Item) (some : 1 ≤ level) (well : WellFormed level i) where
   abbrev all : List DumpLine
-  all = lines_at (129 - level) top 0 i
+  all = lines_at_level level top 0 i
 
   good : AllByRecursion IsGood all
-  good = item_fits (129 - level) level top 0 i (omega (arith, well_level level i well)) (omega (arith, some)) well
+  good = item_fits (levels_left level) level top 0 i (omega (arith, well_level level i well)) (omega (arith, some)) well
 
   fit : AllByRecursion IsFit all
   fit = fits_of all good
@@ -37,10 +38,11 @@ module _ (level : ℕ) (i : Item) (some : 1 ≤ level) (well : WellFormed level 
 
   module _ (shared : ℕ) (none : shared ≡ 0) where
     abbrev lines : List DumpLine
-    lines = lines_at (129 - level) top shared i
+    lines = parts_lines (lines_at_level (level + 1)) top shared i
 
     same : lines ≡ all
-    same = ap (λ n. lines_at (129 - level) top n i) none
+    same = sym (untagged level top shared i (well_level level i well) refl)
+        ∙ ap (λ n. lines_at_level level top n i) none
 
     pub starts : (p : Pass) → width_of all ≤ room p → CanTake p lines
     starts p wide = subst (CanTake p) (sym same) (takes_all (room p) all fit wide)

@@ -23,11 +23,11 @@ pub(crate) struct DumpContext {
 
 impl DumpContext {
     /// In a container, or in a string in chunks.
-    pub(crate) fn inside(self) -> DumpContext
-        requires { IsContext self }
-        ensures at { at_of result ≡ spec.inside (at_of self) }
-        ensures depth { result.depth ≡ self.depth + 1 }
-        ensures level { result.level ≡ self.level + 1 }
+    pub(crate) fn inside(&self) -> DumpContext
+        requires { IsContext self.now }
+        ensures at { at_of result ≡ spec.inside (at_of self.now) }
+        ensures depth { result.depth ≡ self.now.depth + 1 }
+        ensures level { result.level ≡ self.now.level + 1 }
     {
         DumpContext {
             level: self.level + 1,
@@ -39,11 +39,11 @@ impl DumpContext {
     }
 
     /// Right below a tag, before which `known` values were shared.
-    pub(crate) fn below(self, tag: Tag, known: u64) -> DumpContext
-        requires { IsContext self }
-        ensures at { at_of result ≡ spec.below tag.0 known (at_of self) }
-        ensures depth { result.depth ≡ self.depth + 1 }
-        ensures level { result.level ≡ self.level + 1 }
+    pub(crate) fn below(&self, tag: Tag, known: u64) -> DumpContext
+        requires { IsContext self.now }
+        ensures at { at_of result ≡ spec.below tag.0 known (at_of self.now) }
+        ensures depth { result.depth ≡ self.now.depth + 1 }
+        ensures level { result.level ≡ self.now.level + 1 }
     {
         DumpContext {
             level: self.level + 1,

@@ -1,15 +1,16 @@
 //! Hands the lines of an item to a pass: what its bytes are, and the notes on the values of tags.
-ghost use Rattle.std.specs.Prelude.{◌≡◌, ◌<◌, ◌≤◌, ◌+◌, ◌-◌, IfOk, OnOk, option_copied};
-ghost use Rattle.std.specs.List.{flat_map};
+ghost use Rattle.std.specs.Prelude.{◌≡◌, ◌≤◌, ◌+◌, IfOk, OnOk, option_copied};
 ghost use Rattle.std.specs.String.{string_bytes};
 ghost use Rattle.cbor_notes.specs.Layout.{layout};
-ghost use Rattle.cbor_diag.specs.Item.{array, map};
+ghost use Rattle.cbor_diag.specs.Item.{array, map, tagged};
 ghost use Rattle.cbor_diag.specs.View.{view, items_view, pairs_view};
-ghost use Rattle.cbor_diag.specs.WellFormed.{WellFormed, WellFormedItems, WellFormedPairs};
+ghost use Rattle.cbor_diag.specs.WellFormed.{deepest, WellFormed, WellFormedItems};
+ghost use Rattle.cbor_diag.specs.WellFormed.{WellFormedPairs};
 ghost use Rattle.cbor_diag.specs.Dump as spec;
-ghost use Rattle.cbor_diag.specs.Embedded.{sequence_at};
-ghost use Rattle.cbor_diag.specs.Reading.{read_item};
-ghost use Rattle.cbor_diag.specs.mirror.Passes.{at_of, tag_number, IsContext, CanTake, Took};
+ghost use Rattle.cbor_diag.specs.mirror.Passes.{IsContext, IsUntagged, CanWalk, Took, Walked};
+ghost use Rattle.cbor_diag.specs.mirror.Passes.{item_lines, items_there, pairs_there, notes_there};
+ghost use Rattle.cbor_diag.specs.mirror.Passes.{whole_note_there, sequence_notes_there};
+ghost use Rattle.cbor_diag.specs.mirror.Passes.{embedded_note_there};
 
 use super::context::DumpContext;
 use super::lines::Lines;
@@ -62,7 +63,7 @@ pub(super) fn dump(alloc: Global, item: &DataItem, level: u8) -> Result<String, 
     requires level { 1 ≤ level }
     requires well_formed { WellFormed level (view item.now) }
     ensures { IfOk result (λ text. string_bytes text
-        ≡ layout (spec.lines_at (129 - level) spec.top 0 (view item.now))) }
+        ≡ layout (spec.lines_at_level level spec.top 0 (view item.now))) }
 {
     let context = DumpContext {
         level,
@@ -72,40 +73,23 @@ pub(super) fn dump(alloc: Global, item: &DataItem, level: u8) -> Result<String, 
         shared: 0,
     };
     let mut walk = Walk::new(alloc, Pass::Measure(0))?;
-    dump_item(&mut walk, context, item)?;
+    dump_item(&mut walk, &context, item)?;
     let writer = Writer::new(alloc, walk.lines.pass.width());
     let mut walk = Walk::new(alloc, Pass::Write(writer))?;
-    dump_item(&mut walk, context, item)?;
+    dump_item(&mut walk, &context, item)?;
     Ok(walk.lines.pass.into_text(alloc))
 }
 
-/// Dumps an item, and the notes of the tag right above it.
-#[cycle(walk)]
-fn dump_item(walk: &mut Walk, context: DumpContext, item: &DataItem) -> Result<(), AllocError>
-    requires context { IsContext context }
-    requires well_formed { WellFormed context.level (view item.now) }
-    requires takes { CanTake walk.old.lines.pass
-        (spec.lines_at (129 - context.level) (at_of context) walk.old.shared (view item.now)) }
-    ensures took { OnOk result (Took walk.old.lines.pass walk.new.lines.pass
-        (spec.lines_at (129 - context.level) (at_of context) walk.old.shared (view item.now))) }
-    ensures shared { OnOk result (walk.new.shared
-        ≡ walk.old.shared + spec.shared_in (view item.now)) }
-{
-    dump_content(walk, context, item)?;
-    dump_notes(walk, context, item)
-}
-
 /// Dumps what the bytes of an item are; what a container or a tag holds is one deeper.
+///
+/// What dumps containers and tags isn't inlined here: it keeps values over calls, and space for
+/// these would be made for each number and text, too.
 #[cycle(walk)]
-fn dump_content(walk: &mut Walk, context: DumpContext, item: &DataItem) -> Result<(), AllocError>
-    requires context { IsContext context }
-    requires well_formed { WellFormed context.level (view item.now) }
-    requires takes { CanTake walk.old.lines.pass (spec.parts_lines
-        (spec.lines_at (129 - (context.level + 1))) (at_of context) walk.old.shared
-        (view item.now)) }
-    ensures took { OnOk result (Took walk.old.lines.pass walk.new.lines.pass (spec.parts_lines
-        (spec.lines_at (129 - (context.level + 1))) (at_of context) walk.old.shared
-        (view item.now))) }
+fn dump_item(walk: &mut Walk, context: &DumpContext, item: &DataItem) -> Result<(), AllocError>
+    requires context { IsContext context.now }
+    requires well_formed { WellFormed context.now.level (view item.now) }
+    requires takes { CanWalk walk.old (item_lines context.now) (view item.now) }
+    ensures took { OnOk result (Walked walk.old walk.new (item_lines context.now) (view item.now)) }
     ensures shared { OnOk result (walk.new.shared
         ≡ walk.old.shared + spec.shared_in (view item.now)) }
 {
@@ -128,12 +112,7 @@ fn dump_content(walk: &mut Walk, context: DumpContext, item: &DataItem) -> Resul
             tag,
             bitwidth,
             value,
-        } => {
-            lines.number(depth, Head::new(Major::Tag, tag.0, *bitwidth))?;
-            let known = walk.shared;
-            walk.shared = shared_below(known, *tag)?;
-            dump_item(walk, context.below(*tag, known), value)
-        }
+        } => dump_tagged(walk, context, (*tag, *bitwidth), value),
         DataItem::Float { bits, bitwidth } => lines.float(depth, *bits, *bitwidth),
         DataItem::Simple(simple) => lines.simple(depth, simple.0),
     }
@@ -141,20 +120,19 @@ fn dump_content(walk: &mut Walk, context: DumpContext, item: &DataItem) -> Resul
 
 /// Dumps an array of these items.
 #[cycle(walk)]
+#[inline(never)]
 fn dump_array(
     walk: &mut Walk,
-    context: DumpContext,
+    context: &DumpContext,
     items: &Vec<DataItem>,
     width: Option<IntegerWidth>,
 ) -> Result<(), AllocError>
-    requires context { IsContext context }
-    requires well_formed { WellFormed context.level (array (items_view items.now.items) width) }
-    requires takes { CanTake walk.old.lines.pass (spec.parts_lines
-        (spec.lines_at (129 - (context.level + 1))) (at_of context) walk.old.shared
+    requires context { IsContext context.now }
+    requires well_formed { WellFormed context.now.level (array (items_view items.now.items) width) }
+    requires takes { CanWalk walk.old (item_lines context.now)
+        (array (items_view items.now.items) width) }
+    ensures took { OnOk result (Walked walk.old walk.new (item_lines context.now)
         (array (items_view items.now.items) width)) }
-    ensures took { OnOk result (Took walk.old.lines.pass walk.new.lines.pass (spec.parts_lines
-        (spec.lines_at (129 - (context.level + 1))) (at_of context) walk.old.shared
-        (array (items_view items.now.items) width))) }
     ensures shared { OnOk result (walk.new.shared
         ≡ walk.old.shared + spec.shared_in_items (items_view items.now.items)) }
 {
@@ -164,26 +142,25 @@ fn dump_array(
         width,
     };
     walk.lines.container(context.depth, opening)?;
-    dump_items(walk, context.inside(), items)?;
+    dump_items(walk, &context.inside(), items)?;
     walk.lines.close(context.depth + 1, width)
 }
 
 /// Dumps a map of these pairs.
 #[cycle(walk)]
+#[inline(never)]
 fn dump_map(
     walk: &mut Walk,
-    context: DumpContext,
+    context: &DumpContext,
     pairs: &Vec<(DataItem, DataItem)>,
     width: Option<IntegerWidth>,
 ) -> Result<(), AllocError>
-    requires context { IsContext context }
-    requires well_formed { WellFormed context.level (map (pairs_view pairs.now.items) width) }
-    requires takes { CanTake walk.old.lines.pass (spec.parts_lines
-        (spec.lines_at (129 - (context.level + 1))) (at_of context) walk.old.shared
+    requires context { IsContext context.now }
+    requires well_formed { WellFormed context.now.level (map (pairs_view pairs.now.items) width) }
+    requires takes { CanWalk walk.old (item_lines context.now)
+        (map (pairs_view pairs.now.items) width) }
+    ensures took { OnOk result (Walked walk.old walk.new (item_lines context.now)
         (map (pairs_view pairs.now.items) width)) }
-    ensures took { OnOk result (Took walk.old.lines.pass walk.new.lines.pass (spec.parts_lines
-        (spec.lines_at (129 - (context.level + 1))) (at_of context) walk.old.shared
-        (map (pairs_view pairs.now.items) width))) }
     ensures shared { OnOk result (walk.new.shared
         ≡ walk.old.shared + spec.shared_in_pairs (pairs_view pairs.now.items)) }
 {
@@ -193,8 +170,43 @@ fn dump_map(
         width,
     };
     walk.lines.container(context.depth, opening)?;
-    dump_pairs(walk, context.inside(), pairs)?;
+    dump_pairs(walk, &context.inside(), pairs)?;
     walk.lines.close(context.depth + 1, width)
+}
+
+/// Dumps a tag, by its number and the width of that, the value right below it, and the notes on
+/// the value.
+#[cycle(walk)]
+#[inline(never)]
+fn dump_tagged(
+    walk: &mut Walk,
+    context: &DumpContext,
+    head: (Tag, IntegerWidth),
+    value: &DataItem,
+) -> Result<(), AllocError>
+    requires context { IsContext context.now }
+    requires well_formed { WellFormed context.now.level
+        (tagged head.0.0 head.1 (view value.now)) }
+    requires takes { CanWalk walk.old (item_lines context.now)
+        (tagged head.0.0 head.1 (view value.now)) }
+    ensures took { OnOk result (Walked walk.old walk.new (item_lines context.now)
+        (tagged head.0.0 head.1 (view value.now))) }
+    ensures shared { OnOk result (walk.new.shared
+        ≡ walk.old.shared + spec.shared_in (tagged head.0.0 head.1 (view value.now))) }
+{
+    let (tag, width) = head;
+    walk.lines
+        .number(context.depth, Head::new(Major::Tag, tag.0, width))?;
+    let inner = context.below(tag, walk.shared);
+    walk.shared = shared_below(walk.shared, tag)?;
+    dump_item(walk, &inner, value)?;
+    // Notes have no digits, so the pass that measures leaves them out: else an item that is
+    // embedded n times would be dumped 2 to the power of n times.
+    if walk.lines.pass.writes() {
+        dump_notes(walk, &inner, tag, value)
+    } else {
+        Ok(())
+    }
 }
 
 /// How many values were shared when the value below a tag begins. No memory holds more of them than
@@ -208,21 +220,19 @@ fn shared_below(shared: u64, tag: Tag) -> Result<u64, AllocError>
     }
 }
 
-/// Dumps items one after the other, each in this context.
+/// Dumps items one after the other, each in this context, which is below no tag.
 #[cycle(walk)]
 fn dump_items(
     walk: &mut Walk,
-    context: DumpContext,
+    context: &DumpContext,
     items: &Vec<DataItem>,
 ) -> Result<(), AllocError>
-    requires context { IsContext context }
-    requires well_formed { WellFormedItems context.level (items_view items.now.items) }
-    requires takes { CanTake walk.old.lines.pass (spec.items_lines
-        (spec.lines_at (129 - context.level) (at_of context)) walk.old.shared
+    requires context { IsContext context.now }
+    requires untagged { IsUntagged context.now }
+    requires well_formed { WellFormedItems context.now.level (items_view items.now.items) }
+    requires takes { CanWalk walk.old (items_there context.now) (items_view items.now.items) }
+    ensures took { OnOk result (Walked walk.old walk.new (items_there context.now)
         (items_view items.now.items)) }
-    ensures took { OnOk result (Took walk.old.lines.pass walk.new.lines.pass (spec.items_lines
-        (spec.lines_at (129 - context.level) (at_of context)) walk.old.shared
-        (items_view items.now.items))) }
     ensures shared { OnOk result (walk.new.shared
         ≡ walk.old.shared + spec.shared_in_items (items_view items.now.items)) }
 {
@@ -232,21 +242,19 @@ fn dump_items(
     Ok(())
 }
 
-/// Dumps keys and values in turn, each in this context.
+/// Dumps keys and values in turn, each in this context, which is below no tag.
 #[cycle(walk)]
 fn dump_pairs(
     walk: &mut Walk,
-    context: DumpContext,
+    context: &DumpContext,
     pairs: &Vec<(DataItem, DataItem)>,
 ) -> Result<(), AllocError>
-    requires context { IsContext context }
-    requires well_formed { WellFormedPairs context.level (pairs_view pairs.now.items) }
-    requires takes { CanTake walk.old.lines.pass (spec.pairs_lines
-        (spec.lines_at (129 - context.level) (at_of context)) walk.old.shared
+    requires context { IsContext context.now }
+    requires untagged { IsUntagged context.now }
+    requires well_formed { WellFormedPairs context.now.level (pairs_view pairs.now.items) }
+    requires takes { CanWalk walk.old (pairs_there context.now) (pairs_view pairs.now.items) }
+    ensures took { OnOk result (Walked walk.old walk.new (pairs_there context.now)
         (pairs_view pairs.now.items)) }
-    ensures took { OnOk result (Took walk.old.lines.pass walk.new.lines.pass (spec.pairs_lines
-        (spec.lines_at (129 - context.level) (at_of context)) walk.old.shared
-        (pairs_view pairs.now.items))) }
     ensures shared { OnOk result (walk.new.shared
         ≡ walk.old.shared + spec.shared_in_pairs (pairs_view pairs.now.items)) }
 {
@@ -257,25 +265,21 @@ fn dump_pairs(
     Ok(())
 }
 
-/// Dumps the notes on a value of the tag right above it.
+/// Dumps the notes on a value of this tag right above it.
 #[cycle(walk)]
-fn dump_notes(walk: &mut Walk, context: DumpContext, value: &DataItem) -> Result<(), AllocError>
-    requires context { IsContext context }
-    requires level { context.level < 129 }
+#[inline(never)]
+fn dump_notes(
+    walk: &mut Walk,
+    context: &DumpContext,
+    tag: Tag,
+    value: &DataItem,
+) -> Result<(), AllocError>
+    requires context { IsContext context.now }
+    requires level { context.now.level ≤ deepest }
     ensures took { OnOk result (Took walk.old.lines.pass walk.new.lines.pass
-        (spec.notes_lines context.depth (129 - (context.level + 1))
-        (spec.lines_at (129 - (context.level + 1)) spec.top 0)
-        context.shared (tag_number context.tag) (view value.now))) }
+        (notes_there context.now tag.0 (view value.now))) }
     ensures shared { OnOk result (walk.new.shared ≡ walk.old.shared) }
 {
-    let Some(tag) = context.tag else {
-        return Ok(());
-    };
-    // Notes have no digits, so the pass that measures leaves them out: else an item that is
-    // embedded n times would be dumped 2 to the power of n times.
-    if !walk.lines.pass.writes() {
-        return Ok(());
-    }
     match tag {
         Tag::ENCODED_CBOR => match bytes_in(value) {
             Some(bytes) => embedded_item(&mut walk.lines, walk.alloc, context, bytes),
@@ -285,10 +289,10 @@ fn dump_notes(walk: &mut Walk, context: DumpContext, value: &DataItem) -> Result
             Some(bytes) => embedded_sequence(&mut walk.lines, walk.alloc, context, bytes),
             None => walk.lines.note_line(context.depth, INVALID_SEQUENCE),
         },
-        _ => {
-            let texts = value_note(walk.alloc, context.shared, tag, value)?;
-            walk.lines.note(context.depth, &texts)
-        }
+        _ => match value_note(walk.alloc, context.shared, tag, value)? {
+            Some(note) => walk.lines.note(context.depth, &note),
+            None => Ok(()),
+        },
     }
 }
 
@@ -307,14 +311,13 @@ fn bytes_in(value: &DataItem) -> Option<&[u8]>
 fn embedded_item(
     lines: &mut Lines,
     alloc: Global,
-    context: DumpContext,
+    context: &DumpContext,
     bytes: &[u8],
 ) -> Result<(), AllocError>
-    requires context { IsContext context }
-    requires level { context.level < 129 }
-    ensures { OnOk result (Took lines.old.pass lines.new.pass (spec.note_lines context.depth
-        (spec.whole_note (spec.lines_at (129 - (context.level + 1)) spec.top 0)
-        (read_item (129 - (context.level + 1)) bytes.now)))) }
+    requires context { IsContext context.now }
+    requires level { context.now.level ≤ deepest }
+    ensures { OnOk result (Took lines.old.pass lines.new.pass
+        (whole_note_there context.now bytes.now)) }
 {
     match read_whole(alloc, bytes, context.level + 1) {
         Ok(item) => embedded_dump(lines, alloc, context, item),
@@ -331,16 +334,13 @@ fn embedded_item(
 fn embedded_sequence(
     lines: &mut Lines,
     alloc: Global,
-    context: DumpContext,
+    context: &DumpContext,
     bytes: &[u8],
 ) -> Result<(), AllocError>
-    requires context { IsContext context }
-    requires level { context.level < 129 }
+    requires context { IsContext context.now }
+    requires level { context.now.level ≤ deepest }
     ensures { OnOk result (Took lines.old.pass lines.new.pass
-        (flat_map (spec.note_lines context.depth)
-        (spec.sequence_notes (129 - (context.level + 1))
-        (spec.lines_at (129 - (context.level + 1)) spec.top 0)
-        (sequence_at (129 - (context.level + 1)) bytes.now)))) }
+        (sequence_notes_there context.now bytes.now)) }
 {
     let mut rest = bytes;
     'items: while !rest.is_empty() {
@@ -365,14 +365,14 @@ fn embedded_sequence(
 fn embedded_dump(
     lines: &mut Lines,
     alloc: Global,
-    context: DumpContext,
+    context: &DumpContext,
     item: DataItem,
 ) -> Result<(), AllocError>
-    requires context { IsContext context }
-    requires level { context.level < 129 }
-    requires well_formed { WellFormed (context.level + 1) (view item) }
-    ensures { OnOk result (Took lines.old.pass lines.new.pass (spec.note_lines context.depth
-        (spec.embedded_note (spec.lines_at (129 - (context.level + 1)) spec.top 0 (view item))))) }
+    requires context { IsContext context.now }
+    requires level { context.now.level ≤ deepest }
+    requires well_formed { WellFormed (context.now.level + 1) (view item) }
+    ensures { OnOk result (Took lines.old.pass lines.new.pass
+        (embedded_note_there context.now (view item))) }
 {
     let text = dump(alloc, &item, context.level + 1)?;
     lines.note_line(context.depth, "encoded cbor data item")?;

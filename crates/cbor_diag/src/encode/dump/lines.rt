@@ -1,11 +1,12 @@
 //! The lines of heads and of strings.
-ghost use Rattle.std.specs.Prelude.{◌≡◌, ◌<◌, ◌+◌, ◌^◌, ◌∷◌, [], length, map, OnOk, IfOk};
+ghost use Rattle.std.specs.Prelude.{◌≡◌, ◌<◌, ◌≤◌, ◌+◌, ◌^◌, ◌∷◌, [], length, map, OnOk, IfOk};
 ghost use Rattle.std.specs.List.{AllByRecursion};
 ghost use Rattle.std.specs.Str.{IsCharBoundary};
 ghost use Rattle.cbor_diag.specs.Head.{FitsWidth};
 ghost use Rattle.cbor_diag.specs.mirror.MajorNumber.{major_number};
 ghost use Rattle.cbor_diag.specs.View.{byte_chunk, text_chunk};
-ghost use Rattle.cbor_diag.specs.WellFormed.{FitsCount, FitsFloat, IsByteChunk, IsTextChunk};
+ghost use Rattle.cbor_diag.specs.WellFormed.{deepest, FitsCount, FitsFloat};
+ghost use Rattle.cbor_diag.specs.WellFormed.{IsByteChunk, IsTextChunk};
 ghost use Rattle.cbor_diag.specs.Written.{encoded_head, encoded_float, encoded_simple};
 ghost use Rattle.cbor_diag.specs.Comments.{float_comment, text_comment, simple_comment};
 ghost use Rattle.cbor_diag.specs.Pieces.{text_pieces};
@@ -221,13 +222,13 @@ impl Lines {
 
     /// The content of a byte string, one deeper than the context: its elements where the tag above
     /// is that of a typed array and the bytes are whole elements.
-    fn tagged_content(&mut self, context: DumpContext, bytes: &[u8]) -> Result<(), AllocError>
-        requires context { IsContext context }
-        requires takes { CanTake self.old.pass (spec.tagged_lines (context.depth + 1)
-            (in_force context.encoding) (tag_number context.tag) bytes.now) }
+    fn tagged_content(&mut self, context: &DumpContext, bytes: &[u8]) -> Result<(), AllocError>
+        requires context { IsContext context.now }
+        requires takes { CanTake self.old.pass (spec.tagged_lines (context.now.depth + 1)
+            (in_force context.now.encoding) (tag_number context.now.tag) bytes.now) }
         ensures { OnOk result (Took self.old.pass self.new.pass
-            (spec.tagged_lines (context.depth + 1)
-            (in_force context.encoding) (tag_number context.tag) bytes.now)) }
+            (spec.tagged_lines (context.now.depth + 1)
+            (in_force context.now.encoding) (tag_number context.now.tag) bytes.now)) }
     {
         let depth = context.depth + 1;
         let Some(tag) = context.tag else {
@@ -266,15 +267,15 @@ impl Lines {
     /// A byte string of definite length.
     pub(super) fn byte_string(
         &mut self,
-        context: DumpContext,
+        context: &DumpContext,
         string: &ByteString,
     ) -> Result<(), AllocError>
-        requires context { IsContext context }
+        requires context { IsContext context.now }
         requires well_formed { IsByteChunk (byte_chunk string.now) }
         requires takes { CanTake self.old.pass
-            (spec.byte_string_lines (at_of context) (byte_chunk string.now)) }
+            (spec.byte_string_lines (at_of context.now) (byte_chunk string.now)) }
         ensures { OnOk result (Took self.old.pass self.new.pass
-            (spec.byte_string_lines (at_of context) (byte_chunk string.now))) }
+            (spec.byte_string_lines (at_of context.now) (byte_chunk string.now))) }
     {
         let length = string.content.len() as u64;
         self.number(
@@ -305,21 +306,21 @@ impl Lines {
     /// A byte string in chunks.
     pub(super) fn byte_chunks(
         &mut self,
-        context: DumpContext,
+        context: &DumpContext,
         chunks: &[ByteString],
     ) -> Result<(), AllocError>
-        requires context { IsContext context }
-        requires level { context.level < 129 }
+        requires context { IsContext context.now }
+        requires level { context.now.level ≤ deepest }
         requires well_formed { AllByRecursion IsByteChunk (map byte_chunk chunks.now) }
         requires takes { CanTake self.old.pass
-            (spec.byte_chunks_lines (at_of context) (map byte_chunk chunks.now)) }
+            (spec.byte_chunks_lines (at_of context.now) (map byte_chunk chunks.now)) }
         ensures { OnOk result (Took self.old.pass self.new.pass
-            (spec.byte_chunks_lines (at_of context) (map byte_chunk chunks.now))) }
+            (spec.byte_chunks_lines (at_of context.now) (map byte_chunk chunks.now))) }
     {
         self.open(context.depth, Major::Bytes)?;
         let inner = context.inside();
         'chunks: for chunk in chunks {
-            self.byte_string(inner, chunk)?;
+            self.byte_string(&inner, chunk)?;
         }
         self.break_line(context.depth + 1)
     }

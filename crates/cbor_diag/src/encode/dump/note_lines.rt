@@ -1,15 +1,16 @@
 //! Notes, which are lines without digits.
 ghost use Rattle.std.specs.Prelude.{◌≡◌, ◌<◌, ◌∷◌, ℕ, List, [], map, flat_map, OnOk};
 ghost use Rattle.std.specs.List.{AllByRecursion};
-ghost use Rattle.std.specs.String.{string_bytes};
 ghost use Rattle.cbor_notes.specs.Columns.{IsPlain};
 ghost use Rattle.cbor_notes.specs.Layout.{DumpLine, line_text};
 ghost use Rattle.cbor_diag.specs.Dump as spec;
+ghost use Rattle.cbor_diag.specs.mirror.NotesView.{note_view};
 ghost use Rattle.cbor_diag.specs.mirror.Passes.{Took};
 
 use super::comment::Comment;
 use super::hex_style::HexStyle;
 use super::lines::Lines;
+use super::notes::Note;
 use crate::error::Error;
 use std::alloc::AllocError;
 
@@ -24,23 +25,20 @@ impl Lines {
         self.pass.line(depth, HexStyle::Content, &[], &comment)
     }
 
-    /// A note, if there is one: its first text, and the others one deeper.
-    pub(super) fn note(&mut self, depth: usize, texts: &[String]) -> Result<(), AllocError>
+    /// A note: its text, and the texts below it one deeper.
+    pub(super) fn note(&mut self, depth: usize, note: &Note) -> Result<(), AllocError>
         requires { depth < 139 }
         ensures { OnOk result (Took self.old.pass self.new.pass
-            (spec.note_lines depth (map string_bytes texts.now))) }
+            (spec.note_lines depth (note_view note.now))) }
     {
-        let Some((first, others)) = texts.split_first() else {
-            return Ok(());
-        };
-        self.note_line(depth, first)?;
-        'others: for text in others {
+        self.note_line(depth, &note.text)?;
+        'below: for text in &note.below {
             self.note_line(depth + 1, text)?;
         }
         Ok(())
     }
 
-    /// The note of what can't be read, and below it the error.
+    /// The note of what cannot be read, and below it the error.
     pub(super) fn failed_note(
         &mut self,
         depth: usize,

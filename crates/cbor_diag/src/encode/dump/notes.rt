@@ -1,9 +1,10 @@
 //! The notes of a dump: what is said of the value of a tag, by the value alone.
-ghost use Rattle.std.specs.Prelude.{◌≡◌, ◌<◌, map, Some, IfOk};
+ghost use Rattle.std.specs.Prelude.{◌≡◌, ◌<◌, option_map, Some, IfOk};
 ghost use Rattle.std.specs.String.{string_bytes};
 ghost use Rattle.cbor_diag.specs.Comments as comments;
 ghost use Rattle.cbor_diag.specs.View.{view};
 ghost use Rattle.cbor_diag.specs.Notes as spec;
+ghost use Rattle.cbor_diag.specs.mirror.NotesView.{note_view};
 
 mod addresses;
 mod dates;
@@ -18,54 +19,68 @@ use encoded::{base64_note, url_note, uuid_note};
 use shared::{reference_note, shareable_note};
 use std::alloc::{AllocError, Global};
 
-/// What is said of a value right below a tag, where `known` values were shared before the tag: a
-/// text, and others that belong to it; none where there is no note. Tags 24 and 63 have theirs in
-/// the walk.
+/// A note on a value.
+#[derive(Drop)]
+pub(crate) struct Note {
+    /// What it says.
+    pub(crate) text: String,
+    /// The texts one deeper that belong to it.
+    pub(crate) below: Vec<String>,
+}
+
+impl Note {
+    /// A note with nothing below it.
+    fn plain(alloc: Global, text: String) -> Note
+        ensures { note_view result ≡ spec.plain_note (string_bytes text) }
+    {
+        Note {
+            text,
+            below: Vec::new(alloc),
+        }
+    }
+
+    /// A note of these words, with nothing below it.
+    fn words(alloc: Global, text: &str) -> Result<Note, AllocError>
+        ensures { IfOk result (λ note. note_view note ≡ spec.plain_note text.now) }
+    {
+        Ok(Note::plain(alloc, String::from_str(alloc, text)?))
+    }
+}
+
+/// The note on a value right below a tag, where `known` values were shared before the tag, if there
+/// is one. Tags 24 and 63 have theirs in the walk.
 #[tactic(auto, unfolding(crate::specs::Notes::value_note))]
 pub(super) fn value_note(
     alloc: Global,
     known: u64,
     tag: Tag,
     value: &DataItem,
-) -> Result<Vec<String>, AllocError>
-    ensures { IfOk result (λ texts. map string_bytes texts.items ≡ spec.value_note known tag.0
+) -> Result<Option<Note>, AllocError>
+    ensures { IfOk result (λ note. option_map note_view note ≡ spec.value_note known tag.0
         (view value.now)) }
 {
-    match tag {
-        Tag::DATETIME => one(alloc, datetime_note(alloc, value)?),
-        Tag::EPOCH_DATETIME => one(alloc, epoch_datetime_note(alloc, value)?),
-        Tag::SHAREABLE => one(alloc, shareable_note(alloc, known)?),
-        Tag::SHARED_REF => one(alloc, reference_note(alloc, known, value)?),
-        Tag::URI => one(alloc, url_note(alloc, value)?),
-        Tag::BASE64URL => base64_note(alloc, true, value),
-        Tag::BASE64 => base64_note(alloc, false, value),
-        Tag::UUID => uuid_note(alloc, value),
-        Tag::IPV4 => one(alloc, Family::IPv4.note(alloc, value)?),
-        Tag::IPV6 => one(alloc, Family::IPv6.note(alloc, value)?),
-        Tag::EPOCH_DATE => one(alloc, epoch_date_note(alloc, value)?),
-        Tag::NETWORK_ADDRESS => one(alloc, network_note(alloc, value)?),
-        Tag::DATE => one(alloc, date_note(alloc, value)?),
-        _ => match element_size(tag.0) {
-            Some(size) => typed_array_note(alloc, size, value),
-            None => Ok(Vec::new(alloc)),
-        },
-    }
-}
-
-/// A note with nothing below it.
-fn one(alloc: Global, text: String) -> Result<Vec<String>, AllocError>
-    ensures { IfOk result (λ texts. map string_bytes texts.items ≡ spec.one (string_bytes text)) }
-{
-    let mut texts = Vec::with_capacity(alloc, 1)?;
-    texts.push(text)?;
-    Ok(texts)
-}
-
-/// A note of these words, with nothing below it.
-fn words(alloc: Global, text: &str) -> Result<Vec<String>, AllocError>
-    ensures { IfOk result (λ texts. map string_bytes texts.items ≡ spec.one text.now) }
-{
-    one(alloc, String::from_str(alloc, text)?)
+    let note = match tag {
+        Tag::DATETIME => Note::plain(alloc, datetime_note(alloc, value)?),
+        Tag::EPOCH_DATETIME => Note::plain(alloc, epoch_datetime_note(alloc, value)?),
+        Tag::SHAREABLE => Note::plain(alloc, shareable_note(alloc, known)?),
+        Tag::SHARED_REF => Note::plain(alloc, reference_note(alloc, known, value)?),
+        Tag::URI => Note::plain(alloc, url_note(alloc, value)?),
+        Tag::BASE64URL => base64_note(alloc, true, value)?,
+        Tag::BASE64 => base64_note(alloc, false, value)?,
+        Tag::UUID => uuid_note(alloc, value)?,
+        Tag::IPV4 => Note::plain(alloc, Family::IPv4.note(alloc, value)?),
+        Tag::IPV6 => Note::plain(alloc, Family::IPv6.note(alloc, value)?),
+        Tag::EPOCH_DATE => Note::plain(alloc, epoch_date_note(alloc, value)?),
+        Tag::NETWORK_ADDRESS => Note::plain(alloc, network_note(alloc, value)?),
+        Tag::DATE => Note::plain(alloc, date_note(alloc, value)?),
+        _ => {
+            return match element_size(tag.0) {
+                Some(size) => typed_array_note(alloc, size, value),
+                None => Ok(None),
+            };
+        }
+    };
+    Ok(Some(note))
 }
 
 /// A text between brackets after a word.
@@ -83,14 +98,21 @@ fn in_brackets(alloc: Global, word: &str, text: &str) -> Result<String, AllocErr
 
 /// What is said of a typed array with elements of `size` bytes: why it is none. Elements speak for
 /// themselves.
-fn typed_array_note(alloc: Global, size: usize, value: &DataItem) -> Result<Vec<String>, AllocError>
+fn typed_array_note(
+    alloc: Global,
+    size: usize,
+    value: &DataItem,
+) -> Result<Option<Note>, AllocError>
     requires { 0 < size }
-    ensures { IfOk result (λ texts. map string_bytes texts.items
+    ensures { IfOk result (λ note. option_map note_view note
         ≡ spec.typed_array_note (Some size) (view value.now)) }
 {
     match value {
-        DataItem::ByteString(bytes) if bytes.content.len() % size == 0 => Ok(Vec::new(alloc)),
-        DataItem::ByteString(_) => words(alloc, "invalid data length for typed array"),
-        _ => words(alloc, "invalid type for typed array"),
+        DataItem::ByteString(bytes) if bytes.content.len() % size == 0 => Ok(None),
+        DataItem::ByteString(_) => Ok(Some(Note::words(
+            alloc,
+            "invalid data length for typed array",
+        )?)),
+        _ => Ok(Some(Note::words(alloc, "invalid type for typed array")?)),
     }
 }

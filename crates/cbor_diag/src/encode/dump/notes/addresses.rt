@@ -1,8 +1,9 @@
 //! Network addresses (RFC 9164).
-ghost use Rattle.std.specs.Prelude.{ℕ, ◌≡◌, ◌≢◌, ◌++◌, List, codes, decimal, length, ◌==◌, Some};
-ghost use Rattle.std.specs.Prelude.{None, if◌then◌else◌, IfOk, OnOk, IfSome, IfNone};
+ghost use Rattle.std.specs.Prelude.{ℕ, ◌≡◌, ◌≢◌, ◌++◌, List, codes, decimal, length, IfOk, OnOk};
+ghost use Rattle.std.specs.Prelude.{IfSome, IfNone};
 ghost use Rattle.std.specs.String.{string_bytes};
 ghost use Rattle.cbor_diag.specs.Notes as spec;
+ghost use Rattle.cbor_diag.specs.mirror.NotesView.{family_view, zone_view};
 ghost use Rattle.cbor_diag.specs.View.{view, items_view};
 
 use super::in_brackets;
@@ -19,10 +20,21 @@ pub(crate) enum Family {
     IPv6,
 }
 
+/// What is in the place of a zone.
+#[derive(Drop)]
+pub(crate) enum Zone {
+    /// Nothing.
+    Absent,
+    /// A zone with this text.
+    Text(String),
+    /// A value that is not a zone.
+    Invalid,
+}
+
 impl Family {
     /// What is said of the value of the family's tag.
     pub(super) fn note(self, alloc: Global, value: &DataItem) -> Result<String, AllocError>
-        ensures { IfOk result (λ note. string_bytes note ≡ spec.address_note self
+        ensures { IfOk result (λ note. string_bytes note ≡ spec.address_note (family_view self)
             (view value.now)) }
     {
         match value {
@@ -34,7 +46,7 @@ impl Family {
 
     /// What it is called.
     fn name(self) -> &'static str
-        ensures { result.now ≡ spec.family_name self }
+        ensures { result.now ≡ spec.family_name (family_view self) }
     {
         match self {
             Family::IPv4 => "IPv4",
@@ -44,7 +56,7 @@ impl Family {
 
     /// How many bytes an address has.
     fn size(self) -> usize
-        ensures { result ≡ spec.family_size self }
+        ensures { result ≡ spec.family_size (family_view self) }
     {
         match self {
             Family::IPv4 => 4,
@@ -55,10 +67,10 @@ impl Family {
     /// The text of an address, if the bytes are one.
     fn address_text(self, alloc: Global, bytes: &[u8]) -> Result<Option<String>, AllocError>
         ensures some { IfOk result (λ found. IfSome found (λ text.
-            (length bytes.now ≡ spec.family_size self)
-            × (string_bytes text ≡ spec.address_text self bytes.now))) }
+            (length bytes.now ≡ spec.family_size (family_view self))
+            × (string_bytes text ≡ spec.address_text (family_view self) bytes.now))) }
         ensures none { IfOk result (λ found. IfNone found
-            (length bytes.now ≢ spec.family_size self)) }
+            (length bytes.now ≢ spec.family_size (family_view self))) }
     {
         match self {
             Family::IPv4 => match bytes.as_array() {
@@ -74,7 +86,7 @@ impl Family {
 
     /// The family's name, what is shown of it, and that between brackets.
     fn shown(self, alloc: Global, what: &str, text: &str) -> Result<String, AllocError>
-        ensures { IfOk result (λ note. string_bytes note ≡ spec.shown self what.now text.now) }
+        ensures { IfOk result (λ note. string_bytes note ≡ spec.shown (family_view self) what.now text.now) }
     {
         let mut name = String::from_str(alloc, self.name())?;
         name.push(' ')?;
@@ -84,7 +96,7 @@ impl Family {
 
     /// What is said of bytes that are too few or too many.
     fn invalid_length(self, alloc: Global) -> Result<String, AllocError>
-        ensures { IfOk result (λ note. string_bytes note ≡ spec.invalid_length self) }
+        ensures { IfOk result (λ note. string_bytes note ≡ spec.invalid_length (family_view self)) }
     {
         let mut note = String::from_str(alloc, "invalid data length for ")?;
         note.push_str(self.name())?;
@@ -94,7 +106,7 @@ impl Family {
 
     /// What is said of bytes alone.
     fn plain_address(self, alloc: Global, bytes: &[u8]) -> Result<String, AllocError>
-        ensures { IfOk result (λ note. string_bytes note ≡ spec.plain_address self bytes.now) }
+        ensures { IfOk result (λ note. string_bytes note ≡ spec.plain_address (family_view self) bytes.now) }
     {
         match self.address_text(alloc, bytes)? {
             Some(address) => self.shown(alloc, "address", &address),
@@ -105,7 +117,7 @@ impl Family {
     /// What is said of members: a prefix by its length and its bytes, or an address by its bytes
     /// and what follows them.
     fn members_note(self, alloc: Global, members: &[DataItem]) -> Result<String, AllocError>
-        ensures { IfOk result (λ note. string_bytes note ≡ spec.members_note self
+        ensures { IfOk result (λ note. string_bytes note ≡ spec.members_note (family_view self)
             (items_view members.now)) }
     {
         match members {
@@ -127,7 +139,7 @@ impl Family {
     /// What is said of the first bytes of an address, those after them being zeros that are left
     /// away.
     fn prefix_note(self, alloc: Global, len: u64, bytes: &[u8]) -> Result<String, AllocError>
-        ensures { IfOk result (λ note. string_bytes note ≡ spec.prefix_note self len bytes.now) }
+        ensures { IfOk result (λ note. string_bytes note ≡ spec.prefix_note (family_view self) len bytes.now) }
     {
         if bytes.ends_with(&[0]) {
             return String::from_str(alloc, "invalid prefix, ends with zero byte");
@@ -155,8 +167,8 @@ impl Family {
         address: String,
         rest: &[DataItem],
     ) -> Result<String, AllocError>
-        ensures { (bytes : List ℕ) → string_bytes address ≡ spec.address_text self bytes
-            → IfOk result (λ note. string_bytes note ≡ spec.interface_note self bytes
+        ensures { (bytes : List ℕ) → string_bytes address ≡ spec.address_text (family_view self) bytes
+            → IfOk result (λ note. string_bytes note ≡ spec.interface_note (family_view self) bytes
             (items_view rest.now)) }
     {
         match rest {
@@ -175,11 +187,11 @@ impl Family {
         address: String,
         zones: &[DataItem],
     ) -> Result<String, AllocError>
-        ensures { (bytes : List ℕ) → string_bytes address ≡ spec.address_text self bytes
+        ensures { (bytes : List ℕ) → string_bytes address ≡ spec.address_text (family_view self) bytes
             → IfOk result (λ note. string_bytes note
-            ≡ spec.with_zone self bytes (spec.zone_at (items_view zones.now))) }
+            ≡ spec.with_zone (family_view self) bytes (spec.zone_at (items_view zones.now))) }
     {
-        let Some(zone) = first_zone(alloc, zones)? else {
+        let Zone::Text(zone) = zone_at(alloc, zones)? else {
             return invalid_address(alloc);
         };
         let mut text = address;
@@ -195,36 +207,23 @@ impl Family {
         len: u64,
         zones: &[DataItem],
     ) -> Result<String, AllocError>
-        ensures { (bytes : List ℕ) → string_bytes address ≡ spec.address_text self bytes
+        ensures { (bytes : List ℕ) → string_bytes address ≡ spec.address_text (family_view self) bytes
             → IfOk result (λ note. string_bytes note
-            ≡ spec.with_length self bytes len (spec.zone_at (items_view zones.now))) }
+            ≡ spec.with_length (family_view self) bytes len (spec.zone_at (items_view zones.now))) }
     {
-        if zones.is_empty() {
-            return self.with_length_alone(alloc, address, len);
+        let mut text = address;
+        match zone_at(alloc, zones)? {
+            Zone::Absent => {
+                push_length(&mut text, len)?;
+                self.shown(alloc, "address-and-prefix", &text)
+            }
+            Zone::Text(zone) => {
+                push_zone(&mut text, &zone)?;
+                push_length(&mut text, len)?;
+                self.shown(alloc, "address-and-zone-and-prefix", &text)
+            }
+            Zone::Invalid => invalid_address(alloc),
         }
-        let Some(zone) = first_zone(alloc, zones)? else {
-            return invalid_address(alloc);
-        };
-        let mut text = address;
-        push_zone(&mut text, &zone)?;
-        push_length(&mut text, len)?;
-        self.shown(alloc, "address-and-zone-and-prefix", &text)
-    }
-
-    /// What is said of an address and the length of its prefix.
-    fn with_length_alone(
-        self,
-        alloc: Global,
-        address: String,
-        len: u64,
-    ) -> Result<String, AllocError>
-        ensures { (bytes : List ℕ) → string_bytes address ≡ spec.address_text self bytes
-            → IfOk result (λ note. string_bytes note ≡ spec.with_length self bytes len
-            (Some None)) }
-    {
-        let mut text = address;
-        push_length(&mut text, len)?;
-        self.shown(alloc, "address-and-prefix", &text)
     }
 }
 
@@ -252,18 +251,15 @@ fn push_zone(text: &mut String, zone: &str) -> Result<(), AllocError>
     text.push_str(zone)
 }
 
-/// The zone that is named first, by its number or name, if that is one.
-fn first_zone(alloc: Global, zones: &[DataItem]) -> Result<Option<String>, AllocError>
-    ensures some { IfOk result (λ found. IfSome found
-        (λ zone. spec.zone_at (items_view zones.now) ≡ Some (Some (string_bytes zone)))) }
-    ensures none { IfOk result (λ found. IfNone found
-        (spec.zone_at (items_view zones.now)
-        ≡ (if length zones.now == 0 then Some None else None))) }
+/// The zone that is named first, by its number or name.
+fn zone_at(alloc: Global, zones: &[DataItem]) -> Result<Zone, AllocError>
+    ensures { IfOk result (λ zone. zone_view zone ≡ spec.zone_at (items_view zones.now)) }
 {
     match zones {
-        [DataItem::Integer { value, .. }, ..] => Ok(Some(value.to_string(alloc)?)),
-        [DataItem::TextString(name), ..] => Ok(Some(escaped_text(alloc, &name.content)?)),
-        _ => Ok(None),
+        [] => Ok(Zone::Absent),
+        [DataItem::Integer { value, .. }, ..] => Ok(Zone::Text(value.to_string(alloc)?)),
+        [DataItem::TextString(name), ..] => Ok(Zone::Text(escaped_text(alloc, &name.content)?)),
+        _ => Ok(Zone::Invalid),
     }
 }
 

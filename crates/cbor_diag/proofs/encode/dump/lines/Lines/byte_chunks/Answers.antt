@@ -9,8 +9,8 @@ use Rattle.cbor_diag.proofs.encode.dump.lines.Lines.byte_chunks.Goals as goal
 
 pub byte_string-requires-clause-takes : goal.byte_string-requires-clause-takes
 byte_string-requires-clause-takes c =
-    let lines = byte_string_lines (inside (at_of c.args.context)) in
-    let end = break_line (c.args.context.depth + 1) ∷ [] in
+    let lines = byte_string_lines (inside (at_of c.args.context.now)) in
+    let end = break_line (c.args.context.now.depth + 1) ∷ [] in
     let i = c.chunks.chunk-index in
     let all = c.args.chunks.now in
     let chunk = byte_chunk c.chunk-item.result in
@@ -22,8 +22,8 @@ byte_string-requires-clause-takes c =
 
 pub chunks-preserved : goal.chunks-preserved
 chunks-preserved c =
-    let lines = byte_string_lines (inside (at_of c.args.context)) in
-    let end = break_line (c.args.context.depth + 1) ∷ [] in
+    let lines = byte_string_lines (inside (at_of c.args.context.now)) in
+    let end = break_line (c.args.context.now.depth + 1) ∷ [] in
     let i = c.chunks.chunk-index in
     let all = c.args.chunks.now in
     let now = c.chunks.self.pass in
@@ -34,7 +34,7 @@ chunks-preserved c =
     c.in_ok-byte_string.ensures in (
       part_left (flat_map lines (map byte_chunk (drop i all)) ++ end) (lines chunk)
           (flat_map lines (map byte_chunk (drop (i + 1) all)) ++ end)
-          split c.args.self.now.pass now next (byte_chunks_lines (at_of c.args.context) (map byte_chunk all)) took
+          split c.args.self.now.pass now next (byte_chunks_lines (at_of c.args.context.now) (map byte_chunk all)) took
           c.chunks.invariant.0,
       chunks_after byte_chunk all i c.chunk-item.result c.chunk-item.is c.chunks-test.true IsByteChunk
           c.chunks.invariant.1,
