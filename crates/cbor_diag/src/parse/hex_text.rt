@@ -142,13 +142,21 @@ fn decode(alloc: Global, digits: Vec<u8>) -> crate::Result<Vec<u8>>
     }
 }
 
-/// Reads one item from hex with comments, two digits of either case for each of its bytes.
+/// Reads one item from hex with comments: two digits, of either case, for each byte of the item.
 ///
-/// A line ends at a line feed, and one carriage return right before it belongs to the end. Of each
-/// line what comes before its first `#` is kept, without spaces (U+0020); a tab is kept.
+/// A line ends at a line feed, and one carriage return right before it belongs to the end. In each
+/// line, the text before the first `#` is kept, without its spaces (U+0020); a tab is kept.
 ///
-/// Refuses with `OddHex` where an odd number of bytes is kept, else with `BadHex` where one of them
-/// is no hex digit, else as `parse_bytes` does, and with `Memory` where a growth was refused.
+/// Returns `OddHex` if the number of kept bytes is odd, otherwise `BadHex` if one of them is not a
+/// hex digit, otherwise the errors of [`parse_bytes`]. Returns `Memory` if an allocation fails.
+///
+/// ```rust
+/// use cbor_diag::{Error, parse_hex};
+///
+/// let item = parse_hex(alloc, "83       # array(3)\n   01 02 03\n")?;
+/// assert_eq!(rt; item.to_diag(alloc)?.as_str(), "[1,2,3]");
+/// assert_eq!(rt; parse_hex(alloc, "8").err(), Some(Error::OddHex));
+/// ```
 pub fn parse_hex(alloc: Global, hex: &str) -> crate::Result<DataItem>
     ensures ok { IfOk result (λ i. IsHexOf hex.now (view i)) }
     ensures every_item { (i : Item) → IsHexOf hex.now i → GaveItem result i }

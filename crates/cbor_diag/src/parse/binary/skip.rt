@@ -268,11 +268,21 @@ fn begins(bytes: &[u8]) -> Extent
     }
 }
 
-/// Reports how the bytes begin, by the rules of `parse_bytes_partial`, and takes no memory: with an
-/// item and its length; cut, if they end before the item does and before any error; or with the
-/// first error from the left, which the first `end` bytes show and fewer do not. Of `Head` and
-/// `TooDeep` the last of these is the byte at fault; of `Utf8` they end with the text that is not
-/// UTF-8.
+/// Reports how the bytes begin, by the rules of [`parse_bytes_partial`]. It allocates nothing.
+///
+/// Returns `Item` with the length of the item; `Cut` if the bytes end before the item does and
+/// before any error; or `Fault` with the first error from the left. The first `end` bytes have this
+/// error, and fewer are cut. For `Head` and `TooDeep`, the last of them is the byte at fault. For
+/// `Utf8`, they end with the text that is not UTF-8.
+///
+/// ```rust
+/// use cbor_diag::{Error, Extent, extent};
+///
+/// assert_eq!(rt; extent(b"\x82\x01\x02\xff"), Extent::Item(3));
+/// assert_eq!(rt; extent(b"\x82\x01"), Extent::Cut);
+/// let (error, end) = (Error::Head, 3);
+/// assert_eq!(rt; extent(b"\x82\x01\x1f\x00"), Extent::Fault { error, end });
+/// ```
 pub fn extent(bytes: &[u8]) -> Extent
     // An item of `used` bytes, exactly where they spell one.
     ensures item { IfItem result (λ n. (i : Item) × BeginsWithItem bytes.now i n) }
