@@ -59,7 +59,7 @@ part_later contents old mid new out more first part = (
 
 -- ---- the end after a block
 
--- what `?` hands on is the error that it was
+-- `?` returns the error unchanged
 pub same_end : {X : Type 0} (s r : Result X ViewError) (e : ViewError) → IsErrAnd s (λ v. v ≡ e) → r ≡ Err e → s ≡ r
 same_end (Ok x) r e is was = absurd is
 same_end {X = X} (Err v) r e is was = let P : ViewError → Result X ViewError = λ d. Err d in ap P is ∙ sym was
@@ -120,7 +120,7 @@ pub had_some : (told : Option (List ℕ)) → (all : List ℕ) × IfSome told (�
 had_some None = ([], tt)
 had_some (Some bytes) = (bytes, refl)
 
--- what holds for each refusal holds for the one that is answered
+-- what holds for each error holds for the one that is returned
 pub for_any_refusal : {X : Type 0} (s : Result X ViewError) (P : Error → Type 0) → ((e : Error) → P e) → OnRefusal s P
 for_any_refusal (Ok x) P h = tt
 for_any_refusal (Err (view_error.Item e)) P h = h e

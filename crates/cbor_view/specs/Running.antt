@@ -36,7 +36,7 @@ abbrev pub failures_then : Bool → ℕ → ℕ
 failures_then true n = one_more n
 failures_then false n = n
 
--- a fact for the refusal of an item
+-- a fact for the error of an item
 abbrev pub OnRefusal : {X : Type 0} → Result X ViewError → (Error → Type 0) → Type 0
 OnRefusal (Err (view_error.Item e)) P = P e
 OnRefusal _ P = ⊤
@@ -51,13 +51,13 @@ abbrev pub is_write_error : {X : Type 0} → Result X ViewError → Bool
 is_write_error (Err view_error.Write) = true
 is_write_error _ = false
 
--- a fact for every end but a read that failed and out of memory
+-- a fact for every end except a failed read and out of memory
 abbrev pub OnReadOut : {X : Type 0} → Result X ViewError → Type 0 → Type 0
 OnReadOut (Err view_error.Read) P = ⊤
 OnReadOut (Err (view_error.Item refusal.Memory)) P = ⊤
 OnReadOut _ P = P
 
--- a fact for the refusal of an item and for a read that failed
+-- a fact for the error of an item and for a failed read
 abbrev pub OnUnwritten : {X : Type 0} → Result X ViewError → Type 0 → Type 0
 OnUnwritten (Err (view_error.Item e)) P = P
 OnUnwritten (Err view_error.Read) P = P

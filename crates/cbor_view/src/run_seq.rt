@@ -1,4 +1,4 @@
-//! One run of the program over a sequence of items, one after the other (RFC 8742).
+//! A run of the program for a sequence of items, one after the other (RFC 8742).
 ghost use Rattle.std.specs.Prelude.{◌≡◌, ◌≢◌, ℕ, ◌<◌, ◌≤◌, List, ◌++◌, length, drop, IfOk, OnOk};
 ghost use Rattle.std.specs.Prelude.{OnErr, MatchBool, false};
 ghost use Rattle.std.specs.Bool.{OnTrue};
@@ -23,19 +23,19 @@ use std::io::{Read, Write};
 const BLOCK: usize = 64 * 1024;
 
 /// Reads the input to its end, converts one item after the other, from its front, and writes the
-/// outputs, in order and in blocks. Any call that fails ends the run, an interrupted one too.
+/// outputs, in order and in blocks. Any failed call ends the run, including an interrupted one.
 ///
-/// If what follows the items is no item, the run ends with `ViewError::Item` and why: `CutShort` if
-/// it is cut, else its fault. If memory runs out at an item, it ends with `Memory`. In both cases
-/// the output of all items before is written first, and if that write fails, the run ends with
-/// `ViewError::Write`.
+/// If what follows the items is not an item, the run ends with `ViewError::Item` and the reason:
+/// `CutShort` if it is cut, otherwise its fault. If memory runs out at an item, it ends with
+/// `Memory`. In both cases the output of all items before is written first, and if that write
+/// fails, the run ends with `ViewError::Write`.
 pub fn run_seq<R: Read, W: Write>(
     alloc: Global,
     to: To,
     input: &mut Counted<R>,
     output: &mut Counted<W>,
 ) -> Result<(), ViewError>
-    // The input is items alone, and the output of each was written, in order, and nothing else.
+    // The input is only items, and the output of each was written, in order, and nothing else.
     ensures ok { OnOk result ((all bytes : List ℕ) × HadAll R.remaining input.old all
         × IsOutputOfAll to all bytes
         × Gains W.contents output.old output.new bytes) }
@@ -63,7 +63,7 @@ pub fn run_seq<R: Read, W: Write>(
     // A failed read leaves the output as it was.
     ensures unread { OnTrue (is_read_error result) (output.new ≡ output.old) }
 
-    // Any call that fails ends the run.
+    // Any failed call ends the run.
     ensures read_failures { failures_of input.new
         ≡ failures_then (is_read_error result) (failures_of input.old) }
     ensures write_failures { MatchBool (is_write_error result) (Stops output.old output.new)
@@ -105,8 +105,8 @@ fn write_items<W: Write>(
 }
 
 /// Writes the output of one item after the other, from the front of the bytes, until a block is
-/// full or no item follows, in the memory of `block`. Says how many bytes these items take, and
-/// then why the sequence ends after them, if it does.
+/// full or no item follows, in the memory of `block`. Returns how many bytes these items take, and
+/// why the sequence ends after them, if it does.
 fn write_block<W: Write>(
     alloc: Global,
     to: To,
@@ -136,8 +136,8 @@ fn write_block<W: Write>(
 }
 
 /// Fills a block with the output of one item after the other, from the front of the bytes, until it
-/// is full or no item follows. Says how many bytes these items take, and then why none follows, if
-/// so.
+/// is full or no item follows. Returns how many bytes these items take, and why no item follows
+/// them, if none does.
 fn fill(alloc: Global, to: To, bytes: &[u8], block: &mut Vec<u8>) -> (usize, Result<(), Error>)
     requires { 0 < length bytes.now }
     ensures used { result.0 ≤ length bytes.now }
@@ -156,8 +156,8 @@ fn fill(alloc: Global, to: To, bytes: &[u8], block: &mut Vec<u8>) -> (usize, Res
     (used, Ok(()))
 }
 
-/// Appends the output of the item at the front of the bytes, and says how many of them it takes.
-/// After an error the block is as it was.
+/// Appends the output of the item at the front of the bytes, and returns how many of them it takes.
+/// After an error the block is unchanged.
 fn append_first(alloc: Global, to: To, bytes: &[u8], block: &mut Vec<u8>) -> Result<usize, Error>
     requires { 0 < length bytes.now }
     ensures used { IfOk result (λ used. (1 ≤ used) × (used ≤ length bytes.now)) }
