@@ -37,7 +37,7 @@ use stack::Stack;
 use std::alloc::Global;
 use strings::{DefiniteString, read_chunks};
 
-/// The error below the deepest level: `TooDeep` if there are bytes for an item, and else
+/// The error below the deepest level: `TooDeep` if there are bytes for an item, otherwise
 /// `CutShort`.
 fn no_level_left(bytes: &[u8]) -> Error
     ensures gives { no_level_left bytes.now ≡ Err result }
@@ -64,8 +64,8 @@ fn read_item_head(bytes: &[u8], level: usize) -> Result<(ItemHead, &[u8])>
     Ok(read_head(bytes)?)
 }
 
-/// The item without parts after its head. A break is no item, and it ends nothing here; heads of
-/// containers are handled by `Frame::new` before.
+/// The item without parts after its head. A break is not an item, and it ends nothing here. The
+/// heads of containers are handled by `Frame::new` before.
 fn read_atom<'a>(
     alloc: Global,
     head: ItemHead,
@@ -257,15 +257,15 @@ pub(crate) fn read_whole(alloc: Global, bytes: &[u8], level: u8) -> Result<DataI
 /// assert_eq!(rt; item.to_diag(alloc)?.as_str(), "[1,2,3]");
 /// ```
 pub fn parse_bytes(alloc: Global, bytes: &[u8]) -> Result<DataItem>
-    // The item that the bytes are, exactly where they are one.
+    // The item that the bytes are, exactly if they are one.
     ensures ok { IfOk result (λ i. IsItem bytes.now (view i)) }
     ensures every_item { (i : Item) → IsItem bytes.now i → GaveItem result i }
 
-    // Each refusal, exactly where it is true.
+    // Each error, exactly if it is true.
     ensures refused { RefusedSo result (IsNoItem bytes.now) }
     ensures every_refusal { (e : Error) → IsNoItem bytes.now e → GaveRefusal result e }
 
-    // Memory, only where the first byte opens what needs some.
+    // `Memory`, only if the first byte opens what needs some.
     ensures memory { result ≡ Err Error.Memory → MayWantMemory bytes.now }
 
     // What else is known of an item that was read.
@@ -295,13 +295,13 @@ pub fn parse_bytes(alloc: Global, bytes: &[u8]) -> Result<DataItem>
 /// assert!(rt; parse_bytes_partial(alloc, b"\x19\x03")?.is_none());
 /// ```
 pub fn parse_bytes_partial(alloc: Global, bytes: &[u8]) -> Result<Option<(DataItem, usize)>>
-    // Each of the three answers, only where it is true.
+    // Each of the three results, only if it is true.
     ensures found { IfOk result (λ o. IfSome o (λ x.
         BeginsWithItem bytes.now (view x.0) x.1)) }
     ensures cut { result ≡ Ok None → IsCut bytes.now }
     ensures fault { RefusedSo result (HasFault bytes.now) }
 
-    // Bytes begin in exactly one of the three ways, and that is the one answered.
+    // Bytes begin in exactly one of the three ways, and that one is returned.
     ensures exact { (o : Outcome) → BeginsSo bytes.now o → Gave result o }
     ensures one_of_three { BeginsInOneWay bytes.now }
 
@@ -331,13 +331,13 @@ pub fn parse_bytes_counted(
     turns: &mut Turns,
 ) -> Result<Option<(DataItem, usize)>>
     requires { turns.old ≤ 2 ^ 64 }
-    // Each of the three answers, only where it is true.
+    // Each of the three results, only if it is true.
     ensures found { IfOk result (λ o. IfSome o (λ x.
         BeginsWithItem bytes.now (view x.0) x.1)) }
     ensures cut { result ≡ Ok None → IsCut bytes.now }
     ensures fault { RefusedSo result (HasFault bytes.now) }
 
-    // Bytes begin in exactly one of the three ways, and that is the one answered.
+    // Bytes begin in exactly one of the three ways, and that one is returned.
     ensures exact { (o : Outcome) → BeginsSo bytes.now o → Gave result o }
     ensures one_of_three { BeginsInOneWay bytes.now }
 
@@ -356,17 +356,17 @@ pub fn parse_bytes_counted(
         turns.new ≡ turns.old + item_turns (view x.0))) }
     ensures twice_its_bytes { IfOk result (λ o. IfSome o (λ x. item_turns (view x.0) ≤ 2 * x.1)) }
 
-    // A cut or a fault takes the turns of what is whole before it, and the one that fails.
+    // A cut or a fault takes the turns of what is complete before it, and the one that fails.
     ensures turns_of_cut { result ≡ Ok None
         → (c : IsCut bytes.now) → turns.new ≡ turns.old + (cut_spent c + 1) }
     ensures turns_of_fault { RefusedSo result (λ e.
         (f : HasFault bytes.now e) → turns.new ≡ turns.old + (fault_spent f + 1)) }
 
-    // Whatever the answer is, at least one turn, and at most two for each byte, and one.
+    // Whatever is returned, at least one turn, and at most two for each byte, and one.
     ensures rises { turns.old < turns.new }
     ensures turns_bounded { turns.new ≤ turns.old + 2 * length bytes.now + 1 }
 
-    // Where memory ran out, too, no more turns than the item takes, the cut or the fault.
+    // Also if memory runs out, no more turns than the item takes, the cut or the fault.
     ensures within_item { (i : Item) → (n : ℕ) →
         BeginsWithItem bytes.now i n → turns.new ≤ turns.old + item_turns i }
     ensures within_cut { (c : IsCut bytes.now) → turns.new ≤ turns.old + (cut_spent c + 1) }

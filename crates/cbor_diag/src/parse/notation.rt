@@ -205,19 +205,19 @@ fn whole_text(alloc: Global, text: &str) -> Result<DataItem>
 /// );
 /// ```
 pub fn parse_diag(alloc: Global, text: &str) -> Result<DataItem>
-    // The item that the text is, exactly where it is one with no item below level 128.
+    // The item that the text is, exactly if it is one with no item below level 128.
     ensures ok { IfOk result (λ i. IsNotation text.now (view i)) }
     ensures every_item { (i : Item) → IsNotation text.now i → GaveItem result i }
 
-    // Where a larger limit of levels reads it, it is answered, or is too deep.
+    // If a larger limit of levels reads it, that item or `TooDeep` is returned.
     ensures larger_limit { (limit : ℕ) (i : Item) → deepest ≤ limit → ReadsUnder limit text.now i
         → GaveOrTooDeep deepest text.now result i }
 
-    // Under no limit is the text another item.
+    // No limit reads the text as another item.
     ensures one_item { IfOk result (λ i.
         (limit : ℕ) (other : Item) → ReadsUnder limit text.now other → other ≡ view i) }
 
-    // Otherwise it is none, and this is what the refusal says of it.
+    // Otherwise it is not an item, and the error says this of it.
     ensures refused { RefusedSo result (IsNoNotation text.now) }
 
     // The item has an encoding.
