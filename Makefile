@@ -26,7 +26,7 @@ MANUAL = $(DIST)/share/man/man1/cbor_view.1
 sources = $(shell find $(wildcard $(1:%=crates/%/src) $(1:%=crates/%/specs) $(1:%=crates/%/proofs)) -type f) crates.txt
 BELOW = cbor_notes cbor_diag cbor_convert
 
-.PHONY: all program library install demo quick test check-bindings compare bench clean
+.PHONY: all program library install demo quick test check-docs check-bindings compare bench clean
 
 all: program library $(MANUAL)
 
@@ -86,6 +86,12 @@ quick:
 # The gate.
 test:
 	rt ci
+
+# The links, commands and Rust examples of all pages, and the examples of doc comments. The tests run the latter.
+check-docs: $(PROGRAM)
+	docs/check_links
+	docs/check_examples
+	docs/check_commands
 
 check-bindings: library
 	CC='$(CC)' PYTHON='$(PYTHON)' CARGO='$(CARGO)' bindings/check

@@ -1,5 +1,5 @@
 #!/usr/bin/env python3
-"""Times the program on inputs that it makes itself, beside another program with the same words.
+"""Times the program on inputs that it makes itself, and another program with the same arguments.
 
     benches/bench.py PROGRAM [OTHER] [--rounds N] [--size PERCENT] [--only KIND] [--folder FOLDER] [--status]
 
@@ -201,7 +201,7 @@ def run(program, words, path, output=os.devnull):
 
 
 def input_for(program, folder, source, path):
-    """The input in another form, which the program makes of its bytes; None where it can't."""
+    """The input in another form, which the program makes of its bytes; None if it cannot."""
     if source == "bytes":
         return path
     made = f"{path}.{source}"

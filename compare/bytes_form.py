@@ -11,7 +11,7 @@ BREAK = 0xFF
 
 
 def head_at(data, at):
-    """Major type, info, the head's number (None for info 31) and the place behind the head."""
+    """Major type, info, the head's number (None for info 31) and the place after the head."""
     if at >= len(data):
         raise Refused("CutShort")
     major, info = data[at] >> 5, data[at] & 31
@@ -35,7 +35,7 @@ def width_of(info):
 
 
 def string_at(data, at, major, number, info):
-    """The definite string whose head was read, and the place behind it."""
+    """The definite string whose head was read, and the place after it."""
     if len(data) - at < number:
         raise Refused("CutShort")
     content = bytes(data[at:at + number])
@@ -48,7 +48,7 @@ def string_at(data, at, major, number, info):
 
 
 def chunks_at(data, at, major):
-    """The chunks of an indefinite string up to its break, and the place behind that."""
+    """The chunks of an indefinite string up to its break, and the place after that."""
     chunks = []
     while True:
         if at >= len(data):
@@ -64,7 +64,7 @@ def chunks_at(data, at, major):
 
 
 def members_at(data, at, count, size, level):
-    """So many members of so many items each, or (None) those before a break; and the place behind."""
+    """A number of members of a number of items each, or (None) those before a break; and the place after."""
     members = []
     while count is None or len(members) < count:
         if count is None and at < len(data) and data[at] == BREAK:
@@ -78,7 +78,7 @@ def members_at(data, at, count, size, level):
 
 
 def item_at(data, at, level):
-    """The item that begins at a place, standing at a level, and the place behind it."""
+    """The item at a place, which is at a level, and the place after it."""
     if level > DEEPEST:
         raise Refused("CutShort" if at >= len(data) else "TooDeep")
     major, info, number, at = head_at(data, at)
@@ -125,7 +125,7 @@ def parse_bytes(data, level=1):
 
 
 def sequence(data, level):
-    """The longest list of items that can be read one after the other, and the rest that can't be."""
+    """The longest list of items that can be read one after the other, and the rest that cannot."""
     items, at = [], 0
     while at < len(data):
         try:

@@ -107,7 +107,7 @@ def tagged_item(chance, depth):
 
 
 def fitting(chance, tag, depth):
-    """A value that often has the type that a tag wants."""
+    """A value that often has the type that a tag needs."""
     if tag == 24:
         content = to_bytes(any_item(chance, depth + 1))
         return bytes_item(chance, damaged(chance, content) if chance.random() < 0.2 else content)

@@ -18,9 +18,9 @@ WHITESPACE = " \t\r\n"
 DECIMAL = "0123456789"
 BASES = {"0x": (16, DECIMAL + "abcdefABCDEF"), "0o": (8, "01234567"), "0b": (2, "01")}
 MOST = 1 << 64
-# Python's own stack has an end; what is nested deeper is answered without being read
+# Python's own stack has an end; what is nested deeper is not read
 DEEPEST_READ = 1000
-# which digits may stand between the quotes, and whether comments may stand between those
+# which digits may be between the quotes, and whether comments may be between those
 DIGITS = {
     "h": (DECIMAL + "abcdefABCDEF", True),
     "b32": ("ABCDEFGHIJKLMNOPQRSTUVWXYZ234567=", True),
@@ -68,7 +68,7 @@ def decode_base64(digits):
 
 
 class Reader:
-    """Reads one text. Each method takes the place where its part begins and answers its value and end."""
+    """Reads one text. Each method takes the place where its part begins and returns its value and end."""
 
     def __init__(self, text):
         self.text = text
@@ -180,7 +180,7 @@ class Reader:
         return decode_base64(digits) if name == "b64" else decode_base32(digits, name), at
 
     def quoted(self, at, quote):
-        """What stands before the closing quote, where a backslash escapes itself and the quote alone."""
+        """The content before the closing quote; a backslash escapes only itself and the quote."""
         content = []
         while not self.starts(at, quote):
             if self.starts(at, "\\"):
@@ -305,7 +305,7 @@ class Reader:
 
 
 def allowed_refusals(text):
-    """The refusals that a text may get which no limit of levels reads."""
+    """The errors that a text may get if no limit of levels reads it."""
     allowed = {"Notation"}
     if "_" in text:
         allowed.add("PastWidth")
@@ -327,7 +327,7 @@ def read(text):
 
 
 def parse_diag(text):
-    """The item of a text, or the set of refusals of which it gets one."""
+    """The item of a text, or the set of errors of which it gets one."""
     try:
         found = read(text)
     except TooFarDown:

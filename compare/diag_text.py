@@ -80,7 +80,7 @@ class Printer:
         return opening + "".join(lines) + "\n" + " " * indent + closing
 
     def item(self, item, encoding, level, indent):
-        """The text of an item that stands at a level, its first line at an indent."""
+        """The text of an item at a level, its first line at an indent."""
         if isinstance(item, Integer):
             return number_text(item.value, item.width)
         if isinstance(item, Negative):
@@ -121,7 +121,7 @@ class Printer:
         return self.listed("(", members, ")", True, one_line, indent)
 
     def tagged(self, item, encoding, level, indent):
-        """The text of the value of a tag that stands at a level."""
+        """The text of the value of a tag at a level."""
         value = item.value
         if isinstance(value, Bytes) and item.number == 24:
             inner = embedded(level, value.content)

@@ -1,4 +1,4 @@
-"""Items as a dump: hex with a comment beside each part."""
+"""Items as a dump: hex with a comment for each part."""
 
 import base64
 from typing import NamedTuple
@@ -173,7 +173,7 @@ def element_text(number, element):
 
 
 def notes(number, value, level, known):
-    """What is said below a tag at a level, so many shared values having begun before it."""
+    """The note below a tag at a level, with the number of shared values that began before it."""
     rule = RULES.get(number)
     if number == 28:
         return [(0, f"reference({grouped(known)})")]
@@ -274,7 +274,7 @@ def uri_note(value):
     return one(f"{verdict} URL (checked against URL Standard, not RFC 3986)")
 
 
-# what stands for a verdict that this program can't give
+# in place of a verdict that this program cannot give
 UNKNOWN_VERDICT = "?"
 
 

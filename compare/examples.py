@@ -1,6 +1,6 @@
 """Examples worked out by hand: what each input is, and what each output has to be.
 
-Bytes are written in hex. A refusal is its name.
+Bytes are written in hex. An error is its name.
 """
 
 URI = "d820 73 68747470733a2f2f6578616d706c652e636f6d"
@@ -8,7 +8,7 @@ ADDRESS = "f81d4fae7dec11d0a76500a0c91e6bf6"
 
 
 def nested(count):
-    """Bytes under tag 24 that hold such an item in turn, so many times, round the number 1."""
+    """Bytes under tag 24 that hold such an item in turn, a number of times, around the number 1."""
     content = b"\x01"
     for _ in range(count):
         length = len(content)
@@ -19,7 +19,7 @@ def nested(count):
     return content.hex()
 
 
-# what bytes are: "whole" where they are one item; otherwise the refusal
+# what bytes are: "whole" if they are one item; otherwise the error
 BYTES = [
     (URI, "whole"),
     (URI[:-2], "CutShort"),
@@ -73,7 +73,7 @@ SEQUENCES = [
     ("0120", "hex", "01 # unsigned(1)\n20 # negative(-1)\n", None),
 ]
 
-# hex with comments, and the bytes that it is, or the refusal
+# hex with comments, and the bytes that it is, or the error
 HEX = [
     ("", "CutShort"),
     ("18 64 # x", "1864"),
@@ -88,7 +88,7 @@ HEX = [
     ("83 01 02 03", "83010203"),
 ]
 
-# notation, and the bytes of the item that it is, or the refusal
+# notation, and the bytes of the item that it is, or the error
 NOTATION = [
     ("", "Notation"),
     ('32("https://example.com")', URI),

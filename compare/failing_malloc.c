@@ -1,5 +1,5 @@
-/* Refuses memory to a program that it is loaded into: the request with the number FAIL_AT, counted from 1,
-   and with FAIL_ON those that follow. A mark on descriptor 3 says that a request was refused. */
+/* Makes allocations of a program that it is loaded into fail: the one with the number FAIL_AT, counted from 1,
+   and with FAIL_ON those that follow. It writes a mark to descriptor 3 for each. */
 #define _GNU_SOURCE
 #include <errno.h>
 #include <stddef.h>

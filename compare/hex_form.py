@@ -7,7 +7,7 @@ HEX_DIGITS = b"0123456789abcdefABCDEF"
 
 
 def strip(text):
-    """What is kept of a text: of each line what stands before its first #, without spaces."""
+    """What is kept of a text: the part of each line before its first #, without spaces."""
     kept = []
     lines = text.split("\n")
     for number, line in enumerate(lines):

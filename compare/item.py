@@ -1,7 +1,7 @@
 """A CBOR data item and how it is encoded: RFC 7049, section 2, and docs/BYTES.md.
 
 A width says how a number is written: by the number of bytes that follow the first byte of its head.
-OPEN is no such number; it stands for the shortest that fits (of a float: 8).
+OPEN is not such a number: it is the shortest that fits (of a float: 8).
 """
 
 from dataclasses import dataclass
@@ -81,7 +81,7 @@ class Simple:
 
 
 class Refused(Exception):
-    """Why an input is refused: one of the names below."""
+    """The error of an input: one of the names below."""
 
     def __init__(self, name):
         super().__init__(name)

@@ -1,4 +1,4 @@
-"""What a run of the program has to answer."""
+"""What a run of the program has to write, and how it has to end."""
 
 from typing import NamedTuple
 
@@ -20,7 +20,7 @@ UNKNOWN = f"{UNKNOWN_VERDICT} URL (checked".encode()
 
 
 class Outcome(NamedTuple):
-    """The output, and the refusals of which one is told: none where the run ends well."""
+    """The output, and the errors of which one is reported: none if the run succeeds."""
 
     output: bytes
     refusals: frozenset
@@ -31,7 +31,7 @@ def refused(*names):
 
 
 def read(source, content):
-    """The item of an input, or the set of its refusals."""
+    """The item of an input, or the set of its possible errors."""
     if source == "bytes":
         return parse_bytes(content)
     try:
@@ -73,7 +73,7 @@ def blurred(output):
 
 
 def agrees(outcome, answer):
-    """Whether the program's answer is the one that is wanted."""
+    """Whether the program's result is the expected one."""
     output, wanted = answer.output, outcome.output
     if UNKNOWN in wanted:
         output, wanted = blurred(output), blurred(wanted)

@@ -12,7 +12,7 @@ class Answer(NamedTuple):
 
 
 class Program:
-    """Keeps three files that stand for standard input, output and error, and uses them for each run."""
+    """Keeps three files as standard input, output and error, and uses them for each run."""
 
     def __init__(self, path):
         self.path = path

@@ -1,4 +1,4 @@
-"""Runs a program that a request for memory is refused to, by the library of failing_malloc.c."""
+"""Runs a program in which an allocation fails, by the library of failing_malloc.c."""
 
 import os
 import subprocess
@@ -15,13 +15,13 @@ def library_in(folder):
     return library
 
 
-MARK = b"!"  # what the library writes where it refuses a request
+MARK = b"!"  # what the library writes if it makes a request fail
 
 
 def run(program, words, content=b"", number=0, on=False, library=None, marked=False):
-    """Status, output, errors, and whether a request was refused: the one of this number, and those after it.
+    """Status, output, errors, and whether a request failed: the one of this number, and those after it.
 
-    Where the output is to be marked, each mark is in it, where the program was with its own output.
+    If the output is to be marked, each mark is in it at the place that the program's own output had reached.
     """
     environment = {"FAIL_AT": str(number)} if number else {}
     if on:

@@ -19,7 +19,7 @@ def bytes_of(digits):
 
 
 def answer(call, *arguments):
-    """What a call answers, or the name of its refusal."""
+    """What a call returns, or the name of its error."""
     try:
         return call(*arguments)
     except Refused as refused:
@@ -55,7 +55,7 @@ def read_notation():
     for text, wanted in NOTATION:
         found = parse_diag(text)
         if isinstance(found, set):
-            # several refusals may be allowed; the example names one of them
+            # several errors may be allowed; the example names one of them
             check(True, wanted in found, text)
         else:
             check(wanted.replace(" ", ""), to_bytes(found).hex(), text)

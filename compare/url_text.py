@@ -12,11 +12,11 @@ FORBIDDEN_IN_DOMAINS = FORBIDDEN_IN_HOSTS | set("%\x7f") | {chr(code) for code i
 
 
 class Unknown(Exception):
-    """This program can't tell."""
+    """This program cannot decide."""
 
 
 def url_verdict(text):
-    """True, False, or None where this program can't tell."""
+    """True, False, or None if this program cannot decide."""
     try:
         return is_url(text)
     except Unknown:

@@ -38,7 +38,7 @@ enum cbor_diag_form {
     CBOR_DIAG_FORM_PRETTY = 3 /* diagnostic notation; the output may have several lines, each with a line feed */
 };
 
-/* Why there is no output. A call answers minus one of these. */
+/* Errors. A call returns minus one of these. */
 enum cbor_diag_error {
     CBOR_DIAG_ERROR_MEMORY = 1,      /* out of memory */
     CBOR_DIAG_ERROR_CUT_SHORT = 2,   /* the item is cut short: more bytes are needed */
@@ -50,7 +50,7 @@ enum cbor_diag_error {
     CBOR_DIAG_ERROR_BAD_HEX = 8,     /* not a hex digit */
     CBOR_DIAG_ERROR_NOTATION = 9,    /* not diagnostic notation */
     CBOR_DIAG_ERROR_PAST_WIDTH = 10, /* a number does not fit its width */
-    CBOR_DIAG_ERROR_NO_FORM = 11     /* no such form: `from` or `to` is no enum cbor_diag_form */
+    CBOR_DIAG_ERROR_NO_FORM = 11     /* no such form: `from` or `to` is not an enum cbor_diag_form */
 };
 
 /* Enough for the text of each error, and the zero byte that ends it. */
@@ -58,8 +58,8 @@ enum cbor_diag_error {
 
 /*
  * The functions of the library, as it exports them. No pointer is null, a length is at most PTRDIFF_MAX, and the
- * output does not overlap the input. In C and C++ call the functions of the same names below, which take less
- * trouble; other languages call these.
+ * output does not overlap the input. In C and C++, call the functions of the same names below, which allow null
+ * pointers; other languages call these.
  */
 int64_t cbor_diag_convert(uint32_t from, uint32_t to, const uint8_t *input, size_t input_len, uint8_t *output,
                           size_t output_len);
@@ -67,7 +67,7 @@ int64_t cbor_diag_extent(const uint8_t *input, size_t input_len, size_t *end);
 int64_t cbor_diag_error_text(uint32_t error, uint8_t *output, size_t output_len);
 uint32_t cbor_diag_version(void);
 
-/* What stands for a null pointer to no bytes. */
+/* A pointer to no bytes, in place of a null pointer. */
 static inline uint8_t *cbor_diag_no_bytes(void)
 {
     static uint8_t none;
@@ -77,11 +77,11 @@ static inline uint8_t *cbor_diag_no_bytes(void)
 /*
  * Converts an item from one form to another.
  *
- * Answers the length of the whole output, of which as much is written as there is room for; the bytes of `output`
- * after that stay as they are. An answer above `output_len` says that the output was longer than the room. With
- * an `output_len` of 0 the call only finds the length. No zero byte is added.
+ * Returns the length of the whole output, of which as much is written as fits `output`; the bytes of `output` after
+ * that are unchanged. If the length is above `output_len`, the output was cut. With an `output_len` of 0 the call
+ * only finds the length. No zero byte is added.
  *
- * Or answers minus a number of enum cbor_diag_error, and then `output` is as it was.
+ * On an error, returns minus a number of enum cbor_diag_error, and `output` is unchanged.
  *
  * A pointer may be null if its length is 0. The output must not overlap the input.
  */
@@ -101,15 +101,16 @@ static inline int64_t cbor_diag_convert_checked(uint32_t from, uint32_t to, cons
 #define cbor_diag_convert cbor_diag_convert_checked
 
 /*
- * Tells how bytes begin, without memory. For whoever reads items one after the other, as from a socket.
+ * Reports how bytes begin, without memory: to read items one after the other, for example from a socket.
  *
- * Answers how many bytes the item at the front takes, which is at least 1; more bytes may follow it. Or answers
+ * Returns how many bytes the item at the front takes, which is at least 1; more bytes may follow it. Otherwise returns
  *
- * - minus CBOR_DIAG_ERROR_CUT_SHORT, if the bytes end before their item does: with more bytes, call again;
- * - minus CBOR_DIAG_ERROR_HEAD, _UTF8 or _TOO_DEEP, if no item begins so, whatever bytes follow.
+ * - minus CBOR_DIAG_ERROR_CUT_SHORT, if the bytes end before the item does: with more bytes, call again;
+ * - minus CBOR_DIAG_ERROR_HEAD, _UTF8 or _TOO_DEEP, if no item begins with these bytes, whatever follows them.
  *
- * `*end` gets how many of the first bytes tell so: those of the item, all that are cut, or those that show the error,
- * of which the last is the byte at fault or ends the text that is not UTF-8. `end` may be null.
+ * `*end` is set to the number of bytes that decide this: the length of the item, that of the input if it is cut, or the
+ * first bytes that have the error; the last of these is the byte at fault, or ends the text that is not UTF-8. `end`
+ * may be null.
  */
 static inline int64_t cbor_diag_extent_checked(const void *input, size_t input_len, size_t *end)
 {
@@ -123,8 +124,8 @@ static inline int64_t cbor_diag_extent_checked(const void *input, size_t input_l
 #define cbor_diag_extent cbor_diag_extent_checked
 
 /*
- * Writes what an error says into `text`, with a zero byte at its end, and returns `text`. `answer` is the negative
- * answer of a call. A text that is longer than the room is cut; CBOR_DIAG_ERROR_TEXT_SIZE is room for each. `size`
+ * Writes the text of an error into `text`, with a zero byte at its end, and returns `text`. `answer` is the negative
+ * result of a call. A text that is longer than `size` is cut; CBOR_DIAG_ERROR_TEXT_SIZE is enough for each. `size`
  * is at least 1.
  */
 static inline const char *cbor_diag_strerror(int64_t answer, char *text, size_t size)

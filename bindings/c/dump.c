@@ -29,7 +29,7 @@ static unsigned char *read_all(FILE *stream, size_t *length)
     return bytes;
 }
 
-/* Prints the dump of an item. Answers as cbor_diag_convert does. */
+/* Prints the dump of an item. Returns what cbor_diag_convert does. */
 static int64_t print_dump(const unsigned char *item, size_t item_len)
 {
     /* Most dumps are shorter than this. If one is not, the first call has told its length. */

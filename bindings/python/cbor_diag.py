@@ -5,7 +5,7 @@
     >>> bytes_to_diag(bytes.fromhex("8201a1616102"))
     '[1,{"a":2}]'
 
-The work is done by the library libcbor_diag. It is looked for where the environment variable CBOR_DIAG_LIBRARY says,
+The library libcbor_diag does the work. It is searched for at the path in the environment variable CBOR_DIAG_LIBRARY,
 then in this repository's dist/lib, then where the system looks for libraries. Calls release the interpreter's lock, and
 may be made from any number of threads.
 """
@@ -51,7 +51,7 @@ class Form(enum.IntEnum):
 
 
 class Error(enum.IntEnum):
-    """Why there is no output."""
+    """Errors."""
 
     MEMORY = 1
     """Out of memory."""
@@ -78,9 +78,9 @@ class Error(enum.IntEnum):
 
 
 class CborDiagError(ValueError):
-    """The input is no item, or memory ran out. The text is the library's.
+    """The input is not an item, or memory ran out. The text is the library's.
 
-    `error` says which error it is. `end` says how many of the first bytes show it, if `extent` raised it.
+    `error` says which error it is. If `extent` raised it, `end` is the number of first bytes that have the error.
     """
 
     def __init__(self, error: Error, end: Optional[int] = None) -> None:
@@ -147,10 +147,10 @@ def convert(source: Form, target: Form, data: Data) -> bytes:
     """Converts an item from the form `source` to the form `target`.
 
     A `str` is taken as its UTF-8. An output in notation ends with a line feed. Raises `CborDiagError` if the input is
-    no item in its form.
+    not an item in its form.
     """
     given = _as_bytes(data)
-    # Enough for most outputs. If it is not, the first call tells the length.
+    # Enough for most outputs. If it is not, the first call returns the length.
     room = 8 * len(given) + 64 if target == Form.HEX else 3 * len(given) + 64
     for _ in range(2):
         output = ctypes.create_string_buffer(room)
@@ -164,10 +164,10 @@ def convert(source: Form, target: Form, data: Data) -> bytes:
 
 
 def extent(data: Data) -> int:
-    """How many bytes the item at the front of `data` takes, which is at least 1; more may follow it.
+    """Returns how many bytes the item at the front of `data` takes, which is at least 1; more may follow it.
 
-    Raises `CborDiagError` if there is none. The error is `CUT_SHORT` if the bytes end before their item does, and with
-    more bytes there may be one; with any other error no item begins so, whatever follows.
+    Raises `CborDiagError` if there is none. The error is `CUT_SHORT` if the bytes end before the item does; more bytes
+    may complete it. With any other error, no item begins with these bytes, whatever follows them.
     """
     given = _as_bytes(data)
     end = ctypes.c_size_t()

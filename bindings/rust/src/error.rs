@@ -1,26 +1,26 @@
-//! Why there is no output.
+//! Errors.
 
 use std::fmt;
 
-/// Why there is no output. Its `Display` is the text of the library.
+/// Why a conversion failed. Its `Display` is the text of the library.
 #[derive(Clone, Copy, PartialEq, Eq, Hash, Debug)]
 #[non_exhaustive]
 pub enum Error {
     /// Out of memory.
     Memory,
-    /// The input ends before its item does.
+    /// The input ends before the item does.
     CutShort,
-    /// A head that no item can have where it stands.
+    /// A head that cannot be in its place.
     Head,
     /// A text string is not UTF-8, or the hex or notation of the input is not.
     Utf8,
-    /// An item stands deeper than level 128; the outermost stands at level 1.
+    /// An item is deeper than level 128; the outermost item is at level 1.
     TooDeep,
     /// Bytes follow the item.
     Remaining,
     /// The number of hex digits is odd.
     OddHex,
-    /// A character stands where a hex digit is expected.
+    /// A character that is not a hex digit, where one is expected.
     BadHex,
     /// The text is not diagnostic notation.
     Notation,
@@ -28,7 +28,7 @@ pub enum Error {
     PastWidth,
 }
 
-/// The answer of a conversion.
+/// The result of a conversion.
 pub type Result<T> = std::result::Result<T, Error>;
 
 /// All errors, in the order of their numbers, from 1 on.
@@ -46,7 +46,7 @@ const ERRORS: [Error; 10] = [
 ];
 
 impl Error {
-    /// The error of a negative answer of the library.
+    /// The error for a negative result of the library.
     pub(crate) fn of(answer: i64) -> Error {
         usize::try_from(-1 - answer)
             .ok()
@@ -54,7 +54,7 @@ impl Error {
             .unwrap_or_else(|| unreachable!("the library answered {answer}"))
     }
 
-    /// The error's number, from 1 for `Memory` to 10 for `PastWidth`, in the order of the variants.
+    /// Returns the number of the error, from 1 for `Memory` to 10 for `PastWidth`, in the order of the variants.
     pub fn number(self) -> u32 {
         self as u32 + 1
     }

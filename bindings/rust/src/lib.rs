@@ -31,8 +31,8 @@ impl Form {
 
 mod library {
     extern "C" {
-        /// Answers the length of the whole output, of which as much is written as there is room for, or minus the
-        /// number of an error. It reads no byte of the output.
+        /// Returns the length of the whole output, of which as much is written as fits, or minus the number of an
+        /// error. It reads no byte of the output.
         pub fn cbor_diag_convert(
             from: u32,
             to: u32,
@@ -41,15 +41,15 @@ mod library {
             output: *mut u8,
             output_len: usize,
         ) -> i64;
-        /// Answers how many bytes the item takes, or minus the number of an error, and writes to `end` how many first
-        /// bytes tell that.
+        /// Returns how many bytes the item takes, or minus the number of an error, and writes to `end` how many first
+        /// bytes decide that.
         pub fn cbor_diag_extent(input: *const u8, input_len: usize, end: *mut usize) -> i64;
         pub fn cbor_diag_error_text(error: u32, output: *mut u8, output_len: usize) -> i64;
         pub fn cbor_diag_version() -> u32;
     }
 }
 
-/// Room that is enough for most outputs.
+/// A capacity that is enough for most outputs.
 fn likely_room(to: Form, input: &[u8]) -> usize {
     let factor = if to == Form::Hex { 8 } else { 3 };
     input.len().saturating_mul(factor).saturating_add(64)
@@ -98,26 +98,26 @@ fn notation(from: Form, to: Form, input: &[u8]) -> Result<String> {
     Ok(text)
 }
 
-/// How some bytes begin.
+/// How bytes begin.
 #[derive(Clone, Copy, PartialEq, Eq, Hash, Debug)]
 pub enum Extent {
-    /// With an item of this many bytes; more bytes may follow it.
+    /// An item comes first, and takes this number of bytes; more bytes may follow it.
     Item(usize),
-    /// The bytes end before their item does: with more bytes there may be one.
+    /// The bytes end before the item does; more bytes may complete it.
     Cut,
-    /// No item begins so, whatever bytes follow.
+    /// No item begins with these bytes, whatever follows them.
     Fault {
-        /// Why there is no item.
+        /// The error.
         error: Error,
-        /// How many of the first bytes show it.
+        /// The first `end` bytes have it, and fewer bytes are cut.
         end: usize,
     },
 }
 
-/// Tells how some bytes begin, without memory.
+/// Reports how bytes begin, without memory.
 pub fn extent(bytes: &[u8]) -> Extent {
     let mut end = 0;
-    // SAFETY: the pointers are those of the slice and of the variable, and so many bytes stand at the first.
+    // SAFETY: the pointers are those of the slice, with its length, and of the variable.
     let answer = unsafe { library::cbor_diag_extent(bytes.as_ptr(), bytes.len(), &mut end) };
     match usize::try_from(answer).map_err(|_| Error::of(answer)) {
         Ok(length) => Extent::Item(length),

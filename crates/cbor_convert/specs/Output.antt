@@ -1,4 +1,4 @@
--- What a conversion answers for an input.
+-- What a conversion returns for an input.
 use Rattle.std.specs.Prelude.{◌≡◌, ℕ, List, [], ◌∷◌, ◌++◌, IsUtf8, Result, Ok, Err, ◌⊎◌}
 use Rattle.cbor_diag.specs.declared.error.Error.{Error}
 use Rattle.cbor_diag.specs.declared.error.Error.TheVariants as refusal
@@ -35,7 +35,7 @@ output_of target.Hex i = dump i
 output_of target.Diag i = diag_of i ++ 10 ∷ []
 output_of target.Pretty i = pretty_of i ++ 10 ∷ []
 
--- the output for the input: the item that it is, in its form; or why it is none
+-- the output for the input: the item that it is, in the other form; or why it is not an item
 abbrev pub IsOutput : Source → To → List ℕ → Result (List ℕ) Error → Type 0
 IsOutput from to input (Ok output) = (i : Item) × Reads from input i × (output ≡ output_of to i)
 IsOutput from to input (Err e) = Refuses from input e

@@ -1,4 +1,4 @@
-//! From the bytes of an input to the bytes of its output.
+//! Converts the bytes of an input to the bytes of its output.
 ghost use Rattle.std.specs.Prelude.{◌≡◌, [], ◌∷◌, ◌++◌, Ok, Err, IfOk, IfErr};
 ghost use Rattle.std.specs.String.{string_bytes};
 ghost use Rattle.cbor_diag.specs.View.{view};
@@ -10,7 +10,10 @@ use crate::form::{Source, To};
 use cbor_diag::{DataItem, Error, parse_bytes, parse_diag, parse_hex};
 use std::alloc::Global;
 
-/// The output for an input.
+/// Reads one item from `input` in the form `from`, and returns it in the form `to`.
+///
+/// Returns the errors of `parse_bytes`, `parse_hex` or `parse_diag`, and `Utf8` if hex or notation
+/// is not UTF-8.
 pub fn convert(alloc: Global, from: Source, to: To, input: &[u8]) -> Result<Vec<u8>, Error>
     ensures ok { IfOk result (λ output. IsOutput from to input.now (Ok output.items)) }
     ensures refused { RefusedSo result (λ e. IsOutput from to input.now (Err e)) }
@@ -19,7 +22,7 @@ pub fn convert(alloc: Global, from: Source, to: To, input: &[u8]) -> Result<Vec<
     write_item(alloc, to, &item, Vec::new(alloc))
 }
 
-/// The item that an input is.
+/// Reads one item from `input` in the form `from`. Its errors are those of [`convert`].
 pub fn read_item(alloc: Global, from: Source, input: &[u8]) -> Result<DataItem, Error>
     ensures item { IfOk result (λ item. Reads from input.now (view item)) }
     ensures refused { RefusedSo result (Refuses from input.now) }
@@ -38,8 +41,11 @@ pub fn read_item(alloc: Global, from: Source, input: &[u8]) -> Result<DataItem, 
     }
 }
 
-/// The output of an item, in the memory of `spare`, whose bytes are dropped; a dump has memory of
-/// its own.
+/// Returns the item in the form `to`, in the memory of `spare`, whose bytes are dropped. A dump has
+/// memory of its own.
+///
+/// The item has to be well formed, as `DataItem::is_well_formed` checks. The only error is
+/// `Memory`.
 pub fn write_item(alloc: Global, to: To, item: &DataItem, spare: Vec<u8>) -> Result<Vec<u8>, Error>
     requires { IsWellFormed (view item.now) }
     ensures written { IfOk result (λ output. output.items ≡ output_of to (view item.now)) }
@@ -69,7 +75,7 @@ pub fn write_item(alloc: Global, to: To, item: &DataItem, spare: Vec<u8>) -> Res
     }
 }
 
-/// The bytes of a text and a line feed.
+/// Returns the bytes of a text and a line feed.
 fn ended_line(text: String) -> Result<Vec<u8>, Error>
     ensures line { IfOk result (λ output. output.items ≡ string_bytes text ++ 10 ∷ []) }
     ensures memory { IfErr result (λ e. e ≡ Error.Memory) }

@@ -1,4 +1,4 @@
-//! Printers.
+//! Writes items: as bytes, as dumps, and in diagnostic notation.
 mod bytes;
 mod dump;
 mod encoding;

@@ -1,4 +1,4 @@
-//! Why a call refuses.
+//! Errors.
 ghost use Rattle.std.specs.Prelude.{◌≡◌, Some};
 ghost use Rattle.cbor_diag.specs.Refusals.{text_of, number_of};
 ghost use Rattle.cbor_diag.specs.declared.error.Error.TheVariants.{Memory};
@@ -6,26 +6,32 @@ ghost use Rattle.cbor_diag.specs.declared.error.Error.TheVariants.{Memory};
 use std::alloc::{AllocError, AllocFailed};
 use std::fmt;
 
-/// Why a call refuses. A refusal changes no input and carries nothing. Of bytes it is the first
-/// that is met from the left; of hex `OddHex` comes before `BadHex`, and both before those of the
-/// bytes.
+/// Why a call failed.
+///
+/// For bytes it is the first error from the left. For hex, `OddHex` comes before `BadHex`, and both
+/// before the errors of the bytes. An error carries nothing else; [`extent`] reports the place of
+/// an error in bytes.
+///
+/// [`extent`]: crate::extent
 #[derive(Clone, Copy, PartialEq, Eq, Debug)]
 pub enum Error {
-    /// A growth of memory was refused.
+    /// An allocation failed.
     Memory,
-    /// The input ends before its item does.
+    /// The bytes end before the item does.
     CutShort,
-    /// A head that no item can have at its place (RFC 7049 sections 2.1 to 2.3).
+    /// A head that cannot be in its place: reserved additional information, an indefinite length of
+    /// a major type that has none, a break that ends nothing, or a wrong chunk (RFC 7049 sections
+    /// 2.1 to 2.3).
     Head,
-    /// A text string, or a chunk of one, whose bytes are not UTF-8 (RFC 7049 section 2.1).
+    /// The bytes of a text string, or of one of its chunks, are not UTF-8 (RFC 7049 section 2.1).
     Utf8,
-    /// An item is deeper than level 128; the outermost is at level 1.
+    /// An item is deeper than level 128; the outermost item is at level 1.
     TooDeep,
     /// Bytes follow the item.
     Remaining,
     /// The number of hex digits is odd.
     OddHex,
-    /// A character where a hex digit is expected.
+    /// A character that is not a hex digit, where one is expected.
     BadHex,
     /// The text is not diagnostic notation (RFC 7049 section 6).
     Notation,
@@ -33,11 +39,11 @@ pub enum Error {
     PastWidth,
 }
 
-/// The answer of a call that may refuse.
+/// The result of a call that may fail.
 pub type Result<T> = std::result::Result<T, Error>;
 
 impl Error {
-    /// What is wrong, in a few words without a full stop.
+    /// Returns what is wrong, in a few words without a full stop.
     pub fn text(&self) -> &'static str
         ensures { result.now ≡ text_of self.now }
     {
@@ -55,8 +61,8 @@ impl Error {
         }
     }
 
-    /// The refusal's number, from 1 for `Memory` to 10 for `PastWidth`, in the order of the
-    /// variants.
+    /// Returns the number of the error, from 1 for `Memory` to 10 for `PastWidth`, in the order of
+    /// the variants.
     pub fn number(&self) -> u8
         ensures { result ≡ number_of self.now }
     {

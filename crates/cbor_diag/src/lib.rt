@@ -1,10 +1,23 @@
-//! Reads one CBOR data item (RFC 7049) from bytes, from hex with comments or from diagnostic
-//! notation, and writes it as bytes, as a dump, which is hex with comments, or in diagnostic
-//! notation. It keeps how the item was encoded: the width of each number and length, and which form
-//! a length has.
+//! Reads and writes CBOR data items (RFC 7049, which RFC 8949 replaced).
 //!
-//! A call that allocates takes an allocator first and answers `Error::Memory` where a growth was
-//! refused; every other answer depends on the input alone.
+//! An item is read from bytes, from hex with comments, or from diagnostic notation. It is written
+//! as bytes, as a dump (hex with comments), or in diagnostic notation. An item keeps how it was
+//! encoded: the width of each number and length, and whether a length is indefinite.
+//!
+//! ```rust
+//! use cbor_diag::{Error, parse_hex};
+//! use std::alloc::Global;
+//!
+//! /// The item of a dump in diagnostic notation.
+//! fn notation(alloc: Global, dump: &str) -> Result<String, Error> {
+//!     let item = parse_hex(alloc, dump)?;
+//!     item.to_diag(alloc)
+//! }
+//! ```
+//!
+//! A call that allocates takes an allocator and returns `Error::Memory` if an allocation fails.
+//! Every other result depends on the input alone. In the examples of this crate, `rt` is the
+//! `HostRuntime` of a test, and `alloc` is `rt.alloc()`.
 #![tactic(auto)]
 
 mod encode;

@@ -1,4 +1,4 @@
-//! The data item, with all that its encoding chose: widths, and definite or indefinite lengths.
+//! Data items, with how they were encoded: widths, and definite or indefinite lengths.
 mod clone;
 mod equal;
 pub(crate) mod major;
@@ -10,14 +10,14 @@ mod width;
 /// The deepest level of an item; the outermost is at level 1.
 pub(crate) const DEEPEST: u8 = 128;
 
-/// How many bits follow a head's first byte to hold its number: a value, a length, a count or a tag
-/// (RFC 7049 section 2).
+/// The width of the number in a head: how many bits follow the first byte to hold a value, a
+/// length, a count or a tag (RFC 7049 section 2).
 #[derive(Clone, Copy, PartialEq, Eq, Debug)]
 pub enum IntegerWidth {
-    /// Not stated, as in a diagnostic text without an encoding indicator. It is written in the
-    /// shortest width that fits.
+    /// Unstated, as in diagnostic notation without an encoding indicator. The number is written in
+    /// the shortest width that fits it.
     Unknown,
-    /// None: a number from 0 to 23 is in the first byte itself.
+    /// No bits: a number from 0 to 23, in the first byte itself.
     Zero,
     /// One byte, for a number from 0 to 255.
     Eight,
@@ -29,10 +29,10 @@ pub enum IntegerWidth {
     SixtyFour,
 }
 
-/// How many bits of a float follow its head (RFC 7049 section 2.3).
+/// The width of a float: how many bits follow its first byte (RFC 7049 section 2.3).
 #[derive(Clone, Copy, PartialEq, Eq, Debug)]
 pub enum FloatWidth {
-    /// Not stated. It is written in 64 bits.
+    /// Unstated. The float is written in 64 bits.
     Unknown,
     /// IEEE 754 half precision, two bytes.
     Sixteen,
@@ -42,7 +42,8 @@ pub enum FloatWidth {
     SixtyFour,
 }
 
-/// The number of a tag, which gives the item that it precedes a meaning (RFC 7049 section 2.4).
+/// The number of a tag, which gives a meaning to the item below it (RFC 7049 section 2.4).
+///
 /// The constants name the tags of the IANA registry that are known here.
 #[derive(Clone, Copy, PartialEq, Eq, Debug)]
 pub struct Tag(pub u64);
@@ -85,11 +86,11 @@ pub struct TextString {
     pub bitwidth: IntegerWidth,
 }
 
-/// A CBOR data item. Two are equal where all fields are, widths included.
+/// A CBOR data item. Two items are equal if all their fields are, widths included.
 ///
-/// The outermost item is at level 1, and what a container or a tag holds one level deeper than
-/// it; chunks of a string have no level. An item is well formed where each number fits its width
-/// and none is deeper than level 128; `DataItem::is_well_formed` checks.
+/// The outermost item is at level 1. The items in a container or below a tag are one level deeper
+/// than it. The chunks of a string have no level. An item is well formed if each number fits its
+/// width and no item in it is deeper than level 128, as [`DataItem::is_well_formed`] checks.
 #[derive(Debug, Drop)]
 pub enum DataItem {
     /// An unsigned integer (RFC 7049 section 2.1, major type 0).
@@ -101,7 +102,7 @@ pub enum DataItem {
     },
     /// A negative integer (RFC 7049 section 2.1, major type 1).
     Negative {
-        /// The number that is encoded; the integer is -1 less this.
+        /// The number that is encoded, `n`; the integer is `-1 - n`.
         value: u64,
         /// The width of the encoded number.
         bitwidth: IntegerWidth,
@@ -115,23 +116,23 @@ pub enum DataItem {
     /// A text string in chunks, up to a break; each chunk is UTF-8 by itself (RFC 7049 section
     /// 2.2.2).
     IndefiniteTextString(Vec<TextString>),
-    /// An array (RFC 7049 section 2.1, major type 4).
+    /// An array of items (RFC 7049 section 2.1, major type 4).
     Array {
-        /// The members in order.
+        /// The items, in order.
         content: Vec<DataItem>,
-        /// The width of the count; `None` is an indefinite length, which a break ends (RFC 7049
+        /// The width of the count, or `None` for an indefinite length, which a break ends (RFC 7049
         /// section 2.2.1).
         bitwidth: Option<IntegerWidth>,
     },
-    /// A map (RFC 7049 section 2.1, major type 5). Keys may come twice, in any order.
+    /// A map (RFC 7049 section 2.1, major type 5). Keys may be in any order and may be repeated.
     Map {
         /// The keys with their values, in order.
         content: Vec<(DataItem, DataItem)>,
-        /// The width of the count of pairs; `None` is an indefinite length, which a break ends (RFC
-        /// 7049 section 2.2.1).
+        /// The width of the count of pairs, or `None` for an indefinite length, which a break ends
+        /// (RFC 7049 section 2.2.1).
         bitwidth: Option<IntegerWidth>,
     },
-    /// An item under a tag (RFC 7049 section 2.4, major type 6).
+    /// A tag and the item below it (RFC 7049 section 2.4, major type 6).
     Tag {
         /// The tag.
         tag: Tag,
@@ -140,9 +141,9 @@ pub enum DataItem {
         /// The item below the tag.
         value: Box<DataItem>,
     },
-    /// A float by its bits, as encoded (RFC 7049 section 2.3, major type 7).
+    /// A float, as its bits (RFC 7049 section 2.3, major type 7).
     Float {
-        /// The bits, of IEEE 754 at that width.
+        /// The bits in IEEE 754, of the format of that width.
         bits: u64,
         /// The width of the float.
         bitwidth: FloatWidth,

@@ -1,24 +1,24 @@
--- What an export answers: a length, or minus the number of an error. And what its buffer holds then.
+-- What an export returns, a length or minus the number of an error, and what its buffer holds then.
 use Rattle.std.specs.Prelude.{◌≡◌, ◌⊎◌, ⊤, ℕ, ◌+◌, ◌<◌, ℤ, pos, negsuc, List, ◌++◌, length, take, drop, Ok, Err, codes}
 use Rattle.cbor_diag.specs.declared.error.Error.{Error}
 use Rattle.cbor_diag.specs.Refusals.{text_of, number_of}
 use Rattle.cbor_diag_c.specs.Forms.{IsNoForm, IsConversion}
 
--- a fact of the length that was answered
+-- a fact of the length that was returned
 abbrev pub IfLength : ℤ → (ℕ → Type 0) → Type 0
 IfLength (pos n) Fact = Fact n
 IfLength (negsuc n) Fact = ⊤
 
--- a fact of the error's number that was answered with a minus
+-- a fact of the error's number that was returned with a minus
 abbrev pub IfError : ℤ → (ℕ → Type 0) → Type 0
 IfError (pos n) Fact = ⊤
 IfError (negsuc n) Fact = Fact (n + 1)
 
--- The buffer after a text was written to it: as much of the text as there is room for, and what was after that.
+-- The buffer after a text was written to it: as much of the text as fits it, and then what it held before.
 abbrev pub written : List ℕ → List ℕ → List ℕ
 written text buffer = take (length buffer) text ++ drop (length text) buffer
 
--- the answer for a form that there is not
+-- what is returned for the number of no form
 abbrev pub no_form : ℕ
 no_form = 11
 

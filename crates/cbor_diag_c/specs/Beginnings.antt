@@ -1,4 +1,4 @@
--- What is answered of how bytes begin.
+-- What is returned for how bytes begin.
 use Rattle.std.specs.Prelude.{◌≡◌, ◌⊎◌, ℕ, List, length}
 use Rattle.cbor_diag.specs.declared.error.Error.{Error}
 use Rattle.cbor_diag.specs.declared.error.Error.TheVariants.{CutShort}
@@ -10,7 +10,7 @@ use Rattle.cbor_diag.specs.Refusals.{number_of}
 abbrev pub IsItemOf : List ℕ → ℕ → ℕ → Type 0
 IsItemOf input n end = IsExtent input (Item n) × (end ≡ n)
 
--- all bytes are cut, or the first ones up to here show the error of this number
+-- all bytes are cut, or the first ones up to here have the error with this number
 abbrev pub IsCutOrFault : List ℕ → ℕ → ℕ → Type 0
 IsCutOrFault input n end =
     ((n ≡ number_of CutShort) × IsExtent input Cut × (end ≡ length input))

@@ -24,7 +24,7 @@ read_as target.Hex = source.Hex
 read_as target.Diag = source.Diag
 read_as target.Pretty = source.Diag
 
--- the output for the input, between the forms of these numbers; or why there is none
+-- the output for the input, between the forms with these numbers, or why there is no output
 abbrev pub IsConversion : ℕ → ℕ → List ℕ → Result (List ℕ) Error → Type 0
 IsConversion from to input output =
     (f t : To) × (from ≡ form_number f) × (to ≡ form_number t) × IsOutput (read_as f) t input output

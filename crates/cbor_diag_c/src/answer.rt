@@ -1,11 +1,11 @@
-//! What is answered to C, and what is written for it.
+//! What a call returns to C, and what it writes for the caller.
 ghost use Rattle.std.specs.Prelude.{◌≡◌, pos, length};
 ghost use Rattle.cbor_diag.specs.Refusals.{number_of};
 ghost use Rattle.cbor_diag_c.specs.Answers.{IfLength, IfError, written};
 
 use cbor_diag::Error;
 
-/// Writes as much of a text as there is room for, and answers the length of the whole.
+/// Writes as much of a text as fits the output, and returns the length of the whole text.
 pub(crate) fn write(text: &[u8], output: &mut [u8]) -> i64
     ensures length { result ≡ pos (length text.now) }
     ensures written { output.new ≡ written text.now output.old }
@@ -15,7 +15,7 @@ pub(crate) fn write(text: &[u8], output: &mut [u8]) -> i64
     text.len() as i64
 }
 
-/// The answer for an error.
+/// Returns minus the number of an error.
 pub(crate) fn refused(error: Error) -> i64
     ensures no_length { IfLength result (λ n. ⊥) }
     ensures number { IfError result (λ n. n ≡ number_of error) }

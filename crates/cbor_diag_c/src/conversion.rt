@@ -1,4 +1,4 @@
-//! Conversions.
+//! The call that converts.
 ghost use Rattle.std.specs.Prelude.{◌≡◌, ◌≢◌, ◌⊎◌, ◌<◌, negsuc, None, IfSome};
 ghost use Rattle.cbor_diag_c.specs.Forms.{form_number, read_as, IsNoForm};
 ghost use Rattle.cbor_diag_c.specs.Answers.{IfLength, IfError, no_form, IsWhole, IsWhy};
@@ -7,10 +7,10 @@ use crate::answer::{refused, write};
 use cbor_convert::{Source, To, convert};
 use std::alloc::Global;
 
-/// The answer for a form that there is not.
+/// What is returned for the number of no form.
 const NO_FORM: i64 = -11;
 
-/// The form of a number.
+/// Returns the form with this number.
 fn form(number: u32) -> Option<To>
     ensures named { IfSome result (λ form. number ≡ form_number form) }
     ensures none { result ≡ None → IsNoForm number }
@@ -24,7 +24,7 @@ fn form(number: u32) -> Option<To>
     }
 }
 
-/// In which form an input is read.
+/// Returns the form in which an input is read.
 fn read_as(form: To) -> Source
     ensures { result ≡ read_as form }
 {
@@ -37,8 +37,8 @@ fn read_as(form: To) -> Source
 
 /// Converts an input from one form to another.
 ///
-/// Answers the length of the whole output, of which as much is written as there is room for; or
-/// minus the number of the error, and then nothing is written.
+/// Returns the length of the whole output, of which as much is written as fits `output`; or minus
+/// the number of the error, and then nothing is written.
 #[unsafe(no_mangle)]
 pub extern "C" fn cbor_diag_convert(
     alloc: Global,

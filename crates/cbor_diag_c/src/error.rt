@@ -6,7 +6,7 @@ ghost use Rattle.cbor_diag_c.specs.Answers.{IfLength, IfError, no_form, IsTextOf
 use crate::answer::write;
 use cbor_diag::Error;
 
-/// The error of a number.
+/// Returns the error with this number.
 fn error(number: u32) -> Option<Error>
     ensures named { IfSome result (λ error. number ≡ number_of error) }
     ensures none { result ≡ None → (number ≡ 0) ⊎ (10 < number) }
@@ -26,7 +26,7 @@ fn error(number: u32) -> Option<Error>
     }
 }
 
-/// What the error of a number says.
+/// Returns the text of the error with this number.
 fn text(number: u32) -> &'static str
     ensures { IsTextOf number result.now }
 {
@@ -37,9 +37,9 @@ fn text(number: u32) -> &'static str
     }
 }
 
-/// What the error of a number says, in ASCII and without a full stop.
+/// Writes the text of the error with this number, in ASCII and without a full stop.
 ///
-/// Answers the length of the text, of which as much is written as there is room for.
+/// Returns the length of the text, of which as much is written as fits `output`.
 #[unsafe(no_mangle)]
 pub extern "C" fn cbor_diag_error_text(number: u32, output: &mut [u8]) -> i64
     ensures text { IfLength result (λ n. (text : List ℕ) × IsTextOf number text

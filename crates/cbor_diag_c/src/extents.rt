@@ -1,4 +1,4 @@
-//! How bytes begin.
+//! The call that reports how bytes begin.
 ghost use Rattle.std.specs.Prelude.{◌≡◌};
 ghost use Rattle.cbor_diag_c.specs.Beginnings.{IsItemOf, IsCutOrFault};
 ghost use Rattle.cbor_diag_c.specs.Answers.{IfLength, IfError};
@@ -6,12 +6,12 @@ ghost use Rattle.cbor_diag_c.specs.Answers.{IfLength, IfError};
 use crate::answer::refused;
 use cbor_diag::{Error, Extent, extent};
 
-/// How some bytes begin; allocates nothing.
+/// Reports how the bytes begin. It allocates nothing.
 ///
-/// Returns how many bytes the item at the front takes, or minus the number of the error: `CutShort`
-/// if the bytes end before the item does, else why the item is malformed. Sets `end` to how many
-/// first bytes decide that: those of the item, all of them if they are cut, or those that show the
-/// error.
+/// Returns the length of the item at the front, or minus the number of the error: `CutShort` if the
+/// bytes end before the item does and before any other error, otherwise the first error from the
+/// left. Sets `end` to the number of bytes that decide this: the length of the item, that of the
+/// input if it is cut, or the first bytes that have the error.
 #[unsafe(no_mangle)]
 pub extern "C" fn cbor_diag_extent(input: &[u8], end: &mut usize) -> i64
     ensures item { IfLength result (λ n. IsItemOf input.now n end.new) }

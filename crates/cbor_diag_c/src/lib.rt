@@ -1,7 +1,14 @@
 //! The calls for C programs. `bindings/c/cbor_diag.h` declares them, and says what a caller has to
 //! keep to.
 //!
-//! Each answers a length, or minus the number of an error: `Error::number` has 1 to 10.
+//! Each returns a length, or minus the number of an error: 1 to 10 as `Error::number` has them, or
+//! 11 for an unknown form. In C, with the header:
+//!
+//! ```c
+//! char text[256];
+//! int64_t length = cbor_diag_convert(CBOR_DIAG_FORM_BYTES, CBOR_DIAG_FORM_DIAG,
+//!                                    "\x82\x01\x02", 3, text, sizeof text);
+//! ```
 #![tactic(auto)]
 
 mod answer;

@@ -1,7 +1,7 @@
 //! The version of the library.
 ghost use Rattle.std.specs.Prelude.{◌≡◌, ◌+◌, ◌*◌};
 
-/// The version 0.1.0, as 10000 * major + 100 * minor + patch.
+/// Returns the version 0.1.0, as 10000 * major + 100 * minor + patch.
 #[unsafe(no_mangle)]
 pub extern "C" fn cbor_diag_version() -> u32
     ensures { result ≡ 10000 * 0 + 100 * 1 + 0 }

@@ -1,6 +1,6 @@
 // The calls of `cbor_diag` without their clauses, as texts that tests compare: a test that made a
 // call itself would bring all that is proved of it into its own proof, and one that had an item
-// would have to prove that it is dropped. The error is that of refused memory alone.
+// would have to prove that it is dropped. The only error is out of memory.
 
 use cbor_diag::{
     DataItem, Error, Result, Turns, parse_bytes, parse_bytes_counted, parse_bytes_partial,
@@ -104,7 +104,7 @@ pub(crate) fn seen(alloc: Global, view: View, item: &DataItem) -> Result<String>
     }
 }
 
-/// What is seen of an item; or the name of the error, where there is none.
+/// What is seen of an item, or the name of the error.
 pub(crate) fn seen_or_error(alloc: Global, view: View, item: Result<DataItem>) -> Result<String> {
     match item {
         Ok(item) => seen(alloc, view, &item),
@@ -165,13 +165,13 @@ fn front_shown(alloc: Global, front: Result<Option<(DataItem, usize)>>) -> Resul
     }
 }
 
-/// What `parse_bytes_partial` answers of bytes in hex digits.
+/// The result of `parse_bytes_partial` on bytes in hex digits.
 pub(crate) fn front_of(alloc: Global, digits: &str) -> Result<String> {
     let bytes = bytes_of(alloc, digits)?;
     front_shown(alloc, parse_bytes_partial(alloc, &bytes))
 }
 
-/// What `parse_bytes_counted` answers of bytes in hex digits, after the number of turns.
+/// The result of `parse_bytes_counted` on bytes in hex digits, after the number of turns.
 pub(crate) fn turns_of(alloc: Global, digits: &str) -> Result<String> {
     let bytes = bytes_of(alloc, digits)?;
     let mut turns = Turns::new();
@@ -220,7 +220,7 @@ pub(crate) fn check_table(
     }
 }
 
-/// As many times a text, one more, and as many times another.
+/// `count` times an opening, a middle, and `count` times a close.
 pub(crate) fn nested(
     alloc: Global,
     opening: &str,

@@ -5,7 +5,7 @@ use cbor_diag::Result;
 use std::alloc::Global;
 use std::process::Abort;
 
-/// What `parse_bytes_partial` answers where a byte in hex digits follows.
+/// The result of `parse_bytes_partial` if a byte in hex digits follows.
 fn front_followed(alloc: Global, digits: &str, more: &str) -> Result<String> {
     front_of(alloc, format!(in alloc; "{digits}{more}")?.as_str())
 }
@@ -40,7 +40,7 @@ pub(crate) fn check_all_ends(rt: &impl Abort, alloc: Global, rows: &[(&str, &str
     }
 }
 
-/// Each input is refused for this reason, with a byte after it or not.
+/// Each input has this error, with a byte after it or without.
 pub(crate) fn check_faults(rt: &impl Abort, alloc: Global, rows: &[(&str, &str)]) {
     for (digits, fault) in rows {
         for more in ["", "00", "ff"] {

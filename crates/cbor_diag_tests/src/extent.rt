@@ -1,5 +1,5 @@
-// `extent`: what it answers of examples worked out by hand, and that of all other inputs it answers
-// what `parse_bytes_partial` does, with the end of an error where fewer bytes are cut.
+// `extent`: its results for examples worked out by hand. For all other inputs it returns what
+// `parse_bytes_partial` does, and for an error the number of bytes of which any fewer are cut.
 
 use crate::calls::bytes_of;
 use crate::samples::SAMPLES;
@@ -84,7 +84,7 @@ fn end_of_fault(alloc: Global, bytes: &[u8]) -> Result<usize, Error> {
     Ok(bytes.len())
 }
 
-/// What `extent` has to answer where the reader answers so.
+/// What `extent` has to return for a result of the reader.
 fn as_read(alloc: Global, bytes: &[u8]) -> Result<Extent, Error> {
     match parse_bytes_partial(alloc, bytes) {
         Ok(Some((_, used))) => Ok(Extent::Item(used)),
@@ -215,42 +215,5 @@ fn samples_with_a_byte_changed(rt: HostRuntime) -> Result<(), Fail> {
     let mut deep = vec![in alloc; 0x81u8; 127]?;
     deep.push(1)?;
     check_near(&rt, alloc, &deep)?;
-    Ok(())
-}
-
-// ---- docs/BYTES.md
-
-/// The log after its first record.
-fn after_record(log: &[u8]) -> Option<&[u8]> {
-    match extent(log) {
-        Extent::Item(len) => Some(&log[len..]),
-        _ => None,
-    }
-}
-
-/// An error, and the byte that a viewer points at.
-fn fault_at(bytes: &[u8]) -> Option<(Error, usize)> {
-    match extent(bytes) {
-        Extent::Fault { error, end } => Some((error, end - 1)),
-        _ => None,
-    }
-}
-
-#[test]
-fn a_log_is_skipped_record_by_record(rt: HostRuntime) -> Result<(), Fail> {
-    let log = b"\x82\x01\x02\xa1\x61k\x05\x19\x01".as_slice();
-    let second = after_record(log).unwrap_or(b"");
-    assert_eq!(rt; second, b"\xa1\x61k\x05\x19\x01".as_slice());
-    let third = after_record(second).unwrap_or(b"");
-    assert_eq!(rt; third, b"\x19\x01".as_slice());
-    assert_eq!(rt; after_record(third), None);
-    Ok(())
-}
-
-#[test]
-fn a_viewer_points_at_a_fault(rt: HostRuntime) -> Result<(), Fail> {
-    assert_eq!(rt; fault_at(b"\x82\x01\x1f\x00"), Some((Error::Head, 2)));
-    assert_eq!(rt; fault_at(b"\x63\xc3\xa9\xff\x00"), Some((Error::Utf8, 3)));
-    assert_eq!(rt; fault_at(b"\x82\x01"), None);
     Ok(())
 }

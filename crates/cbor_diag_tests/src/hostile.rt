@@ -48,7 +48,7 @@ fn check_written(rt: &impl Abort, alloc: Global, digits: &str) {
     }
 }
 
-/// Both readers answer the same item, which leads back to itself.
+/// Both readers return the same item, and what is written of it is read back.
 fn check_item(rt: &impl Abort, alloc: Global, digits: Result<String>) {
     match digits {
         Ok(digits) => {

@@ -159,7 +159,7 @@ const DISTINCT: &[&str] = &[
     "c0d80005",
 ];
 
-/// Items in notation, with open widths. They are equal to none of those before either.
+/// Items in notation, with unstated widths. They are equal to none of those before either.
 const OPEN: &[&str] = &[
     "h''",
     "\"\"",
@@ -310,7 +310,7 @@ fn letters(alloc: Global, width: IntegerWidth) -> Result<DataItem> {
     Ok(DataItem::TextString(text(alloc, "水水水水水水水水", width)?))
 }
 
-/// An empty array in as many arrays, below a tag.
+/// An empty array in this number of arrays, below a tag.
 fn tagged_arrays(alloc: Global, count: u8) -> Result<DataItem> {
     tagged(
         alloc,

@@ -8,7 +8,7 @@ use cbor_diag::Result;
 use std::alloc::Global;
 use std::process::Abort;
 
-/// As many times an opening, what is in the middle, and as many times a close, in hex: items that
+/// An opening and how often it comes, a middle, and a close that comes as often, in hex: items that
 /// are as deep as they may be, or large.
 const ITEMS: &[(&str, usize, &str, &str)] = &[
     ("c0", 127, "60", ""),
@@ -22,7 +22,7 @@ const ITEMS: &[(&str, usize, &str, &str)] = &[
     ("81", 127, "5f4101ff", ""),
 ];
 
-/// The same, what `parse_bytes_partial` answers of them, and the name of the error of
+/// The same, the result of `parse_bytes_partial`, and the name of the error of
 /// `parse_bytes`.
 const NO_ITEMS: &[(&str, usize, &str, &str, &str)] = &[
     ("c0", 128, "", "cut", "CutShort"),
@@ -36,7 +36,7 @@ const NO_ITEMS: &[(&str, usize, &str, &str, &str)] = &[
     ("c1", 200_000, "", "TooDeep", "TooDeep"),
 ];
 
-/// As many times an opening, what is in the middle, and as many times a close, in notation: items.
+/// The same in notation: items.
 const TEXTS: &[(&str, usize, &str, &str)] = &[
     ("[", 127, "[]", "]"),
     ("[", 127, "1", "]"),
@@ -57,8 +57,7 @@ const TOO_DEEP: &[(&str, usize, &str, &str)] = &[
     ("[", 200_000, "", "]"),
 ];
 
-/// Hex digits that are as many times an opening, a middle and a close are one item, which ends
-/// where it has to.
+/// The item of these hex digits ends where it has to.
 fn check_deep(rt: &impl Abort, alloc: Global, digits: Result<String>, on: &str) {
     match digits {
         Ok(digits) => check_ends(rt, alloc, digits.as_str()),
@@ -148,7 +147,7 @@ fn embedded_items_count_as_levels(rt: HostRuntime) {
     }
 }
 
-/// What is seen of an array of 255 zeros whose count has an open width.
+/// What is seen of an array of 255 zeros whose count has an unstated width.
 fn of_zeros(alloc: Global, view: View) -> Result<String> {
     let zeros = "0,".repeat(alloc, 254)?;
     let text = format!(in alloc; "[{zeros}0]")?;

@@ -6,6 +6,8 @@ mod bytes;
 #[cfg(test)]
 mod calls;
 #[cfg(test)]
+mod doc_examples;
+#[cfg(test)]
 mod ends;
 #[cfg(test)]
 mod extent;

@@ -281,7 +281,7 @@ fn check_pretty(rt: &impl Abort, alloc: Global, text: Result<String>, on: &str) 
     check_same(rt, again(alloc, &text), text, on);
 }
 
-/// A text, as many times a letter, and a text.
+/// A text, a letter repeated `count` times, and a text.
 fn around(alloc: Global, before: &str, letter: &str, count: usize, after: &str) -> Result<String> {
     let letters = letter.repeat(alloc, count)?;
     Ok(format!(in alloc; "{before}{letters}{after}")?)
@@ -329,7 +329,7 @@ fn array_lines(alloc: Global, member: &str, count: usize) -> Result<String> {
     Ok(format!(in alloc; "[\n    {member},\n    \"{letters}\",\n]")?)
 }
 
-/// A text of 60 letters in as many arrays, each on lines of its own.
+/// A text of 60 letters in this number of arrays, each on lines of its own.
 fn in_arrays(alloc: Global, count: usize) -> Result<String> {
     let mut text = around(alloc, "\"", "a", 60, "\"")?;
     for level in (0..count).rev() {

@@ -25,7 +25,7 @@ pub(crate) fn text(alloc: Global, content: &str, bitwidth: IntegerWidth) -> Resu
     Ok(TextString { content, bitwidth })
 }
 
-/// An array of as many zeros.
+/// An array of `count` zeros.
 pub(crate) fn items_of(
     alloc: Global,
     count: usize,
@@ -38,7 +38,7 @@ pub(crate) fn items_of(
     Ok(DataItem::Array { content, bitwidth })
 }
 
-/// A map of as many zeros to zeros.
+/// A map of `count` pairs of zeros.
 pub(crate) fn pairs_of(
     alloc: Global,
     count: usize,

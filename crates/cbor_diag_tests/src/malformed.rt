@@ -4,7 +4,7 @@ use crate::calls::{Input, View, check, check_table, of_bytes, read, read_front};
 use crate::ends::check_faults;
 use cbor_diag::Error;
 
-/// Bytes that end before their item does, in hex, and what `parse_bytes_partial` answers.
+/// Bytes that end before their item does, in hex, and the result of `parse_bytes_partial`.
 const CUT: &[(&str, &str)] = &[
     ("", "cut"),
     ("18", "cut"),

@@ -133,7 +133,7 @@ const REFUSED: &[(&str, &str)] = &[
 
 /// Texts, and the fields of the item that each is.
 const FIELDS: &[(&str, &str)] = &[
-    // of a number or a tag the width that it states, else none up to 23 and above that an open one
+    // a number or a tag: the width that it states, else `Zero` up to 23, and unstated above
     ("23", "Integer { value: 23, bitwidth: Zero }"),
     ("24", "Integer { value: 24, bitwidth: Unknown }"),
     ("1_0", "Integer { value: 1, bitwidth: Eight }"),
@@ -166,7 +166,7 @@ const FIELDS: &[(&str, &str)] = &[
         "Tag { tag: Tag(32), bitwidth: Unknown, \
          value: TextString(TextString { content: \"https://example.com\", bitwidth: Unknown }) }",
     ),
-    // of a string an open one, of chunks too
+    // a string or a chunk: unstated
     (
         "h''",
         "ByteString(ByteString { content: [], bitwidth: Unknown })",
@@ -221,7 +221,7 @@ const FIELDS: &[(&str, &str)] = &[
     ("/x/''_", "IndefiniteByteString([])"),
     ("\"\"_", "IndefiniteTextString([])"),
     ("\"\"_ ", "IndefiniteTextString([])"),
-    // of an array or a map an open one, unless its length is indefinite
+    // an array or a map: unstated, unless its length is indefinite
     ("[]", "Array { content: [], bitwidth: Some(Unknown) }"),
     ("[, ]", "Array { content: [], bitwidth: Some(Unknown) }"),
     (

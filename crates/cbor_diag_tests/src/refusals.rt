@@ -1,10 +1,10 @@
-// What refusals say, and their numbers.
+// The texts of errors, and their numbers.
 
 use crate::calls::check;
 use cbor_diag::{Error, Result};
 use std::alloc::Global;
 
-/// Refusals, with their numbers, their names, which are all that they carry, and their texts, which
+/// Errors, with their numbers, their names, which are all that they carry, and their texts, which
 /// `Display` writes too.
 const REFUSALS: &[(Error, &str)] = &[
     (Error::Memory, "1, Memory: out of memory; out of memory"),

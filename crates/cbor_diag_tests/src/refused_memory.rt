@@ -1,4 +1,4 @@
-// Calls where memory is found, and where it is refused.
+// Calls with memory, and calls in which an allocation fails.
 
 use crate::samples::{SAMPLES, Sample, embedded_digits, embedded_text};
 use cbor_diag::{
@@ -65,7 +65,7 @@ fn front_shown(alloc: Global, front: Option<(DataItem, usize)>, len: usize) -> R
     }
 }
 
-/// What a reader answers of a sample: the bytes of the item, in hex.
+/// The result of a reader on a sample: the bytes of the item, in hex.
 fn read(alloc: Global, call: Call, sample: &Sample) -> Result<String> {
     let Ok(bytes) = hex::decode(alloc, sample.digits) else {
         return Err(Error::Memory);
@@ -85,7 +85,7 @@ fn read(alloc: Global, call: Call, sample: &Sample) -> Result<String> {
     }
 }
 
-/// What a printer answers of a sample.
+/// The result of a printer on a sample.
 fn print(alloc: Global, call: Call, sample: &Sample) -> Result<String> {
     let item = parse_hex(alloc, sample.digits)?;
     let mut text = String::new(alloc);
@@ -137,7 +137,7 @@ fn answer(alloc: Global, call: Call, sample: &Sample) -> Result<String> {
     }
 }
 
-/// What a call has to answer.
+/// What a call has to return.
 fn expected<'a>(call: Call, sample: &Sample<'a>) -> &'a str {
     match call {
         Call::ParseDiag => sample.normal,
@@ -148,7 +148,7 @@ fn expected<'a>(call: Call, sample: &Sample<'a>) -> &'a str {
     }
 }
 
-/// Whether a call answers, which is then what it has to. Where it does not, memory was refused.
+/// Whether a call returns a result, which is then the right one. Otherwise an allocation failed.
 fn is_answered(rt: &impl Abort, alloc: Global, call: Call, sample: &Sample) -> bool {
     match answer(alloc, call, sample) {
         Ok(found) => {
@@ -163,7 +163,7 @@ fn is_answered(rt: &impl Abort, alloc: Global, call: Call, sample: &Sample) -> b
     }
 }
 
-// A reader or a writer that always answers `Memory` meets its contract, so no proof finds it.
+// A reader or a writer that always returns `Memory` meets its contract, so no proof finds it.
 #[test]
 fn calls_answer_where_memory_is_found(rt: HostRuntime) {
     for sample in &SAMPLES {
@@ -174,7 +174,7 @@ fn calls_answer_where_memory_is_found(rt: HostRuntime) {
     }
 }
 
-/// Makes each call of a sample twice, and prints what it answers.
+/// Makes each call of a sample twice, and prints what it returns.
 fn print_calls(
     rt: &(impl Abort + Print),
     alloc: Global,
@@ -191,9 +191,9 @@ fn print_calls(
     Ok(())
 }
 
-// `compare/failing_calls` runs this while it refuses requests for memory, and reads the lines: a
-// call that a request was refused in has to print `memory`, and any other `ok`. Where nothing is
-// refused, as in the gate, this shows no more than the test above. The dump of the deepest item is
+// `compare/failing_calls` runs this while it makes allocations fail, and reads the lines: a call
+// in which one failed has to print `memory`, and any other `ok`. If none fails, as in the gate,
+// this shows no more than the test above. The dump of the deepest item is
 // left out: it has 800 kilobytes.
 #[test]
 fn a_call_answers_or_memory_is_refused(rt: HostRuntime) -> std::result::Result<(), Fail> {

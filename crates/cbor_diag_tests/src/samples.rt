@@ -186,7 +186,7 @@ pub(crate) fn embedded_digits(alloc: Global, count: usize) -> Result<String> {
     Ok(digits)
 }
 
-/// Their text. There is room for 63 levels of embedding: the innermost of 64 tags shows its bytes.
+/// Their text. There are at most 63 levels of embedding: the innermost of 64 tags shows its bytes.
 pub(crate) fn embedded_text(alloc: Global, count: usize) -> Result<String> {
     let shown = count.min(63);
     let innermost = if count == shown { "1" } else { "24_0(h'01')" };

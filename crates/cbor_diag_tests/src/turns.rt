@@ -50,7 +50,7 @@ const INPUTS: &[(&str, &str)] = &[
     ("bf01ff", "3 turns, Head"),
 ];
 
-/// The turns of a 1 in as many arrays, up to its fields.
+/// The turns of a 1 in `count` arrays, up to its fields.
 fn turns_of_arrays(alloc: Global, count: usize) -> cbor_diag::Result<String> {
     let digits = nested(alloc, "81", count, "01", "")?;
     let turns = turns_of(alloc, digits.as_str())?;

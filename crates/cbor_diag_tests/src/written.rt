@@ -1,11 +1,11 @@
-// What is written of items with open widths, what is appended, and escapes.
+// What is written of items with unstated widths, what is appended, and escapes.
 
 use crate::calls::{View, check, check_same, of_diag, seen_or_error};
 use crate::make::{float, integer, negative, tagged, text};
 use cbor_diag::{DataItem, FloatWidth, IntegerWidth, Result, parse_bytes};
 use std::alloc::Global;
 
-/// Which number of an item has an open width.
+/// Which number of an item has an unstated width.
 #[derive(Clone, Copy)]
 enum Open {
     Integer,
@@ -15,8 +15,8 @@ enum Open {
     Tag,
 }
 
-/// Numbers of an open width, the bytes and the text of the item, and the fields of what the text is
-/// read back as.
+/// Numbers of an unstated width, the bytes and the text of the item, and the fields of what the
+/// text is read back as.
 const OPEN: &[(Open, u64, &str, &str, &str)] = &[
     (
         Open::Integer,

@@ -1,6 +1,6 @@
 // Dumps as texts that tests compare, from calls of `cbor_diag` without their clauses: a test that
 // made a call itself would bring all that is proved of it into its own proof, and one that had an
-// item would have to prove that it is dropped. The error is that of refused memory alone.
+// item would have to prove that it is dropped. The only error is out of memory.
 
 use cbor_diag::{DataItem, Result, parse_diag, parse_hex};
 use std::alloc::Global;
@@ -14,7 +14,7 @@ pub(crate) fn check(rt: &impl Abort, found: Result<String>, expected: &str, on: 
     }
 }
 
-/// The last bytes of a text, as many as another has.
+/// The last bytes of a text, to the length of another.
 pub(crate) fn end_like<'a>(text: &'a str, other: &str) -> &'a str {
     let start = text.len().saturating_sub(other.len());
     text.get(start..).unwrap_or(text)

@@ -145,8 +145,8 @@ const TAGS: &[(&str, &str)] = &[
     ),
 ];
 
-/// An opening, as many times a part, and a close, in notation, and the first line of the dump.
-/// Lengths and counts are not grouped.
+/// An opening, a number, a part repeated that often, and a close, in notation, and the first line
+/// of the dump. Lengths and counts are not grouped.
 const FIRST_LINES: &[(&str, &str, usize, &str, &str)] = &[
     (
         "h'",
@@ -168,7 +168,7 @@ const FIRST_LINES: &[(&str, &str, usize, &str, &str)] = &[
 ];
 
 /// Values, the dumps of an integer and of a negative one of that value, and the digits of a tag's
-/// head, of open widths.
+/// head, of unstated widths.
 const OPEN: &[(u64, &str, &str, &str)] = &[
     (0, "00 # unsigned(0)\n", "20 # negative(-1)\n", "c0"),
     (23, "17 # unsigned(23)\n", "37 # negative(-24)\n", "d7"),
@@ -236,7 +236,7 @@ fn first_line(alloc: Global, dump: Result<String>) -> Result<String> {
     Ok(String::from_str(alloc, line)?)
 }
 
-/// The dump of what an opening, as many times a part, and a close are in notation.
+/// The dump of an opening, a part repeated `count` times, and a close in notation.
 fn dump_repeated(
     alloc: Global,
     before: &str,
@@ -257,7 +257,7 @@ fn lengths_and_counts_are_not_grouped(rt: HostRuntime) {
     }
 }
 
-/// What has a number of an open width.
+/// What has a number of an unstated width.
 #[derive(Clone, Copy)]
 enum Open {
     Integer,
@@ -306,7 +306,7 @@ fn open_widths_are_shown_as_the_shortest(rt: HostRuntime) {
     }
 }
 
-/// The dump of bytes below a tag, of as many line feeds.
+/// The dump of `count` line feeds as bytes below a tag.
 fn dump_of_bytes(alloc: Global, tag: u64, length: usize) -> Result<String> {
     let content = "\n".repeat(alloc, length)?;
     let item = tagged(alloc, tag, bytes(alloc, content.as_bytes())?)?;

@@ -46,7 +46,7 @@ pub(crate) fn check_notes(rt: &impl Abort, alloc: Global, rows: &[(&str, &str)])
     }
 }
 
-/// A text has as many lines, with the first `#` of each in one column.
+/// A text has this number of lines, with the first `#` of each in one column.
 fn check_columns(rt: &impl Abort, dump: &str, count: usize) {
     assert_eq!(rt; dump.lines().count(), count, "of {dump}");
     let column = dump.find('#');
@@ -56,7 +56,7 @@ fn check_columns(rt: &impl Abort, dump: &str, count: usize) {
     assert_eq!(rt; dump.find('\r'), None, "of {dump}");
 }
 
-/// A dump has as many lines, with the first `#` of each in one column.
+/// A dump has this number of lines, with the first `#` of each in one column.
 pub(crate) fn check_lines(rt: &impl Abort, dump: Result<String>, count: usize, on: &str) {
     match dump {
         Ok(dump) => {

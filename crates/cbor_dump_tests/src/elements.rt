@@ -1,4 +1,4 @@
-// The elements of typed arrays in a dump (RFC 8746), and what is said of bytes that are no whole
+// The elements of typed arrays in a dump (RFC 8746), and the notes of bytes that are not whole
 // elements.
 
 use crate::calls::{check, check_end, dump_tagged, dump_told};
@@ -153,7 +153,7 @@ const ELEMENTS: &[(&str, &str)] = &[
     ),
 ];
 
-/// Bytes that are no whole elements, in notation. Of an element of one byte there is no part.
+/// Bytes that are not whole elements, in notation. An element of one byte has no part.
 const PARTS: &[&str] = &[
     "65(h'01')",
     "66(h'010203')",

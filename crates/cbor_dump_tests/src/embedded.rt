@@ -373,7 +373,7 @@ fn embedded_items_and_sequences_have_dumps_and_notes(rt: HostRuntime) {
     check_notes(&rt, rt.alloc(), SEQUENCES);
 }
 
-/// The number 1 as an embedded item, in as many tags.
+/// The number 1 as an embedded item, in this number of tags.
 fn embedded(alloc: Global, count: usize) -> Result<DataItem> {
     let (value, bitwidth) = (1, IntegerWidth::Zero);
     let mut item = DataItem::Integer { value, bitwidth };
@@ -384,7 +384,7 @@ fn embedded(alloc: Global, count: usize) -> Result<DataItem> {
     Ok(item)
 }
 
-/// An item in as many arrays.
+/// An item in this number of arrays.
 fn in_arrays(alloc: Global, count: usize, item: Result<DataItem>) -> Result<DataItem> {
     let mut item = item?;
     for _ in 0..count {
@@ -393,12 +393,13 @@ fn in_arrays(alloc: Global, count: usize, item: Result<DataItem>) -> Result<Data
     Ok(item)
 }
 
-/// The dump of a 1 that is embedded in as many tags, in as many arrays.
+/// The dump of a 1 that is embedded in a number of tags, in a number of arrays.
 fn dump_nested(alloc: Global, tags: usize, arrays: usize) -> Result<String> {
     dumped_or_error(alloc, in_arrays(alloc, arrays, embedded(alloc, tags)))
 }
 
-/// A dump ends so, and says as often that an item is too deep, and of no other that it is none.
+/// A dump has this end, and this number of notes that an item was not read, all of them because it
+/// is too deep.
 fn check_nested(rt: &impl Abort, dump: Result<String>, unread: usize, end: &str) {
     match dump {
         Ok(dump) => {
@@ -443,7 +444,7 @@ fn the_innermost_of_64_dumps_is_whole(rt: HostRuntime) {
     check_nested(&rt, dump, 1, " #     nested deeper than 128 levels\n");
 }
 
-/// The dump of an item in hex, in as many arrays.
+/// The dump of an item in hex, in this number of arrays.
 fn dump_in_arrays(alloc: Global, arrays: usize, digits: &str) -> Result<String> {
     dumped_or_error(alloc, in_arrays(alloc, arrays, parse_hex(alloc, digits)))
 }

@@ -1,4 +1,4 @@
-// Items for tests, of fields written in one line. Every width is open.
+// Items for tests, of fields written in one line. Every width is unstated.
 
 use cbor_diag::{ByteString, DataItem, IntegerWidth, Result, Tag, TextString};
 use std::alloc::Global;

@@ -73,7 +73,7 @@ const SHARED: &[(&str, &str)] = &[
         "{_ 28([28(1)]): 28(28(2))}",
         "      reference(1)\n  reference(0)\n    reference(3)\n  reference(2)",
     ),
-    // through other tags, and through a reference to what can't be one
+    // through other tags, and through a reference to what cannot be one
     ("[5(28(1)), 28(2)]", "    reference(0)\n  reference(1)"),
     (
         "[28(1), 29(28(0)), 28(2)]",

@@ -1,6 +1,11 @@
-//! Reports by its exit status how the bytes of standard input begin: 0 with a CBOR data item, 1 where
-//! they end before the item does, 2 with an error, 3 where they can't be read or kept. It prints
+//! Reports by its exit status how the bytes of standard input begin: 0 for a CBOR data item, 1 if
+//! they end before the item does, 2 for an error, and 3 if they cannot be read or kept. It prints
 //! nothing.
+//!
+//! ```text
+//! $ printf '\202\001' | cbor_extent; echo $?
+//! 1
+//! ```
 #![tactic(auto)]
 
 use cbor_diag::{Extent, extent};

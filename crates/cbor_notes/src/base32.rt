@@ -27,11 +27,19 @@ enum Alphabet {
     ExtendedHex,
 }
 
-/// The bytes that `digits` encode in base 32 (RFC 4648, section 6), or `None` where they encode
-/// none: another character, a length that is no multiple of eight, padding that is not the last
-/// group's, or an unused bit that is set. No digits encode no bytes.
+/// Decodes base 32 (RFC 4648, section 6): upper case, with padding.
 ///
-/// The only error is out of memory.
+/// Returns `None` unless `digits` are exactly the encoding of some bytes: if a character is not in
+/// the alphabet, if the length is not a multiple of eight, if padding is anywhere but at the end,
+/// or if a bit that no byte uses is set. Empty input decodes to no bytes. The only error is out of
+/// memory.
+///
+/// ```rust
+/// use cbor_notes::base32_decode;
+///
+/// let bytes = base32_decode(alloc, b"MZXW6===")?;
+/// assert_eq!(rt; bytes.as_deref(), Some(b"foo".as_slice()));
+/// ```
 pub fn base32_decode(alloc: Global, digits: &[u8]) -> Result<Option<Vec<u8>>, AllocError>
     ensures found { IfOk result
         (λ found. IfSome found (λ bytes. AreBytes bytes.items
@@ -45,10 +53,15 @@ pub fn base32_decode(alloc: Global, digits: &[u8]) -> Result<Option<Vec<u8>>, Al
     decode(alloc, Alphabet::Standard, digits)
 }
 
-/// The bytes that `digits` encode in base 32 with the extended hex alphabet (RFC 4648, section 7),
-/// or `None` where they encode none, as `base32_decode` says.
+/// Decodes base 32 with the extended hex alphabet (RFC 4648, section 7), by the rules of
+/// [`base32_decode`]. The only error is out of memory.
 ///
-/// The only error is out of memory.
+/// ```rust
+/// use cbor_notes::base32hex_decode;
+///
+/// let bytes = base32hex_decode(alloc, b"CPNMU===")?;
+/// assert_eq!(rt; bytes.as_deref(), Some(b"foo".as_slice()));
+/// ```
 pub fn base32hex_decode(alloc: Global, digits: &[u8]) -> Result<Option<Vec<u8>>, AllocError>
     ensures found { IfOk result
         (λ found. IfSome found (λ bytes. AreBytes bytes.items

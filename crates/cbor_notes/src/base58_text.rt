@@ -10,10 +10,17 @@ use std::alloc::{AllocError, Global};
 /// The characters for the digits 0 to 57: digits and letters but for `0`, `I`, `O` and `l`.
 const CHARACTERS: [u8; 58] = *b"123456789ABCDEFGHJKLMNPQRSTUVWXYZabcdefghijkmnopqrstuvwxyz";
 
-/// The base 58 text of sixteen bytes: one `1` for each leading zero byte, and then the digits of
-/// the number that the bytes are, the first byte highest; none for zero.
+/// Returns sixteen bytes in base 58, in Bitcoin's alphabet: a `1` for each leading zero byte, and
+/// then the digits of the number that the bytes are in big endian. The number zero has no digits.
 ///
 /// The only error is out of memory.
+///
+/// ```rust
+/// use cbor_notes::base58;
+///
+/// let text = base58(alloc, b"\0\0\0\0\0\0\0\0\0\0\0\0\0\0\0\x01")?;
+/// assert_eq!(rt; text.as_str(), "1111111111111112");
+/// ```
 pub fn base58(alloc: Global, bytes: &[u8; 16]) -> Result<String, AllocError>
     ensures text { IfOk result (λ text. string_bytes text ≡ base58_of bytes.now) }
     // The digits are those whose value is the number, and which do not begin with a zero.

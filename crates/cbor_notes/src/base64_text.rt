@@ -14,12 +14,20 @@ use base64::DecodeAllocError;
 use base64::engine::general_purpose::{GeneralPurpose, STANDARD, URL_SAFE_NO_PAD};
 use std::alloc::{AllocError, Global};
 
-/// The bytes that `digits` encode in base 64: either in the alphabet that is safe in URLs, without
-/// padding (RFC 4648, section 5), or in the standard alphabet with padding (section 4); or `None`
-/// where they encode none in either, by another character, a wrong length or padding, or an unused
-/// bit that is set. Digits that are both encode the same bytes in both.
+/// Decodes base 64 in either of two encodings: the URL-safe alphabet without padding (RFC 4648,
+/// section 5), or the standard alphabet with padding (section 4).
 ///
+/// Returns `None` unless `digits` are exactly an encoding of some bytes in one of them: if a
+/// character is in neither alphabet, if both are mixed, if the length or the padding is wrong, or
+/// if a bit that no byte uses is set. Digits that are an encoding in both decode to the same bytes.
 /// The only error is out of memory.
+///
+/// ```rust
+/// use cbor_notes::base64_any_decode;
+///
+/// let bytes = base64_any_decode(alloc, b"Zm9vYg==")?;
+/// assert_eq!(rt; bytes.as_deref(), Some(b"foob".as_slice()));
+/// ```
 pub fn base64_any_decode(alloc: Global, digits: &[u8]) -> Result<Option<Vec<u8>>, AllocError>
     ensures found { IfOk result (λ found. IfSome found
         (λ bytes. AreBytes bytes.items
@@ -35,12 +43,22 @@ pub fn base64_any_decode(alloc: Global, digits: &[u8]) -> Result<Option<Vec<u8>>
     decode(alloc, digits, !is_standard_only(digits))
 }
 
-/// The lines that show what `text` encodes in base 64, in the alphabet that is safe in URLs,
-/// without padding, if `url` is set (RFC 4648, section 5), and else in the standard alphabet with
-/// padding (section 4); or `None` where it encodes nothing in that one. There is a line for each
-/// sixteen decoded bytes: their hex digits, in the last line filled up with blanks to the width of
-/// the first one's, then ` # ` and the bytes as [`quoted_bytes`] writes them. Where nothing is
-/// decoded there are no lines. The only error is out of memory.
+/// Returns the lines that show what `text` decodes to. If `url` is set, `text` is in the URL-safe
+/// alphabet without padding (RFC 4648, section 5), otherwise in the standard alphabet with padding
+/// (section 4). Returns `None` if it is not exactly the encoding of some bytes.
+///
+/// There is a line for each sixteen decoded bytes: their hex digits, then ` # ` and the bytes as
+/// [`quoted_bytes`] writes them. If there are several lines, the digits of the last one are filled
+/// up with blanks to the width of the first one's. If no bytes are decoded, there are no lines. The
+/// only error is out of memory.
+///
+/// ```rust
+/// use cbor_notes::base64_lines;
+///
+/// let lines = base64_lines(alloc, "Zm9vYg==", false)?.unwrap_or(Vec::new(alloc));
+/// let first = lines.first().map(|line| line.as_str());
+/// assert_eq!(rt; first, Some("666f6f62 # \"foob\""));
+/// ```
 ///
 /// [`quoted_bytes`]: crate::quoted_bytes
 pub fn base64_lines(alloc: Global, text: &str, url: bool) -> Result<Option<Vec<String>>, AllocError>

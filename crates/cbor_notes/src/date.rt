@@ -13,10 +13,18 @@ use jiff::ToSpan;
 use jiff::civil::Date;
 use std::alloc::{AllocError, Global};
 
-/// The date of a day, counted from 1970-01-01, as in `2013-03-21`; a year before 0 has a `-` before
-/// its four digits. `None` for a day before -9999-01-01, which is -4371587, or after 9999-12-31,
-/// which is 2932896. The calendar is the Gregorian one, for all years. The only error is
-/// out of memory.
+/// Returns the date of a day that is counted from 1970-01-01, as in `2013-03-21`. A year before 0
+/// has a `-` before its four digits. The calendar is the Gregorian one, for all years.
+///
+/// Returns `None` for a day before -9999-01-01, which is -4371587, or after 9999-12-31, which is
+/// 2932896. The only error is out of memory.
+///
+/// ```rust
+/// use cbor_notes::date_of_epoch;
+///
+/// let date = date_of_epoch(alloc, -10_676)?;
+/// assert_eq!(rt; date.as_deref(), Some("1940-10-09"));
+/// ```
 pub fn date_of_epoch(alloc: Global, day: i64) -> Result<Option<String>, AllocError>
     ensures found { IfOk result (λ found. IfSome found
         (λ text. IsDayText day (string_bytes text))) }
@@ -35,10 +43,18 @@ pub fn date_of_epoch(alloc: Global, day: i64) -> Result<Option<String>, AllocErr
     Ok(Some(text))
 }
 
-/// The day of a date such as `1940-10-09`, counted from 1970-01-01, in groups of three digits as
-/// [`grouped`] writes them. A date is exactly four digits, two and two, with `-` between them, and
-/// the calendar has it (RFC 8943, section 1.1); `None` for any other text. The only error is
-/// out of memory.
+/// Returns the day of a date such as `1940-10-09`, counted from 1970-01-01, in groups of three
+/// digits as [`grouped`] writes them.
+///
+/// A date is four digits, two and two, with `-` between them, and is in the calendar (RFC 8943,
+/// section 1.1). Returns `None` for any other text. The only error is out of memory.
+///
+/// ```rust
+/// use cbor_notes::epoch_of_date;
+///
+/// let day = epoch_of_date(alloc, "1940-10-09")?;
+/// assert_eq!(rt; day.as_deref(), Some("-10,676"));
+/// ```
 ///
 /// [`grouped`]: crate::grouped
 pub fn epoch_of_date(alloc: Global, text: &str) -> Result<Option<String>, AllocError>

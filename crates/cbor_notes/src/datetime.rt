@@ -21,9 +21,18 @@ use std::alloc::{AllocError, Global};
 /// The seconds of a day.
 const DAY: i64 = 86_400;
 
-/// The moment that many seconds after 1970-01-01T00:00:00Z, in UTC and without leap seconds, as in
-/// `2013-03-21T20:04:00Z`; a year before 0 has a `-` before its four digits. `None` for a moment
-/// before the year -9999 or after the year 9999. The only error is out of memory.
+/// Returns the moment that is `seconds` after 1970-01-01T00:00:00Z, in UTC and without leap
+/// seconds, as in `2013-03-21T20:04:00Z`. A year before 0 has a `-` before its four digits.
+///
+/// Returns `None` for a moment before the year -9999 or after the year 9999. The only error is out
+/// of memory.
+///
+/// ```rust
+/// use cbor_notes::datetime_of_epoch;
+///
+/// let moment = datetime_of_epoch(alloc, 1_363_896_240)?;
+/// assert_eq!(rt; moment.as_deref(), Some("2013-03-21T20:04:00Z"));
+/// ```
 pub fn datetime_of_epoch(alloc: Global, seconds: i64) -> Result<Option<String>, AllocError>
     ensures found { IfOk result
         (λ found. IfSome found (λ text. IsMomentText seconds (string_bytes text))) }
@@ -46,15 +55,24 @@ pub fn datetime_of_epoch(alloc: Global, seconds: i64) -> Result<Option<String>, 
     Ok(Some(text))
 }
 
-/// The seconds from 1970-01-01T00:00:00Z to the moment that a text is, as in `1363896240` for
+/// Returns the seconds from 1970-01-01T00:00:00Z to the moment that a text names: `1363896240` for
 /// `2013-03-21T20:04:00Z`, and `1363896240.120` for `2013-03-21t21:34:00.12+01:30`.
 ///
-/// The text is one of RFC 3339, section 5.6: a date of the calendar, `T` or `t`, hours, minutes and
-/// seconds, perhaps a `.` and digits, and `Z`, `z` or a sign, hours and minutes. Hours are at most
-/// 23, minutes 59, and seconds 60, at any time of day: second 60 counts as the next one. `None` for
-/// any other text. The fraction is cut to nine digits, and written in 3, 6 or 9, the fewest after
-/// which there are zeros alone; it counts on from the seconds, also before 1970. The only error is
-/// out of memory.
+/// The text is one of RFC 3339, section 5.6: a date in the calendar, `T` or `t`, hours, minutes and
+/// seconds, an optional `.` with digits, and `Z`, `z` or a sign, hours and minutes. Hours are at
+/// most 23, minutes 59, and seconds 60, at any time of day: second 60 counts as the next one.
+/// Returns `None` for any other text.
+///
+/// The fraction is cut to nine digits. It is written in 3, 6 or 9, the fewest that drop only zeros,
+/// and not at all if it is zero. It counts forward from the seconds, also before 1970. The only
+/// error is out of memory.
+///
+/// ```rust
+/// use cbor_notes::epoch_of_datetime;
+///
+/// let seconds = epoch_of_datetime(alloc, "2013-03-21T20:04:00Z")?;
+/// assert_eq!(rt; seconds.as_deref(), Some("1363896240"));
+/// ```
 pub fn epoch_of_datetime(alloc: Global, text: &str) -> Result<Option<String>, AllocError>
     ensures found { IfOk result (λ found. IfSome found
         (λ answer. (seconds : ℤ) × (digits : List ℕ) × IsDateTimeText text.now seconds digits

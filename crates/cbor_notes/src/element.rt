@@ -28,18 +28,34 @@ struct Element {
     size: usize,
 }
 
-/// The bytes of one element of the typed array of `tag`: 1 to 16 for the tags 64 to 75
-/// and 77 to 87, and `None` for every other tag.
+/// Returns the number of bytes of one element in the typed array of `tag` (RFC 8746, section 2): 1
+/// to 16 for the tags 64 to 75 and 77 to 87, and `None` for every other tag.
+///
+/// ```rust
+/// use cbor_notes::element_size;
+///
+/// // Tag 69: unsigned integers of 16 bits, little endian.
+/// assert_eq!(rt; element_size(69), Some(2));
+/// ```
 pub fn element_size(tag: u64) -> Option<usize>
     ensures size { result ≡ spec.element_size tag }
 {
     Some(Element::of_tag(tag)?.size)
 }
 
-/// One element of the typed array of `tag`: `unsigned(1,000)`, `signed(-1)`, or
-/// `float(3c00)`, with numbers grouped and the bits of a float in hex, the highest first, whatever
-/// the order of the bytes. `None` for a tag of no typed array, and for bytes that are not as many
-/// as one element has. The only error is out of memory.
+/// Returns the text of one element in the typed array of `tag` (RFC 8746, section 2):
+/// `unsigned(1,000)`, `signed(-1)` or `float(3c00)`. Numbers are grouped. The bits of a float are
+/// in hex, the highest first, whatever the order of the bytes.
+///
+/// Returns `None` if `tag` is not the tag of a typed array, or if `bytes` is not as long as one
+/// element. The only error is out of memory.
+///
+/// ```rust
+/// use cbor_notes::element_text;
+///
+/// let element = element_text(alloc, 69, b"\x39\x30")?;
+/// assert_eq!(rt; element.as_deref(), Some("unsigned(12,345)"));
+/// ```
 pub fn element_text(alloc: Global, tag: u64, bytes: &[u8]) -> Result<Option<String>, AllocError>
     ensures text { IfOk result
         (λ found. option_map string_bytes found ≡ spec.element_text tag bytes.now) }
@@ -53,8 +69,16 @@ pub fn element_text(alloc: Global, tag: u64, bytes: &[u8]) -> Result<Option<Stri
     }
 }
 
-/// Appends what [`element_text`] answers to `text`, and answers whether there is such a text. The
-/// only error is out of memory, and after it `text` is unchanged.
+/// Appends the text of [`element_text`] to `text`, and returns whether there is one. The only error
+/// is out of memory, and after it `text` is unchanged.
+///
+/// ```rust
+/// use cbor_notes::push_element_text;
+///
+/// let mut text = String::new(alloc);
+/// assert!(rt; push_element_text(&mut text, 72, b"\xff")?);
+/// assert_eq!(rt; text.as_str(), "signed(-1)");
+/// ```
 pub fn push_element_text(text: &mut String, tag: u64, bytes: &[u8]) -> Result<bool, AllocError>
     ensures some { IfOk result (λ some. some ≡ is_some (spec.element_text tag bytes.now)) }
     ensures text { OnOk result (string_bytes text.new

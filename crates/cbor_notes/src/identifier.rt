@@ -9,7 +9,7 @@ use base64::engine::general_purpose::STANDARD_NO_PAD;
 use std::alloc::{AllocError, Global};
 use uuid::{Uuid, Variant, Version};
 
-/// Four texts of the UUID of sixteen bytes, as in
+/// Returns four texts of the UUID of sixteen bytes, as in
 ///
 /// ```text
 /// uuid(variant(RFC4122), version(1, Mac))
@@ -19,9 +19,17 @@ use uuid::{Uuid, Variant, Version};
 /// ```
 ///
 /// The variant is that of RFC 4122, section 4.1.1: `NCS`, `RFC4122`, `Microsoft` or `Future`. The
-/// version is the number of section 4.1.3, whatever the variant, and its name, or `Unknown`; `Nil`
-/// and `Max` are the names of sixteen bytes `00` and sixteen bytes `ff` alone. Base 64 has the
-/// standard alphabet and no padding. The only error is out of memory.
+/// version is the number of section 4.1.3, for every variant, and its name, or `Unknown`. `Nil` and
+/// `Max` are the names of sixteen bytes `00` and sixteen bytes `ff`. Base 64 is in the standard
+/// alphabet, without padding. The only error is out of memory.
+///
+/// ```rust
+/// use cbor_notes::uuid_lines;
+///
+/// let lines = uuid_lines(alloc, &[0xff; 16])?;
+/// let last = lines.last().map(|line| line.as_str());
+/// assert_eq!(rt; last, Some("base64(/////////////////////w)"));
+/// ```
 pub fn uuid_lines(alloc: Global, bytes: &[u8; 16]) -> Result<Vec<String>, AllocError>
     ensures texts { IfOk result
         (λ lines. map string_bytes lines.items ≡ spec.uuid_lines bytes.now) }

@@ -1,5 +1,5 @@
 //! Laws of the definitions of `specs/` alone: what holds of all days, texts and bytes, whatever a
-//! call answers. Nothing calls these functions.
+//! call returns. Nothing calls these functions.
 ghost use Rattle.std.specs.Prelude.{◌≡◌, ℕ, ◌<◌, ◌++◌, ℤ, pos, Bool, true, List, Some, IfSome};
 ghost use Rattle.std.specs.Prelude.{IsSome, codes};
 ghost use Rattle.std.specs.Int.{int_div_euclid};

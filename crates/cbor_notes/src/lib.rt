@@ -3,8 +3,16 @@
 //! arrays and the names of tags; the lines of dumps, in columns; and the tokens of diagnostic
 //! notation.
 //!
-//! A call that allocates takes an allocator first and returns `AllocError` if memory runs out;
-//! every other result depends on its arguments alone.
+//! ```rust
+//! use cbor_notes::grouped;
+//!
+//! let count = grouped(alloc, 1_000_000, false)?;
+//! assert_eq!(rt; count.as_str(), "1,000,000");
+//! ```
+//!
+//! A call that allocates takes an allocator first and returns `AllocError` if an allocation fails.
+//! Every other result depends on its arguments alone. In the examples of this crate, `rt` is the
+//! `HostRuntime` of a test, and `alloc` is `rt.alloc()`.
 #![tactic(auto)]
 
 mod address;

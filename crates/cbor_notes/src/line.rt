@@ -33,7 +33,15 @@ pub struct Line {
 }
 
 impl Line {
-    /// A line without sublines. It takes no memory.
+    /// Returns a line without sublines. It takes no memory.
+    ///
+    /// ```rust
+    /// use cbor_notes::Line;
+    ///
+    /// let line = Line::new(alloc, String::from_str(alloc, "01")?, String::new(alloc));
+    /// assert_eq!(rt; line.hex.as_str(), "01");
+    /// assert!(rt; line.sublines.is_empty());
+    /// ```
     pub fn new(alloc: Global, hex: String, comment: String) -> Line
         ensures hex { (out-Line result).hex ≡ hex }
         ensures comment { (out-Line result).comment ≡ comment }
@@ -46,8 +54,16 @@ impl Line {
         }
     }
 
-    /// Whether `merge` lays the tree out: it has at most 140 levels, and the hex of each line is
-    /// ASCII of at most 64 bytes. It takes no memory, and goes no deeper than that.
+    /// Returns whether [`merge`] can lay the tree out: it has at most 140 levels, and the hex of
+    /// each line is ASCII of at most 64 bytes. It takes no memory, and looks no deeper than 140
+    /// levels.
+    ///
+    /// ```rust
+    /// use cbor_notes::Line;
+    ///
+    /// let line = Line::new(alloc, String::from_str(alloc, "é")?, String::new(alloc));
+    /// assert!(rt; !line.fits());
+    /// ```
     pub fn fits(&self) -> bool
         ensures { IsTrue result ↔ Fits self.now }
     {
@@ -150,11 +166,20 @@ fn put_all_at(
     Ok(())
 }
 
-/// The text of a tree of lines: each line and then its sublines, one deeper, with all comments in
-/// one column, as [`put_line`] writes them. The width of the left column is the farthest that the
-/// digits of any line reach.
+/// Returns the text of a tree of lines: each line and then its sublines, one level deeper, as
+/// [`put_line`] writes them. All comments are in one column. The width of the left column is the
+/// farthest that the digits of any line reach.
 ///
 /// The tree has to fit, as [`Line::fits`] checks. The only error is out of memory.
+///
+/// ```rust
+/// use cbor_notes::{Line, merge};
+///
+/// let comment = String::from_str(alloc, "unsigned(1)")?;
+/// let line = Line::new(alloc, String::from_str(alloc, "01")?, comment);
+/// assert!(rt; line.fits());
+/// assert_eq!(rt; merge(alloc, &line)?.as_str(), "01 # unsigned(1)\n");
+/// ```
 pub fn merge(alloc: Global, line: &Line) -> Result<String, AllocError>
     requires { Fits line.now }
     ensures text { IfOk result (λ text. string_bytes text ≡ layout (tree_lines line.now 0)) }
@@ -218,13 +243,21 @@ fn push_left(out: &mut String, width: usize, depth: usize, hex: &str) -> Result<
     push_blanks(out, width - indent - hex.len())
 }
 
-/// Appends one line of a dump to `out`: the digits of `hex` after three blanks for each `depth`,
-/// with blanks up to `width`, or `width` blanks alone where `hex` is empty; then ` # `, two blanks
-/// for each `depth`, `comment` and a line feed.
+/// Appends one line of a dump to `out`: three blanks for each `depth`, `hex`, and blanks up to
+/// `width`; then ` # `, two blanks for each `depth`, `comment` and a line feed. If `hex` is empty,
+/// the line begins with `width` blanks.
 ///
-/// `depth` is at most 140, `hex` is ASCII of at most 64 bytes, `width` is at most 484, and hex that
-/// isn't empty fits `width`: `3 * depth + hex.len()` is at most that. The only error is out of
-/// memory, and after it `out` is unchanged.
+/// `depth` is at most 140 and `width` at most 484. `hex` is ASCII of at most 64 bytes, and if it is
+/// not empty, `3 * depth + hex.len()` is at most `width`. The only error is out of memory, and
+/// after it `out` is unchanged.
+///
+/// ```rust
+/// use cbor_notes::put_line;
+///
+/// let mut dump = String::new(alloc);
+/// put_line(&mut dump, 5, 1, "0a", "unsigned(10)")?;
+/// assert_eq!(rt; dump.as_str(), "   0a #   unsigned(10)\n");
+/// ```
 pub fn put_line(
     out: &mut String,
     width: usize,

@@ -3,9 +3,15 @@
 ghost use Rattle.std.specs.Prelude.{◌≡◌, Some, None, MatchOption};
 ghost use Rattle.cbor_notes.specs.TagNames as spec;
 
-/// The name of a tag, or `None` for a tag that has none here. Named are the tags of RFC 7049
-/// section 2.4, of RFC 8742, 8746, 8943 and 9164, and some of the IANA registry of CBOR tags;
+/// Returns the name of a tag, or `None` if it has none here. The tags of RFC 7049 section 2.4 and
+/// of RFC 8742, 8746, 8943 and 9164 have names, and so do some of the IANA registry of CBOR tags.
 /// docs/NOTES.md has the table. It takes no memory.
+///
+/// ```rust
+/// use cbor_notes::tag_name;
+///
+/// assert_eq!(rt; tag_name(32), Some("uri"));
+/// ```
 pub fn tag_name(number: u64) -> Option<&'static str>
     ensures { MatchOption result (spec.tag_name number ≡ None)
         (λ name. spec.tag_name number ≡ Some name.now) }

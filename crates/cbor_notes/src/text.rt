@@ -13,11 +13,18 @@ ghost use Rattle.cbor_notes.specs.Text as spec;
 
 use std::alloc::{AllocError, Global};
 
-/// `bytes` between quotes, as in `"\x00A\n"`.
+/// Returns `bytes` between quotes, as in `"\x00A\n"`.
 ///
-/// A tab, a carriage return and a line feed are `\t`, `\r` and `\n`; `'`, `"` and `\` come after a
-/// backslash; the other bytes from `0x20` to `0x7e` are as they are; any other byte is `\x` and two
-/// hex digits in lower case. The only error is out of memory.
+/// A tab, a carriage return and a line feed are `\t`, `\r` and `\n`. `'`, `"` and `\` have a
+/// backslash before them. The other bytes from `0x20` to `0x7e` are unchanged. Any other byte is
+/// `\x` and two hex digits in lower case. The only error is out of memory.
+///
+/// ```rust
+/// use cbor_notes::quoted_bytes;
+///
+/// let text = quoted_bytes(alloc, b"\x00A\n")?;
+/// assert_eq!(rt; text.as_str(), "\"\\x00A\\n\"");
+/// ```
 pub fn quoted_bytes(alloc: Global, bytes: &[u8]) -> Result<String, AllocError>
     ensures text { IfOk result (λ text. string_bytes text ≡ spec.quoted_bytes bytes.now) }
 {
@@ -27,8 +34,16 @@ pub fn quoted_bytes(alloc: Global, bytes: &[u8]) -> Result<String, AllocError>
     Ok(text)
 }
 
-/// Appends what [`quoted_bytes`] writes of `bytes` to `text`. The only error is out of memory, and
-/// after it `text` is unchanged.
+/// Appends the text of [`quoted_bytes`] to `text`. The only error is out of memory, and after it
+/// `text` is unchanged.
+///
+/// ```rust
+/// use cbor_notes::push_quoted_bytes;
+///
+/// let mut text = String::from_str(alloc, "is ")?;
+/// push_quoted_bytes(&mut text, b"it's")?;
+/// assert_eq!(rt; text.as_str(), "is \"it\\'s\"");
+/// ```
 pub fn push_quoted_bytes(text: &mut String, bytes: &[u8]) -> Result<(), AllocError>
     ensures text { OnOk result
         (string_bytes text.new ≡ string_bytes text.old ++ spec.quoted_bytes bytes.now) }
@@ -39,8 +54,8 @@ pub fn push_quoted_bytes(text: &mut String, bytes: &[u8]) -> Result<(), AllocErr
     cut_after_error(text, len, answer)
 }
 
-/// Hands on what an append to `text` answered, and cuts `text` back to its first `len` bytes after
-/// an error.
+/// Returns the result of an append to `text`. After an error it cuts `text` back to its first `len`
+/// bytes.
 pub(crate) fn cut_after_error(
     text: &mut String,
     len: usize,
@@ -92,14 +107,22 @@ fn push_escaped_byte(text: &mut String, byte: u8) -> Result<(), AllocError>
     }
 }
 
-/// Appends the hex digits of `bytes` to `text`, two for each, in lower case. The only error is out
-/// of memory, and after it `text` is unchanged.
+/// Appends the hex digits of `bytes` to `text`: two for each byte, in lower case. The only error is
+/// out of memory, and after it `text` is unchanged.
+///
+/// ```rust
+/// use cbor_notes::push_hex;
+///
+/// let mut text = String::from_str(alloc, "h'")?;
+/// push_hex(&mut text, b"foo")?;
+/// assert_eq!(rt; text.as_str(), "h'666f6f");
+/// ```
 pub fn push_hex(text: &mut String, bytes: &[u8]) -> Result<(), AllocError>
     ensures text { OnOk result (string_bytes text.new ≡ string_bytes text.old
         ++ encode_lower bytes.now) }
     ensures unchanged { OnErr result (string_bytes text.new ≡ string_bytes text.old) }
 {
-    // Room for all of them at once, so that no later append can fail.
+    // Reserved for all of them at once, so that no later append can fail.
     text.reserve(2 * bytes.len())?;
     let mut rest = bytes;
     'pieces: while !rest.is_empty() {
@@ -142,10 +165,18 @@ pub(crate) fn push_hex_byte(text: &mut String, byte: u8) -> Result<(), AllocErro
     text.push(char::from(digits[1]))
 }
 
-/// `text` with some of its characters escaped: `"` and `\` come after a backslash; a tab, a
-/// carriage return and a line feed are `\t`, `\r` and `\n`; the other characters of U+0000 to
-/// U+001F and U+007F to U+009F are `\u{h}` with hex digits in lower case and no leading zero. No
-/// quotes are put round it. The only error is out of memory.
+/// Returns `text` with some of its characters escaped. No quotes are added.
+///
+/// `"` and `\` have a backslash before them. A tab, a carriage return and a line feed are `\t`,
+/// `\r` and `\n`. The other characters of U+0000 to U+001F and U+007F to U+009F are `\u{h}`, where
+/// `h` is hex digits in lower case without a leading zero. The only error is out of memory.
+///
+/// ```rust
+/// use cbor_notes::escaped_text;
+///
+/// let text = escaped_text(alloc, "say \"hi\"\n")?;
+/// assert_eq!(rt; text.as_str(), "say \\\"hi\\\"\\n");
+/// ```
 pub fn escaped_text(alloc: Global, text: &str) -> Result<String, AllocError>
     ensures text { IfOk result (λ escaped. string_bytes escaped ≡ spec.escaped_text text.now) }
 {
@@ -154,8 +185,16 @@ pub fn escaped_text(alloc: Global, text: &str) -> Result<String, AllocError>
     Ok(escaped)
 }
 
-/// Appends what [`escaped_text`] writes of `text` to `escaped`. The only error is out of memory,
-/// and after it `escaped` is unchanged.
+/// Appends the text of [`escaped_text`] to `escaped`. The only error is out of memory, and after it
+/// `escaped` is unchanged.
+///
+/// ```rust
+/// use cbor_notes::push_escaped_text;
+///
+/// let mut text = String::from_str(alloc, "C:")?;
+/// push_escaped_text(&mut text, "\\temp")?;
+/// assert_eq!(rt; text.as_str(), "C:\\\\temp");
+/// ```
 pub fn push_escaped_text(escaped: &mut String, text: &str) -> Result<(), AllocError>
     ensures text { OnOk result
         (string_bytes escaped.new ≡ string_bytes escaped.old ++ spec.escaped_text text.now) }
@@ -225,8 +264,16 @@ fn hex_digit(number: u8) -> char
     })
 }
 
-/// `number` in decimal digits, in groups of three from the right with `,` between them, and with
-/// `-` before it if `negative`: `999`, `1,000`, `-1,234,567`. The only error is out of memory.
+/// Returns `number` in decimal digits, in groups of three from the right with `,` between them, and
+/// with `-` before it if `negative` is set: `999`, `1,000`, `-1,234,567`. The only error is out of
+/// memory.
+///
+/// ```rust
+/// use cbor_notes::grouped;
+///
+/// let text = grouped(alloc, 1_234_567, true)?;
+/// assert_eq!(rt; text.as_str(), "-1,234,567");
+/// ```
 pub fn grouped(alloc: Global, number: u128, negative: bool) -> Result<String, AllocError>
     ensures text { IfOk result (λ text. string_bytes text ≡ spec.grouped number negative) }
     // From the right, each group has three digits.
@@ -238,8 +285,16 @@ pub fn grouped(alloc: Global, number: u128, negative: bool) -> Result<String, Al
     Ok(text)
 }
 
-/// Appends what [`grouped`] writes of `number` to `text`. The only error is out of memory, and
-/// after it `text` is unchanged.
+/// Appends the text of [`grouped`] to `text`. The only error is out of memory, and after it `text`
+/// is unchanged.
+///
+/// ```rust
+/// use cbor_notes::push_grouped;
+///
+/// let mut text = String::from_str(alloc, "day ")?;
+/// push_grouped(&mut text, 10_676, true)?;
+/// assert_eq!(rt; text.as_str(), "day -10,676");
+/// ```
 pub fn push_grouped(text: &mut String, number: u128, negative: bool) -> Result<(), AllocError>
     ensures text { OnOk result
         (string_bytes text.new ≡ string_bytes text.old ++ spec.grouped number negative) }

@@ -1,7 +1,7 @@
-//! The tokens of diagnostic notation, and its blanks: each call looks at a place of a text and
-//! answers the longest one that begins there, or the content up to its quote.
+//! The tokens of diagnostic notation, and its blanks. Each call takes a place in a text and returns
+//! the longest token that begins there, or the content up to its quote.
 //!
-//! A text is given as bytes of UTF-8. What a token means where the text goes on is for the caller.
+//! A text is given as bytes of UTF-8. The caller decides what a token means.
 
 mod content;
 mod number;
@@ -13,11 +13,17 @@ ghost use Rattle.cbor_notes.specs.TokenReading.{after_blank};
 pub use content::{digits_at, quoted_at};
 pub use number::number_at;
 
-/// Where the longest blank from `at` on ends.
+/// Returns the end of the longest blank from `at` on. `at` is at most the length of `text`.
 ///
-/// A blank is any run, also empty, of whitespace (space, tab, line feed, carriage return) and
-/// comments. A comment is `/`, any bytes but `/`, and `/`; a `/` with no other after it belongs to
-/// no blank.
+/// A blank is any run, possibly empty, of whitespace (space, tab, line feed, carriage return) and
+/// comments. A comment is `/`, any bytes but `/`, and `/`. A `/` with no other after it is not part
+/// of a blank.
+///
+/// ```rust
+/// use cbor_notes::blank_end;
+///
+/// assert_eq!(rt; blank_end(b" /two/ 2", 0), 7);
+/// ```
 pub fn blank_end(text: &[u8], at: usize) -> usize
     requires { at ≤ length text.now }
     ensures within { (at ≤ result) × (result ≤ length text.now) }

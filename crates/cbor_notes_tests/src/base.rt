@@ -189,7 +189,7 @@ const REFUSED: &[(Decoder, &str)] = &[
 /// Bytes that are no digits, nor UTF-8.
 const NO_DIGITS: &[(Decoder, &[u8])] = &[(Base32, b"MZXW6YT\xc2"), (Base64, b"Zm9\xc2")];
 
-/// What digits decode to, in hex, and `none` where they encode nothing.
+/// What digits decode to, in hex, or `none` if they encode nothing.
 fn decoded(alloc: Global, decoder: Decoder, digits: &[u8]) -> Result<String, AllocError> {
     let found = match decoder {
         Base32 => base32_decode(alloc, digits)?,
@@ -226,7 +226,7 @@ fn other_digits_are_refused(rt: HostRuntime) -> Result<(), Fail> {
 }
 
 /// Texts, whether they are in the encoding for URLs, and the lines of what they encode, each with a
-/// line feed, or `none` where they encode nothing.
+/// line feed, or `none` if they encode nothing.
 const LINES: &[(&str, bool, &str)] = &[
     (
         "AAAAAAAAAAAAAAAAAAAAAAA=",

@@ -52,7 +52,7 @@ const NO_DATES: &[&str] = &[
     "２023-01-1",
 ];
 
-/// Days, and their dates; `-` where there is none.
+/// Days, and their dates; `-` if there is none.
 const DATES: &[(i64, &str)] = &[
     (0, "1970-01-01"),
     (-1, "1969-12-31"),
@@ -77,7 +77,7 @@ const DATES: &[(i64, &str)] = &[
     (i64::MIN, "-"),
 ];
 
-/// Seconds, and their moments; `-` where there is none.
+/// Seconds, and their moments; `-` if there is none.
 const MOMENTS: &[(i64, &str)] = &[
     (0, "1970-01-01T00:00:00Z"),
     (-1, "1969-12-31T23:59:59Z"),
@@ -176,7 +176,7 @@ const NO_MOMENTS: &[&str] = &[
     "1970-01-01T00:00:00+01:00[Europe/Paris]",
 ];
 
-/// What a call answered, and `-` where it answered nothing.
+/// The text that a call returned, or `-` for `None`.
 fn shown(alloc: Global, answer: Option<String>) -> Result<String, AllocError> {
     match answer {
         Some(text) => Ok(text),

@@ -54,7 +54,7 @@ fn sizes_of_elements(rt: HostRuntime) -> Result<(), Fail> {
 }
 
 /// Tags, bytes in hex, and the text of the element: whole numbers by their values, floats by their
-/// bits; `-` where there is none.
+/// bits; `-` if there is none.
 const ELEMENTS: &[(u64, &str, &str)] = &[
     (64, "ff", "unsigned(255)"),
     (68, "80", "unsigned(128)"),
@@ -112,7 +112,7 @@ const ELEMENTS: &[(u64, &str, &str)] = &[
     (88, "0000", "-"),
 ];
 
-/// The text of an element, and `-` where there is none.
+/// The text of an element, or `-` if there is none.
 fn text_of(alloc: Global, tag: u64, digits: &str) -> Result<String, Fail> {
     let bytes = hex::decode(alloc, digits)?;
     match element_text(alloc, tag, &bytes)? {

@@ -6,6 +6,8 @@ mod base;
 #[cfg(test)]
 mod dates;
 #[cfg(test)]
+mod doc_examples;
+#[cfg(test)]
 mod elements;
 #[cfg(test)]
 mod lines;

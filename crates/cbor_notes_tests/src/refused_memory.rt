@@ -1,5 +1,5 @@
-// Calls where memory is found, and where it is refused. What each has to answer is an example of
-// the tests on its subject.
+// Calls with memory, and calls in which an allocation fails. What each has to return is an example
+// of the tests on its subject.
 
 use cbor_notes::{
     Line, base32_decode, base32hex_decode, base58, base64_any_decode, base64_lines, date_of_epoch,
@@ -44,7 +44,7 @@ enum Call {
     PutLine,
 }
 
-/// Each call that takes memory, with its answer as `answer` shows it.
+/// Each call that allocates, with its result as `answer` shows it.
 const ROWS: &[(Call, &str)] = &[
     (Call::Base32, "666f6f6261"),
     (Call::Base32Hex, "666f6f6261"),
@@ -137,7 +137,7 @@ fn joined(alloc: Global, lines: &Vec<String>) -> Result<String, AllocError> {
     Ok(text)
 }
 
-/// What a call answers, of those that decode.
+/// The result of a call that decodes.
 fn decoded(alloc: Global, call: Call) -> Result<String, AllocError> {
     match call {
         Call::Base32 => found_bytes(alloc, base32_decode(alloc, b"MZXW6YTB")?),
@@ -155,7 +155,7 @@ fn decoded(alloc: Global, call: Call) -> Result<String, AllocError> {
     }
 }
 
-/// The same of those that may have no text to answer.
+/// The result of a call that returns a text or `None`.
 fn noted(alloc: Global, call: Call) -> Result<String, AllocError> {
     match call {
         Call::DateOfEpoch => found_text(alloc, date_of_epoch(alloc, 3_994)?),
@@ -176,7 +176,7 @@ fn noted(alloc: Global, call: Call) -> Result<String, AllocError> {
     }
 }
 
-/// The same of those that answer a text.
+/// The result of a call that returns a text.
 fn written(alloc: Global, call: Call) -> Result<String, AllocError> {
     match call {
         Call::Base58 => base58(alloc, &UUID),
@@ -227,7 +227,7 @@ fn appended(rt: &impl Abort, alloc: Global, call: Call) -> Result<String, AllocE
     Ok(text)
 }
 
-/// What a call answers, as a text.
+/// The result of a call, as a text.
 fn answer(rt: &impl Abort, alloc: Global, call: Call) -> Result<String, AllocError> {
     match call {
         Call::Base32
@@ -256,7 +256,7 @@ fn answer(rt: &impl Abort, alloc: Global, call: Call) -> Result<String, AllocErr
     }
 }
 
-// A call that always answers out of memory meets its contract, so no proof finds it.
+// A call that always returns out of memory meets its contract, so no proof finds it.
 #[test]
 fn calls_answer_where_memory_is_found(rt: HostRuntime) -> Result<(), Fail> {
     for &(call, want) in ROWS {
@@ -266,9 +266,9 @@ fn calls_answer_where_memory_is_found(rt: HostRuntime) -> Result<(), Fail> {
     Ok(())
 }
 
-// `compare/failing_calls` runs this while it refuses requests for memory, and reads the lines: a
-// call that a request was refused in has to print `memory`, and any other `ok`. Where nothing is
-// refused, as in the gate, this shows no more than the test above.
+// `compare/failing_calls` runs this while it makes allocations fail, and reads the lines: a call
+// in which one failed has to print `memory`, and any other `ok`. If none fails, as in the gate,
+// this shows no more than the test above.
 #[test]
 fn calls_answer_or_memory_is_refused(rt: HostRuntime) -> Result<(), Fail> {
     for &(call, want) in ROWS {

@@ -1,4 +1,4 @@
-// The tokens of diagnostic notation. Texts and answers were written by hand from the rules of
+// The tokens of diagnostic notation. Texts and results were written by hand from the rules of
 // docs/NOTES.md.
 
 use cbor_notes::{blank_end, digits_at, number_at, quoted_at};
@@ -277,7 +277,7 @@ const LONG_NUMBERS: &[(&str, &str, Option<(u128, Option<u8>, usize)>)] = &[
     ("9", "_3", Some(((1 << 64) + 1, Some(3), 1_000_002))),
 ];
 
-// Each of these is over in no time where the work is linear in the text.
+// Each of these ends at once if the work is linear in the text.
 #[test]
 fn long_blanks_and_numbers_are_read_once(rt: HostRuntime) -> Result<(), Fail> {
     for &(piece, times, want) in LONG_BLANKS {

@@ -16,9 +16,9 @@ use Rattle.cbor_convert.specs.declared.form.To.{To}
 use Rattle.cbor_convert.specs.Output.{output_of}
 use Rattle.cbor_view.specs.Sequence.{ItemsThen, IsOutputOfFirst, IsOutputOfAll, EndsTheItems, IsOutputBefore}
 
--- ---- what reading answers at the front
+-- ---- what reading returns at the front
 
--- reading refuses the bytes so
+-- reading returns this error for the bytes
 abbrev IsRefused : List ℕ → Error → Type 0
 IsRefused b e = read_item 128 b ≡ Err e
 

@@ -71,7 +71,7 @@ part_later contents old mid new out more first part =
 
 -- ---- the end after a block
 
--- what `?` hands on is the error that it was
+-- `?` returns the error unchanged
 pub same_end : {X : Type 0} (s r : Result X ViewError) (e : ViewError) → IsErrAnd s (λ v. v ≡ e) → r ≡ Err e → s ≡ r
 same_end (Ok x) r e is was = absurd is
 same_end {X = X} (Err v) r e is was = let P : ViewError → Result X ViewError = λ d. Err d in ap P is ∙ sym was

@@ -18,12 +18,12 @@ moved_none c = c.moved_none
 abbrev pub one_more : ℕ → ℕ
 one_more n = min (n + 1) (2 ^ 64 - 1)
 
--- the count after a call with this answer
+-- the count after a call with this result
 abbrev pub failures_after : {X E : Type 0} → ℕ → Result X E → ℕ
 failures_after n (Ok x) = n
 failures_after n (Err e) = one_more n
 
--- whether a read or write of `asked` bytes, with this answer, was of at least one and moved none
+-- whether a read or write of `asked` bytes, with this result, was of at least one and moved none
 abbrev pub moves_none : {E : Type 0} → ℕ → Result ℕ E → Bool
 moves_none asked (Ok moved) = nat_lt 0 asked && (moved == 0)
 moves_none asked (Err e) = false

@@ -1,4 +1,4 @@
-//! From the bytes of an input to the bytes of its output.
+//! Converts the bytes of an input to the bytes of its output.
 ghost use Rattle.std.specs.Prelude.{Ok, Err, IfOk};
 ghost use Rattle.cbor_diag.specs.Answer.{RefusedSo};
 ghost use Rattle.cbor_convert.specs.Output.{IsOutput};
@@ -7,11 +7,11 @@ use cbor_convert::{Source, To, read_item, write_item};
 use cbor_diag::Error;
 use std::alloc::Global;
 
-/// The output for an input, in the memory of the input where it can: that was used already, and
-/// fresh memory takes longer.
+/// Returns the output for an input, in the memory of the input if it can: that was used already,
+/// and fresh memory takes longer.
 ///
-/// The item's memory is left to the end of the process. Only the writing of the output comes after,
-/// and to free an item's many small blocks one by one took up to half of the whole time.
+/// The item is not dropped. Only the writing of the output comes after it, and to free its many
+/// small blocks one by one takes long.
 pub(crate) fn convert(alloc: Global, from: Source, to: To, input: Vec<u8>) -> Result<Vec<u8>, Error>
     ensures ok { IfOk result (λ output. IsOutput from to input.items (Ok output.items)) }
     ensures refused { RefusedSo result (λ e. IsOutput from to input.items (Err e)) }

@@ -7,9 +7,9 @@ ghost use Rattle.cbor_view.specs.Counting.{failures_after, moves_none};
 
 use std::io::{Read, Result, Write};
 
-/// A reader or a writer, with what its calls showed: how many of them failed, and, for contracts,
-/// whether the last read or write was of at least one byte, did not fail and moved none. Of a
-/// reader that is the end of its input, of a writer that it takes no more.
+/// A reader or a writer that counts its failed calls. For contracts it also keeps whether the last
+/// read or write was of at least one byte, did not fail and moved none. For a reader that is the
+/// end of its input; for a writer it means that it takes no more.
 #[derive(Drop)]
 pub struct Counted<T> {
     inner: T,
@@ -18,7 +18,7 @@ pub struct Counted<T> {
 }
 
 impl<T> Counted<T> {
-    /// Keeps a reader or a writer, with no call made yet.
+    /// Wraps a reader or a writer, with no call made yet.
     pub fn new(inner: T) -> Counted<T>
         ensures inner { inner_of result ≡ inner }
         ensures failures { failures_of result ≡ 0 }
@@ -31,14 +31,14 @@ impl<T> Counted<T> {
         }
     }
 
-    /// The reader or the writer that was kept.
+    /// Returns the reader or the writer.
     pub fn into_inner(self) -> T
         ensures { result ≡ inner_of self }
     {
         self.inner
     }
 
-    /// How many calls failed, interrupted ones included. It stays at `u64::MAX`.
+    /// Returns how many calls failed, including interrupted ones. The count stays at `u64::MAX`.
     pub fn failures(&self) -> u64
         ensures { result ≡ failures_of self.now }
     {
@@ -54,7 +54,7 @@ impl<T> Counted<T> {
         self.failures = self.failures.saturating_add(1);
     }
 
-    /// Takes note of a read or write of `asked` bytes.
+    /// Records a read or write of `asked` bytes.
     fn note(&mut self, asked: usize, answer: &Result<usize>)
         ensures inner { inner_of self.new ≡ inner_of self.old }
         ensures failures { failures_of self.new ≡ failures_after (failures_of self.old) answer.now }

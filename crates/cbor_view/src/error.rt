@@ -14,12 +14,13 @@ pub enum ViewError {
     Item(Error),
     /// A read failed.
     Read,
-    /// A write failed, or took no byte of some that were left.
+    /// A write failed, or took none of the bytes that were left.
     Write,
 }
 
 impl ViewError {
-    /// What is wrong, in a few words without a full stop: of an item what its own error says.
+    /// Returns what is wrong, in a few words without a full stop: for `Item`, the text of its
+    /// error.
     pub fn text(&self) -> &'static str
         ensures { result.now ≡ text_of self.now }
     {

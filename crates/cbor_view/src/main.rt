@@ -1,21 +1,27 @@
-//! Converts one CBOR data item (RFC 7049): `cbor_view FROM TO` reads it from standard input, in the
-//! form FROM, and writes it to standard output, in the form TO.
+//! Converts one CBOR data item (RFC 7049, which RFC 8949 replaced): `cbor_view FROM TO` reads it
+//! from standard input in the form FROM, and writes it to standard output in the form TO.
 //!
-//! FROM is `bytes`, the item's own bytes, `hex`, its bytes in hex with comments, or `diag`,
+//! ```text
+//! $ cbor_view hex diag < examples/uri.hex
+//! 32_0("https://example.com")
+//! ```
+//!
+//! FROM is `bytes`, the bytes of the item, `hex`, its bytes in hex with comments, or `diag`,
 //! diagnostic notation. TO is `bytes`, `hex`, `diag`, diagnostic notation on one line, or `pretty`,
 //! the same over several lines. If FROM is `seq`, the input is the bytes of items one after the
 //! other (RFC 8742), and each is written in the form TO, in order. Their outputs are written in
 //! blocks.
 //!
-//! The exit status is 0 if the output was written. It is 1 if the input is no item, or no sequence
-//! of items, if it cannot be read, if the output cannot be written, or if memory runs out. Of an
-//! input that is no item nothing is written, and of a sequence the items before the error are. The
-//! status is 2, and nothing is read, if the arguments are not two such words. Standard error then
-//! says why.
+//! The exit status is 0 if the output was written. It is 1 if the input is not valid or cannot be
+//! read, if the output cannot be written, or if memory runs out. Invalid input produces no output;
+//! in a sequence, the items before the first error are written. The status is 2, and nothing is
+//! read, for wrong arguments. Standard error then says why.
 #![tactic(auto)]
 
 mod convert;
 mod counted;
+#[cfg(test)]
+mod doc_examples;
 mod error;
 #[cfg(test)]
 mod fakes;
@@ -41,7 +47,7 @@ use std::process::ExitCode;
 use std::rt::Env;
 use thiserror::Error;
 
-/// Why the program ends with another status than 0.
+/// Why the program ends with a status other than 0.
 #[derive(Debug, Drop, Error)]
 enum Failure {
     #[error("usage: cbor_view FROM TO")]
@@ -59,15 +65,15 @@ impl Failure {
     }
 }
 
-/// What the two words ask for.
+/// What the arguments ask for.
 enum Job {
-    /// One item, from one form to the other.
+    /// One item, from one form to another.
     One(Source, To),
-    /// Items one after the other, each to this form.
+    /// A sequence of items, each to this form.
     Sequence(To),
 }
 
-/// What the two words after the program's name ask for.
+/// Returns what the two arguments ask for.
 fn asked(rt: &(impl Env + Alloc)) -> Result<Job, Failure> {
     let mut arguments = env::args(rt).map_err(|_| Failure::Usage)?;
     let _program = arguments.next();
@@ -85,8 +91,8 @@ fn asked(rt: &(impl Env + Alloc)) -> Result<Job, Failure> {
     }
 }
 
-/// Tests the words, and only then reads. What was written of a sequence is flushed before its error
-/// is reported; if the flush fails, that is reported in its place.
+/// Checks the arguments, and only then reads. The output of a sequence is flushed before its error
+/// is reported. If the flush fails, that is reported instead.
 fn view(
     rt: &(impl Env + AllocGlobal),
     input: impl Read + Drop,

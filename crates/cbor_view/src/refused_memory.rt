@@ -1,4 +1,4 @@
-//! Runs where memory is refused, one request after the other, by `compare/failing_calls`.
+//! Runs in which `compare/failing_calls` makes allocations fail, one after the other.
 use crate::counted::Counted;
 use crate::error::ViewError;
 use crate::fakes::{COMMENTED, ITEM};
@@ -106,8 +106,9 @@ fn after_outputs<'a>(bytes: &'a [u8], outputs: &[&[u8]]) -> (usize, &'a [u8]) {
     (count, rest)
 }
 
-/// A run writes all that it should; or memory is refused, and of an item nothing is written, of a
-/// sequence the output of some first items, each whole. Says whether memory was refused.
+/// A run writes all that it should; or an allocation fails, and then nothing is written for an
+/// item, and for a sequence only the output of some first items, each whole. Returns whether an
+/// allocation failed.
 fn check(rt: &impl Abort, alloc: Global, case: &Case, number: usize) -> Result<bool, AllocError> {
     let (written, end) = outcome(alloc, case)?;
     let (count, rest) = after_outputs(&written, case.outputs);
@@ -127,9 +128,9 @@ fn check(rt: &impl Abort, alloc: Global, case: &Case, number: usize) -> Result<b
     Ok(refused)
 }
 
-// `compare/failing_calls` runs this while it refuses requests for memory, and reads the lines: a
-// run that a request was refused in has to print `memory`, and any other `ok`. Where nothing is
-// refused, as in the gate, this shows no more than the tests of conversions and sequences.
+// `compare/failing_calls` runs this while it makes allocations fail, and reads the lines: a run in
+// which one failed has to print `memory`, and any other `ok`. If none fails, as in the gate, this
+// shows no more than the tests of conversions and sequences.
 #[test]
 fn a_call_answers_or_memory_is_refused(rt: HostRuntime) -> Result<(), Fail> {
     for (number, case) in cases().iter().enumerate() {

@@ -1,4 +1,4 @@
-//! One run of the program, over any reader and writer.
+//! A run of the program for one item, over any reader and writer.
 ghost use Rattle.std.specs.Prelude.{◌≡◌, ℕ, ◌+◌, ◌<◌, ◌≤◌, List, length, take, drop, vec_len};
 ghost use Rattle.std.specs.Prelude.{Ok, Err, IfOk, IfErr, OnOk, OnErr, ◌⊎◌};
 ghost use Rattle.std.specs.Io.KnownBytes.{Consumes};
@@ -16,11 +16,11 @@ use crate::words::{Source, To};
 use std::alloc::{AllocError, Global};
 use std::io::{Read, Write};
 
-/// How much room is made for a read.
+/// The number of bytes that are made free for a read.
 const BLOCK: usize = 64 * 1024;
 
 /// Reads the input to its end, converts it, and writes the output. Nothing is written before all of
-/// the input was read and converted, and any call that fails ends the run, an interrupted one too.
+/// the input was read and converted. Any failed call ends the run, including an interrupted one.
 pub fn run<R: Read, W: Write>(
     alloc: Global,
     from: Source,
@@ -61,7 +61,7 @@ pub fn run<R: Read, W: Write>(
     Ok(())
 }
 
-/// All that the reader has.
+/// Reads all that the reader has.
 pub(crate) fn read_to_end<R: Read>(
     alloc: Global,
     input: &mut Counted<R>,
@@ -85,7 +85,7 @@ pub(crate) fn read_to_end<R: Read>(
     Ok(bytes)
 }
 
-/// Makes the bytes longer than what is filled. What an earlier read left unfilled serves again.
+/// Makes the bytes longer than their filled part. What an earlier read left unfilled is used again.
 fn make_room(bytes: &mut Vec<u8>, filled: usize) -> Result<(), AllocError>
     requires { filled ≤ vec_len bytes.old }
     ensures filled { take filled bytes.new.items ≡ take filled bytes.old.items }
@@ -97,7 +97,7 @@ fn make_room(bytes: &mut Vec<u8>, filled: usize) -> Result<(), AllocError>
     Ok(())
 }
 
-/// One read into the unfilled part of the bytes.
+/// Reads once into the unfilled part of the bytes.
 fn read_after<R: Read>(
     input: &mut Counted<R>,
     bytes: &mut [u8],

@@ -1,4 +1,4 @@
-//! One run of the program over a sequence of items, one after the other (RFC 8742).
+//! A run of the program for a sequence of items, one after the other (RFC 8742).
 ghost use Rattle.std.specs.Prelude.{◌≡◌, ℕ, ◌<◌, ◌≤◌, List, ◌++◌, length, drop, IfOk, OnOk, OnErr};
 ghost use Rattle.cbor_diag.specs.Answer.{RefusedSo};
 ghost use Rattle.cbor_view.specs.Running.{HadAll, NoFailure, OneFailure, ReadsAll};
@@ -20,12 +20,12 @@ use std::io::{Read, Write};
 const BLOCK: usize = 64 * 1024;
 
 /// Reads the input to its end, converts one item after the other, from its front, and writes the
-/// outputs, in order and in blocks. Any call that fails ends the run, an interrupted one too.
+/// outputs, in order and in blocks. Any failed call ends the run, including an interrupted one.
 ///
-/// If what follows the items is no item, the run ends with `ViewError::Item` and why: `CutShort` if
-/// it is cut, else its fault. If memory runs out at an item, it ends with `Memory`. In both cases
-/// the output of all items before is written first, and if that write fails, the run ends with
-/// `ViewError::Write`.
+/// If what follows the items is not an item, the run ends with `ViewError::Item` and the reason:
+/// `CutShort` if it is cut, otherwise its fault. If memory runs out at an item, it ends with
+/// `Memory`. In both cases the output of all items before is written first, and if that write
+/// fails, the run ends with `ViewError::Write`.
 pub fn run_seq<R: Read, W: Write>(
     alloc: Global,
     to: To,
@@ -99,8 +99,8 @@ fn write_items<W: Write>(
 }
 
 /// Writes the output of one item after the other, from the front of the bytes, until a block is
-/// full or no item follows, in the memory of `block`. Says how many bytes these items take, and
-/// then why the sequence ends after them, if it does.
+/// full or no item follows, in the memory of `block`. Returns how many bytes these items take, and
+/// why the sequence ends after them, if it does.
 fn write_block<W: Write>(
     alloc: Global,
     to: To,
@@ -127,8 +127,8 @@ fn write_block<W: Write>(
 }
 
 /// Fills a block with the output of one item after the other, from the front of the bytes, until it
-/// is full or no item follows. Says how many bytes these items take, and then why none follows, if
-/// so.
+/// is full or no item follows. Returns how many bytes these items take, and why no item follows
+/// them, if none does.
 fn fill(alloc: Global, to: To, bytes: &[u8], block: &mut Vec<u8>) -> (usize, Result<(), Error>)
     requires { 0 < length bytes.now }
     ensures used { result.0 ≤ length bytes.now }
@@ -147,8 +147,8 @@ fn fill(alloc: Global, to: To, bytes: &[u8], block: &mut Vec<u8>) -> (usize, Res
     (used, Ok(()))
 }
 
-/// Appends the output of the item at the front of the bytes, and says how many of them it takes.
-/// After an error the block is as it was.
+/// Appends the output of the item at the front of the bytes, and returns how many of them it takes.
+/// After an error the block is unchanged.
 fn append_first(alloc: Global, to: To, bytes: &[u8], block: &mut Vec<u8>) -> Result<usize, Error>
     requires { 0 < length bytes.now }
     ensures used { IfOk result (λ used. (1 ≤ used) × (used ≤ length bytes.now)) }

@@ -1,4 +1,4 @@
-//! Runs over memory, by the words of the command line, and what a `Counted` hands on.
+//! Runs over memory, by the arguments of the command line, and the calls of a `Counted`.
 use crate::counted::Counted;
 use crate::fakes::{COMMENTED, Full, ITEM, Noting, first_difference};
 use crate::run::run;
@@ -47,7 +47,7 @@ pub(crate) fn check(
     );
 }
 
-/// Words that name no form.
+/// Arguments that name no form.
 const NO_FORMS: &[&str] = &[
     "", "byte", "bytes ", "Bytes", "HEX", "hex\n", "-", "seq", "text",
 ];
@@ -68,7 +68,7 @@ fn words_name_forms(rt: HostRuntime) {
     }
 }
 
-/// Two words, an input and its output.
+/// Two arguments, an input and its output.
 const CONVERTED: &[(&str, &str, &[u8], &[u8])] = &[
     ("hex", "bytes", COMMENTED, &ITEM),
     ("bytes", "bytes", &ITEM, &ITEM),
@@ -184,7 +184,7 @@ fn converts_strings_of_no_chunks(rt: HostRuntime) {
     }
 }
 
-/// The form of an input, an input that is no item in that form, and why.
+/// The form of an input, an input that is not an item in that form, and the error.
 const REFUSED: &[(&str, &[u8], &str)] = &[
     ("bytes", b"", "the item is cut short"),
     ("bytes", b"\xd8", "the item is cut short"),

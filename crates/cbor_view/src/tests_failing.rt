@@ -26,7 +26,7 @@ const DUMPS: &str = "f4 # false, simple(20)\n80 # array(0)\n18 64 # unsigned(100
 
 const LINES: &str = "false\n[]\n100_0\n";
 
-/// Two words, an input and its output. The first word is `seq` where no form is named.
+/// Two arguments, an input and its output. The first argument is `seq` for a sequence.
 #[derive(Clone, Copy)]
 struct Pair<'a> {
     from: Option<Source>,

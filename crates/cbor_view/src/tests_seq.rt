@@ -72,7 +72,7 @@ const COUNTS: &[usize] = &[
     2 * IN_A_BLOCK,
 ];
 
-/// What follows the items, and why it is no item.
+/// What follows the items, and the error.
 const BEHIND: &[(&[u8], &str)] = &[
     (b"", ""),
     (b"\xff\x01", "no item can have this head"),

@@ -4,7 +4,8 @@ ghost use Rattle.cbor_view.specs.Words.{source_word, target_word};
 
 pub use cbor_convert::{Source, To};
 
-/// The form that a word names for the input: `bytes`, `hex` or `diag`. Any other word names none.
+/// Returns the form that an argument names for the input: `bytes`, `hex` or `diag`; `None` for any
+/// other.
 pub fn from_word(word: &str) -> Option<Source>
     ensures named { IfSome result (λ source. word.now ≡ source_word source) }
     ensures each_word { (source : Source) → word.now ≡ source_word source → result ≡ Some source }
@@ -17,8 +18,8 @@ pub fn from_word(word: &str) -> Option<Source>
     }
 }
 
-/// The form that a word names for the output: `bytes`, `hex`, `diag` or `pretty`. Any other word
-/// names none.
+/// Returns the form that an argument names for the output: `bytes`, `hex`, `diag` or `pretty`;
+/// `None` for any other.
 pub fn to_word(word: &str) -> Option<To>
     ensures named { IfSome result (λ target. word.now ≡ target_word target) }
     ensures each_word { (target : To) → word.now ≡ target_word target → result ≡ Some target }

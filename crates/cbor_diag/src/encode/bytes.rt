@@ -183,11 +183,20 @@ fn push_pairs(out: &mut Vec<u8>, pairs: &Vec<(DataItem, DataItem)>) -> Result<()
 }
 
 impl DataItem {
-    /// The item in bytes. An unstated width is the shortest that fits, an unstated float width 64
-    /// bits, and a simple value below 24 takes one byte; indefinite lengths stay so (RFC 7049
-    /// section 2).
+    /// Returns the item in bytes (RFC 7049 section 2). An unstated width is written as the shortest
+    /// that fits, and an unstated float width as 64 bits. A simple value below 24 takes one byte.
+    /// Indefinite lengths stay indefinite.
     ///
-    /// The item has to be well formed, as `is_well_formed` checks. The only error is `Memory`.
+    /// The item has to be well formed, as [`DataItem::is_well_formed`] checks. The only error is
+    /// `Memory`.
+    ///
+    /// ```rust
+    /// use cbor_diag::parse_diag;
+    ///
+    /// let item = parse_diag(alloc, "1(1363896240)")?;
+    /// let bytes = item.to_bytes(alloc)?;
+    /// assert_eq!(rt; bytes.as_slice(), b"\xc1\x1a\x51\x4b\x67\xb0".as_slice());
+    /// ```
     pub fn to_bytes(&self, alloc: Global) -> crate::Result<Vec<u8>>
         requires { IsWellFormed (view self.now) }
         ensures bytes { IfOk result (λ v. v.items ≡ encoded (view self.now)) }
@@ -208,10 +217,10 @@ impl DataItem {
         Ok(out)
     }
 
-    /// Appends what [`DataItem::to_bytes`] answers to `out`, for whoever has memory for it already.
+    /// Appends the bytes of [`DataItem::to_bytes`] to `out`, to reuse its memory.
     ///
-    /// The item has to be well formed, as `is_well_formed` checks. The only error is `Memory`,
-    /// and after it `out` is unchanged.
+    /// The item has to be well formed, as [`DataItem::is_well_formed`] checks. The only error is
+    /// `Memory`, and after it `out` is unchanged.
     pub fn push_bytes(&self, out: &mut Vec<u8>) -> crate::Result<()>
         requires { IsWellFormed (view self.now) }
         ensures bytes { OnOk result (out.new.items ≡ out.old.items ++ encoded (view self.now)) }

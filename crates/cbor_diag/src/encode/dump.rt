@@ -31,10 +31,20 @@ use items::dump;
 use std::alloc::Global;
 
 impl DataItem {
-    /// The item as a dump: its bytes in hex, as `to_bytes` writes them, each line with a comment
-    /// (docs/DUMP.md). `parse_hex` reads it back, with unstated widths resolved.
+    /// Returns the item as a dump: its bytes in hex, as [`DataItem::to_bytes`] writes them, each
+    /// line with a comment. docs/DUMP.md describes the lines. `parse_hex` reads a dump back, with
+    /// unstated widths resolved.
     ///
-    /// The item has to be well formed, as `is_well_formed` checks. The only error is `Memory`.
+    /// The item has to be well formed, as [`DataItem::is_well_formed`] checks. The only error is
+    /// `Memory`.
+    ///
+    /// ```rust
+    /// use cbor_diag::parse_diag;
+    ///
+    /// let item = parse_diag(alloc, "[100]")?;
+    /// let dump = "81       # array(1)\n   18 64 #   unsigned(100)\n";
+    /// assert_eq!(rt; item.to_hex(alloc)?.as_str(), dump);
+    /// ```
     pub fn to_hex(&self, alloc: Global) -> crate::Result<String>
         requires { IsWellFormed (view self.now) }
         ensures text { IfOk result (λ t. string_bytes t ≡ spec.dump (view self.now)) }

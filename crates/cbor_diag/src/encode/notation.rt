@@ -277,9 +277,18 @@ fn push_outermost(
 }
 
 impl DataItem {
-    /// Returns the item in diagnostic notation on one line, without blanks (RFC 7049 section 6).
+    /// Returns the item in diagnostic notation (RFC 7049 section 6) on one line, without blanks.
+    /// `parse_diag` reads it back as the item's normal form (docs/NOTATION.md).
     ///
-    /// The item must be well formed: `is_well_formed` tests that. The only error is `Memory`.
+    /// The item has to be well formed, as [`DataItem::is_well_formed`] checks. The only error is
+    /// `Memory`.
+    ///
+    /// ```rust
+    /// use cbor_diag::parse_bytes;
+    ///
+    /// let item = parse_bytes(alloc, b"\xc1\x1a\x51\x4b\x67\xb0")?;
+    /// assert_eq!(rt; item.to_diag(alloc)?.as_str(), "1(1363896240_2)");
+    /// ```
     pub fn to_diag(&self, alloc: Global) -> crate::Result<String>
         requires { IsWellFormed (view self.now) }
         ensures text { IfOk result (λ s. string_bytes s ≡ diag_of (view self.now)) }
@@ -304,7 +313,7 @@ impl DataItem {
 
     /// Appends the text of [`DataItem::to_diag`] to `out`, to reuse its memory.
     ///
-    /// The item must be well formed: `is_well_formed` tests that. The only error is
+    /// The item has to be well formed, as [`DataItem::is_well_formed`] checks. The only error is
     /// `Memory`, and after it `out` is unchanged.
     pub fn push_diag(&self, alloc: Global, out: &mut String) -> crate::Result<()>
         requires { IsWellFormed (view self.now) }
@@ -317,9 +326,18 @@ impl DataItem {
         Ok(())
     }
 
-    /// Returns the item in diagnostic notation over several lines (RFC 7049 section 6).
+    /// Returns the item in diagnostic notation (RFC 7049 section 6) with blanks, over several lines
+    /// if it is long. `parse_diag` reads it back as the item's normal form (docs/NOTATION.md).
     ///
-    /// The item must be well formed: `is_well_formed` tests that. The only error is `Memory`.
+    /// The item has to be well formed, as [`DataItem::is_well_formed`] checks. The only error is
+    /// `Memory`.
+    ///
+    /// ```rust
+    /// use cbor_diag::parse_bytes;
+    ///
+    /// let item = parse_bytes(alloc, b"\x9f\x01\x82\x02\x03\xff")?;
+    /// assert_eq!(rt; item.to_diag_pretty(alloc)?.as_str(), "[_ 1, [2, 3]]");
+    /// ```
     pub fn to_diag_pretty(&self, alloc: Global) -> crate::Result<String>
         requires { IsWellFormed (view self.now) }
         ensures text { IfOk result (λ s. string_bytes s ≡ pretty_of (view self.now)) }
@@ -355,7 +373,7 @@ impl DataItem {
 
     /// Appends the text of [`DataItem::to_diag_pretty`] to `out`, to reuse its memory.
     ///
-    /// The item must be well formed: `is_well_formed` tests that. The only error is
+    /// The item has to be well formed, as [`DataItem::is_well_formed`] checks. The only error is
     /// `Memory`, and after it `out` is unchanged.
     pub fn push_diag_pretty(&self, alloc: Global, out: &mut String) -> crate::Result<()>
         requires { IsWellFormed (view self.now) }

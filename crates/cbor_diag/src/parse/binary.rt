@@ -37,7 +37,7 @@ use stack::Stack;
 use std::alloc::Global;
 use strings::{read_chunks, read_string};
 
-/// The error below the deepest level: `TooDeep` if there are bytes for an item, and else
+/// The error below the deepest level: `TooDeep` if there are bytes for an item, otherwise
 /// `CutShort`.
 fn no_level_left(bytes: &[u8]) -> Error
     ensures gives { no_level_left bytes.now ≡ Err result }
@@ -64,8 +64,8 @@ fn read_item_head(bytes: &[u8], level: usize) -> Result<(ItemHead, &[u8])>
     Ok(read_head(bytes)?)
 }
 
-/// The item without parts after its head. A break is no item, and it ends nothing here; heads of
-/// containers are handled by `Frame::new` before.
+/// The item without parts after its head. A break is not an item, and it ends nothing here. The
+/// heads of containers are handled by `Frame::new` before.
 fn read_atom<'a>(
     alloc: Global,
     head: ItemHead,
@@ -240,22 +240,32 @@ pub(crate) fn read_whole(alloc: Global, bytes: &[u8], level: u8) -> Result<DataI
     }
 }
 
-/// Reads one item from all of the bytes (RFC 7049 section 2), keeping how it was encoded.
+/// Reads one item from all of the bytes (RFC 7049 section 2), and keeps how it was encoded.
 ///
-/// Refuses with `CutShort` where the bytes end before the item does, `Remaining` where bytes follow
-/// it, and the first fault from the left otherwise: `Head`, `Utf8` or `TooDeep`. A claimed length
-/// takes no memory, and a claimed count room for a few members at most, where as many bytes follow;
-/// an input that is empty, or whose first byte has major type 0, 1 or 7, takes none at all.
+/// Returns `CutShort` if the bytes end before the item does, `Remaining` if more bytes follow it,
+/// and otherwise the first error from the left: `Head`, `Utf8` or `TooDeep`. Returns `Memory` if an
+/// allocation fails.
+///
+/// No memory is allocated for a length that is only claimed, and for a claimed count only that of a
+/// few members, if as many bytes follow. If the input is empty or its first byte has major type 0,
+/// 1 or 7, nothing is allocated.
+///
+/// ```rust
+/// use cbor_diag::parse_bytes;
+///
+/// let item = parse_bytes(alloc, b"\x83\x01\x02\x03")?;
+/// assert_eq!(rt; item.to_diag(alloc)?.as_str(), "[1,2,3]");
+/// ```
 pub fn parse_bytes(alloc: Global, bytes: &[u8]) -> Result<DataItem>
-    // The item that the bytes are, exactly where they are one.
+    // The item that the bytes are, exactly if they are one.
     ensures ok { IfOk result (λ i. IsItem bytes.now (view i)) }
     ensures every_item { (i : Item) → IsItem bytes.now i → GaveItem result i }
 
-    // Each refusal, exactly where it is true.
+    // Each error, exactly if it is true.
     ensures refused { RefusedSo result (IsNoItem bytes.now) }
     ensures every_refusal { (e : Error) → IsNoItem bytes.now e → GaveRefusal result e }
 
-    // Memory, only where the first byte opens what needs some.
+    // `Memory`, only if the first byte opens what needs some.
     ensures memory { result ≡ Err Error.Memory → MayWantMemory bytes.now }
 
     // What else is known of an item that was read.
@@ -268,20 +278,30 @@ pub fn parse_bytes(alloc: Global, bytes: &[u8]) -> Result<DataItem>
     read_whole(alloc, bytes, 1)
 }
 
-/// Reads one item from the front of the bytes, and says how many of them it takes; more may follow.
-/// `None` where the bytes end before the item does and before any fault; the bytes that follow may
-/// complete the item or bring a fault.
+/// Reads one item from the front of the bytes, and returns it with the number of bytes that it
+/// takes. More bytes may follow.
 ///
-/// Refuses with the first fault from the left: `Head`, `Utf8` or `TooDeep`. Memory is taken as by
-/// `parse_bytes`.
+/// Returns `Ok(None)` if the bytes end before the item does and before any error: further bytes may
+/// complete the item or bring an error. Otherwise returns the first error from the left: `Head`,
+/// `Utf8` or `TooDeep`. Returns `Memory` if an allocation fails. It allocates no more than
+/// [`parse_bytes`].
+///
+/// ```rust
+/// use cbor_diag::parse_bytes_partial;
+///
+/// // The integer 100, and after it an integer that is cut.
+/// let used = parse_bytes_partial(alloc, b"\x18\x64\x19\x03")?.map(|(_, used)| used);
+/// assert_eq!(rt; used, Some(2));
+/// assert!(rt; parse_bytes_partial(alloc, b"\x19\x03")?.is_none());
+/// ```
 pub fn parse_bytes_partial(alloc: Global, bytes: &[u8]) -> Result<Option<(DataItem, usize)>>
-    // Each of the three answers, only where it is true.
+    // Each of the three results, only if it is true.
     ensures found { IfOk result (λ o. IfSome o (λ x.
         BeginsWithItem bytes.now (view x.0) x.1)) }
     ensures cut { result ≡ Ok None → IsCut bytes.now }
     ensures fault { RefusedSo result (HasFault bytes.now) }
 
-    // Bytes begin in exactly one of the three ways, and that is the one answered.
+    // Bytes begin in exactly one of the three ways, and that one is returned.
     ensures exact { (o : Outcome) → BeginsSo bytes.now o → Gave result o }
     ensures one_of_three { BeginsInOneWay bytes.now }
 
@@ -298,25 +318,26 @@ pub fn parse_bytes_partial(alloc: Global, bytes: &[u8]) -> Result<Option<(DataIt
     parse_bytes_counted(alloc, bytes, &mut Turns::new())
 }
 
-/// Reads as `parse_bytes_partial` does, with the same answers, and adds its turns to those that
-/// were counted before, which may be up to 2^64.
+/// Reads as [`parse_bytes_partial`] does, with the same results, and adds the number of its turns
+/// to `turns`, which may have counted up to 2^64 before.
 ///
 /// A turn reads a head, with the content of a string, reads a chunk or a break, or closes a
-/// container that is full; the one that meets the end of the bytes or a fault counts, too. So work
-/// is bounded by the length of the input, whatever it claims.
+/// container that is complete. The turn that meets the end of the bytes or an error counts, too.
+/// There are at most two turns for each byte, and one more, so the work is bounded by the length of
+/// the input, whatever it claims.
 pub fn parse_bytes_counted(
     alloc: Global,
     bytes: &[u8],
     turns: &mut Turns,
 ) -> Result<Option<(DataItem, usize)>>
     requires { turns.old ≤ 2 ^ 64 }
-    // Each of the three answers, only where it is true.
+    // Each of the three results, only if it is true.
     ensures found { IfOk result (λ o. IfSome o (λ x.
         BeginsWithItem bytes.now (view x.0) x.1)) }
     ensures cut { result ≡ Ok None → IsCut bytes.now }
     ensures fault { RefusedSo result (HasFault bytes.now) }
 
-    // Bytes begin in exactly one of the three ways, and that is the one answered.
+    // Bytes begin in exactly one of the three ways, and that one is returned.
     ensures exact { (o : Outcome) → BeginsSo bytes.now o → Gave result o }
     ensures one_of_three { BeginsInOneWay bytes.now }
 
@@ -335,17 +356,17 @@ pub fn parse_bytes_counted(
         turns.new ≡ turns.old + item_turns (view x.0))) }
     ensures twice_its_bytes { IfOk result (λ o. IfSome o (λ x. item_turns (view x.0) ≤ 2 * x.1)) }
 
-    // A cut or a fault takes the turns of what is whole before it, and the one that fails.
+    // A cut or a fault takes the turns of what is complete before it, and the one that fails.
     ensures turns_of_cut { result ≡ Ok None
         → (c : IsCut bytes.now) → turns.new ≡ turns.old + (cut_spent c + 1) }
     ensures turns_of_fault { RefusedSo result (λ e.
         (f : HasFault bytes.now e) → turns.new ≡ turns.old + (fault_spent f + 1)) }
 
-    // Whatever the answer is, at least one turn, and at most two for each byte, and one.
+    // Whatever is returned, at least one turn, and at most two for each byte, and one.
     ensures rises { turns.old < turns.new }
     ensures turns_bounded { turns.new ≤ turns.old + 2 * length bytes.now + 1 }
 
-    // Where memory ran out, too, no more turns than the item takes, the cut or the fault.
+    // Also if memory runs out, no more turns than the item takes, the cut or the fault.
     ensures within_item { (i : Item) → (n : ℕ) →
         BeginsWithItem bytes.now i n → turns.new ≤ turns.old + item_turns i }
     ensures within_cut { (c : IsCut bytes.now) → turns.new ≤ turns.old + (cut_spent c + 1) }

@@ -1,6 +1,6 @@
 //! Reads an item from hex with comments.
 //!
-//! The lines are gone through once: comments are skipped, and what is kept is gathered and then
+//! The text is read once, line by line: comments are skipped, and what is kept is gathered and then
 //! decoded.
 ghost use Rattle.std.specs.Prelude.{◌≡◌, ◌≢◌, ◌<◌, ◌≤◌, ◌++◌, ◌%◌, ◌⊎◌, ◌==◌, length, take, drop};
 ghost use Rattle.std.specs.Prelude.{slice_index, IfOk, IfErr, OnOk, Ok};
@@ -67,7 +67,7 @@ fn after_spaces(line: &[u8]) -> &[u8]
     &near[at..]
 }
 
-/// What follows the spaces at the front, as many as go in eights: most lines of a dump have more.
+/// What follows the spaces at the front, in eights: most lines of a dump have that many.
 #[tactic(auto, using(crate::proofs::hex::Lines::eight_spaces))]
 fn after_eights(line: &[u8]) -> &[u8]
     ensures same { unspaced result.now ≡ unspaced line.now }
@@ -80,7 +80,7 @@ fn after_eights(line: &[u8]) -> &[u8]
     rest
 }
 
-/// The place of the first space, or the end of the line. It looks at byte after byte, since most
+/// The place of the first space, or the end of the line. It looks at single bytes, since most
 /// digits are in short runs.
 #[tactic(auto, using(crate::proofs::hex::Lines::front_kept))]
 fn first_space(line: &[u8]) -> usize
@@ -95,7 +95,7 @@ fn first_space(line: &[u8]) -> usize
     end
 }
 
-/// Writes the bytes of a line that are no spaces.
+/// Writes the bytes of a line that are not spaces.
 fn push_unspaced(out: &mut Vec<u8>, line: &[u8]) -> Result<(), AllocError>
     ensures { OnOk result (out.new.items ≡ out.old.items ++ unspaced line.now) }
 {
@@ -108,8 +108,8 @@ fn push_unspaced(out: &mut Vec<u8>, line: &[u8]) -> Result<(), AllocError>
     Ok(())
 }
 
-/// What is kept of all lines. Whether those bytes are hex digits is seen when they are decoded.
-/// Room is made at first for a fourth of the text: most dumps keep less.
+/// What is kept of all lines. Decoding finds out whether these bytes are hex digits. Memory is
+/// reserved at first for a fourth of the text: most dumps keep less.
 fn strip(alloc: Global, text: &str) -> Result<Vec<u8>, AllocError>
     ensures { IfOk result (λ digits. digits.items ≡ strip text.now) }
 {
@@ -123,8 +123,8 @@ fn strip(alloc: Global, text: &str) -> Result<Vec<u8>, AllocError>
     Ok(digits)
 }
 
-/// The bytes that some hex digits are, two digits of either case for each byte. An odd number of
-/// digits is refused first, with `OddHex`, then a byte that is no digit, with `BadHex`.
+/// Decodes hex digits, two of either case for each byte. Returns `OddHex` if their number is odd,
+/// and otherwise `BadHex` if a byte is not a digit.
 fn decode(alloc: Global, digits: Vec<u8>) -> crate::Result<Vec<u8>>
     ensures bytes { IfOk result (λ bytes. decode_of digits.items ≡ Ok bytes.items) }
     ensures refused { IfErr result (λ e. (e ≡ Error.Memory)
@@ -137,18 +137,26 @@ fn decode(alloc: Global, digits: Vec<u8>) -> crate::Result<Vec<u8>>
         Err(FromHexError::OutOfMemory) => Err(Error::Memory),
         Err(FromHexError::OddLength) => Err(Error::OddHex),
         Err(FromHexError::InvalidHexCharacter { .. }) => Err(Error::BadHex),
-        // Only decoding into room of a given size is refused so.
+        // Only decoding into a slice of a given length has this error.
         Err(FromHexError::InvalidStringLength) => unreachable!(),
     }
 }
 
-/// Reads one item from hex with comments, two digits of either case for each of its bytes.
+/// Reads one item from hex with comments: two digits, of either case, for each byte of the item.
 ///
-/// A line ends at a line feed, and one carriage return right before it belongs to the end. Of each
-/// line what comes before its first `#` is kept, without spaces (U+0020); a tab is kept.
+/// A line ends at a line feed, and one carriage return right before it belongs to the end. In each
+/// line, the text before the first `#` is kept, without its spaces (U+0020); a tab is kept.
 ///
-/// Refuses with `OddHex` where an odd number of bytes is kept, else with `BadHex` where one of them
-/// is no hex digit, else as `parse_bytes` does, and with `Memory` where a growth was refused.
+/// Returns `OddHex` if the number of kept bytes is odd, otherwise `BadHex` if one of them is not a
+/// hex digit, otherwise the errors of [`parse_bytes`]. Returns `Memory` if an allocation fails.
+///
+/// ```rust
+/// use cbor_diag::{Error, parse_hex};
+///
+/// let item = parse_hex(alloc, "83       # array(3)\n   01 02 03\n")?;
+/// assert_eq!(rt; item.to_diag(alloc)?.as_str(), "[1,2,3]");
+/// assert_eq!(rt; parse_hex(alloc, "8").err(), Some(Error::OddHex));
+/// ```
 pub fn parse_hex(alloc: Global, hex: &str) -> crate::Result<DataItem>
     ensures ok { IfOk result (λ i. IsHexOf hex.now (view i)) }
     ensures every_item { (i : Item) → IsHexOf hex.now i → GaveItem result i }

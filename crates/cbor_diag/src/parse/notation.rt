@@ -185,28 +185,39 @@ fn whole_text(alloc: Global, text: &str) -> Result<DataItem>
     Ok(item)
 }
 
-/// Reads one item from diagnostic notation (RFC 7049 section 6; docs/NOTATION.md has the rules),
-/// all of the text.
+/// Reads one item from diagnostic notation (RFC 7049 section 6), from all of the text.
+/// docs/NOTATION.md has the rules.
 ///
-/// Refuses with `TooDeep` where the text is an item but for its levels, of which there may be 128,
-/// and with `Notation` where it is none. Of a text that is no item however many levels there may
-/// be, the error may also be `TooDeep`, if 128 of `[`, `{`, `(` and `<` are in it;
-/// `PastWidth`, where a number does not fit the width that its indicator states; and `Utf8`, where
-/// a text string is not UTF-8. `Memory` where a growth was refused.
+/// Returns `TooDeep` if the text would be an item without the limit of 128 levels, and `Notation`
+/// if it is not an item. For a text that is not an item under any limit, the error may also be
+/// `PastWidth` if a number does not fit the width that its indicator states, `Utf8` if a text
+/// string is not UTF-8, and `TooDeep` if 128 of `[`, `{`, `(` and `<` are in it. Returns `Memory`
+/// if an allocation fails.
+///
+/// ```rust
+/// use cbor_diag::parse_diag;
+///
+/// let item = parse_diag(alloc, r#"{"a": 1, "b": [2, 3]}"#)?;
+/// let bytes = item.to_bytes(alloc)?;
+/// assert_eq!(rt;
+///     bytes.as_slice(),
+///     b"\xa2\x61a\x01\x61b\x82\x02\x03".as_slice()
+/// );
+/// ```
 pub fn parse_diag(alloc: Global, text: &str) -> Result<DataItem>
-    // The item that the text is, exactly where it is one with no item below level 128.
+    // The item that the text is, exactly if it is one with no item below level 128.
     ensures ok { IfOk result (λ i. IsNotation text.now (view i)) }
     ensures every_item { (i : Item) → IsNotation text.now i → GaveItem result i }
 
-    // Where a larger limit of levels reads it, it is answered, or is too deep.
+    // If a larger limit of levels reads it, that item or `TooDeep` is returned.
     ensures larger_limit { (limit : ℕ) (i : Item) → deepest ≤ limit → ReadsUnder limit text.now i
         → GaveOrTooDeep deepest text.now result i }
 
-    // Under no limit is the text another item.
+    // No limit reads the text as another item.
     ensures one_item { IfOk result (λ i.
         (limit : ℕ) (other : Item) → ReadsUnder limit text.now other → other ≡ view i) }
 
-    // Otherwise it is none, and this is what the refusal says of it.
+    // Otherwise it is not an item, and the error says this of it.
     ensures refused { RefusedSo result (IsNoNotation text.now) }
 
     // The item has an encoding.

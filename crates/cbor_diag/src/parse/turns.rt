@@ -1,10 +1,12 @@
-//! How much work a reader did.
+//! The work of a reader, counted in turns.
 ghost use Rattle.std.specs.Prelude.{◌≡◌, ℕ, ◌+◌, ◌<◌, ◌^◌};
 
 use std::marker::Model;
 
-/// How many turns readers took that it was lent to. A turn reads a head, with the content of a
-/// string, reads a chunk or a break, or closes a container that is full.
+/// Counts the turns of [`parse_bytes_counted`]. A turn reads a head, with the content of a string,
+/// reads a chunk or a break, or closes a container that is complete.
+///
+/// [`parse_bytes_counted`]: crate::parse_bytes_counted
 #[derive(Drop)]
 pub struct Turns {
     count: u128,
@@ -17,21 +19,21 @@ impl Model for Turns {
 }
 
 impl Turns {
-    /// No turn yet.
+    /// Returns a count of no turns.
     pub fn new() -> Turns
         ensures { result ≡ 0 }
     {
         Turns { count: 0 }
     }
 
-    /// How many turns were taken.
+    /// Returns the number of turns that were counted.
     pub fn count(&self) -> u128
         ensures { result ≡ self.now }
     {
         self.count
     }
 
-    /// One turn more.
+    /// Counts one more turn.
     pub(crate) fn rise(&mut self)
         requires { self.old < 2 ^ 127 }
         ensures { self.new ≡ self.old + 1 }

@@ -9,9 +9,7 @@ use crate::error::{Error, Result};
 use std::alloc::Global;
 
 impl ByteString {
-    /// A string with the same bytes and the same width, in memory of its own.
-    ///
-    /// Refuses with `Memory` alone, where the allocator has no room for the bytes.
+    /// Returns a copy: the same bytes and the same width. The only error is `Memory`.
     pub fn clone(&self, alloc: Global) -> Result<ByteString>
         ensures equal { IfOk result (λ v. byte_chunk v ≡ byte_chunk self.now) }
         ensures refused { IfErr result (λ e. e ≡ Error.Memory) }
@@ -24,9 +22,7 @@ impl ByteString {
 }
 
 impl TextString {
-    /// A string with the same text and the same width, in memory of its own.
-    ///
-    /// Refuses with `Memory` alone, where the allocator has no room for the text.
+    /// Returns a copy: the same text and the same width. The only error is `Memory`.
     pub fn clone(&self, alloc: Global) -> Result<TextString>
         ensures equal { IfOk result (λ v. text_chunk v ≡ text_chunk self.now) }
         ensures refused { IfErr result (λ e. e ≡ Error.Memory) }
@@ -51,10 +47,8 @@ fn clone_chunks<S: DefiniteString>(alloc: Global, chunks: &[S]) -> Result<Vec<S>
 }
 
 impl DataItem {
-    /// An equal item, widths included, in memory of its own. The original need not be well formed;
-    /// the call recurses as deep as it is nested.
-    ///
-    /// Refuses with `Memory` alone, where the allocator has no room for a part.
+    /// Returns a copy that is equal to the item, widths included. The item need not be well formed;
+    /// the call recurses as deep as the item is nested. The only error is `Memory`.
     #[cycle(copy)]
     pub fn clone(&self, alloc: Global) -> Result<DataItem>
         ensures equal { IfOk result (λ v. view v ≡ view self.now) }

@@ -1,5 +1,5 @@
-//! The tags that have a name here, of RFC 7049, RFC 8742, RFC 8746, RFC 8943, RFC 9164 and the IANA
-//! registry of CBOR tags.
+//! The tags that have a name here: those of RFC 7049, RFC 8742, RFC 8746, RFC 8943 and RFC 9164,
+//! and some of the IANA registry of CBOR tags.
 use super::Tag;
 
 impl Tag {

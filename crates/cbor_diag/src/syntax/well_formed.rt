@@ -89,11 +89,11 @@ fn pairs_well_formed(pairs: &Vec<(DataItem, DataItem)>, level: u8) -> bool
 }
 
 impl DataItem {
-    /// Whether the item is well formed, that is, has an encoding: each number, tag, length and
-    /// count fits the width stated for it, the bits of each float fit theirs, and no item is
+    /// Returns whether the item is well formed, that is, has an encoding: each number, tag, length
+    /// and count fits the width stated for it, the bits of each float fit theirs, and no item is
     /// deeper than level 128, where the outermost is at level 1.
     ///
-    /// It takes no memory, and looks at nothing below level 129.
+    /// It allocates nothing, and looks at nothing below level 129.
     pub fn is_well_formed(&self) -> bool
         ensures { IsTrue result ↔ IsWellFormed (view self.now) }
     {

@@ -170,7 +170,7 @@ decoded_none a digits = record {
   only = λ whole all is. (whole, all, refl, is);
 }
 
--- the group that stands next in an encoding
+-- the next group in an encoding
 pub next_group : (a : Alphabet) (digits bytes : List ℕ) (i : ℕ) → IsDecoded a digits bytes i → 8 * i + 8 < length digits
     → (whole : List ℕ) → AreBytes whole → digits ≡ encode a whole
     → (rest : List ℕ) × (whole ≡ bytes ++ rest) × FirstGroup a rest (drop (8 * i) digits)

@@ -10,7 +10,7 @@ use Rattle.std.specs.Str.{IsAscii}
 use Rattle.cbor_notes.specs.Base58.{characters}
 use Rattle.cbor_notes.proofs.texts.HexLemmas.{IsAscii-from_test}
 
--- the last digit stands last
+-- the last digit comes last
 pub base58_step : (n : ℕ) → 0 < n → map (slice_index characters) (digits_of 58 n) ≡ map (slice_index characters)
     (digits_of 58 (n / 58)) ++ slice_index characters (n % 58) ∷ []
 base58_step n some = ap (map (slice_index characters)) (digits_of_step 58 n (omega arith) some) ∙ map-append _ _ _

@@ -36,7 +36,7 @@ all_map : {X Y : Type 0} (P : Y → Type 0) (f : X → Y) → ((x : X) → P (f 
 all_map P f each [] = tt
 all_map P f each (x ∷ xs) = (each x, all_map P f each xs)
 
--- a text and fixed words after what stands before them
+-- a text and fixed words after an earlier text
 free_words : (front text words : List ℕ) → Free 10 front → Free 10 text → Plain words → Free 10 (front ++ text ++ words)
 free_words front text words before free plain =
     free_both 10 (front ++ text) words (free_both 10 front text before free) (from_test 10 words plain)

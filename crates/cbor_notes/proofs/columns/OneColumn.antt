@@ -15,7 +15,7 @@ use Rattle.std.proofs.Math.Seq.{drop-append-add, get_or-append_seam, take-append
 use Rattle.cbor_notes.specs.Layout.{DumpLine, blanks, left_column, line_text, reach, width_of}
 use Rattle.cbor_notes.specs.Columns.{Lacks, IsPlain, IsColumn, digits_of, uncommented}
 
--- what stands before the first byte that passes, if none before it does
+-- the bytes before the first one that passes
 pub first_at : (c : ℕ) (front back : List ℕ) → Lacks c front
     → position_or_len (λ b. b == c) (front ++ c ∷ back) ≡ length front
 first_at c front back lacks =
@@ -242,13 +242,13 @@ digits : (width : ℕ) (all : List DumpLine) → AllByRecursion IsPlain all
 digits width [] plain = ap (flat_map kept) (cut_none width)
 digits width (line ∷ more) plain = digits_more width line more plain.0 (digits width more plain.1)
 
--- the first `#` of each line stands behind the left column and a blank
+-- the first `#` of each line comes after the left column and a blank
 pub one_column : (width : ℕ) (all : List DumpLine) → AllByRecursion IsPlain all → width_of all ≤ width
     → IsColumn (width + 1) (flat_map (line_text width) all)
 unfolding text_of cut
 one_column width all plain fits = hashes width all plain fits
 
--- what stands before them is the digits
+-- the digits come before them
 pub digits_left : (width : ℕ) (all : List DumpLine) → AllByRecursion IsPlain all
     → uncommented (flat_map (line_text width) all) ≡ digits_of all
 unfolding text_of cut

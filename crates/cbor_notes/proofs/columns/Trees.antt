@@ -42,7 +42,7 @@ width_of-append (x ∷ xs) ys = let rest = width_of-append xs ys in omega arith
 fit_reach : (line : DumpLine) → IsFit line → reach line ≤ 484
 fit_reach line fit = grind (arith, nat_tests)
 
--- A loop over trees stands at its i-th one.
+-- A loop over trees is at its i-th one.
 module _ (trees : List Line) (i depth : ℕ) (tree : Line) (is : tree ≡ get_or trees i tree)
     (inside : i < length trees) where
   abbrev rest : List DumpLine

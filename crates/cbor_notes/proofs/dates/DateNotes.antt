@@ -17,7 +17,7 @@ use Rattle.cbor_notes.proofs.dates.CalendarDays.{date_on, place, place_in, place
 use Rattle.cbor_notes.proofs.dates.Moments.{day_and_clock, moment_found, moment_text}
 use Rattle.cbor_notes.proofs.dates.Searches.{IfSome-first_found, IfSome-tested, IsSome-first_found, IsSome-tested}
 
--- a text is the answer where there is one and it is no other, and none is where there is none
+-- the result is the text if there is one, and None if there is none
 pub same_text : {A : Type 0} (text : A) (answer : Option A) → IfSome answer (λ other. text ≡ other) → IsSome answer
     → Some text ≡ answer
 same_text text None is some = cc

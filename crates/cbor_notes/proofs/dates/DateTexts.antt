@@ -1,4 +1,4 @@
--- What stands at each place of the texts of dates and times.
+-- What is at each place of the texts of dates and times.
 use Rattle.std.proofs.Common.{◌⊎◌, inl, inr, neg_ℤ, ◌*◌, ap, ◌∙◌, Option, Some, None, false, IsSome, IsSomeAnd, nat_abs}
 use Rattle.std.proofs.Common.{to_z, of_z, w8, append_assoc, ◌<ℤ◌, Result, Ok, Err, IfOk, IfSome, ◌≡◌, ℕ, ◌+◌, ◌/◌, ◌%◌}
 use Rattle.std.proofs.Common.{◌<◌, ◌≤◌, ℤ, pos, negsuc, ◌≤ℤ◌, unsigned_abs, List, [], ◌∷◌, ◌++◌, length, get_or, refl}

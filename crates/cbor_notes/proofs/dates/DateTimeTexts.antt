@@ -84,7 +84,7 @@ fraction_only text rest fraction digits zone offset n is count (some_digits dot 
     ∙ digits_then digits zone all (zone_first zone offset zone_is).0 in
     rw (len, same) (take-append_seam digits zone, drop-append_seam digits zone)
 
--- so many places: digits, and zeros in the places of the others
+-- a number of places: digits, and zeros in the places of the others
 fill_places : (k : ℕ) (digits : List ℕ) (n : ℕ) → n ≡ min (length digits) k
     → take n digits ++ drop n (replicate k 48) ≡ take k (digits ++ replicate k 48)
 fill_places k digits n is = elim (cases_lt k (length digits)) [
@@ -126,7 +126,7 @@ dot_first text some dot =
     let all = take_all (length text - 1) (drop 1 text) (omega (arith, length-drop 1 text)) in
     drop-cons text 0 0 some ∙ rw (dot, all) refl
 
--- what is left of a list after so many
+-- what is left of a list after a number of elements
 pub rest_is : (xs : List ℕ) (n : ℕ) → take (length xs - n) (drop n xs) ≡ drop n xs
 rest_is xs n = take_all (length xs - n) (drop n xs) (omega (arith, length-drop n xs))
 

@@ -25,7 +25,7 @@ pub one_day : (s q d : ℤ) (n k : ℕ) → s ≡ q *ℤ pos 86400 +ℤ pos n �
     → (d ≡ q) × (k ≡ n)
 one_day s q d n k a b n_in k_in = (omega (arith, signed_arith), omega (arith, signed_arith))
 
--- the text of a date and so many seconds from midnight
+-- the text of a date and a number of seconds from midnight
 unfoldable pub moment_text : Date → ℕ → List ℕ
 moment_text date n = date_text date ++ codes "T" ++ clock_text (n / 3600) (n / 60 % 60) (n % 60) ++ codes "Z"
 

@@ -84,7 +84,7 @@ two_to (suc (suc (suc (suc (suc e))))) h = absurd (omega arith)
 pub size_small : (tag : ℕ) → (1 ≤ size tag) × (size tag ≤ 16)
 size_small tag = two_to (tag / 16 % 2 + tag % 4) (omega arith)
 
--- bytes turned round are as many
+-- reversed bytes have the same length
 pub length_either : (b : Bool) (xs : List ℕ) → length (if b then reverse xs else xs) ≡ length xs
 length_either true xs = length-reverse xs
 length_either false xs = refl

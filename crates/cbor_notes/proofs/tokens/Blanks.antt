@@ -1,4 +1,4 @@
--- Blanks: reading leaves what stands after the longest one.
+-- Blanks: reading leaves what follows the longest one.
 use Rattle.std.proofs.Common.{◌≡◌, ◌≢◌, ℕ, suc, ◌+◌, ◌<◌, ◌≤◌, Bool, true, false, ◌==◌, ◌&&◌, ◌||◌, List, [], ◌∷◌, ◌++◌}
 use Rattle.std.proofs.Common.{length, drop, slice_range, Option, Some, None, refl, sym, ap, ◌∙◌, subst, inl, inr, arith}
 use Rattle.std.proofs.Common.{IsTrue}
@@ -34,7 +34,7 @@ Blank-append {rest = after} (comment words rest allowed no_slash more is) then =
     comment words (rest ++ after) allowed no_slash (Blank-append more then)
     (ap (λ (t : List ℕ). t ++ after) is ∙ append_assoc (47 ∷ words) (47 ∷ rest) after)
 
--- where reading stands: before a piece of a blank, or in a comment that was opened and whose words so far hold no `/`
+-- where reading is: before a piece of a blank, or in a comment that was opened and whose words so far have no `/`
 abbrev Stands : Bool → Option (List ℕ) → List ℕ → List ℕ → Type 0
 Stands comments None text whole = whole ≡ text
 Stands comments (Some opened) text whole = (whole ≡ opened) × IsTrue comments
@@ -116,7 +116,7 @@ after_blank-append {comments} (comment words rest allowed no_slash more is) afte
     ap (after_blank comments) (ap (λ (t : List ℕ). t ++ after) is ∙ append_assoc (47 ∷ words) (47 ∷ rest) after)
     ∙ (comment_read comments words (rest ++ after) allowed no_slash ∙ after_blank-append more after)
 
--- so what is left stands after the longest blank
+-- so what is left follows the longest blank
 pub longest_left : (comments : Bool) (front rest : List ℕ) → Blank comments front
     → rest ≡ after_blank comments (front ++ rest) → IsLongest (Blank comments) front rest
 longest_left comments front rest is left = record {
@@ -135,7 +135,7 @@ longest_left comments front rest is left = record {
       );
 }
 
--- and whatever stands after the longest blank is what is left
+-- and what follows the longest blank is what is left
 pub after_longest_blank : (comments : Bool) (front rest : List ℕ) → IsLongest (Blank comments) front rest
     → rest ≡ after_blank comments (front ++ rest)
 after_longest_blank comments front rest longest =

@@ -6,7 +6,7 @@ use Rattle.cbor_notes.specs.declared.token.number.Base.TheVariants.{Decimal, Hex
 use Rattle.cbor_notes.specs.declared.token.number.Base.{Base}
 use Rattle.cbor_notes.specs.Token.{prefix, radix, AreDigits, Indicates, IsNumber}
 
--- an indicator stands behind `_`
+-- an indicator follows `_`
 pub behind_underscore : (text : List ℕ) (value indicator : ℕ) → IsNumber text value (Some indicator)
     → (front rest : List ℕ) × (text ≡ front ++ 95 ∷ rest)
 behind_underscore text value indicator is = (

@@ -19,7 +19,7 @@ digit_run-append base value (d ∷ digits) rest all =
     cond-true (nat_lt (digit_value d) base) _ _ (lt-ltb (digit_value d) base all.0)
     ∙ digit_run-append base (value * base + digit_value d) digits rest all.1
 
--- no digit of this base stands first
+-- no digit of this base comes first
 pub digit_run-stops : (base value : ℕ) (rest : List ℕ) → starts_with_digit base rest ≡ false
     → digit_run base value rest ≡ (value, rest)
 digit_run-stops base value [] stops = refl

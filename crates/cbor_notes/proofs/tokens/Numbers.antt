@@ -17,7 +17,7 @@ use Rattle.cbor_notes.proofs.tokens.NumberRuns.{small_run-stops, length-small_ru
 use Rattle.cbor_notes.proofs.tokens.Longest.{one_longest}
 use Rattle.cbor_notes.proofs.tokens.TextPlaces.{part_and_rest, part_is}
 
--- the prefix of this base begins the text, and a digit of this base stands after it
+-- the prefix of this base begins the text, and a digit of this base follows it
 abbrev Begins : List ℕ → Base → Type 0
 Begins text base = (text ≡ prefix base ++ drop (length (prefix base)) text)
     × ((base ≡ Decimal) ⊎ (starts_with_digit (radix base) (drop (length (prefix base)) text) ≡ true))
@@ -197,7 +197,7 @@ IsNumber-number_of text read is =
       },
     )
 
--- where a decimal digit stands, a number is read
+-- at a decimal digit a number is read
 some_number : (text : List ℕ) → starts_with_digit 10 text ≡ true
     → (read : ℕ × Option ℕ × List ℕ) × (number_of text ≡ Some read)
 some_number text starts =

@@ -84,7 +84,7 @@ unquoted-in_quotes quote (byte ∷ content) rest apart =
     ∙ (unquoted-piece quote byte (in_quotes quote content ++ quote ∷ rest) apart
     ∙ ap (with_front (byte ∷ [])) (unquoted-in_quotes quote content rest apart))
 
--- no two contents stand between the same quotes
+-- the content between quotes is determined
 pub in_quotes-one : (quote : ℕ) (content rest other after : List ℕ) → quote ≢ 92
     → in_quotes quote content ++ quote ∷ rest ≡ in_quotes quote other ++ quote ∷ after
     → (content ≡ other) × (rest ≡ after)
@@ -95,7 +95,7 @@ in_quotes-one quote content rest other after apart is =
     let pair : ◌≡◌ {A = List ℕ × List ℕ} (content, rest) (other, after) = cc same in
     (ap (λ (r : List ℕ × List ℕ). r.0) pair, ap (λ (r : List ℕ × List ℕ). r.1) pair)
 
--- up to the first quote or `\`, each byte stands for itself
+-- up to the first quote or `\`, each byte is itself
 pub unquoted-plain : (quote : ℕ) (text : List ℕ)
     → let n = position_or_len (is_special quote) text in unquoted quote false text ≡ with_front (take n text)
     (unquoted quote false (drop n text))
@@ -159,7 +159,7 @@ pub no_escape : (quote byte : ℕ) (rest : List ℕ) → is_special quote byte �
 no_escape quote byte rest other = cond-false (is_special quote byte)
     (with_front (byte ∷ []) (unquoted quote false rest)) None other
 
--- what the answer says of the text: this content and this rest, or none
+-- what the result says of the text: this content and this rest, or none
 pub only_quoted : (quote : ℕ) (text content rest : List ℕ) → quote ≢ 92
     → unquoted quote false text ≡ Some (content, rest) → (other after : List ℕ)
     → text ≡ in_quotes quote other ++ quote ∷ after → (content ≡ other) × (rest ≡ after)

@@ -35,7 +35,7 @@ between_blank comments front rest read is more = (
   Spaced-blank is more.2,
 )
 
--- where reading stands: at a place, or in a comment whose words so far hold no `/`
+-- where reading is: at a place, or in a comment whose words so far have no `/`
 abbrev Stands : Bool → Bool → List ℕ → List ℕ → Type 0
 Stands comments false text whole = whole ≡ text
 Stands comments true text whole = IsTrue comments
@@ -180,7 +180,7 @@ unclosed comments opened (byte ∷ rest) shorter is =
           ∙ unclosed comments opened rest (omega arith) (rw goes_on at is)
     ]
 
--- where neither a blank nor a digit begins, nor the quote stands, there are no digits up to a quote
+-- if neither a blank, a digit nor the quote comes next, there are no digits up to a quote
 pub digits_in-none : (comments : Bool) (byte : ℕ) (rest : List ℕ) → (byte == 39) ≡ false
     → is_digit comments byte ≡ false → after_blank comments (byte ∷ rest) ≡ byte ∷ rest
     → digits_in comments false (byte ∷ rest) ≡ None
@@ -303,7 +303,7 @@ run_to comments text start stop is =
     ∙ (ap (λ (m : ℕ). with_front (take m (drop start text)) (digits_in comments false (drop n (drop start text))))
     count ∙ ap (λ (t : List ℕ). with_front (slice_range text start stop) (digits_in comments false t)) rest)
 
--- no digit stands here, nor a blank or a quote
+-- here is no digit, no blank and no quote
 pub none_from : (comments : Bool) (text : List ℕ) (at : ℕ) → at < length text
     → position_or_len (λ b. not (is_digit comments b)) (drop at text) ≡ 0 → get_or text at 0 ≢ 39
     → after_blank comments (drop at text) ≡ drop at text → digits_in comments false (drop at text) ≡ None
@@ -370,7 +370,7 @@ digits_of-none comments (byte ∷ more) read =
     cond-false (byte == 39) (Some ([], more)) (some_digits (digits_in comments false (byte ∷ more)))
     (ne_eqb byte 39 other) ∙ ap some_digits read
 
--- what the answer says of the text: these digits and this rest, or none
+-- what the result says of the text: these digits and this rest, or none
 pub only_digits : (comments : Bool) (text digits rest : List ℕ) → digits_of comments text ≡ Some (digits, rest)
     → (content other after : List ℕ) → text ≡ content ++ 39 ∷ after → DigitsBetween comments content other
     → (digits ≡ other) × (rest ≡ after)

@@ -6,7 +6,7 @@ use Rattle.std.proofs.lemmas.List.{take-append-drop, drop-drop, drop_more, appen
 use Rattle.std.proofs.lemmas.List.Sums.{prefix_len-le-length}
 use Rattle.std.proofs.lemmas.Bool.{cases_Bool, cond-true, cond-false, ltb-true, ltb-false}
 
--- from one place on there is what stands up to another, and what stands from that one on
+-- the text from one place on is the part up to another place, and the text from that one on
 pub part_and_rest : (text : List ℕ) (at end : ℕ) → at ≤ end → drop at text ≡ slice_range text at end ++ drop end text
 part_and_rest text at end in_order =
     let rest : drop (end - at) (drop at text) ≡ drop end text = drop-drop (end - at) at text

@@ -8,12 +8,21 @@ ghost use Rattle.cbor_notes.specs.Token.{DigitsBetween, in_quotes, is_digit, is_
 use super::{end_of_blank, is_whitespace};
 use std::alloc::{AllocError, Global};
 
-/// The content from `at` up to the closing `quote`, which is `'` or `"`, and the place after that
-/// quote; `None` if there is no such content.
+/// Returns the content from `at` up to the closing `quote`, which is `'` or `"`, and the place
+/// after that quote. `at` is at most the length of `text`.
 ///
-/// In the content the quote and `\` come after a `\`, and any other byte is itself, line ends too.
-/// So there is none where the text ends before a closing quote or has a `\` before any other byte.
-/// The only error is out of memory.
+/// In the content, the quote and `\` have a `\` before them. Any other byte is itself, line ends
+/// included. So it returns `None` if the text ends before a closing quote, or if a `\` is before
+/// any other byte. The only error is out of memory.
+///
+/// ```rust
+/// use cbor_notes::quoted_at;
+///
+/// let found = quoted_at(alloc, br#""\"\\", 1"#, 1, b'"')?;
+/// let (content, end) = found.unwrap_or((Vec::new(alloc), 0));
+/// assert_eq!(rt; content.as_slice(), b"\"\\".as_slice());
+/// assert_eq!(rt; end, 6);
+/// ```
 pub fn quoted_at(
     alloc: Global,
     text: &[u8],
@@ -48,13 +57,24 @@ pub fn quoted_at(
     Ok(None)
 }
 
-/// The digits from `at` up to the closing `'`, without the blanks before, between and after them,
-/// and the place after that quote; `None` if there is no such content.
+/// Returns the digits from `at` up to the closing `'`, without the blanks before, between and after
+/// them, and the place after that quote. `at` is at most the length of `text`.
 ///
-/// Blanks are those of `blank_end` if `comments` are allowed, and whitespace alone if not. A `'` in
-/// a comment closes nothing. Content of blanks alone is none, unless it is empty. Any byte but
-/// whitespace and `'` counts as a digit, and with comments any but `/` too, which always opens one;
-/// which digits a notation has is for the caller. The only error is out of memory.
+/// Blanks are those of `blank_end` if `comments` are allowed, and only whitespace otherwise. A `'`
+/// in a comment closes nothing. Any byte except whitespace and `'` counts as a digit, but if
+/// comments are allowed, `/` always opens one. The caller checks which digits a notation has.
+///
+/// Returns `None` if there is no closing quote, if a comment is not closed, or if there are blanks
+/// and no digits. The only error is out of memory.
+///
+/// ```rust
+/// use cbor_notes::digits_at;
+///
+/// let found = digits_at(alloc, b"h'48 65 /l/ 6c', 1", 2, true)?;
+/// let (digits, end) = found.unwrap_or((Vec::new(alloc), 0));
+/// assert_eq!(rt; digits.as_slice(), b"48656c".as_slice());
+/// assert_eq!(rt; end, 15);
+/// ```
 pub fn digits_at(
     alloc: Global,
     text: &[u8],

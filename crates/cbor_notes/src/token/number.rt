@@ -23,14 +23,20 @@ enum Base {
     Binary,
 }
 
-/// The longest number that begins at `at`, or `None` where none does: its value, its indicator if
-/// it has one, and where it ends.
+/// Returns the longest number that begins at `at`: its value, its indicator if it has one, and
+/// where it ends. Returns `None` if no number begins there. `at` is at most the length of `text`.
 ///
-/// A number is decimal digits, or `0x`, `0o` or `0b` and digits of that base, hex digits of either
-/// case. Then `_` and decimal digits whose value is 0 to 3 may follow, the indicator. Leading zeros
-/// are allowed in both. A value past 2^64 is answered as 2^64 + 1, however many digits it has.
+/// A number is decimal digits, or `0x`, `0o` or `0b` and digits of that base; hex digits are of
+/// either case. The indicator follows: `_` and decimal digits whose value is 0 to 3. Leading zeros
+/// are allowed in both. A value past 2^64 is returned as 2^64 + 1, however many digits it has.
 ///
-/// What follows the number is not looked at, so of `1_4` the number is `1`, and of `0x` it is `0`.
+/// What follows the number does not matter: in `1_4` the number is `1`, and in `0x` it is `0`.
+///
+/// ```rust
+/// use cbor_notes::number_at;
+///
+/// assert_eq!(rt; number_at(b"0x18_1, 25", 0), Some((24, Some(1), 6)));
+/// ```
 pub fn number_at(text: &[u8], at: usize) -> Option<(u128, Option<u8>, usize)>
     requires { at ≤ length text.now }
     ensures within { IfSome result (λ found. (at < found.2) × (found.2 ≤ length text.now)) }

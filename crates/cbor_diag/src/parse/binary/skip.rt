@@ -1,5 +1,5 @@
-//! How some bytes begin, without building an item: a loop over heads with a stack of the open
-//! containers. Of each container it keeps how many parts are still to come; strings are skipped.
+//! Reports how bytes begin, without building an item: a loop over heads with a stack of the open
+//! containers. For each container it keeps how many parts are still to come; strings are skipped.
 //!
 //! Each private function takes the remaining bytes and returns those after what it skips, or why it
 //! stops.
@@ -33,17 +33,17 @@ use to_come::{Count, ToCome};
 /// Texts of fewer bytes are tested faster byte by byte than in blocks.
 const SHORT_TEXT: usize = 16;
 
-/// Why no item is whole.
+/// Why there is no complete item.
 #[derive(Clone, Copy)]
 enum Stop {
     /// The bytes end.
     Cut,
-    /// An error, and how many bytes follow the first ones that show it.
+    /// An error, and how many bytes follow the first ones that have it.
     Fault { error: Error, after: usize },
 }
 
 impl Stop {
-    /// The reason for this error, with `after` bytes after those that show it.
+    /// The reason for this error, with `after` bytes after those that have it.
     fn new(why: HeadError, after: usize) -> Stop
         ensures { result ≡ stop_of (head_error why) after }
     {
@@ -75,7 +75,7 @@ impl Kind {
         }
     }
 
-    /// Whether a string of this kind may hold that.
+    /// Whether a string of this kind may have this content.
     fn may_hold(self, content: &[u8]) -> bool
         ensures { IsTrue result ↔ IsContent (kind_of self) content.now }
     {
@@ -92,7 +92,7 @@ impl Kind {
 enum Chunk {
     /// A string of definite length.
     Content,
-    /// No chunk, but the break.
+    /// The break.
     Break,
 }
 
@@ -210,7 +210,7 @@ fn after_atom(head: ItemHead, bytes: &[u8]) -> Result<&[u8], Stop>
 }
 
 /// What is still to come of an item with `levels` left for it, and the bytes after its head: all of
-/// a container if the head opens one, and else nothing.
+/// a container if the head opens one, otherwise nothing.
 fn read_part(bytes: &[u8], levels: usize) -> Result<(Option<ToCome>, &[u8]), Stop>
     ensures goes { IfOk result
         (λ x. Goes (skip_item levels) (begun (levels - 1) x.0) bytes.now x.1.now) }
@@ -268,21 +268,31 @@ fn begins(bytes: &[u8]) -> Extent
     }
 }
 
-/// Reports how the bytes begin, by the rules of `parse_bytes_partial`, and takes no memory: with an
-/// item and its length; cut, if they end before the item does and before any error; or with the
-/// first error from the left, which the first `end` bytes show and fewer do not. Of `Head` and
-/// `TooDeep` the last of these is the byte at fault; of `Utf8` they end with the text that is not
-/// UTF-8.
+/// Reports how the bytes begin, by the rules of [`parse_bytes_partial`]. It allocates nothing.
+///
+/// Returns `Item` with the length of the item; `Cut` if the bytes end before the item does and
+/// before any error; or `Fault` with the first error from the left. The first `end` bytes have this
+/// error, and fewer are cut. For `Head` and `TooDeep`, the last of them is the byte at fault. For
+/// `Utf8`, they end with the text that is not UTF-8.
+///
+/// ```rust
+/// use cbor_diag::{Error, Extent, extent};
+///
+/// assert_eq!(rt; extent(b"\x82\x01\x02\xff"), Extent::Item(3));
+/// assert_eq!(rt; extent(b"\x82\x01"), Extent::Cut);
+/// let (error, end) = (Error::Head, 3);
+/// assert_eq!(rt; extent(b"\x82\x01\x1f\x00"), Extent::Fault { error, end });
+/// ```
 pub fn extent(bytes: &[u8]) -> Extent
-    // An item of `used` bytes, exactly where they spell one.
+    // An item of `n` bytes, exactly if they spell one.
     ensures item { IfItem result (λ n. (i : Item) × BeginsWithItem bytes.now i n) }
     ensures every_item { (i : Item) (n : ℕ) → BeginsWithItem bytes.now i n
         → result ≡ Extent.Item n }
 
-    // Cut, exactly where the bytes are.
+    // Cut, exactly if the bytes are.
     ensures cut { (result ≡ Extent.Cut) ↔ IsCut bytes.now }
 
-    // A fault, exactly where the bytes have it.
+    // A fault, exactly if the bytes have it.
     ensures fault { IfFault result (λ error end. HasFault bytes.now error) }
     ensures every_fault { (error : Error) → HasFault bytes.now error
         → (end : ℕ) × (result ≡ Extent.Fault error end) }
@@ -292,7 +302,7 @@ pub fn extent(bytes: &[u8]) -> Extent
     ensures fronts_cut { IfFault result
         (λ error end. (n : ℕ) → n < end → IsCut (take n bytes.now)) }
 
-    // Bytes that come later change no item, and no fault nor where it ends.
+    // Bytes that come later change no item, no fault, and no `end`.
     ensures item_stays { IfItem result (λ n.
         (more : List ℕ) → (i : Item) × BeginsWithItem (bytes.now ++ more) i n) }
     ensures fault_stays { IfFault result (λ error end.

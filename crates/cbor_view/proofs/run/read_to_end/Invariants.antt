@@ -1,4 +1,4 @@
--- What is filled is what the reader gave, and no call failed. The room in memory ends, so the input does.
+-- What is filled is what the reader gave, and no call failed. Memory is bounded, so the input is.
 use Rattle.std.proofs.Common.{◌≡◌, ◌-◌, ◌^◌, ◌≤◌, take, vec_len, vec_items}
 use Rattle.std.specs.Io.KnownBytes.{Consumes}
 use Rattle.cbor_view.specs.Counting.{inner_of, failures_of}

@@ -1,13 +1,15 @@
-//! How some bytes begin.
+//! How bytes begin.
 use crate::error::Error;
 
-/// How some bytes begin.
+/// How bytes begin, as [`extent`] reports it.
+///
+/// [`extent`]: crate::extent
 #[derive(Clone, Copy, PartialEq, Eq, Debug)]
 pub enum Extent {
-    /// With an item of this many bytes.
+    /// An item comes first, and takes this number of bytes.
     Item(usize),
     /// The bytes end before the item does, and before any error.
     Cut,
-    /// With an error, which the first `end` bytes show and fewer do not.
+    /// There is an error. The first `end` bytes have it, and fewer bytes are cut.
     Fault { error: Error, end: usize },
 }

@@ -20,7 +20,7 @@ pub(super) enum ToCome {
     Items(Count),
     /// The pairs of a map.
     Pairs(Count),
-    /// The value of a key that was there, and then pairs.
+    /// The value of a key that was read, and then pairs.
     Value(Count),
 }
 
@@ -51,7 +51,7 @@ impl Count {
 }
 
 impl ToCome {
-    /// All of the container that a head opens, or `None` where it opens none.
+    /// All of the container that a head opens, or `None` if it opens none.
     pub(super) fn new(head: ItemHead) -> Option<ToCome>
         ensures { result ≡ opened head }
     {

@@ -25,7 +25,7 @@ overflow_add-number c =
     rw (length-take-le i c.args.digits.now (omega arith)) at (written-lt c.args.self _ _ c.loop-digit.invariant) in
     omega (arith, small c.loop-digit.number i below (omega arith), c.in_ok-value.ensures.found.0)
 
--- a digit that stands for no value is in no numeral
+-- a digit that has no value is in no numeral
 pub returns-in_err-value-clause-only : goal.returns-in_err-value-clause-only
 returns-in_err-value-clause-only c = λ number writes.
     let digit = written_at c.args.self c.args.digits.now number c.loop-digit.digit-index writes

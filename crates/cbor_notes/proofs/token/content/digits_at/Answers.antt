@@ -29,7 +29,7 @@ loop-end-init c =
           ∙ sym (with_front-nil (digits_in c.args.comments false (after_blank c.args.comments (drop c.args.at text)))));
     }
 
--- neither a digit, a blank nor the quote stands here
+-- here is neither a digit, a blank nor the quote
 stuck : (c : After-drop-digits) → digits_of c.args.comments (drop c.args.at c.args.text.now) ≡ None
 stuck c =
     let text = c.args.text.now in

@@ -38,7 +38,7 @@ pub returns-then-text-end-clause-only : goal.returns-then-text-end-clause-only
 returns-then-text-end-clause-only c = λ content rest is. only_quoted c.args.quote _ _ _
     (no_backslash c.args.quote c.requires.quote) (closed c) content rest is
 
--- the `\` stands before nothing, or before a byte that is not special
+-- nothing follows the `\`, or a byte that is not special
 stray : (c : After-drop-content-then-end-text) → unquoted c.args.quote false (drop c.args.at c.args.text.now) ≡ None
 stray c =
     let text = c.args.text.now in

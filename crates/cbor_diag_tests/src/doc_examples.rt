@@ -1,0 +1,96 @@
+// The examples of the doc comments of `cbor_diag`, line for line: `docs/check_examples` compares.
+// Items and their notation are examples of RFC 7049, appendix A; the dump was written by hand from
+// docs/DUMP.md.
+
+use cbor_diag::{Error, Extent, extent, parse_bytes, parse_bytes_partial, parse_diag, parse_hex};
+use std::alloc::Global;
+use std::process::Abort;
+use std::test::Fail;
+
+/// The item of a dump in diagnostic notation.
+fn notation(alloc: Global, dump: &str) -> Result<String, Error> {
+    let item = parse_hex(alloc, dump)?;
+    item.to_diag(alloc)
+}
+
+fn of_bytes(rt: &impl Abort, alloc: Global) -> Result<(), Fail> {
+    let item = parse_bytes(alloc, b"\x83\x01\x02\x03")?;
+    assert_eq!(rt; item.to_diag(alloc)?.as_str(), "[1,2,3]");
+    Ok(())
+}
+
+fn of_parts(rt: &impl Abort, alloc: Global) -> Result<(), Fail> {
+    // The integer 100, and after it an integer that is cut.
+    let used = parse_bytes_partial(alloc, b"\x18\x64\x19\x03")?.map(|(_, used)| used);
+    assert_eq!(rt; used, Some(2));
+    assert!(rt; parse_bytes_partial(alloc, b"\x19\x03")?.is_none());
+    Ok(())
+}
+
+fn of_hex(rt: &impl Abort, alloc: Global) -> Result<(), Fail> {
+    let item = parse_hex(alloc, "83       # array(3)\n   01 02 03\n")?;
+    assert_eq!(rt; item.to_diag(alloc)?.as_str(), "[1,2,3]");
+    assert_eq!(rt; parse_hex(alloc, "8").err(), Some(Error::OddHex));
+    Ok(())
+}
+
+fn of_notation(rt: &impl Abort, alloc: Global) -> Result<(), Fail> {
+    let item = parse_diag(alloc, r#"{"a": 1, "b": [2, 3]}"#)?;
+    let bytes = item.to_bytes(alloc)?;
+    assert_eq!(rt;
+        bytes.as_slice(),
+        b"\xa2\x61a\x01\x61b\x82\x02\x03".as_slice()
+    );
+    Ok(())
+}
+
+fn of_written_bytes(rt: &impl Abort, alloc: Global) -> Result<(), Fail> {
+    let item = parse_diag(alloc, "1(1363896240)")?;
+    let bytes = item.to_bytes(alloc)?;
+    assert_eq!(rt; bytes.as_slice(), b"\xc1\x1a\x51\x4b\x67\xb0".as_slice());
+    Ok(())
+}
+
+fn of_a_dump(rt: &impl Abort, alloc: Global) -> Result<(), Fail> {
+    let item = parse_diag(alloc, "[100]")?;
+    let dump = "81       # array(1)\n   18 64 #   unsigned(100)\n";
+    assert_eq!(rt; item.to_hex(alloc)?.as_str(), dump);
+    Ok(())
+}
+
+fn of_compact_text(rt: &impl Abort, alloc: Global) -> Result<(), Fail> {
+    let item = parse_bytes(alloc, b"\xc1\x1a\x51\x4b\x67\xb0")?;
+    assert_eq!(rt; item.to_diag(alloc)?.as_str(), "1(1363896240_2)");
+    Ok(())
+}
+
+fn of_pretty_text(rt: &impl Abort, alloc: Global) -> Result<(), Fail> {
+    let item = parse_bytes(alloc, b"\x9f\x01\x82\x02\x03\xff")?;
+    assert_eq!(rt; item.to_diag_pretty(alloc)?.as_str(), "[_ 1, [2, 3]]");
+    Ok(())
+}
+
+fn of_extents(rt: &impl Abort) {
+    assert_eq!(rt; extent(b"\x82\x01\x02\xff"), Extent::Item(3));
+    assert_eq!(rt; extent(b"\x82\x01"), Extent::Cut);
+    let (error, end) = (Error::Head, 3);
+    assert_eq!(rt; extent(b"\x82\x01\x1f\x00"), Extent::Fault { error, end });
+}
+
+#[test]
+fn examples_of_doc_comments(rt: HostRuntime) -> Result<(), Fail> {
+    assert_eq!(rt;
+        notation(rt.alloc(), "83 # array(3)\n 01 02 03")?.as_str(),
+        "[1,2,3]"
+    );
+    of_bytes(&rt, rt.alloc())?;
+    of_parts(&rt, rt.alloc())?;
+    of_hex(&rt, rt.alloc())?;
+    of_notation(&rt, rt.alloc())?;
+    of_written_bytes(&rt, rt.alloc())?;
+    of_a_dump(&rt, rt.alloc())?;
+    of_compact_text(&rt, rt.alloc())?;
+    of_pretty_text(&rt, rt.alloc())?;
+    of_extents(&rt);
+    Ok(())
+}
