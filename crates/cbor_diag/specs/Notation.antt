@@ -4,6 +4,7 @@ use Rattle.std.specs.Prelude.{◌≡◌, ℕ, zero, suc, ◌+◌, ◌<◌, List,
 use Rattle.std.specs.Prelude.{Bool, true, false, nat_lt, ◌==◌, if◌then◌else◌, ◌⊎◌}
 use Rattle.hex.specs.Hex.{decode_of}
 use Rattle.cbor_notes.specs.AreBytes.{AreBytes}
+use Rattle.cbor_notes.specs.Ascii.{quote, apostrophe}
 use Rattle.cbor_notes.specs.Base32.{base32, base32hex}
 use Rattle.cbor_notes.specs.Base64.{standard, url_safe}
 use Rattle.cbor_notes.specs.Token.{Blank, IsNumber, AreDigits, in_quotes, DigitsBetween}
@@ -127,14 +128,14 @@ pub data Notation (Read : List ℕ → Item → Type 0) : List ℕ → List ℕ 
       → digits ≡ base32hex bytes → Notation Read text bytes
   in_base64 : {text bytes : List ℕ} (digits : List ℕ) → DigitsIn false (codes "b64'") text digits → AreBytes bytes
       → (digits ≡ url_safe bytes) ⊎ (digits ≡ standard bytes) → Notation Read text bytes
-  as_text : {text bytes : List ℕ} → QuotedBy 39 text bytes → Notation Read text bytes
+  as_text : {text bytes : List ℕ} → QuotedBy apostrophe text bytes → Notation Read text bytes
   as_items : {text bytes : List ℕ} (is : Items) → Listed Read (codes "<<") (codes ">>") text (list_of is)
       → bytes ≡ encoded_items is → Notation Read text bytes
 
 -- a piece of a string: a notation of bytes, or in a text string a text, too
 abbrev pub PieceOf : StringKind → (List ℕ → Item → Type 0) → List ℕ → List ℕ → Type 0
 PieceOf bytes_kind Read text bytes = Notation Read text bytes
-PieceOf text_kind Read text bytes = QuotedBy 34 text bytes ⊎ Notation Read text bytes
+PieceOf text_kind Read text bytes = QuotedBy quote text bytes ⊎ Notation Read text bytes
 
 -- one piece or more, with blanks between them, and what they are together
 pub data Joined (Piece : List ℕ → List ℕ → Type 0) : List ℕ → List ℕ → Type 0 where

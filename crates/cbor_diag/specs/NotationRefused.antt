@@ -1,6 +1,7 @@
 -- Why a text that no limit of levels reads may be refused: what each refusal says of the text.
 use Rattle.std.specs.Prelude.{◌≡◌, ◌⊎◌, ℕ, ◌<◌, ◌≤◌, ◌==◌, ◌||◌, Bool, List, Result, Ok, Err}
 use Rattle.std.specs.List.{count_by}
+use Rattle.cbor_notes.specs.Ascii.{quote, parenthesis, less_than, bracket, underscore, brace}
 use Rattle.cbor_diag.specs.declared.error.Error.{Error}
 use Rattle.cbor_diag.specs.declared.error.Error.TheVariants as refusal
 use Rattle.cbor_diag.specs.declared.syntax.DataItem.{DataItem}
@@ -11,7 +12,7 @@ use Rattle.cbor_diag.specs.Notation.{Reads, ReadsUnder, IsNotation}
 
 -- `[`, `{`, `(` and `<`, after which an item may be deeper
 abbrev pub is_opening : ℕ → Bool
-is_opening b = (b == 91) || (b == 123) || (b == 40) || (b == 60)
+is_opening b = (b == bracket) || (b == brace) || (b == parenthesis) || (b == less_than)
 
 -- how many of them a text holds
 abbrev pub openings : List ℕ → ℕ
@@ -26,8 +27,8 @@ HoldsByte byte text = 0 < count_by (λ b. b == byte) text
 -- may be no notation.
 abbrev pub MayRefuse : ℕ → List ℕ → Error → Type 0
 MayRefuse levels text refusal.TooDeep = levels ≤ openings text
-MayRefuse levels text refusal.PastWidth = HoldsByte 95 text
-MayRefuse levels text refusal.Utf8 = HoldsByte 34 text
+MayRefuse levels text refusal.PastWidth = HoldsByte underscore text
+MayRefuse levels text refusal.Utf8 = HoldsByte quote text
 MayRefuse levels text refusal.Notation = Unit {0}
 MayRefuse levels text _ = ⊥
 

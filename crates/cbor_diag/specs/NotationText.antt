@@ -6,7 +6,9 @@ use Rattle.std.specs.List.{flat_map}
 use Rattle.std.specs.Fmt.{decimal}
 use Rattle.std.specs.Int.{w16, w32, w64, to_be_bytes}
 use Rattle.hex.specs.Hex.{encode_lower}
+use Rattle.cbor_notes.specs.Ascii.{line_feed, space, quote}
 use Rattle.cbor_notes.specs.Base64.{standard, url_safe}
+use Rattle.cbor_notes.specs.Token.{in_quotes}
 use Rattle.cbor_diag.specs.declared.syntax.IntegerWidth.{IntegerWidth}
 use Rattle.cbor_diag.specs.declared.syntax.IntegerWidth.TheVariants as width
 use Rattle.cbor_diag.specs.declared.syntax.FloatWidth.{FloatWidth}
@@ -54,16 +56,9 @@ encoded_bytes Base64Url b = url_safe b
 abbrev pub quoted : Encoding → List ℕ → List ℕ
 quoted e b = prefix e ++ (codes "'" ++ (encoded_bytes e b ++ codes "'"))
 
--- a quote or a backslash, which is escaped by a backslash
-abbrev pub is_escaped : ℕ → Bool
-is_escaped b = (b == 34) || (b == 92)
-
-abbrev pub escaped : ℕ → List ℕ
-escaped b = if is_escaped b then 92 ∷ b ∷ [] else b ∷ []
-
--- a text between quotes
+-- a text between quotes, where a quote and a backslash are escaped
 abbrev pub text : List ℕ → List ℕ
-text b = codes "\"" ++ (flat_map escaped b ++ codes "\"")
+text b = codes "\"" ++ (in_quotes quote b ++ codes "\"")
 
 -- a float by its bits, an unstated width being 64 bits
 abbrev pub float_bits : ℕ → FloatWidth → List ℕ
@@ -87,7 +82,7 @@ simple_text n =
 
 -- a new line with this many blanks
 abbrev pub line : ℕ → List ℕ
-line indent = 10 ∷ replicate indent 32
+line indent = line_feed ∷ replicate indent space
 
 -- one line or several, as pretty text has it: one where the container is short
 abbrev pub container_style : Layout → ℕ → ContainerStyle

@@ -20,7 +20,7 @@ ghost use Rattle.cbor_diag.specs.Pieces.{text_pieces};
 ghost use Rattle.cbor_diag.specs.Estimate.{estimated_length};
 ghost use Rattle.cbor_diag.specs.Normal.{normal};
 ghost use Rattle.cbor_diag.specs.Pretty.{pretty};
-ghost use Rattle.cbor_diag.specs.HexText.{strip};
+ghost use Rattle.cbor_notes.specs.Columns.{uncommented};
 ghost use Rattle.cbor_diag.specs.Examples.{small, uri, uri_bytes, three, open_map, open_count};
 ghost use Rattle.cbor_diag.specs.Examples.{resolved_count, over_bytes, nested_tag, encodings, ones};
 ghost use Rattle.cbor_diag.specs.Examples.{two_chunks, nested, nested_bytes, bytes};
@@ -79,17 +79,17 @@ pub(crate) fn well_formed()
 /// What is kept of texts with comments, with line ends of both kinds, with carriage returns that
 /// end no line, with a tab and with spaces.
 pub(crate) fn hex_text()
-    ensures comment { strip (codes "01 # 02 # 03") ≡ codes "01" }
-    ensures lines { strip (codes "82 # two items" ++ 10 ∷ codes "01" ++ 10 ∷ 10
+    ensures comment { uncommented (codes "01 # 02 # 03") ≡ codes "01" }
+    ensures lines { uncommented (codes "82 # two items" ++ 10 ∷ codes "01" ++ 10 ∷ 10
         ∷ codes "# the second"
         ++ 10 ∷ codes "02" ++ 10 ∷ []) ≡ codes "820102" }
-    ensures carriage_return_and_line_feed { strip (codes "01" ++ 13 ∷ 10 ∷ codes "02" ++ 13 ∷ 10 ∷ []) ≡ codes "0102" }
-    ensures one_carriage_return_of_two { strip (codes "01" ++ 13 ∷ 13 ∷ 10 ∷ codes "02") ≡ codes "01" ++ 13 ∷ codes "02" }
-    ensures carriage_return_at_the_end { strip (codes "01" ++ 13 ∷ []) ≡ codes "01" ++ 13 ∷ [] }
-    ensures carriage_return_in_a_comment { strip (codes "01 #" ++ 13 ∷ codes "02") ≡ codes "01" }
-    ensures tab { strip (codes "01" ++ 9 ∷ codes "02") ≡ codes "01" ++ 9 ∷ codes "02" }
-    ensures spaces { strip (codes "  0 1  02 ") ≡ codes "0102" }
-    ensures nothing { strip [] ≡ [] }
+    ensures carriage_return_and_line_feed { uncommented (codes "01" ++ 13 ∷ 10 ∷ codes "02" ++ 13 ∷ 10 ∷ []) ≡ codes "0102" }
+    ensures one_carriage_return_of_two { uncommented (codes "01" ++ 13 ∷ 13 ∷ 10 ∷ codes "02") ≡ codes "01" ++ 13 ∷ codes "02" }
+    ensures carriage_return_at_the_end { uncommented (codes "01" ++ 13 ∷ []) ≡ codes "01" ++ 13 ∷ [] }
+    ensures carriage_return_in_a_comment { uncommented (codes "01 #" ++ 13 ∷ codes "02") ≡ codes "01" }
+    ensures tab { uncommented (codes "01" ++ 9 ∷ codes "02") ≡ codes "01" ++ 9 ∷ codes "02" }
+    ensures spaces { uncommented (codes "  0 1  02 ") ≡ codes "0102" }
+    ensures nothing { uncommented [] ≡ [] }
 {}
 
 /// Items embedded in bytes: a whole one, one with a byte after it, and a sequence with a rest.

@@ -11,7 +11,8 @@ use Rattle.cbor_diag.specs.declared.error.Error.{Error}
 use Rattle.cbor_diag.specs.declared.error.Error.TheVariants as refusal
 use Rattle.cbor_diag.specs.declared.syntax.DataItem.{DataItem}
 use Rattle.cbor_diag.specs.Answer.{GaveRefusal, IsRefused}
-use Rattle.cbor_diag.specs.HexText.{strip, IsHexRefused}
+use Rattle.cbor_notes.specs.Columns.{uncommented}
+use Rattle.cbor_diag.specs.HexText.{IsHexRefused}
 
 -- a decoder refuses so, memory apart
 abbrev Decoder : List ℕ → FromHexError → Type 0
@@ -64,7 +65,7 @@ digits_want_memory s b f (inr (inl w)) h = let even = (decode_of-ok s b h).0 in 
 digits_want_memory s b f (inr (inr w)) h = absurd (w.2 (decode_of-ok s b h).1)
 
 -- a refusal of the digits is the text's
-pub digits_refused : (text : List ℕ) (f e : Error) → NoBytes (strip text) f → IsHexRefused text e
+pub digits_refused : (text : List ℕ) (f e : Error) → NoBytes (uncommented text) f → IsHexRefused text e
     → (f ≡ e) ⊎ (f ≡ refusal.Memory)
 digits_refused text f refusal.OddHex (inl m) odd = inr m
 digits_refused text f refusal.OddHex (inr (inl w)) odd = inl w.0
@@ -72,13 +73,13 @@ digits_refused text f refusal.OddHex (inr (inr w)) odd = absurd (omega (arith, w
 digits_refused text f refusal.BadHex (inl m) bad = inr m
 digits_refused text f refusal.BadHex (inr (inl w)) bad = absurd (omega (arith, w.1, bad.0))
 digits_refused text f refusal.BadHex (inr (inr w)) bad = inl w.0
-digits_refused text f e r w = inr (digits_want_memory (strip text) w.0 f r w.1)
+digits_refused text f e r w = inr (digits_want_memory (uncommented text) w.0 f r w.1)
 
 -- of a text whose digits have bytes, each refusal is the bytes'
-pub bytes_refused : (text b : List ℕ) (result : Result DataItem Error) → decode_of (strip text) ≡ Ok b
+pub bytes_refused : (text b : List ℕ) (result : Result DataItem Error) → decode_of (uncommented text) ≡ Ok b
     → ((e : Error) → IsRefused 1 b e → GaveRefusal result e) → (e : Error) → IsHexRefused text e → GaveRefusal result e
 bytes_refused text b result h gave refusal.OddHex odd = let even =
-    (decode_of-ok (strip text) b h).0 in absurd (omega (arith, odd))
-bytes_refused text b result h gave refusal.BadHex bad = absurd (bad.1 (decode_of-ok (strip text) b h).1)
+    (decode_of-ok (uncommented text) b h).0 in absurd (omega (arith, odd))
+bytes_refused text b result h gave refusal.BadHex bad = absurd (bad.1 (decode_of-ok (uncommented text) b h).1)
 bytes_refused text b result h gave e w = gave e
-    (subst (λ (x : List ℕ). IsRefused 1 x e) (decode_of-same (strip text) w.0 b w.1 h) w.2)
+    (subst (λ (x : List ℕ). IsRefused 1 x e) (decode_of-same (uncommented text) w.0 b w.1 h) w.2)

@@ -10,7 +10,7 @@ use Rattle.std.proofs.lemmas.List.{take-append-drop, drop_more, drop_all, take_a
 use Rattle.std.proofs.lemmas.List.Elements.{All-from_get_or, filter-append}
 use Rattle.std.proofs.lemmas.List.Splits.{length-slice_split, slice_split_first, slice_split_none}
 use Rattle.std.proofs.lemmas.List.Sums.{position_or_len_is, fails_before_first, passes_at_first}
-use Rattle.cbor_diag.specs.HexText.{unspaced, uncommented, strip}
+use Rattle.cbor_notes.specs.Columns.{unspaced, kept, uncommented}
 
 -- ---- spaces
 
@@ -49,7 +49,7 @@ front_kept line n le none =
 
 -- a line up to its first `#`, or to its end
 uncommented_to : (line : List ℕ) (n : ℕ) → n ≤ length line → ((k : ℕ) → k < n → get_or line k 0 ≢ 35)
-    → (n < length line → get_or line n 0 ≡ 35) → uncommented line ≡ unspaced (take n line)
+    → (n < length line → get_or line n 0 ≡ 35) → kept line ≡ unspaced (take n line)
 uncommented_to line n le before here =
     let at : position_or_len (λ (b : ℕ). b == 35) line ≡ n =
     position_or_len_is (λ (b : ℕ). b == 35) line n 0 le (λ k lt. ne_eqb _ 35 (before k lt))
@@ -58,7 +58,7 @@ uncommented_to line n le before here =
 
 -- the carriage return before a line feed is after a `#`
 uncommented_return : (line : List ℕ) (n : ℕ) → n < length line → ((k : ℕ) → k < n → get_or line k 0 ≢ 35)
-    → get_or line n 0 ≡ 35 → uncommented (strip_carriage_return line) ≡ unspaced (take n line)
+    → get_or line n 0 ≡ 35 → kept (strip_carriage_return line) ≡ unspaced (take n line)
 uncommented_return line n lt before here =
     elim (cases_eq (get_or line (length line - 1) 0) 13) [
       | inl is ↦
@@ -77,13 +77,13 @@ uncommented_return line n lt before here =
 
 -- a line without `#`
 uncommented_whole : (line : List ℕ) → ((k : ℕ) → k < length line → get_or line k 0 ≢ 35)
-    → uncommented line ≡ unspaced line
+    → kept line ≡ unspaced line
 uncommented_whole line none = uncommented_to line (length line) (omega arith) none (λ lt. absurd (omega arith))
     ∙ ap unspaced (take_all (length line) line (omega arith))
 
 -- the same without the carriage return before its line feed
 return_whole : (line : List ℕ) → ((k : ℕ) → k < length line → get_or line k 0 ≢ 35)
-    → uncommented (strip_carriage_return line) ≡ unspaced (strip_carriage_return line)
+    → kept (strip_carriage_return line) ≡ unspaced (strip_carriage_return line)
 return_whole line none =
     elim (cases_eq (get_or line (length line - 1) 0) 13) [
       | inl is ↦
@@ -98,8 +98,8 @@ return_whole line none =
 -- ---- lines
 
 -- what is kept of some lines
-abbrev strip_of : List (List ℕ) → List ℕ
-strip_of = flat_map uncommented
+abbrev uncommented_lines : List (List ℕ) → List ℕ
+uncommented_lines = flat_map kept
 
 -- the lines of some parts, one in front of others
 parts_cons : (x : List ℕ) (parts : List (List ℕ)) → 0 < length parts
@@ -112,7 +112,7 @@ parts_one x some = rw (ne_eqb (length x) 0 (λ none. absurd (omega arith))) refl
 
 -- what is kept of the first line, which ends at a line feed, and of those after it
 strip_line : (text : List ℕ) (n : ℕ) → n < length text → ((k : ℕ) → k < n → get_or text k 0 ≢ 10) → get_or text n 0 ≡ 10
-    → strip text ≡ uncommented (strip_carriage_return (take n text)) ++ strip (drop (n + 1) text)
+    → uncommented text ≡ kept (strip_carriage_return (take n text)) ++ uncommented (drop (n + 1) text)
 strip_line text n lt before here =
     let feed = λ (b : ℕ). b == 10 in
     let at : position_or_len feed text ≡ n =
@@ -120,45 +120,45 @@ strip_line text n lt before here =
     let split = slice_split_first feed text 0 (omega (arith, at)) in
     let some : 0 < length (slice_split feed (after_first feed text)) =
     omega (arith, length-slice_split feed (after_first feed text)) in
-    ap (λ (parts : List (List ℕ)). strip_of (lines_of_parts parts)) split
-    ∙ ap strip_of (parts_cons (before_first feed text) (slice_split feed (after_first feed text)) some)
-    ∙ ap (λ (k : ℕ). uncommented (strip_carriage_return (take k text)) ++ strip (drop (k + 1) text)) at
+    ap (λ (parts : List (List ℕ)). uncommented_lines (lines_of_parts parts)) split
+    ∙ ap uncommented_lines (parts_cons (before_first feed text) (slice_split feed (after_first feed text)) some)
+    ∙ ap (λ (k : ℕ). kept (strip_carriage_return (take k text)) ++ uncommented (drop (k + 1) text)) at
 
 -- a text that is one line
-strip_last : (text : List ℕ) → ((k : ℕ) → k < length text → get_or text k 0 ≢ 10) → strip text ≡ uncommented text
-strip_last [] before = refl
-strip_last (x ∷ rest) before =
+uncommented_last : (text : List ℕ) → ((k : ℕ) → k < length text → get_or text k 0 ≢ 10) → uncommented text ≡ kept text
+uncommented_last [] before = refl
+uncommented_last (x ∷ rest) before =
     let feed = λ (b : ℕ). b == 10 in
     let none : All (λ (b : ℕ). (b == 10) ≡ false) (x ∷ rest) =
     All-from_get_or (λ (b : ℕ). (b == 10) ≡ false) (x ∷ rest) 0 (λ k lt. ne_eqb _ 10 (before k lt)) in
     let split = slice_split_none feed (x ∷ rest) none in
-    ap (λ (parts : List (List ℕ)). strip_of (lines_of_parts parts)) split
-    ∙ ap strip_of (parts_one (x ∷ rest) (omega arith)) ∙ append-nil (uncommented (x ∷ rest))
+    ap (λ (parts : List (List ℕ)). uncommented_lines (lines_of_parts parts)) split
+    ∙ ap uncommented_lines (parts_one (x ∷ rest) (omega arith)) ∙ append-nil (kept (x ∷ rest))
 
 -- ---- the first line, as it is cut off
 
 -- there is neither `#` nor a line feed
 pub cut_whole : (text : List ℕ) → ((k : ℕ) → k < length text → (get_or text k 0 ≢ 35) × (get_or text k 0 ≢ 10))
-    → strip text ≡ unspaced text
-cut_whole text none = strip_last text (λ k lt. (none k lt).1) ∙ uncommented_whole text (λ k lt. (none k lt).0)
+    → uncommented text ≡ unspaced text
+cut_whole text none = uncommented_last text (λ k lt. (none k lt).1) ∙ uncommented_whole text (λ k lt. (none k lt).0)
 
 -- a line feed comes first
 pub cut_feed : (text : List ℕ) (n : ℕ) → n < length text
     → ((k : ℕ) → k < n → (get_or text k 0 ≢ 35) × (get_or text k 0 ≢ 10))
-    → get_or text n 0 ≡ 10 → strip text ≡ unspaced (strip_carriage_return (take n text)) ++ strip (drop (n + 1) text)
+    → get_or text n 0 ≡ 10 → uncommented text ≡ unspaced (strip_carriage_return (take n text)) ++ uncommented (drop (n + 1) text)
 cut_feed text n lt none here =
     let len = length-take-le n text (omega arith) in
     let whole = return_whole (take n text) (λ k below.
     let inside : k < n = omega (arith, len, below) in
     rw (get_or-take n text k 0 inside) ((none k inside).0)) in
     strip_line text n lt (λ k below. (none k below).1) here
-    ∙ ap (λ (line : List ℕ). line ++ strip (drop (n + 1) text)) whole
+    ∙ ap (λ (line : List ℕ). line ++ uncommented (drop (n + 1) text)) whole
 
 -- a `#` comes first, and a line feed is m places after it
 comment_then_feed : (text : List ℕ) (n m : ℕ) → n + m < length text
     → ((k : ℕ) → k < n → (get_or text k 0 ≢ 35) × (get_or text k 0 ≢ 10))
     → get_or text n 0 ≡ 35 → ((k : ℕ) → k < m → get_or text (n + k) 0 ≢ 10) → get_or text (n + m) 0 ≡ 10
-    → strip text ≡ unspaced (take n text) ++ strip (drop (n + m + 1) text)
+    → uncommented text ≡ unspaced (take n text) ++ uncommented (drop (n + m + 1) text)
 comment_then_feed text n m lt none here later feed =
     let apart : n ≢ n + m = λ e. let h = ap (λ (k : ℕ). get_or text k 0) e in cc (here, h, feed) in
     let inside : n < n + m = omega arith in
@@ -174,13 +174,13 @@ comment_then_feed text n m lt none here later feed =
           rw same at (later (k - n) (omega arith))
     ] in
     strip_line text (n + m) lt no_feed feed
-    ∙ ap (λ (kept : List ℕ). kept ++ strip (drop (n + m + 1) text))
+    ∙ ap (λ (kept : List ℕ). kept ++ uncommented (drop (n + m + 1) text))
     (line ∙ ap unspaced (take-take n (n + m) text (omega arith)))
 
 -- a `#` comes first
 pub cut_comment : (text : List ℕ) (n : ℕ) → n < length text
     → ((k : ℕ) → k < n → (get_or text k 0 ≢ 35) × (get_or text k 0 ≢ 10))
-    → get_or text n 0 ≡ 35 → strip text ≡ unspaced (take n text) ++ strip (after_first (λ b. b == 10) (drop n text))
+    → get_or text n 0 ≡ 35 → uncommented text ≡ unspaced (take n text) ++ uncommented (after_first (λ b. b == 10) (drop n text))
 cut_comment text n lt none here =
     let feed = λ (b : ℕ). b == 10 in
     let rest = drop n text in
@@ -194,7 +194,7 @@ cut_comment text n lt none here =
           let passes = passes_at_first feed rest 0 inside in
           let is : get_or text (n + m) 0 ≡ 10 = sym (get_or-drop n text m 0) ∙ eqb-true _ 10 passes in
           comment_then_feed text n m (omega (arith, len)) none here apart is
-          ∙ ap (λ (behind : List ℕ). unspaced (take n text) ++ strip behind)
+          ∙ ap (λ (behind : List ℕ). unspaced (take n text) ++ uncommented behind)
           (sym (drop-drop (m + 1) n text ∙ ap (λ (k : ℕ). drop k text) (omega arith)))
       | inr all ↦
           let no_feed : (k : ℕ) → k < length text → get_or text k 0 ≢ 10 = λ k below.
@@ -205,7 +205,7 @@ cut_comment text n lt none here =
                 rw same at (apart (k - n) (omega (arith, len)))
           ] in
           let nothing : drop (m + 1) rest ≡ [] = drop_all (m + 1) rest (omega arith) in
-          strip_last text no_feed ∙ uncommented_to text n (omega arith) (λ k below. (none k below).0) (λ _. here)
-          ∙ sym (ap (λ (behind : List ℕ). unspaced (take n text) ++ strip behind) nothing
+          uncommented_last text no_feed ∙ uncommented_to text n (omega arith) (λ k below. (none k below).0) (λ _. here)
+          ∙ sym (ap (λ (behind : List ℕ). unspaced (take n text) ++ uncommented behind) nothing
           ∙ append-nil (unspaced (take n text)))
     ]

@@ -5,13 +5,15 @@ use Rattle.std.specs.List.{flat_map, list_any}
 use Rattle.std.proofs.lemmas.List.{length-take, take_more, drop_more, drop-append-le, drop_at, append-nil}
 use Rattle.std.proofs.lemmas.Grind.{flat_map-append}
 use Rattle.std.proofs.lemmas.Bool.Decides.{nat_tests}
-use Rattle.cbor_diag.specs.NotationText.{is_escaped, escaped, members, bracketed, opened, chunks_listed}
+use Rattle.cbor_notes.specs.Ascii.{quote}
+use Rattle.cbor_notes.specs.Token.{is_special, escaped_byte, in_quotes}
+use Rattle.cbor_diag.specs.NotationText.{members, bracketed, opened, chunks_listed}
 use Rattle.cbor_diag.specs.ContainerStyle as style
 use Rattle.cbor_diag.specs.ContainerStyle.{ContainerStyle, OneLine, MultiLine}
 use Rattle.cbor_diag.specs.mirror.LayoutView.{before_member, after_member}
 
 -- a byte that is escaped is a character
-pub escaped_ascii : (b : ℕ) → is_escaped b ≡ true → b < 128
+pub escaped_ascii : (b : ℕ) → is_special quote b ≡ true → b < 128
 escaped_ascii b h = grind (arith, nat_tests)
 
 -- ---- escaped text: `out` is what is written, and the bytes from `done` to `place` are still to be written
@@ -23,40 +25,40 @@ bytes_more s done place order here =
     ∙ drop-append-le done (take place s) (get_or s place 0 ∷ []) (omega (arith, length-take place s))
 
 escaped_more : (s : List ℕ) (place : ℕ) → place < length s
-    → flat_map escaped (take (place + 1) s) ≡ flat_map escaped (take place s) ++ escaped (get_or s place 0)
-escaped_more s place here = ap (flat_map escaped) (take_more s place 0 here) ∙ simp (flat_map-append, append-nil)
+    → in_quotes quote (take (place + 1) s) ≡ in_quotes quote (take place s) ++ escaped_byte quote (get_or s place 0)
+escaped_more s place here = ap (in_quotes quote) (take_more s place 0 here) ∙ simp (flat_map-append, append-nil)
 
 pub plain_more : (s : List ℕ) (done place : ℕ) (out old : List ℕ) → done ≤ place → place < length s
-    → is_escaped (get_or s place 0) ≡ false
-    → out ++ drop done (take place s) ≡ old ++ flat_map escaped (take place s)
-    → out ++ drop done (take (place + 1) s) ≡ old ++ flat_map escaped (take (place + 1) s)
+    → is_special quote (get_or s place 0) ≡ false
+    → out ++ drop done (take place s) ≡ old ++ in_quotes quote (take place s)
+    → out ++ drop done (take (place + 1) s) ≡ old ++ in_quotes quote (take (place + 1) s)
 plain_more s done place out old order here plain h =
-    let b : escaped (get_or s place 0) ≡ get_or s place 0 ∷ [] = rw plain refl in
+    let b : escaped_byte quote (get_or s place 0) ≡ get_or s place 0 ∷ [] = rw plain refl in
     rw (bytes_more s done place order here, escaped_more s place here, b)
     (sym (append_assoc out (drop done (take place s)) (get_or s place 0 ∷ []))
     ∙ ap (λ x. x ++ get_or s place 0 ∷ []) h
-    ∙ append_assoc old (flat_map escaped (take place s)) (get_or s place 0 ∷ []))
+    ∙ append_assoc old (in_quotes quote (take place s)) (get_or s place 0 ∷ []))
 
 pub special_more : (s : List ℕ) (done place : ℕ) (out old plain out' : List ℕ) → done ≤ place → place < length s
-    → is_escaped (get_or s place 0) ≡ true
+    → is_special quote (get_or s place 0) ≡ true
     → plain ≡ drop done (take place s) → out' ≡ (out ++ plain) ++ 92 ∷ []
-    → out ++ drop done (take place s) ≡ old ++ flat_map escaped (take place s)
-    → out' ++ drop place (take (place + 1) s) ≡ old ++ flat_map escaped (take (place + 1) s)
+    → out ++ drop done (take place s) ≡ old ++ in_quotes quote (take place s)
+    → out' ++ drop place (take (place + 1) s) ≡ old ++ in_quotes quote (take (place + 1) s)
 special_more s done place out old plain out' order here special is written h =
-    let b : escaped (get_or s place 0) ≡ 92 ∷ get_or s place 0 ∷ [] = rw special refl in
+    let b : escaped_byte quote (get_or s place 0) ≡ 92 ∷ get_or s place 0 ∷ [] = rw special refl in
     let last : drop place (take (place + 1) s) ≡ get_or s place 0 ∷ [] = ap (drop place) (take_more s place 0 here)
     ∙ drop_at (take place s) (get_or s place 0 ∷ []) place (omega (arith, length-take place s)) in
     rw (last, escaped_more s place here, b, written, is) (ap (λ x. (x ++ 92 ∷ []) ++ get_or s place 0 ∷ []) h
     ∙ simp append_assoc)
 
 -- a text without such bytes is written as it is
-pub plain_text : (s : List ℕ) → list_any is_escaped s ≡ false → flat_map escaped s ≡ s
+pub plain_text : (s : List ℕ) → list_any (is_special quote) s ≡ false → in_quotes quote s ≡ s
 plain_text [] h = refl
 plain_text (b ∷ bs) h =
-    let here : is_escaped b ≡ false = grind arith in
-    let there : list_any is_escaped bs ≡ false = grind arith in
-    let first : escaped b ≡ b ∷ [] = rw here refl in
-    ap (λ x. x ++ flat_map escaped bs) first ∙ ap (λ x. b ∷ x) (plain_text bs there)
+    let here : is_special quote b ≡ false = grind arith in
+    let there : list_any (is_special quote) bs ≡ false = grind arith in
+    let first : escaped_byte quote b ≡ b ∷ [] = rw here refl in
+    ap (λ x. x ++ in_quotes quote bs) first ∙ ap (λ x. b ∷ x) (plain_text bs there)
 
 -- ---- members
 

@@ -6,13 +6,14 @@ ghost use Rattle.std.specs.Prelude.{◌≡◌, ◌+◌, IfOk, IfErr};
 ghost use Rattle.std.specs.List.{AllByRecursion};
 ghost use Rattle.std.specs.String.{string_bytes};
 ghost use Rattle.hex.specs.Hex.{encode_lower};
-ghost use Rattle.cbor_notes.specs.Columns.{IsColumn, Lacks};
+ghost use Rattle.cbor_notes.specs.Ascii.{line_feed};
+ghost use Rattle.cbor_notes.specs.Columns.{IsColumn, Lacks, uncommented};
 ghost use Rattle.cbor_notes.specs.Layout.{width_of};
 ghost use Rattle.cbor_diag.specs.View.{view};
 ghost use Rattle.cbor_diag.specs.Embedded.{EmbedsExactly, RejectsExactly};
 ghost use Rattle.cbor_diag.specs.Facts.{IsWellFormed};
 ghost use Rattle.cbor_diag.specs.Written.{encoded, resolve};
-ghost use Rattle.cbor_diag.specs.HexText.{strip, IsHexOf};
+ghost use Rattle.cbor_diag.specs.HexText.{IsHexOf};
 ghost use Rattle.cbor_diag.specs.Dump as spec;
 
 mod comment;
@@ -49,12 +50,12 @@ impl DataItem {
         requires { IsWellFormed (view self.now) }
         ensures text { IfOk result (λ t. string_bytes t ≡ spec.dump (view self.now)) }
         // Without its comments the dump is the item's encoding in hex.
-        ensures digits { IfOk result (λ t. strip (string_bytes t)
+        ensures digits { IfOk result (λ t. uncommented (string_bytes t)
             ≡ encode_lower (encoded (view self.now))) }
         // So it is read back as the item with its unstated widths resolved.
         ensures read_back { IfOk result (λ t. IsHexOf (string_bytes t) (resolve (view self.now))) }
         // No comment has a line feed, whatever the item carries.
-        ensures one_line { AllByRecursion (λ line. Lacks 10 line.comment)
+        ensures one_line { AllByRecursion (λ line. Lacks line_feed line.comment)
             (spec.lines (view self.now)) }
         // The first `#` of every line is in one column.
         ensures one_column { IfOk result (λ t.

@@ -11,7 +11,8 @@ ghost use Rattle.cbor_diag.specs.Item.{Item};
 ghost use Rattle.cbor_diag.specs.View.{view};
 ghost use Rattle.cbor_diag.specs.Facts.{IsWellFormed};
 ghost use Rattle.cbor_diag.specs.Answer.{GaveItem, GaveRefusal, RefusedSo};
-ghost use Rattle.cbor_diag.specs.HexText.{unspaced, strip, IsHexOf, IsHexRefused};
+ghost use Rattle.cbor_notes.specs.Columns.{unspaced, uncommented};
+ghost use Rattle.cbor_diag.specs.HexText.{IsHexOf, IsHexRefused};
 
 use super::binary::parse_bytes;
 use crate::error::Error;
@@ -22,7 +23,7 @@ use std::alloc::{AllocError, Global};
 
 /// What the first line has before its first `#` or its end, and what follows that line.
 fn cut_line(text: &[u8]) -> (&[u8], &[u8])
-    ensures kept { strip text.now ≡ unspaced result.0.now ++ strip result.1.now }
+    ensures kept { uncommented text.now ≡ unspaced result.0.now ++ uncommented result.1.now }
     ensures shorter { 0 < length text.now → length result.1.now < length text.now }
 {
     match memchr2(b'#', b'\n', text) {
@@ -110,8 +111,8 @@ fn push_unspaced(out: &mut Vec<u8>, line: &[u8]) -> Result<(), AllocError>
 
 /// What is kept of all lines. Decoding finds out whether these bytes are hex digits. Memory is
 /// reserved at first for a fourth of the text: most dumps keep less.
-fn strip(alloc: Global, text: &str) -> Result<Vec<u8>, AllocError>
-    ensures { IfOk result (λ digits. digits.items ≡ strip text.now) }
+fn uncommented(alloc: Global, text: &str) -> Result<Vec<u8>, AllocError>
+    ensures { IfOk result (λ digits. digits.items ≡ uncommented text.now) }
 {
     let mut digits = Vec::with_capacity(alloc, text.len() / 4)?;
     let mut rest = text.as_bytes();
@@ -164,7 +165,7 @@ pub fn parse_hex(alloc: Global, hex: &str) -> crate::Result<DataItem>
     ensures every_refusal { (e : Error) → IsHexRefused hex.now e → GaveRefusal result e }
     ensures well_formed { IfOk result (λ i. IsWellFormed (view i)) }
 {
-    let digits = strip(alloc, hex)?;
+    let digits = uncommented(alloc, hex)?;
     let bytes = decode(alloc, digits)?;
     parse_bytes(alloc, &bytes)
 }

@@ -8,10 +8,12 @@ ghost use Rattle.std.specs.List.{flat_map, list_any};
 ghost use Rattle.cbor_diag.specs.mirror.Appends.{AppendsText};
 ghost use Rattle.cbor_diag.specs.mirror.EncodingView.{encoding_view};
 ghost use Rattle.cbor_diag.specs.mirror.StringView.{bytes_of, kind_of};
+ghost use Rattle.cbor_notes.specs.Ascii.{quote};
 ghost use Rattle.cbor_notes.specs.Base64.{standard, url_safe};
+ghost use Rattle.cbor_notes.specs.Token.{in_quotes, is_special};
 ghost use Rattle.cbor_diag.specs.WellFormed.{FitsFloat};
 ghost use Rattle.cbor_diag.specs.NotationText.{indicator, number, prefix, encoded_bytes, quoted};
-ghost use Rattle.cbor_diag.specs.NotationText.{is_escaped, escaped, text, string_text, float_text, simple_text};
+ghost use Rattle.cbor_diag.specs.NotationText.{text, string_text, float_text, simple_text};
 
 use crate::encode::encoding::Encoding;
 use crate::syntax::strings::StringContent;
@@ -159,7 +161,7 @@ pub(crate) fn push_string(
 /// Whether the text has a byte that is escaped by a backslash. It is looked at to its end,
 /// whatever is found: so the loop has one way out, and many bytes are looked at together.
 fn has_escaped(content: &str) -> bool
-    ensures { result ≡ list_any is_escaped content.now }
+    ensures { result ≡ list_any (is_special quote) content.now }
 {
     let mut found = 0;
     'bytes: for byte in content.as_bytes() {
@@ -170,7 +172,7 @@ fn has_escaped(content: &str) -> bool
 
 /// Whether the byte is escaped by a backslash in a text.
 fn is_escaped(byte: u8) -> bool
-    ensures { result ≡ is_escaped byte }
+    ensures { result ≡ is_special quote byte }
 {
     byte == b'"' || byte == b'\\'
 }
@@ -179,7 +181,7 @@ fn is_escaped(byte: u8) -> bool
 /// these.
 #[tactic(auto, using(crate::proofs::text::Scalars::plain_text, crate::proofs::shared::Appending::appending_steps))]
 fn push_escaped(out: &mut String, content: &str) -> Result<(), AllocError>
-    ensures { AppendsText result out.old out.new (flat_map escaped content.now) }
+    ensures { AppendsText result out.old out.new (in_quotes quote content.now) }
 {
     if !has_escaped(content) {
         return out.push_str(content);

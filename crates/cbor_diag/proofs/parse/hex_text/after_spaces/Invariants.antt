@@ -1,5 +1,5 @@
 use Rattle.std.proofs.Common.{◌≡◌, ◌≤◌, ◌-◌, length, drop}
-use Rattle.cbor_diag.specs.HexText.{unspaced}
+use Rattle.cbor_notes.specs.Columns.{unspaced}
 use Rattle.cbor_diag.proofs.parse.hex_text.after_spaces.Given as goal
 
 abbrev pub invariant-spaces : goal.invariant-spaces

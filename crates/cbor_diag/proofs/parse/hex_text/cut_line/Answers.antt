@@ -1,6 +1,6 @@
 use Rattle.std.proofs.Common.{ℕ, ◌+◌, ◌++◌, List, take, length, sym, ap, ◌∙◌, arith, append-nil}
 use Rattle.std.proofs.lemmas.List.{drop_all, take_rest}
-use Rattle.cbor_diag.specs.HexText.{strip, unspaced}
+use Rattle.cbor_notes.specs.Columns.{unspaced, uncommented}
 use Rattle.cbor_diag.proofs.hex.Lines.{cut_whole, cut_feed, cut_comment}
 use Rattle.cbor_diag.proofs.hex.Search.{neither_at, neither_before, either_here}
 use Rattle.cbor_diag.proofs.parse.hex_text.cut_line.Goals as goal
@@ -19,7 +19,7 @@ returns-in-Some-clause-kept c =
     let rest = take_rest c.args.text.now c.in-Some.end in
     cut_comment c.args.text.now c.in-Some.end (omega (arith, found.0.high))
     (neither_before c.args.text.now c.in-Some.end found) c.if-text-end-eq35.true
-    ∙ ap (λ (after : List ℕ). unspaced (take c.in-Some.end c.args.text.now) ++ strip after) (sym (rw rest at behind))
+    ∙ ap (λ (after : List ℕ). unspaced (take c.in-Some.end c.args.text.now) ++ uncommented after) (sym (rw rest at behind))
 
 pub returns-in-Some-2-clause-kept : goal.returns-in-Some-2-clause-kept
 returns-in-Some-2-clause-kept c =

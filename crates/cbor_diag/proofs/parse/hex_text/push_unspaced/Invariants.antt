@@ -1,5 +1,5 @@
 use Rattle.std.proofs.Common.{◌≡◌, ◌≢◌, ◌<◌, ◌++◌, length, slice_index}
-use Rattle.cbor_diag.specs.HexText.{unspaced}
+use Rattle.cbor_notes.specs.Columns.{unspaced}
 use Rattle.cbor_diag.proofs.parse.hex_text.push_unspaced.Given as goal
 
 abbrev pub invariant-runs : goal.invariant-runs

@@ -7,7 +7,7 @@ use Rattle.hex.specs.Hex.{decode_of}
 use Rattle.hex.proofs.HexLemmas.{decode_of-encode_lower}
 use Rattle.cbor_diag.specs.Dump.{lines, top}
 use Rattle.cbor_diag.specs.Facts.{IsWellFormed}
-use Rattle.cbor_diag.specs.HexText.{strip}
+use Rattle.cbor_notes.specs.Columns.{uncommented}
 use Rattle.cbor_diag.specs.Item.{Item}
 use Rattle.cbor_diag.specs.View.{view}
 use Rattle.cbor_diag.specs.Written.{encoded, resolve}
@@ -41,7 +41,7 @@ returns-clause-one_column c =
 pub returns-clause-digits : goal.returns-clause-digits
 returns-clause-digits c =
     let i = view c.args.self.now in
-    ap strip c.in_ok-dump.ensures ∙ digits_left (width_of (lines i)) (lines i) (all_plain i c.requires)
+    ap uncommented c.in_ok-dump.ensures ∙ digits_left (width_of (lines i)) (lines i) (all_plain i c.requires)
     ∙ item_are 128 1 top 0 i (omega arith) c.requires
 
 pub returns-clause-read_back : goal.returns-clause-read_back

@@ -1,10 +1,10 @@
 use Rattle.std.proofs.Common.{◌≡◌, ◌<◌, ◌+◌, ◌-◌, [], ◌∷◌, ◌++◌, length, get_or, take, drop, refl, sym, ap, ◌∙◌, arith}
 use Rattle.std.proofs.lemmas.List.{drop-take}
-use Rattle.cbor_diag.specs.NotationText.{is_escaped}
+use Rattle.cbor_notes.specs.Ascii.{quote}
+use Rattle.cbor_notes.specs.Token.{in_quotes, is_special}
 use Rattle.std.proofs.lemmas.Str.{IsCharBoundary-start, IsCharBoundary-before_ascii}
 use Rattle.std.specs.String.{string_bytes}
 use Rattle.std.specs.List.{flat_map}
-use Rattle.cbor_diag.specs.NotationText.{escaped}
 use Rattle.cbor_diag.proofs.shared.Appending.{begins_same, begins_still, appends_of, appends_as}
 use Rattle.cbor_diag.proofs.text.Scalars.{escaped_ascii, plain_text, plain_more, special_more}
 use Rattle.cbor_diag.proofs.encode.notation.scalars.push_escaped.Goals as goal
@@ -26,8 +26,8 @@ bytes-preserved c =
     let i = c.bytes.invariant in
     let value = c.as_bytes-byte-items.ensures.value in
     let here : c.bytes.place < length s = omega (arith, c.as_bytes-byte-items.ensures.len) in
-    let test : is_escaped (get_or s c.bytes.place 0) ≡ c.is_escaped.result =
-    ap (λ x. is_escaped (get_or x c.bytes.place 0)) (sym value) ∙ sym c.is_escaped.ensures in
+    let test : is_special quote (get_or s c.bytes.place 0) ≡ c.is_escaped.result =
+    ap (λ x. is_special quote (get_or x c.bytes.place 0)) (sym value) ∙ sym c.is_escaped.ensures in
     elim c.if-is_escaped.branch [
       | then-is_escaped+in_ok-push_str+in_ok-push w ↦
           let special = test ∙ w.if-is_escaped.true in
@@ -65,6 +65,6 @@ returns-then-not-has_escaped c =
     let out = string_bytes c.args.out.now in
     let content = c.args.content.now in
     let plain = plain_text content (sym c.has_escaped.ensures ∙ c.if-not-has_escaped.true) in
-    appends_as c.push_str.result out (string_bytes c.push_str.new.self) content (flat_map escaped content)
+    appends_as c.push_str.result out (string_bytes c.push_str.new.self) content (in_quotes quote content)
     (λ e. e ∙ ap (λ x. out ++ x) (sym plain))
     (appends_of c.push_str.result out (string_bytes c.push_str.new.self) content c.push_str.ensures.bytes)

@@ -3,14 +3,15 @@ use Rattle.std.specs.Io.{StartsWith}
 use Rattle.std.specs.List.{flat_map}
 use Rattle.std.specs.Str.{IsCharBoundary}
 use Rattle.std.specs.String.{string_bytes}
-use Rattle.cbor_diag.specs.NotationText.{escaped}
+use Rattle.cbor_notes.specs.Ascii.{quote}
+use Rattle.cbor_notes.specs.Token.{in_quotes}
 use Rattle.cbor_diag.proofs.encode.notation.scalars.push_escaped.Given as goal
 
 -- what is written, and the bytes from `done` on, are the escaped bytes so far
 abbrev pub invariant-bytes : goal.invariant-bytes
 invariant-bytes l = record {
   written : string_bytes l.out ++ drop l.done (take l.place l.content) ≡ string_bytes l.fn.out
-      ++ flat_map escaped (take l.place l.content);
+      ++ in_quotes quote (take l.place l.content);
   begins : StartsWith (string_bytes l.out) (string_bytes l.fn.out);
   order : l.done ≤ l.place;
   boundary : IsCharBoundary l.content l.done;
