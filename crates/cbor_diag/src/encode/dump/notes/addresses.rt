@@ -86,7 +86,8 @@ impl Family {
 
     /// The family's name, what is shown of it, and that between brackets.
     fn shown(self, alloc: Global, what: &str, text: &str) -> Result<String, AllocError>
-        ensures { IfOk result (λ note. string_bytes note ≡ spec.shown (family_view self) what.now text.now) }
+        ensures { IfOk result (λ note. string_bytes note
+            ≡ spec.shown (family_view self) what.now text.now) }
     {
         let mut name = String::from_str(alloc, self.name())?;
         name.push(' ')?;
@@ -106,7 +107,8 @@ impl Family {
 
     /// What is said of bytes alone.
     fn plain_address(self, alloc: Global, bytes: &[u8]) -> Result<String, AllocError>
-        ensures { IfOk result (λ note. string_bytes note ≡ spec.plain_address (family_view self) bytes.now) }
+        ensures { IfOk result (λ note. string_bytes note
+            ≡ spec.plain_address (family_view self) bytes.now) }
     {
         match self.address_text(alloc, bytes)? {
             Some(address) => self.shown(alloc, "address", &address),
@@ -139,7 +141,8 @@ impl Family {
     /// What is said of the first bytes of an address, those after them being zeros that are left
     /// away.
     fn prefix_note(self, alloc: Global, len: u64, bytes: &[u8]) -> Result<String, AllocError>
-        ensures { IfOk result (λ note. string_bytes note ≡ spec.prefix_note (family_view self) len bytes.now) }
+        ensures { IfOk result (λ note. string_bytes note
+            ≡ spec.prefix_note (family_view self) len bytes.now) }
     {
         if bytes.ends_with(&[0]) {
             return String::from_str(alloc, "invalid prefix, ends with zero byte");
@@ -167,7 +170,8 @@ impl Family {
         address: String,
         rest: &[DataItem],
     ) -> Result<String, AllocError>
-        ensures { (bytes : List ℕ) → string_bytes address ≡ spec.address_text (family_view self) bytes
+        ensures { (bytes : List ℕ)
+            → string_bytes address ≡ spec.address_text (family_view self) bytes
             → IfOk result (λ note. string_bytes note ≡ spec.interface_note (family_view self) bytes
             (items_view rest.now)) }
     {
@@ -187,7 +191,8 @@ impl Family {
         address: String,
         zones: &[DataItem],
     ) -> Result<String, AllocError>
-        ensures { (bytes : List ℕ) → string_bytes address ≡ spec.address_text (family_view self) bytes
+        ensures { (bytes : List ℕ)
+            → string_bytes address ≡ spec.address_text (family_view self) bytes
             → IfOk result (λ note. string_bytes note
             ≡ spec.with_zone (family_view self) bytes (spec.zone_at (items_view zones.now))) }
     {
@@ -207,7 +212,8 @@ impl Family {
         len: u64,
         zones: &[DataItem],
     ) -> Result<String, AllocError>
-        ensures { (bytes : List ℕ) → string_bytes address ≡ spec.address_text (family_view self) bytes
+        ensures { (bytes : List ℕ)
+            → string_bytes address ≡ spec.address_text (family_view self) bytes
             → IfOk result (λ note. string_bytes note
             ≡ spec.with_length (family_view self) bytes len (spec.zone_at (items_view zones.now))) }
     {
