@@ -32,7 +32,7 @@ use Rattle.cbor_diag.specs.Written.{encoded_head, encoded_float, encoded_simple,
 use Rattle.cbor_diag.specs.Comments.{bytes_comment, text_comment}
 use Rattle.cbor_diag.specs.Pieces.{pieces_of, byte_pieces, text_pieces, last_start, text_cut, begins_character}
 use Rattle.cbor_diag.specs.Pieces.{piece_size}
-use Rattle.cbor_diag.specs.Dump.{At, head_hex, head_line, piece_line, content_lines, byte_string_lines}
+use Rattle.cbor_diag.specs.Dump.{Context, head_hex, head_line, piece_line, content_lines, byte_string_lines}
 use Rattle.cbor_diag.specs.Dump.{text_string_lines, bytes_lines, element_lines, sized_lines, tagged_lines}
 use Rattle.cbor_diag.specs.Dump.{count_if_definite, break_line, atom_lines, container_line, close_lines, inside, below}
 use Rattle.cbor_diag.proofs.dump.Elements.{Small, element_small, element_cut}
@@ -199,7 +199,7 @@ tagged_fit : (depth : ℕ) (encoding : Option Encoding) (tag : Option ℕ) (byte
 tagged_fit depth encoding None bytes low = plain_fits depth encoding bytes low
 tagged_fit depth encoding (Some t) bytes low = sized_fit depth encoding t (element_size t) bytes low (element_small t)
 
-bytes_fit : (p : At) (c : Chunk) → p.depth + 1 < 140 → AllByRecursion IsGood (byte_string_lines p c)
+bytes_fit : (p : Context) (c : Chunk) → p.depth + 1 < 140 → AllByRecursion IsGood (byte_string_lines p c)
 bytes_fit p c low = (
   fit_head p.depth (encoded_head 2 (length c.bytes) c.width) _ (omega arith)
       (head_length 2 (length c.bytes) (stated c.width (length c.bytes)))
@@ -215,7 +215,7 @@ text_fits depth c low = (
   content_fits (depth + 1) text_comment text_line (text_pieces c.bytes) low (text_few c.bytes),
 )
 
-byte_chunks_fit : (p : At) (cs : List Chunk) → p.depth + 1 < 140
+byte_chunks_fit : (p : Context) (cs : List Chunk) → p.depth + 1 < 140
     → AllByRecursion IsGood (flat_map (byte_string_lines p) cs)
 byte_chunks_fit p [] low = tt
 byte_chunks_fit p (c ∷ cs) low =
@@ -236,7 +236,7 @@ pub close_fits : (depth : ℕ) (w : Option IntegerWidth) → depth < 140 → All
 close_fits depth (Some w) low = tt
 close_fits depth None low = break_fits depth low
 
-pub atom_fits : (p : At) (a : Atom) → p.depth < 128 → AllByRecursion IsGood (atom_lines p a)
+pub atom_fits : (p : Context) (a : Atom) → p.depth < 128 → AllByRecursion IsGood (atom_lines p a)
 atom_fits p (integer n w) low = (
   fit_head p.depth (encoded_head 0 n w) _ (omega arith) (head_length 0 n (stated w n))
       (unsigned_line n),

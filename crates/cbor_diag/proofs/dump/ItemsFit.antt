@@ -12,7 +12,7 @@ use Rattle.cbor_diag.specs.Item.{item_count, pair_count}
 use Rattle.cbor_diag.specs.Head.{stated}
 use Rattle.cbor_diag.specs.WellFormed.{WellFormed, WellFormedItems, WellFormedPairs}
 use Rattle.cbor_diag.specs.Written.{encoded_head}
-use Rattle.cbor_diag.specs.Dump.{At, notes_lines, close_lines, inside, below, shared_in, shared_from, items_lines}
+use Rattle.cbor_diag.specs.Dump.{Context, notes_lines, close_lines, inside, below, shared_in, shared_from, items_lines}
 use Rattle.cbor_diag.specs.Dump.{pairs_lines, parts_lines, lines_at, top}
 use Rattle.cbor_diag.proofs.text.Parts.{well_level}
 use Rattle.cbor_diag.proofs.dump.Fits.{IsGood, fit_head, head_length, open_fits, close_fits, atom_fits, low_here}
@@ -36,9 +36,9 @@ module _ (write : ℕ → Item → List DumpLine) (level : ℕ) (each : (known :
       (all_both IsGood (write after v) (pairs_lines write (after + shared_in v) ps) (each after v well.1)
       (pairs_fit (after + shared_in v) ps well.2))
 
-module _ (write : At → ℕ → Item → List DumpLine) (level : ℕ) (each : (p : At) (known : ℕ) (i : Item)
+module _ (write : Context → ℕ → Item → List DumpLine) (level : ℕ) (each : (p : Context) (known : ℕ) (i : Item)
     → p.depth < level + 1 → WellFormed (level + 1) i → AllByRecursion IsGood (write p known i)) where
-  parts_fit : (p : At) (known : ℕ) (i : Item) → p.depth < level → WellFormed level i
+  parts_fit : (p : Context) (known : ℕ) (i : Item) → p.depth < level → WellFormed level i
       → AllByRecursion IsGood (parts_lines write p known i)
   parts_fit p known (atom a) deep well = atom_fits p a (low_here p.depth level deep well.0)
   parts_fit p known (array is w) deep well = (
@@ -61,7 +61,7 @@ module _ (write : At → ℕ → Item → List DumpLine) (level : ℕ) (each : (
     each (below t known p) (shared_from t known) i (low_below p.depth level deep) well.2,
   )
 
-pub item_fits : (left level : ℕ) (p : At) (known : ℕ) (i : Item) → level + left ≡ 129 → p.depth < level
+pub item_fits : (left level : ℕ) (p : Context) (known : ℕ) (i : Item) → level + left ≡ 129 → p.depth < level
     → WellFormed level i → AllByRecursion IsGood (lines_at left p known i)
 unfolding lines_at
 item_fits zero level p known i levels deep well = absurd (omega (arith, well_level level i well))

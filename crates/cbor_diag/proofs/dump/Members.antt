@@ -15,17 +15,17 @@ use Rattle.cbor_diag.specs.Notes.{Note}
 use Rattle.cbor_diag.specs.View.{view, items_view, pairs_view}
 use Rattle.cbor_diag.specs.WellFormed.{levels_left, WellFormed, WellFormedItems, WellFormedPairs}
 use Rattle.cbor_diag.specs.Written.{encoded_head}
-use Rattle.cbor_diag.specs.Dump.{At, below, inside, head_line, container_line, close_lines, lines_at, lines_at_level}
-use Rattle.cbor_diag.specs.Dump.{note_lines, notes_lines, parts_lines, shared_from, shared_in, shared_in_items}
-use Rattle.cbor_diag.specs.Dump.{shared_in_pairs, top}
-use Rattle.cbor_diag.specs.mirror.Passes.{at_of, writes, CanTake, Took, item_lines, embedded_lines, notes_there}
+use Rattle.cbor_diag.specs.Dump.{Context, below, inside, head_line, container_line, close_lines, lines_at}
+use Rattle.cbor_diag.specs.Dump.{lines_at_level, note_lines, notes_lines, parts_lines, shared_from, shared_in}
+use Rattle.cbor_diag.specs.Dump.{shared_in_items, shared_in_pairs, top}
+use Rattle.cbor_diag.specs.mirror.Passes.{context_view, writes, CanTake, Took, item_lines, embedded_lines, notes_there}
 use Rattle.cbor_diag.specs.mirror.Passes.{IsUntagged, items_there, pairs_there}
 use Rattle.cbor_diag.proofs.text.Parts.{well_level}
 use Rattle.cbor_diag.proofs.dump.NoteSteps.{notes_passed}
 use Rattle.cbor_diag.proofs.dump.Walks.{part_here, part_left, left_then, Left}
 
 -- An item is its parts and its notes.
-pub item_opens : (level : ℕ) (p : At) (known : ℕ) (i : Item) → level ≤ 128
+pub item_opens : (level : ℕ) (p : Context) (known : ℕ) (i : Item) → level ≤ 128
     → lines_at_level level p known i ≡ parts_lines (lines_at_level (level + 1)) p known i
     ++ notes_lines p.depth (levels_left (level + 1)) (lines_at_level (level + 1) top 0) p.shared p.tag i
 unfolding lines_at
@@ -34,7 +34,7 @@ item_opens level p known i le =
     ap (λ left. lines_at left p known i) levels
 
 -- Where no tag is right above it, it has no notes.
-pub untagged : (level : ℕ) (p : At) (known : ℕ) (i : Item) → level ≤ 128 → p.tag ≡ None
+pub untagged : (level : ℕ) (p : Context) (known : ℕ) (i : Item) → level ≤ 128 → p.tag ≡ None
     → lines_at_level level p known i ≡ parts_lines (lines_at_level (level + 1)) p known i
 untagged level p known i le none =
     let write = lines_at_level (level + 1) in
@@ -44,9 +44,9 @@ untagged level p known i le none =
     ∙ append-nil (parts_lines write p known i)
 
 -- what the items in a context are written by
-pub written_in : (c : DumpContext) (level : ℕ) (p : At) → c.level ≡ level → at_of c ≡ p
-    → lines_at_level c.level (at_of c) ≡ lines_at_level level p
-written_in c level p deep here = ap (λ n. lines_at_level n (at_of c)) deep ∙ ap (lines_at_level level) here
+pub written_in : (c : DumpContext) (level : ℕ) (p : Context) → c.level ≡ level → context_view c ≡ p
+    → lines_at_level c.level (context_view c) ≡ lines_at_level level p
+written_in c level p deep here = ap (λ n. lines_at_level n (context_view c)) deep ∙ ap (lines_at_level level) here
 
 -- the pass that measures leaves the notes out
 pub notes_left : (now : Pass) → writes now ≡ false → (depth : ℕ) (all : List Note)
@@ -57,26 +57,26 @@ notes_left (pass.Write w) silent depth all = absurd cc
 -- A tag is a line, the value right below it, and the notes on the value.
 module _ (outer inner : DumpContext) (t : ℕ) (w : IntegerWidth) (known shared : ℕ)
     (counted : shared ≡ shared_from t known) (i : Item) (deep : inner.level ≡ outer.level + 1)
-    (here : at_of inner ≡ below t known (at_of outer)) (le : inner.level ≤ 128) (old : Pass)
+    (here : context_view inner ≡ below t known (context_view outer)) (le : inner.level ≤ 128) (old : Pass)
     (takes : CanTake old (item_lines outer known (tagged t w i))) where
   abbrev tag_line : DumpLine
   tag_line = head_line outer.depth (encoded_head 6 t w) (tag_comment t)
 
   abbrev below_tag : List DumpLine
-  below_tag = lines_at_level (outer.level + 1) (below t known (at_of outer)) (shared_from t known) i
+  below_tag = lines_at_level (outer.level + 1) (below t known (context_view outer)) (shared_from t known) i
 
   abbrev value : List DumpLine
   value = item_lines inner shared i
 
   below_opens : below_tag ≡ value ++ notes_there inner t i
   below_opens =
-      ap (λ n. lines_at_level (outer.level + 1) (below t known (at_of outer)) n i) (sym counted)
+      ap (λ n. lines_at_level (outer.level + 1) (below t known (context_view outer)) n i) (sym counted)
       ∙ sym (ap (λ write. write shared i)
-      (written_in inner (outer.level + 1) (below t known (at_of outer)) deep here))
-      ∙ item_opens inner.level (at_of inner) shared i le
+      (written_in inner (outer.level + 1) (below t known (context_view outer)) deep here))
+      ∙ item_opens inner.level (context_view inner) shared i le
       ∙ ap (λ (tag : Option ℕ). value
       ++ notes_lines inner.depth (levels_left (inner.level + 1)) (embedded_lines inner) inner.shared tag i)
-      (ap (λ (p : At). p.tag) here)
+      (ap (λ (p : Context). p.tag) here)
 
   module _ (opened : Pass) (took : Took old opened (tag_line ∷ [])) where
     below_left : Left old opened below_tag (tag_line ∷ below_tag)
@@ -102,7 +102,7 @@ module _ (major : ℕ) (name : List ℕ) (count counted : ℕ) (same : count ≡
   count_line n = container_line outer.depth major name n w
 
   abbrev members_lines : List DumpLine
-  members_lines = members (lines_at_level (outer.level + 1) (inside (at_of outer)))
+  members_lines = members (lines_at_level (outer.level + 1) (inside (context_view outer)))
 
   abbrev end : List DumpLine
   end = close_lines (outer.depth + 1) w
@@ -115,12 +115,12 @@ module _ (major : ℕ) (name : List ℕ) (count counted : ℕ) (same : count ≡
     line_takes = subst (λ n. CanTake old (count_line n ∷ [])) same (takes.0, tt)
 
     module _ (opened : Pass) (took : Took old opened (count_line counted ∷ [])) (inner : DumpContext)
-        (deep : inner.level ≡ outer.level + 1) (here : at_of inner ≡ inside (at_of outer)) where
+        (deep : inner.level ≡ outer.level + 1) (here : context_view inner ≡ inside (context_view outer)) where
       abbrev members_there : List DumpLine
-      members_there = members (lines_at_level inner.level (at_of inner))
+      members_there = members (lines_at_level inner.level (context_view inner))
 
       there : members_there ≡ members_lines
-      there = ap members (written_in inner (outer.level + 1) (inside (at_of outer)) deep here)
+      there = ap members (written_in inner (outer.level + 1) (inside (context_view outer)) deep here)
 
       members_left : Left old opened (members_lines ++ end) whole
       members_left = part_left whole (count_line count ∷ []) (members_lines ++ end) refl old old opened whole
@@ -146,12 +146,13 @@ module _ (major : ℕ) (name : List ℕ) (count counted : ℕ) (same : count ≡
 
 -- what the members in a context are written by
 abbrev written : DumpContext → ℕ → Item → List DumpLine
-written here = lines_at_level here.level (at_of here)
+written here = lines_at_level here.level (context_view here)
 
 -- they have no notes
 member_lines : (here : DumpContext) → IsUntagged here → (known : ℕ) (i : Item) → WellFormed here.level i
     → written here known i ≡ item_lines here known i
-member_lines here none known i well = untagged here.level (at_of here) known i (well_level here.level i well) none
+member_lines here none known i well =
+    untagged here.level (context_view here) known i (well_level here.level i well) none
 
 -- Of items, some are left.
 abbrev pub ItemsLeft : DumpContext → Pass → Pass → ℕ → List DataItem → List DumpLine → ℕ → Type 0

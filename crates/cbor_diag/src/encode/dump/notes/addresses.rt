@@ -105,7 +105,7 @@ impl Family {
         Ok(note)
     }
 
-    /// What is said of bytes alone.
+    /// What is said of an address alone.
     fn plain_address(self, alloc: Global, bytes: &[u8]) -> Result<String, AllocError>
         ensures { IfOk result (λ note. string_bytes note
             ≡ spec.plain_address (family_view self) bytes.now) }
@@ -138,8 +138,7 @@ impl Family {
         }
     }
 
-    /// What is said of the first bytes of an address, those after them being zeros that are left
-    /// away.
+    /// What is said of a prefix: the first bytes of an address, without the zeros at its end.
     fn prefix_note(self, alloc: Global, len: u64, bytes: &[u8]) -> Result<String, AllocError>
         ensures { IfOk result (λ note. string_bytes note
             ≡ spec.prefix_note (family_view self) len bytes.now) }
@@ -233,7 +232,7 @@ impl Family {
     }
 }
 
-/// What is said of a value that is no address.
+/// What is said of a value that is not an address.
 fn invalid_address(alloc: Global) -> Result<String, AllocError>
     ensures { IfOk result (λ note. string_bytes note ≡ spec.invalid_address) }
 {
@@ -257,7 +256,7 @@ fn push_zone(text: &mut String, zone: &str) -> Result<(), AllocError>
     text.push_str(zone)
 }
 
-/// The zone that is named first, by its number or name.
+/// The zone at the front, by its number or name.
 fn zone_at(alloc: Global, zones: &[DataItem]) -> Result<Zone, AllocError>
     ensures { IfOk result (λ zone. zone_view zone ≡ spec.zone_at (items_view zones.now)) }
 {
@@ -269,7 +268,7 @@ fn zone_at(alloc: Global, zones: &[DataItem]) -> Result<Zone, AllocError>
     }
 }
 
-/// What is said of the value of tag 260: bytes whose length says what address they are.
+/// What is said of the value of tag 260: an address; its length says of which kind.
 pub(super) fn network_note(alloc: Global, value: &DataItem) -> Result<String, AllocError>
     ensures { IfOk result (λ note. string_bytes note ≡ spec.network_note (view value.now)) }
 {
@@ -279,7 +278,7 @@ pub(super) fn network_note(alloc: Global, value: &DataItem) -> Result<String, Al
     }
 }
 
-/// What is said of bytes, which are an address of one kind or another by their length.
+/// What is said of the bytes of an address of any kind.
 fn network_address(alloc: Global, bytes: &[u8]) -> Result<String, AllocError>
     ensures { IfOk result (λ note. string_bytes note ≡ spec.network_address bytes.now) }
 {

@@ -14,11 +14,11 @@ use Rattle.cbor_diag.specs.Written.{encoded_head}
 use Rattle.cbor_diag.specs.Item.{Item, item_count, pair_count}
 use Rattle.cbor_diag.specs.View.{view, items_view, pairs_view, byte_chunk, text_chunk}
 use Rattle.cbor_diag.specs.WellFormed.{levels_left, WellFormed, WellFormedItems, WellFormedPairs, FitsCount}
-use Rattle.cbor_diag.specs.Dump.{At, head_line, bytes_in, byte_chunks_lines, text_chunks_lines, items_lines}
+use Rattle.cbor_diag.specs.Dump.{Context, head_line, bytes_in, byte_chunks_lines, text_chunks_lines, items_lines}
 use Rattle.cbor_diag.specs.Dump.{lines_at_level, note_line, note_lines, notes, pairs_lines, row, top}
 use Rattle.cbor_diag.specs.mirror.ShownLines.{head_comment, most_width}
-use Rattle.cbor_diag.specs.mirror.Passes.{at_of, embedded_lines, held, item_lines, items_there, pairs_there, room, step}
-use Rattle.cbor_diag.specs.mirror.Passes.{taken, Took}
+use Rattle.cbor_diag.specs.mirror.Passes.{context_view, embedded_lines, held, item_lines, items_there, pairs_there}
+use Rattle.cbor_diag.specs.mirror.Passes.{room, step, taken, Took}
 use Rattle.cbor_diag.proofs.dump.Pieces.{some_left}
 use Rattle.cbor_diag.proofs.dump.EmbeddedDumps.{sequence_more, sequence_empty, sequence_failed, whole_dumped}
 use Rattle.cbor_diag.proofs.dump.EmbeddedDumps.{whole_failed}
@@ -110,7 +110,7 @@ dump_item-returns-in-IndefiniteByteString-clause-took t c =
     let old = c.args.walk.now.lines.pass in
     let new = c.byte_chunks.new.self.pass in
     let took = subst (λ xs. OnOk c.byte_chunks.result
-    (Took old new (byte_chunks_lines (at_of c.args.context.now) (map byte_chunk xs)))) c.deref.ensures.value
+    (Took old new (byte_chunks_lines (context_view c.args.context.now) (map byte_chunk xs)))) c.deref.ensures.value
     c.byte_chunks.ensures in
     subst (λ (i : Item). OnOk c.byte_chunks.result
     (Took old new (item_lines c.args.context.now c.args.walk.now.shared i))) (sym seen) took
@@ -152,7 +152,7 @@ dump_tagged-dump_item-requires t c =
         (
           well,
           below_takes outer c.below-inner.result c.args.head.0.0 c.args.head.1 old.shared c.in_ok-walk.field-0
-              c.in_ok-walk.ensures i inner.level inner.at deep old.lines.pass c.requires.takes opened took,
+              c.in_ok-walk.ensures i inner.level inner.context deep old.lines.pass c.requires.takes opened took,
         ),
       ),
     )
@@ -168,7 +168,7 @@ dump_tagged-returns-then-writes-clause-took t c =
     let well = subst (λ n. WellFormed n i) (sym inner.level) c.requires.well_formed.2 in
     let deep = well_level c.below-inner.result.level i well in
     tag_took outer c.below-inner.result c.args.head.0.0 c.args.head.1 old.shared c.in_ok-walk.field-0
-    c.in_ok-walk.ensures i inner.level inner.at deep old.lines.pass c.requires.takes opened took
+    c.in_ok-walk.ensures i inner.level inner.context deep old.lines.pass c.requires.takes opened took
     c.dump_notes.result c.dump_item.new.walk.lines.pass c.dump_notes.new.walk.lines.pass
     c.in_ok-dump_item.ensures.took c.dump_notes.ensures.took
 
@@ -187,8 +187,8 @@ dump_tagged-returns-else-writes-clause-took t c =
     let done : Result (Unit {0}) AllocError = Ok tt in
     let all = notes (levels_left (under.level + 1)) (embedded_lines under) under.shared c.args.head.0.0 i in
     tag_took outer under c.args.head.0.0 c.args.head.1 old.shared c.in_ok-walk.field-0 c.in_ok-walk.ensures i
-    inner.level inner.at deep old.lines.pass c.requires.takes opened took done now now c.in_ok-dump_item.ensures.took
-    (notes_left now (sym c.if-writes.ensures) under.depth all)
+    inner.level inner.context deep old.lines.pass c.requires.takes opened took done now now
+    c.in_ok-dump_item.ensures.took (notes_left now (sym c.if-writes.ensures) under.depth all)
 
 -- ---- containers
 
@@ -213,13 +213,13 @@ dump_array-dump_items-requires t c =
       (
         (omega (arith, inner.depth, inner.level, c.requires.context.0), omega (arith, inner.level, deep)),
         (
-          ap (λ (p : At). p.tag) inner.at,
+          ap (λ (p : Context). p.tag) inner.context,
           (
             subst (λ n. WellFormedItems n (items_view v.items)) (sym inner.level) c.requires.well_formed.2,
             members_take 4 (codes "array") _ _ counted c.args.width c.args.context.now
                 (λ write. items_lines write c.args.walk.now.shared (items_view v.items)) c.args.walk.now.lines.pass
                 c.requires.takes c.container.new.self.pass c.in_ok-container.ensures c.inside.result inner.level
-                inner.at,
+                inner.context,
           ),
         ),
       ),
@@ -232,7 +232,7 @@ dump_array-close-requires t c =
     let counted : item_count (items_view v.items) ≡ c.len.result = omega (arith, item_count_view v.items, v.ok.0) in
     end_takes 4 (codes "array") _ _ counted c.args.width c.args.context.now
     (λ write. items_lines write c.args.walk.now.shared (items_view v.items)) c.args.walk.now.lines.pass
-    c.requires.takes c.container.new.self.pass c.in_ok-container.ensures c.inside.result inner.level inner.at
+    c.requires.takes c.container.new.self.pass c.in_ok-container.ensures c.inside.result inner.level inner.context
     c.dump_items.new.walk.lines.pass c.in_ok-dump_items.ensures.took
 
 pub dump_array-returns-clause-took : goal.dump_array-returns-clause-took
@@ -242,7 +242,7 @@ dump_array-returns-clause-took t c =
     let counted : item_count (items_view v.items) ≡ c.len.result = omega (arith, item_count_view v.items, v.ok.0) in
     container_took 4 (codes "array") _ _ counted c.args.width c.args.context.now
     (λ write. items_lines write c.args.walk.now.shared (items_view v.items)) c.args.walk.now.lines.pass
-    c.requires.takes c.container.new.self.pass c.in_ok-container.ensures c.inside.result inner.level inner.at
+    c.requires.takes c.container.new.self.pass c.in_ok-container.ensures c.inside.result inner.level inner.context
     c.dump_items.new.walk.lines.pass c.in_ok-dump_items.ensures.took c.close.result c.close.new.self.pass
     c.close.ensures
 
@@ -267,13 +267,13 @@ dump_map-dump_pairs-requires t c =
       (
         (omega (arith, inner.depth, inner.level, c.requires.context.0), omega (arith, inner.level, deep)),
         (
-          ap (λ (p : At). p.tag) inner.at,
+          ap (λ (p : Context). p.tag) inner.context,
           (
             subst (λ n. WellFormedPairs n (pairs_view v.items)) (sym inner.level) c.requires.well_formed.2,
             members_take 5 (codes "map") _ _ counted c.args.width c.args.context.now
                 (λ write. pairs_lines write c.args.walk.now.shared (pairs_view v.items)) c.args.walk.now.lines.pass
                 c.requires.takes c.container.new.self.pass c.in_ok-container.ensures c.inside.result inner.level
-                inner.at,
+                inner.context,
           ),
         ),
       ),
@@ -286,7 +286,7 @@ dump_map-close-requires t c =
     let counted : pair_count (pairs_view v.items) ≡ c.len.result = omega (arith, pair_count_view v.items, v.ok.0) in
     end_takes 5 (codes "map") _ _ counted c.args.width c.args.context.now
     (λ write. pairs_lines write c.args.walk.now.shared (pairs_view v.items)) c.args.walk.now.lines.pass
-    c.requires.takes c.container.new.self.pass c.in_ok-container.ensures c.inside.result inner.level inner.at
+    c.requires.takes c.container.new.self.pass c.in_ok-container.ensures c.inside.result inner.level inner.context
     c.dump_pairs.new.walk.lines.pass c.in_ok-dump_pairs.ensures.took
 
 pub dump_map-returns-clause-took : goal.dump_map-returns-clause-took
@@ -296,7 +296,7 @@ dump_map-returns-clause-took t c =
     let counted : pair_count (pairs_view v.items) ≡ c.len.result = omega (arith, pair_count_view v.items, v.ok.0) in
     container_took 5 (codes "map") _ _ counted c.args.width c.args.context.now
     (λ write. pairs_lines write c.args.walk.now.shared (pairs_view v.items)) c.args.walk.now.lines.pass
-    c.requires.takes c.container.new.self.pass c.in_ok-container.ensures c.inside.result inner.level inner.at
+    c.requires.takes c.container.new.self.pass c.in_ok-container.ensures c.inside.result inner.level inner.context
     c.dump_pairs.new.walk.lines.pass c.in_ok-dump_pairs.ensures.took c.close.result c.close.new.self.pass
     c.close.ensures
 
