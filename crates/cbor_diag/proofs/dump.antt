@@ -9,4 +9,6 @@ pub mod EmbeddedDumps
 pub mod WholeDumps
 pub mod CommentLines
 pub mod Fits
+pub mod NotesFit
+pub mod ItemsFit
 pub mod AllDigits

@@ -13,8 +13,8 @@ use Rattle.cbor_diag.specs.declared.syntax.IntegerWidth.{IntegerWidth}
 use Rattle.cbor_diag.specs.Encoding.{Encoding}
 use Rattle.cbor_diag.specs.Item as spec
 use Rattle.cbor_diag.specs.Item.{Chunk, Atom, integer, negative, byte_string, text_string, byte_chunks, text_chunks}
-use Rattle.cbor_diag.specs.Item.{float, simple, Item, atom, array, tagged, Items, no_items, item, Pairs, no_pairs}
-use Rattle.cbor_diag.specs.Item.{pair, item_count, pair_count}
+use Rattle.cbor_diag.specs.Item.{float, simple, Item, atom, array, tagged, Items, no_items, item, Pairs, no_pairs, pair}
+use Rattle.cbor_diag.specs.Item.{item_count, pair_count}
 use Rattle.cbor_diag.specs.Head.{opening, break_byte}
 use Rattle.cbor_diag.specs.Written.{encoded_head, encoded_open, encoded_float, encoded_simple}
 use Rattle.cbor_diag.specs.Comments.{unsigned_comment, negative_comment, float_comment, simple_comment, counted_comment}
@@ -44,27 +44,27 @@ piece_line depth bytes comment = record { depth = depth; hex = encode_lower byte
 
 -- how deep its lines are, how byte strings are shown, the tag right above it, and how many values were shared
 -- before that tag
-pub record At : Type 0 where
+pub record Context : Type 0 where
   pub depth : ℕ
   pub encoding : Option Encoding
   pub tag : Option ℕ
   pub shared : ℕ
 
 -- a whole item: byte strings are quoted, and there is no tag above
-abbrev pub top : At
+abbrev pub top : Context
 top = record { depth = 0; encoding = None; tag = None; shared = 0 }
 
 -- what a container holds, one deeper
-abbrev pub inside : At → At
+abbrev pub inside : Context → Context
 inside p = record { depth = p.depth + 1; encoding = p.encoding; tag = None; shared = 0 }
 
 -- the value right below a tag, one deeper
-abbrev pub below : ℕ → ℕ → At → At
+abbrev pub below : ℕ → ℕ → Context → Context
 below t known p = record { depth = p.depth + 1; encoding = encoding_below t p.encoding; tag = Some t; shared = known }
 
 -- ---- strings
 
--- the lines of a string's content, by its pieces, one at least
+-- the lines of a string's content: one for each piece, and one where there are no pieces
 abbrev pub content_lines : ℕ → (List ℕ → List ℕ) → List (List ℕ) → List DumpLine
 content_lines depth comment [] = piece_line depth [] empty_comment ∷ []
 content_lines depth comment (piece ∷ pieces) = map (λ p. piece_line depth p (comment p)) (piece ∷ pieces)
@@ -72,7 +72,7 @@ content_lines depth comment (piece ∷ pieces) = map (λ p. piece_line depth p (
 abbrev pub bytes_lines : ℕ → Option Encoding → List ℕ → List DumpLine
 bytes_lines depth encoding bytes = content_lines depth (bytes_comment encoding bytes) (byte_pieces bytes)
 
--- the elements of a typed array (RFC 8746), each with its value, which there is for pieces of the element's size
+-- the elements of a typed array (RFC 8746), each with its value
 abbrev pub element_lines : ℕ → ℕ → ℕ → List ℕ → List DumpLine
 element_lines depth t size bytes =
     map (λ e. piece_line depth e (unwrap_or (element_text t e) []))
@@ -84,13 +84,13 @@ sized_lines depth encoding t None bytes = bytes_lines depth encoding bytes
 sized_lines depth encoding t (Some size) bytes =
     if length bytes % size == 0 then element_lines depth t size bytes else bytes_lines depth encoding bytes
 
--- the content of a byte string right below a tag, or below none
+-- the content of a byte string, by the tag right above it
 abbrev pub tagged_lines : ℕ → Option Encoding → Option ℕ → List ℕ → List DumpLine
 tagged_lines depth encoding None bytes = bytes_lines depth encoding bytes
 tagged_lines depth encoding (Some t) bytes = sized_lines depth encoding t (element_size t) bytes
 
 -- a string of definite length: its head, and its content one deeper
-abbrev pub byte_string_lines : At → Chunk → List DumpLine
+abbrev pub byte_string_lines : Context → Chunk → List DumpLine
 byte_string_lines p c =
     head_line p.depth (encoded_head 2 (length c.bytes) c.width)
     (counted_comment (codes "bytes") (Some (length c.bytes)))
@@ -108,8 +108,8 @@ open_line depth major name = head_line depth (opening major ∷ []) (counted_com
 abbrev pub break_line : ℕ → DumpLine
 break_line depth = head_line depth (break_byte ∷ []) break_comment
 
--- an indefinite string: its chunks between the two
-abbrev pub byte_chunks_lines : At → List Chunk → List DumpLine
+-- a string of indefinite length: its chunks between the two
+abbrev pub byte_chunks_lines : Context → List Chunk → List DumpLine
 byte_chunks_lines p cs =
     open_line p.depth 2 (codes "bytes") ∷ (flat_map (byte_string_lines (inside p)) cs ++ break_line (p.depth + 1) ∷ [])
 
@@ -117,7 +117,7 @@ abbrev pub text_chunks_lines : ℕ → List Chunk → List DumpLine
 text_chunks_lines depth cs =
     open_line depth 3 (codes "text") ∷ (flat_map (text_string_lines (depth + 1)) cs ++ break_line (depth + 1) ∷ [])
 
-abbrev pub atom_lines : At → Atom → List DumpLine
+abbrev pub atom_lines : Context → Atom → List DumpLine
 atom_lines p (integer n w) = head_line p.depth (encoded_head 0 n w) (unsigned_comment n) ∷ []
 atom_lines p (negative n w) = head_line p.depth (encoded_head 1 n w) (negative_comment n) ∷ []
 atom_lines p (byte_string c) = byte_string_lines p c
@@ -129,7 +129,7 @@ atom_lines p (simple n) = head_line p.depth (encoded_simple n) (simple_comment n
 
 -- ---- containers
 
--- what comes before a container's members, and after them
+-- the line before the members of a container, with their count unless the length is indefinite, and those after them
 abbrev pub count_if_definite : ℕ → Option IntegerWidth → Option ℕ
 count_if_definite n (Some w) = Some n
 count_if_definite n None = None
@@ -191,7 +191,7 @@ abbrev pub bytes_in : Item → Option (List ℕ)
 bytes_in (atom (byte_string c)) = Some c.bytes
 bytes_in _ = None
 
--- tag 24: the item that the bytes are, whose dump is given by `dump` (RFC 7049 section 2.4.4.1)
+-- tag 24: the item that the bytes are, with the lines that `dump` gives it (RFC 7049 section 2.4.4.1)
 abbrev pub whole_note : (Item → List DumpLine) → Read Item → Note
 whole_note dump (Ok (i, [])) = embedded_note (dump i)
 whole_note dump (Ok (i, rest)) = failed_note (codes "failed to parse encoded cbor data item") Remaining
@@ -201,7 +201,7 @@ abbrev pub encoded_item_note : ℕ → (Item → List DumpLine) → Option (List
 encoded_item_note left dump (Some bytes) = whole_note dump (read_item left bytes)
 encoded_item_note left dump None = plain_note (codes "invalid type for encoded cbor data item")
 
--- tag 63: each item of a sequence, and what follows that is none (RFC 8742)
+-- tag 63: each item of a sequence, and what is left after the last one (RFC 8742)
 abbrev pub items_notes : (Item → List DumpLine) → Items → List Note
 items_notes dump no_items = []
 items_notes dump (item i is) = embedded_note (dump i) ∷ items_notes dump is
@@ -245,7 +245,7 @@ pairs_lines write known (pair k v ps) =
     write known k ++ (write (known + shared_in k) v ++ pairs_lines write (known + shared_in k + shared_in v) ps)
 
 -- what an item's bytes are; what a container or a tag holds is one deeper
-abbrev pub parts_lines : (At → ℕ → Item → List DumpLine) → At → ℕ → Item → List DumpLine
+abbrev pub parts_lines : (Context → ℕ → Item → List DumpLine) → Context → ℕ → Item → List DumpLine
 parts_lines write p known (atom a) = atom_lines p a
 parts_lines write p known (array is w) =
     container_line p.depth 4 (codes "array") (item_count is) w
@@ -260,13 +260,13 @@ parts_lines write p known (tagged t w i) =
 -- An item with this many levels left for it and what is nested in it, embedded items included: `levels_left` of its
 -- level. Its notes follow it, as deep as it is. An embedded item has a dump of its own, which counts shared values
 -- from 0. Where no level is left there is no item.
-unfoldable pub lines_at : ℕ → At → ℕ → Item → List DumpLine
+unfoldable pub lines_at : ℕ → Context → ℕ → Item → List DumpLine
 lines_at zero p known i = []
 lines_at (suc left) p known i =
     parts_lines (lines_at left) p known i ++ notes_lines p.depth left (lines_at left top 0) p.shared p.tag i
 
 -- the lines of an item at this level
-abbrev pub lines_at_level : ℕ → At → ℕ → Item → List DumpLine
+abbrev pub lines_at_level : ℕ → Context → ℕ → Item → List DumpLine
 lines_at_level level = lines_at (levels_left level)
 
 -- the lines of a whole item, and its dump

@@ -135,7 +135,7 @@ invalid_address = codes "invalid type for network address"
 abbrev pub invalid_length : Family → List ℕ
 invalid_length f = codes "invalid data length for " ++ family_name f ++ codes " address"
 
--- bytes of an address alone
+-- an address alone
 abbrev pub plain_address : Family → List ℕ → List ℕ
 plain_address f bytes =
     if length bytes == family_size f then shown f (codes "address") (address_text f bytes) else invalid_length f
@@ -154,7 +154,7 @@ pub data Zone : Type 0 where
   zone_text : List ℕ → Zone
   not_zone : Zone
 
--- a zone is a number or a name; `no_items` are left where there is none
+-- a zone is a number or a name
 abbrev pub zone_at : Items → Zone
 zone_at no_items = no_zone
 zone_at (item (atom (integer n w)) is) = zone_text (decimal n)
@@ -198,7 +198,7 @@ address_note f (atom (byte_string c)) = plain_address f c.bytes
 address_note f (array is w) = members_note f is
 address_note f _ = invalid_address
 
--- tag 260: an address whose length says what it is
+-- tag 260: an address; its length says of which kind
 abbrev pub network_address : List ℕ → List ℕ
 network_address bytes =
     if length bytes == 4 then in_brackets (codes "IPv4 address") (ipv4_text bytes)
@@ -219,7 +219,7 @@ typed_array_note (Some size) (atom (byte_string c)) =
     if length c.bytes % size == 0 then None else Some (plain_note (codes "invalid data length for typed array"))
 typed_array_note (Some size) _ = Some (plain_note (codes "invalid type for typed array"))
 
--- ---- all of them
+-- ---- the note of each tag
 
 -- The note on a value right below a tag, where `known` values were shared before the tag. The notes of tags 24 and 63
 -- depend on more than the value: `notes` of Dump.antt has them.

@@ -25,12 +25,11 @@ use Rattle.cbor_diag.specs.Written.{encoded_open, encoded_close, encoded, encode
 use Rattle.cbor_diag.specs.Comments.{unsigned_comment, negative_comment, float_comment, simple_comment, tag_comment}
 use Rattle.cbor_diag.specs.Comments.{bytes_comment, text_comment, counted_comment}
 use Rattle.cbor_diag.specs.Pieces.{pieces_of, byte_pieces, text_pieces, text_cut}
-use Rattle.cbor_diag.specs.Dump.{At, head_hex, head_line, piece_line, content_lines, byte_string_lines}
-use Rattle.cbor_diag.specs.Dump.{text_string_lines}
-use Rattle.cbor_diag.specs.Dump.{bytes_lines, element_lines, sized_lines, tagged_lines, note_line, note_lines, notes}
-use Rattle.cbor_diag.specs.Dump.{notes_lines}
-use Rattle.cbor_diag.specs.Dump.{count_if_definite, break_line, atom_lines, close_lines, inside, below, shared_in}
-use Rattle.cbor_diag.specs.Dump.{shared_from, items_lines, pairs_lines, parts_lines, lines_at, top}
+use Rattle.cbor_diag.specs.Dump.{Context, head_hex, head_line, piece_line, content_lines, byte_string_lines}
+use Rattle.cbor_diag.specs.Dump.{text_string_lines, bytes_lines, element_lines, sized_lines, tagged_lines, note_line}
+use Rattle.cbor_diag.specs.Dump.{note_lines, notes, notes_lines, count_if_definite, break_line, atom_lines, close_lines}
+use Rattle.cbor_diag.specs.Dump.{inside, below, shared_in, shared_from, items_lines, pairs_lines, parts_lines, lines_at}
+use Rattle.cbor_diag.specs.Dump.{top}
 use Rattle.cbor_diag.specs.Notes.{Note}
 use Rattle.cbor_diag.specs.WellFormed.{WellFormed, WellFormedItems, WellFormedPairs}
 use Rattle.cbor_diag.proofs.dump.Digits.{head_short, head_long}
@@ -159,7 +158,7 @@ tagged_are : (depth : ℕ) (encoding : Option Encoding) (tag : Option ℕ) (byte
 tagged_are depth encoding None bytes = plain_are depth encoding bytes
 tagged_are depth encoding (Some t) bytes = sized_are depth encoding t (element_size t) bytes (element_small t)
 
-bytes_are : (p : At) (c : Chunk) → Are (byte_string_lines p c) (encoded_chunk 2 c)
+bytes_are : (p : Context) (c : Chunk) → Are (byte_string_lines p c) (encoded_chunk 2 c)
 bytes_are p c =
     headed p.depth (encoded_head 2 (length c.bytes) c.width) (counted_comment (codes "bytes") (Some (length c.bytes)))
     (tagged_lines (p.depth + 1) p.encoding p.tag c.bytes) c.bytes (tagged_are (p.depth + 1) p.encoding p.tag c.bytes)
@@ -171,7 +170,8 @@ text_are depth c =
     (subst (Are (content_lines (depth + 1) text_comment (text_pieces c.bytes))) (text_joined c.bytes)
     (content_are (depth + 1) text_comment (text_pieces c.bytes)))
 
-byte_chunks_are : (p : At) (cs : List Chunk) → Are (flat_map (byte_string_lines p) cs) (flat_map (encoded_chunk 2) cs)
+byte_chunks_are : (p : Context) (cs : List Chunk)
+    → Are (flat_map (byte_string_lines p) cs) (flat_map (encoded_chunk 2) cs)
 byte_chunks_are p [] = none
 byte_chunks_are p (c ∷ cs) =
     both (byte_string_lines p c) (flat_map (byte_string_lines p) cs) (encoded_chunk 2 c) (flat_map (encoded_chunk 2) cs)
@@ -188,7 +188,7 @@ close_are : (depth : ℕ) (w : Option IntegerWidth) → Are (close_lines depth w
 close_are depth (Some w) = none
 close_are depth None = alone depth (break_byte ∷ []) (codes "break")
 
-atom_are : (p : At) (a : Atom) → Are (atom_lines p a) (encoded_atom a)
+atom_are : (p : Context) (a : Atom) → Are (atom_lines p a) (encoded_atom a)
 atom_are p (integer n w) = alone p.depth (encoded_head 0 n w) (unsigned_comment n)
 atom_are p (negative n w) = alone p.depth (encoded_head 1 n w) (negative_comment n)
 atom_are p (byte_string c) = bytes_are p c
@@ -246,9 +246,9 @@ module _ (write : ℕ → Item → List DumpLine) (level : ℕ) (each : (known :
       (both (write after v) (pairs_lines write (after + shared_in v) ps) (encoded v) (encoded_pairs ps)
       (each after v well.1) (pairs_are (after + shared_in v) ps well.2))
 
-module _ (write : At → ℕ → Item → List DumpLine) (level : ℕ) (each : (p : At) (known : ℕ) (i : Item)
+module _ (write : Context → ℕ → Item → List DumpLine) (level : ℕ) (each : (p : Context) (known : ℕ) (i : Item)
     → WellFormed (level + 1) i → Are (write p known i) (encoded i)) where
-  parts_are : (p : At) (known : ℕ) (i : Item) → WellFormed level i → Are (parts_lines write p known i) (encoded i)
+  parts_are : (p : Context) (known : ℕ) (i : Item) → WellFormed level i → Are (parts_lines write p known i) (encoded i)
   parts_are p known (atom a) well = atom_are p a
   parts_are p known (array is w) well =
       headed p.depth (encoded_open 4 (item_count is) w)
@@ -266,7 +266,7 @@ module _ (write : At → ℕ → Item → List DumpLine) (level : ℕ) (each : (
       headed p.depth (encoded_head 6 t w) (tag_comment t) (write (below t known p) (shared_from t known) i) (encoded i)
       (each (below t known p) (shared_from t known) i well.2)
 
-pub item_are : (left level : ℕ) (p : At) (known : ℕ) (i : Item) → level + left ≡ 129 → WellFormed level i
+pub item_are : (left level : ℕ) (p : Context) (known : ℕ) (i : Item) → level + left ≡ 129 → WellFormed level i
     → Are (lines_at left p known i) (encoded i)
 unfolding lines_at
 item_are zero level p known i levels well = absurd (omega (arith, well_level level i well))

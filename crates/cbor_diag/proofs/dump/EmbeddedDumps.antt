@@ -19,11 +19,10 @@ use Rattle.cbor_diag.specs.Embedded.{and_then, sequence_of, before as item_befor
 use Rattle.cbor_diag.specs.WellFormed.{levels_left}
 use Rattle.cbor_diag.specs.Notes.{Note}
 use Rattle.cbor_diag.specs.Dump.{note_line, note_lines, row, sequence_notes, failed_note, embedded_note, lines_at}
-use Rattle.cbor_diag.specs.Dump.{lines_at_level, top}
-use Rattle.cbor_diag.specs.Dump.{whole_note}
+use Rattle.cbor_diag.specs.Dump.{lines_at_level, top, whole_note}
 use Rattle.cbor_diag.specs.mirror.Passes.{taken, Held, step}
 use Rattle.cbor_diag.specs.Reading.{read_item}
-use Rattle.cbor_diag.proofs.dump.Fits.{row_line}
+use Rattle.cbor_diag.proofs.dump.NotesFit.{row_line}
 use Rattle.cbor_diag.proofs.bytes.FoundAgain.{item_again}
 use Rattle.cbor_diag.proofs.bytes.Heads.{IsBytes, IsBytes-drop}
 use Rattle.cbor_diag.proofs.bytes.Refusals.{item_nothing}

@@ -1,8 +1,8 @@
 -- The notes of a dump: what the functions of a note meet, and that no text of a note has a line feed.
 use Rattle.std.proofs.Common.{◌≡◌, ◌<◌, ◌≤◌, ℕ, ℤ, ◌≤ℤ◌, neg_ℤ, ◌+◌, ◌/◌, ◌-◌, ◌%◌, ◌==◌, Bool, true, false, cond}
-use Rattle.std.proofs.Common.{nat_lt, nat_eq, pos, negsuc, List, [], ◌∷◌, ◌++◌, length, map, take, drop, replicate, codes}
-use Rattle.std.proofs.Common.{decimal, if◌then◌else◌, Option, Some, None, IfSome, unwrap_or, FitsSigned, w64, refl, sym, ap}
-use Rattle.std.proofs.Common.{◌∙◌, arith}
+use Rattle.std.proofs.Common.{nat_lt, nat_eq, pos, negsuc, List, [], ◌∷◌, ◌++◌, length, map, take, drop, replicate}
+use Rattle.std.proofs.Common.{codes, decimal, if◌then◌else◌, Option, Some, None, IfSome, unwrap_or, FitsSigned, w64}
+use Rattle.std.proofs.Common.{refl, sym, ap, ◌∙◌, arith}
 use Rattle.std.proofs.Math.Seq.{take-append-add}
 use Rattle.std.specs.Prelude.{slice_index_or}
 use Rattle.std.proofs.lemmas.Bool.{eq-eqb, lt-ltb, le-ltb}
@@ -29,7 +29,8 @@ use Rattle.cbor_diag.specs.declared.syntax.IntegerWidth.{IntegerWidth}
 use Rattle.cbor_diag.specs.Comments.{in_brackets}
 use Rattle.cbor_diag.specs.Item.{Chunk, Item, Items, atom, integer, negative, byte_string, text_string, float, simple}
 use Rattle.cbor_diag.specs.Item.{array, item}
-use Rattle.cbor_diag.specs.Notes.{Note, plain_note, Family, ipv4, ipv6, Zone, no_zone, zone_text, not_zone, null_value, word_or, datetime_note, epoch_datetime_note, epoch_date_note, date_note}
+use Rattle.cbor_diag.specs.Notes.{Note, plain_note, Family, ipv4, ipv6, Zone, no_zone, zone_text, not_zone, null_value}
+use Rattle.cbor_diag.specs.Notes.{word_or, datetime_note, epoch_datetime_note, epoch_date_note, date_note}
 use Rattle.cbor_diag.specs.Notes.{shareable_note, reference_note, url_words, url_note, base64_name, decoded_note}
 use Rattle.cbor_diag.specs.Notes.{base64_note, uuid_fields, uuid_note, family_name, family_size, address_text, shown}
 use Rattle.cbor_diag.specs.Notes.{invalid_address, invalid_length, plain_address, prefix_note, zone_at, with_length}
@@ -108,9 +109,6 @@ moment_fits_64 (negsuc a) low high = let day : a / 86400 ≤ 4371586 = omega (ar
 abbrev pub FreeNote : Note → Type 0
 FreeNote note = Free 10 note.text × AllByRecursion (Free 10) note.below
 
-plain_free : (text : List ℕ) → Free 10 text → FreeNote (plain_note text)
-plain_free text free = (free, tt)
-
 note_cond : (b : Bool) (x y : Note) → FreeNote x → FreeNote y → FreeNote (cond b x y)
 note_cond true x y h k = h
 note_cond false x y h k = k
@@ -118,6 +116,10 @@ note_cond false x y h k = k
 some_cond : (b : Bool) (x y : Option Note) → IfSome x FreeNote → IfSome y FreeNote → IfSome (cond b x y) FreeNote
 some_cond true x y h k = h
 some_cond false x y h k = k
+
+plain_cond : (b : Bool) (text : List ℕ) (y : Option Note) → Free 10 text → IfSome y FreeNote
+    → IfSome (cond b (Some (plain_note text)) y) FreeNote
+plain_cond b text y h k = some_cond b (Some (plain_note text)) y (h, tt) k
 
 word_line : (word otherwise : List ℕ) (found : Option (List ℕ)) → Free 10 word → Free 10 otherwise
     → Free 10 (unwrap_or found []) → Free 10 (word_or word otherwise found)
@@ -189,8 +191,8 @@ base64_name_line : (url : Bool) → Free 10 (base64_name url)
 base64_name_line url = free_cond 10 url (codes "base64url") (codes "base64") (from_test 10 (codes "base64url") refl)
     (from_test 10 (codes "base64") refl)
 
-decoded_line : (name : List ℕ) (found : Option (List (List ℕ))) → Free 10 name → AllByRecursion (Free 10) (unwrap_or found [])
-    → FreeNote (decoded_note name found)
+decoded_line : (name : List ℕ) (found : Option (List (List ℕ))) → Free 10 name
+    → AllByRecursion (Free 10) (unwrap_or found []) → FreeNote (decoded_note name found)
 decoded_line name (Some lines) h k = (free_both 10 name (codes " decoded") h (from_test 10 (codes " decoded") refl), k)
 decoded_line name None h k = (
   free_both 10 (codes "invalid data for ") name
@@ -339,18 +341,17 @@ typed_array_line (Some size) _ = (from_test 10 (codes "invalid type for typed ar
 pub value_note_line : (known t : ℕ) (i : Item) → IfSome (value_note known t i) FreeNote
 unfolding value_note
 value_note_line known t i =
-    some_cond (t == 0) (Some (plain_note (datetime_note i))) _ (plain_free (datetime_note i) (datetime_line i))
-    (some_cond (t == 1) (Some (plain_note (epoch_datetime_note i))) _ (plain_free (epoch_datetime_note i) (epoch_datetime_line i))
-    (some_cond (t == 28) (Some (plain_note (shareable_note known))) _ (plain_free (shareable_note known) (shareable_line known))
-    (some_cond (t == 29) (Some (plain_note (reference_note known i))) _ (plain_free (reference_note known i) (reference_line known i))
-    (some_cond (t == 32) (Some (plain_note (url_note i))) _ (plain_free (url_note i) (url_line i))
+    plain_cond (t == 0) (datetime_note i) _ (datetime_line i)
+    (plain_cond (t == 1) (epoch_datetime_note i) _ (epoch_datetime_line i)
+    (plain_cond (t == 28) (shareable_note known) _ (shareable_line known)
+    (plain_cond (t == 29) (reference_note known i) _ (reference_line known i)
+    (plain_cond (t == 32) (url_note i) _ (url_line i)
     (some_cond (t == 33) (Some (base64_note true i)) _ (base64_line true i)
     (some_cond (t == 34) (Some (base64_note false i)) _ (base64_line false i)
     (some_cond (t == 37) (Some (uuid_note i)) _ (uuid_line i)
-    (some_cond (t == 52) (Some (plain_note (address_note ipv4 i))) _ (plain_free (address_note ipv4 i) (address_line ipv4 i))
-    (some_cond (t == 54) (Some (plain_note (address_note ipv6 i))) _ (plain_free (address_note ipv6 i) (address_line ipv6 i))
-    (some_cond (t == 100) (Some (plain_note (epoch_date_note i))) _ (plain_free (epoch_date_note i) (epoch_date_line i))
-    (some_cond (t == 260) (Some (plain_note (network_note i))) _ (plain_free (network_note i) (network_line i))
-    (some_cond (t == 1004) (Some (plain_note (date_note i))) (typed_array_note (element_size t) i)
-    (plain_free (date_note i) (date_line i))
+    (plain_cond (t == 52) (address_note ipv4 i) _ (address_line ipv4 i)
+    (plain_cond (t == 54) (address_note ipv6 i) _ (address_line ipv6 i)
+    (plain_cond (t == 100) (epoch_date_note i) _ (epoch_date_line i)
+    (plain_cond (t == 260) (network_note i) _ (network_line i)
+    (plain_cond (t == 1004) (date_note i) (typed_array_note (element_size t) i) (date_line i)
     (typed_array_line (element_size t) i)))))))))))))

@@ -14,7 +14,8 @@ use Rattle.cbor_diag.specs.Dump.{lines_at_level, parts_lines, top}
 use Rattle.cbor_diag.specs.mirror.ShownLines.{most_width}
 use Rattle.cbor_diag.specs.mirror.Passes.{taken, held, room, step, text_in, width_in, CanTake, Took}
 use Rattle.cbor_diag.specs.WellFormed.{levels_left, WellFormed}
-use Rattle.cbor_diag.proofs.dump.Fits.{IsGood, fits_of, item_fits, plain_of, takes_all, widest_is, written_is}
+use Rattle.cbor_diag.proofs.dump.Fits.{IsGood, fits_of, plain_of, takes_all, widest_is, written_is}
+use Rattle.cbor_diag.proofs.dump.ItemsFit.{item_fits}
 use Rattle.cbor_diag.proofs.dump.Members.{untagged}
 use Rattle.cbor_diag.proofs.text.Parts.{well_level}
 

@@ -12,7 +12,7 @@ use Rattle.cbor_diag.specs.Item.{Item, Items, Pairs}
 use Rattle.cbor_diag.specs.WellFormed.{deepest, levels_left}
 use Rattle.cbor_diag.specs.Embedded.{sequence}
 use Rattle.cbor_diag.specs.Reading.{read_item}
-use Rattle.cbor_diag.specs.Dump.{At, lines_at_level, parts_lines, items_lines, pairs_lines, notes, note_lines, top}
+use Rattle.cbor_diag.specs.Dump.{Context, lines_at_level, parts_lines, items_lines, pairs_lines, notes, note_lines, top}
 use Rattle.cbor_diag.specs.Dump.{embedded_note, whole_note, sequence_notes}
 use Rattle.cbor_diag.specs.mirror.EncodingView.{in_force}
 use Rattle.cbor_diag.specs.mirror.ShownLines.{Takes, most_width}
@@ -23,8 +23,8 @@ abbrev pub tag_number : Option Tag → Option ℕ
 tag_number (Some t) = Some t.0
 tag_number None = None
 
-abbrev pub at_of : DumpContext → At
-at_of c = record { depth = c.depth; encoding = in_force c.encoding; tag = tag_number c.tag; shared = c.shared }
+abbrev pub context_view : DumpContext → Context
+context_view c = record { depth = c.depth; encoding = in_force c.encoding; tag = tag_number c.tag; shared = c.shared }
 
 -- an item is less deep than its level, which is at most one past the deepest
 abbrev pub IsContext : DumpContext → Type 0
@@ -38,14 +38,14 @@ IsUntagged c = tag_number c.tag ≡ None
 
 -- an item, without the notes on it
 abbrev pub item_lines : DumpContext → ℕ → Item → List DumpLine
-item_lines c known i = parts_lines (lines_at_level (c.level + 1)) (at_of c) known i
+item_lines c known i = parts_lines (lines_at_level (c.level + 1)) (context_view c) known i
 
 -- items one after the other, with the notes on them
 abbrev pub items_there : DumpContext → ℕ → Items → List DumpLine
-items_there c known is = items_lines (lines_at_level c.level (at_of c)) known is
+items_there c known is = items_lines (lines_at_level c.level (context_view c)) known is
 
 abbrev pub pairs_there : DumpContext → ℕ → Pairs → List DumpLine
-pairs_there c known ps = pairs_lines (lines_at_level c.level (at_of c)) known ps
+pairs_there c known ps = pairs_lines (lines_at_level c.level (context_view c)) known ps
 
 -- an item that is embedded in the one there
 abbrev pub embedded_lines : DumpContext → Item → List DumpLine

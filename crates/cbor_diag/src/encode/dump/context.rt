@@ -1,7 +1,7 @@
 //! Where in a dump an item is.
 ghost use Rattle.std.specs.Prelude.{◌≡◌, ◌+◌};
 ghost use Rattle.cbor_diag.specs.Dump as spec;
-ghost use Rattle.cbor_diag.specs.mirror.Passes.{at_of, IsContext};
+ghost use Rattle.cbor_diag.specs.mirror.Passes.{context_view, IsContext};
 
 use crate::encode::encoding::{Encoding, encoding_below};
 use crate::syntax::Tag;
@@ -25,7 +25,7 @@ impl DumpContext {
     /// In a container, or in a string in chunks.
     pub(crate) fn inside(&self) -> DumpContext
         requires { IsContext self.now }
-        ensures at { at_of result ≡ spec.inside (at_of self.now) }
+        ensures context { context_view result ≡ spec.inside (context_view self.now) }
         ensures depth { result.depth ≡ self.now.depth + 1 }
         ensures level { result.level ≡ self.now.level + 1 }
     {
@@ -41,7 +41,7 @@ impl DumpContext {
     /// Right below a tag, before which `known` values were shared.
     pub(crate) fn below(&self, tag: Tag, known: u64) -> DumpContext
         requires { IsContext self.now }
-        ensures at { at_of result ≡ spec.below tag.0 known (at_of self.now) }
+        ensures context { context_view result ≡ spec.below tag.0 known (context_view self.now) }
         ensures depth { result.depth ≡ self.now.depth + 1 }
         ensures level { result.level ≡ self.now.level + 1 }
     {

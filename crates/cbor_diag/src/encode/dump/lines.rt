@@ -14,7 +14,7 @@ ghost use Rattle.cbor_diag.specs.Pieces.{text_cut as cut_of};
 ghost use Rattle.cbor_diag.specs.Dump as spec;
 ghost use Rattle.cbor_diag.specs.mirror.ShownLines.{comment_text, head_comment, major_word};
 ghost use Rattle.cbor_diag.specs.mirror.EncodingView.{in_force};
-ghost use Rattle.cbor_diag.specs.mirror.Passes.{at_of, tag_number, IsContext, CanTake, Took};
+ghost use Rattle.cbor_diag.specs.mirror.Passes.{context_view, tag_number, IsContext, CanTake, Took};
 
 use super::comment::Comment;
 use super::context::DumpContext;
@@ -273,9 +273,9 @@ impl Lines {
         requires context { IsContext context.now }
         requires well_formed { IsByteChunk (byte_chunk string.now) }
         requires takes { CanTake self.old.pass
-            (spec.byte_string_lines (at_of context.now) (byte_chunk string.now)) }
+            (spec.byte_string_lines (context_view context.now) (byte_chunk string.now)) }
         ensures { OnOk result (Took self.old.pass self.new.pass
-            (spec.byte_string_lines (at_of context.now) (byte_chunk string.now))) }
+            (spec.byte_string_lines (context_view context.now) (byte_chunk string.now))) }
     {
         let length = string.content.len() as u64;
         self.number(
@@ -313,9 +313,9 @@ impl Lines {
         requires level { context.now.level ≤ deepest }
         requires well_formed { AllByRecursion IsByteChunk (map byte_chunk chunks.now) }
         requires takes { CanTake self.old.pass
-            (spec.byte_chunks_lines (at_of context.now) (map byte_chunk chunks.now)) }
+            (spec.byte_chunks_lines (context_view context.now) (map byte_chunk chunks.now)) }
         ensures { OnOk result (Took self.old.pass self.new.pass
-            (spec.byte_chunks_lines (at_of context.now) (map byte_chunk chunks.now))) }
+            (spec.byte_chunks_lines (context_view context.now) (map byte_chunk chunks.now))) }
     {
         self.open(context.depth, Major::Bytes)?;
         let inner = context.inside();

@@ -96,8 +96,8 @@ fn in_brackets(alloc: Global, word: &str, text: &str) -> Result<String, AllocErr
     Ok(note)
 }
 
-/// What is said of a typed array with elements of `size` bytes: why it is none. Elements speak for
-/// themselves.
+/// The note on a value that should be a typed array with elements of `size` bytes: why it is not.
+/// Whole elements are shown, and need no note.
 fn typed_array_note(
     alloc: Global,
     size: usize,

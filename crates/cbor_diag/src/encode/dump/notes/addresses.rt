@@ -86,7 +86,8 @@ impl Family {
 
     /// The family's name, what is shown of it, and that between brackets.
     fn shown(self, alloc: Global, what: &str, text: &str) -> Result<String, AllocError>
-        ensures { IfOk result (λ note. string_bytes note ≡ spec.shown (family_view self) what.now text.now) }
+        ensures { IfOk result (λ note. string_bytes note
+            ≡ spec.shown (family_view self) what.now text.now) }
     {
         let mut name = String::from_str(alloc, self.name())?;
         name.push(' ')?;
@@ -104,9 +105,10 @@ impl Family {
         Ok(note)
     }
 
-    /// What is said of bytes alone.
+    /// What is said of an address alone.
     fn plain_address(self, alloc: Global, bytes: &[u8]) -> Result<String, AllocError>
-        ensures { IfOk result (λ note. string_bytes note ≡ spec.plain_address (family_view self) bytes.now) }
+        ensures { IfOk result (λ note. string_bytes note
+            ≡ spec.plain_address (family_view self) bytes.now) }
     {
         match self.address_text(alloc, bytes)? {
             Some(address) => self.shown(alloc, "address", &address),
@@ -136,10 +138,10 @@ impl Family {
         }
     }
 
-    /// What is said of the first bytes of an address, those after them being zeros that are left
-    /// away.
+    /// What is said of a prefix: the first bytes of an address, without the zeros at its end.
     fn prefix_note(self, alloc: Global, len: u64, bytes: &[u8]) -> Result<String, AllocError>
-        ensures { IfOk result (λ note. string_bytes note ≡ spec.prefix_note (family_view self) len bytes.now) }
+        ensures { IfOk result (λ note. string_bytes note
+            ≡ spec.prefix_note (family_view self) len bytes.now) }
     {
         if bytes.ends_with(&[0]) {
             return String::from_str(alloc, "invalid prefix, ends with zero byte");
@@ -167,7 +169,8 @@ impl Family {
         address: String,
         rest: &[DataItem],
     ) -> Result<String, AllocError>
-        ensures { (bytes : List ℕ) → string_bytes address ≡ spec.address_text (family_view self) bytes
+        ensures { (bytes : List ℕ)
+            → string_bytes address ≡ spec.address_text (family_view self) bytes
             → IfOk result (λ note. string_bytes note ≡ spec.interface_note (family_view self) bytes
             (items_view rest.now)) }
     {
@@ -187,7 +190,8 @@ impl Family {
         address: String,
         zones: &[DataItem],
     ) -> Result<String, AllocError>
-        ensures { (bytes : List ℕ) → string_bytes address ≡ spec.address_text (family_view self) bytes
+        ensures { (bytes : List ℕ)
+            → string_bytes address ≡ spec.address_text (family_view self) bytes
             → IfOk result (λ note. string_bytes note
             ≡ spec.with_zone (family_view self) bytes (spec.zone_at (items_view zones.now))) }
     {
@@ -207,7 +211,8 @@ impl Family {
         len: u64,
         zones: &[DataItem],
     ) -> Result<String, AllocError>
-        ensures { (bytes : List ℕ) → string_bytes address ≡ spec.address_text (family_view self) bytes
+        ensures { (bytes : List ℕ)
+            → string_bytes address ≡ spec.address_text (family_view self) bytes
             → IfOk result (λ note. string_bytes note
             ≡ spec.with_length (family_view self) bytes len (spec.zone_at (items_view zones.now))) }
     {
@@ -227,7 +232,7 @@ impl Family {
     }
 }
 
-/// What is said of a value that is no address.
+/// What is said of a value that is not an address.
 fn invalid_address(alloc: Global) -> Result<String, AllocError>
     ensures { IfOk result (λ note. string_bytes note ≡ spec.invalid_address) }
 {
@@ -251,7 +256,7 @@ fn push_zone(text: &mut String, zone: &str) -> Result<(), AllocError>
     text.push_str(zone)
 }
 
-/// The zone that is named first, by its number or name.
+/// The zone at the front, by its number or name.
 fn zone_at(alloc: Global, zones: &[DataItem]) -> Result<Zone, AllocError>
     ensures { IfOk result (λ zone. zone_view zone ≡ spec.zone_at (items_view zones.now)) }
 {
@@ -263,7 +268,7 @@ fn zone_at(alloc: Global, zones: &[DataItem]) -> Result<Zone, AllocError>
     }
 }
 
-/// What is said of the value of tag 260: bytes whose length says what address they are.
+/// What is said of the value of tag 260: an address; its length says of which kind.
 pub(super) fn network_note(alloc: Global, value: &DataItem) -> Result<String, AllocError>
     ensures { IfOk result (λ note. string_bytes note ≡ spec.network_note (view value.now)) }
 {
@@ -273,7 +278,7 @@ pub(super) fn network_note(alloc: Global, value: &DataItem) -> Result<String, Al
     }
 }
 
-/// What is said of bytes, which are an address of one kind or another by their length.
+/// What is said of the bytes of an address of any kind.
 fn network_address(alloc: Global, bytes: &[u8]) -> Result<String, AllocError>
     ensures { IfOk result (λ note. string_bytes note ≡ spec.network_address bytes.now) }
 {

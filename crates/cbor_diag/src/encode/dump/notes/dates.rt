@@ -10,7 +10,7 @@ use crate::syntax::DataItem;
 use cbor_notes::{date_of_epoch, datetime_of_epoch, epoch_of_date, epoch_of_datetime};
 use std::alloc::{AllocError, Global};
 
-/// What is said of a date and time as text: the seconds since 1970 that it names.
+/// What is said of a date and time as text: the number of seconds from 1970 to it.
 pub(super) fn datetime_note(alloc: Global, value: &DataItem) -> Result<String, AllocError>
     ensures { IfOk result (λ note. string_bytes note ≡ spec.datetime_note (view value.now)) }
 {
@@ -21,7 +21,7 @@ pub(super) fn datetime_note(alloc: Global, value: &DataItem) -> Result<String, A
     word_or(alloc, "epoch", "error parsing datetime", seconds)
 }
 
-/// What is said of seconds since 1970: the moment that they are.
+/// What is said of seconds since 1970: their date and time.
 pub(super) fn epoch_datetime_note(alloc: Global, value: &DataItem) -> Result<String, AllocError>
     ensures { IfOk result (λ note. string_bytes note ≡ spec.epoch_datetime_note (view value.now)) }
 {
@@ -35,7 +35,7 @@ pub(super) fn epoch_datetime_note(alloc: Global, value: &DataItem) -> Result<Str
     }
 }
 
-/// What is said of days since 1970-01-01: the date that they are.
+/// What is said of days since 1970-01-01: their date.
 pub(super) fn epoch_date_note(alloc: Global, value: &DataItem) -> Result<String, AllocError>
     ensures { IfOk result (λ note. string_bytes note ≡ spec.epoch_date_note (view value.now)) }
 {
@@ -46,7 +46,7 @@ pub(super) fn epoch_date_note(alloc: Global, value: &DataItem) -> Result<String,
     }
 }
 
-/// What is said of a date as text: the days since 1970-01-01 that it names.
+/// What is said of a date as text: the number of days from 1970-01-01 to it.
 pub(super) fn date_note(alloc: Global, value: &DataItem) -> Result<String, AllocError>
     ensures { IfOk result (λ note. string_bytes note ≡ spec.date_note (view value.now)) }
 {
@@ -67,7 +67,7 @@ fn moment_note(alloc: Global, seconds: i128) -> Result<String, AllocError>
     word_or(alloc, "datetime", "offset is too large", text)
 }
 
-/// The moment that seconds since 1970 are, if the calendar has it.
+/// The date and time of seconds since 1970, if the calendar has them.
 fn moment_text(alloc: Global, seconds: i128) -> Result<Option<String>, AllocError>
     ensures { IfOk result (λ found. option_map string_bytes found ≡ dates.datetime_of_epoch
         seconds) }
@@ -93,7 +93,7 @@ fn day_note(alloc: Global, days: i128) -> Result<String, AllocError>
     )
 }
 
-/// The date that days since 1970-01-01 are, if the calendar has it.
+/// The date of days since 1970-01-01, if the calendar has it.
 fn day_text(alloc: Global, days: i128) -> Result<Option<String>, AllocError>
     ensures { IfOk result (λ found. option_map string_bytes found ≡ dates.date_of_epoch days) }
 {

@@ -1,6 +1,5 @@
-use Rattle.std.proofs.Common.{◌≡◌, ◌∙◌, ◌==◌, ◌∷◌, [], true, refl, rules, List, None}
-use Rattle.std.proofs.Common.{option_copied, ◌<◌, ◌≤◌, ◌+◌, ℕ, Ok, OnOk, Result, map, codes, take, length, ap, sym}
-use Rattle.std.proofs.Common.{subst, arith}
+use Rattle.std.proofs.Common.{◌≡◌, ◌∙◌, ◌==◌, ◌∷◌, [], true, refl, rules, List, None, option_copied, ◌<◌, ◌≤◌, ◌+◌, ℕ}
+use Rattle.std.proofs.Common.{Ok, OnOk, Result, map, codes, take, length, ap, sym, subst, arith}
 use Rattle.std.specs.List.{flat_map}
 use Rattle.std.proofs.lemmas.List.{nil_from_length}
 use Rattle.std.proofs.lemmas.Bool.Decides.{nat_tests}
@@ -15,19 +14,19 @@ use Rattle.cbor_diag.specs.Written.{encoded_head}
 use Rattle.cbor_diag.specs.Item.{Item, item_count, pair_count}
 use Rattle.cbor_diag.specs.View.{view, items_view, pairs_view, byte_chunk, text_chunk}
 use Rattle.cbor_diag.specs.WellFormed.{levels_left, WellFormed, WellFormedItems, WellFormedPairs, FitsCount}
-use Rattle.cbor_diag.specs.Dump.{At, head_line, bytes_in, byte_chunks_lines, text_chunks_lines, items_lines}
+use Rattle.cbor_diag.specs.Dump.{Context, head_line, bytes_in, byte_chunks_lines, text_chunks_lines, items_lines}
 use Rattle.cbor_diag.specs.Dump.{lines_at_level, note_line, note_lines, notes, pairs_lines, row, top}
 use Rattle.cbor_diag.specs.mirror.ShownLines.{head_comment, most_width}
-use Rattle.cbor_diag.specs.mirror.Passes.{at_of, embedded_lines, held, item_lines, room, step, taken, CanTake, Took}
+use Rattle.cbor_diag.specs.mirror.Passes.{context_view, embedded_lines, held, item_lines, items_there, pairs_there}
+use Rattle.cbor_diag.specs.mirror.Passes.{room, step, taken, Took}
 use Rattle.cbor_diag.proofs.dump.Pieces.{some_left}
 use Rattle.cbor_diag.proofs.dump.EmbeddedDumps.{sequence_more, sequence_empty, sequence_failed, whole_dumped}
 use Rattle.cbor_diag.proofs.dump.EmbeddedDumps.{whole_failed}
 use Rattle.cbor_diag.proofs.shared.EmbeddedItems.{cut_ends, fault_ends, fault_is, refused_is}
 use Rattle.cbor_diag.proofs.bytes.Heads.{IsBytes-take}
-use Rattle.cbor_diag.proofs.dump.Members.{untagged, notes_left, below_takes, tag_took, line_takes, members_take}
-use Rattle.cbor_diag.proofs.dump.Members.{end_takes, container_took}
-use Rattle.cbor_diag.proofs.dump.Members.{item_well, item_takes, item_done, pair_well, key_takes, value_takes}
-use Rattle.cbor_diag.proofs.dump.Members.{pair_done}
+use Rattle.cbor_diag.proofs.dump.Members.{notes_left, below_takes, tag_took, line_takes, members_take, end_takes}
+use Rattle.cbor_diag.proofs.dump.Members.{container_took, item_well, item_takes, item_done, pair_well, key_takes}
+use Rattle.cbor_diag.proofs.dump.Members.{value_takes, pair_done}
 use Rattle.cbor_diag.proofs.bytes.PublicReaders.{whole_well_formed}
 use Rattle.cbor_diag.proofs.text.Parts.{well_level}
 use Rattle.cbor_diag.proofs.shared.Views.{view-IndefiniteByteString, view-IndefiniteTextString, item_count_view}
@@ -111,7 +110,7 @@ dump_item-returns-in-IndefiniteByteString-clause-took t c =
     let old = c.args.walk.now.lines.pass in
     let new = c.byte_chunks.new.self.pass in
     let took = subst (λ xs. OnOk c.byte_chunks.result
-    (Took old new (byte_chunks_lines (at_of c.args.context.now) (map byte_chunk xs)))) c.deref.ensures.value
+    (Took old new (byte_chunks_lines (context_view c.args.context.now) (map byte_chunk xs)))) c.deref.ensures.value
     c.byte_chunks.ensures in
     subst (λ (i : Item). OnOk c.byte_chunks.result
     (Took old new (item_lines c.args.context.now c.args.walk.now.shared i))) (sym seen) took
@@ -153,7 +152,7 @@ dump_tagged-dump_item-requires t c =
         (
           well,
           below_takes outer c.below-inner.result c.args.head.0.0 c.args.head.1 old.shared c.in_ok-walk.field-0
-              c.in_ok-walk.ensures i inner.level inner.at deep old.lines.pass c.requires.takes opened took,
+              c.in_ok-walk.ensures i inner.level inner.context deep old.lines.pass c.requires.takes opened took,
         ),
       ),
     )
@@ -169,7 +168,7 @@ dump_tagged-returns-then-writes-clause-took t c =
     let well = subst (λ n. WellFormed n i) (sym inner.level) c.requires.well_formed.2 in
     let deep = well_level c.below-inner.result.level i well in
     tag_took outer c.below-inner.result c.args.head.0.0 c.args.head.1 old.shared c.in_ok-walk.field-0
-    c.in_ok-walk.ensures i inner.level inner.at deep old.lines.pass c.requires.takes opened took
+    c.in_ok-walk.ensures i inner.level inner.context deep old.lines.pass c.requires.takes opened took
     c.dump_notes.result c.dump_item.new.walk.lines.pass c.dump_notes.new.walk.lines.pass
     c.in_ok-dump_item.ensures.took c.dump_notes.ensures.took
 
@@ -188,26 +187,25 @@ dump_tagged-returns-else-writes-clause-took t c =
     let done : Result (Unit {0}) AllocError = Ok tt in
     let all = notes (levels_left (under.level + 1)) (embedded_lines under) under.shared c.args.head.0.0 i in
     tag_took outer under c.args.head.0.0 c.args.head.1 old.shared c.in_ok-walk.field-0 c.in_ok-walk.ensures i
-    inner.level inner.at deep old.lines.pass c.requires.takes opened took done now now c.in_ok-dump_item.ensures.took
-    (notes_left now (sym c.if-writes.ensures) under.depth all)
+    inner.level inner.context deep old.lines.pass c.requires.takes opened took done now now
+    c.in_ok-dump_item.ensures.took (notes_left now (sym c.if-writes.ensures) under.depth all)
 
 -- ---- containers
 
 pub dump_array-container-requires : goal.dump_array-container-requires
 dump_array-container-requires t c =
     let v = c.args.items.now in
-    let known = c.args.walk.now.shared in
     let counted : item_count (items_view v.items) ≡ c.len.result = omega (arith, item_count_view v.items, v.ok.0) in
     record {
       fits = subst (λ n. FitsCount c.args.width n) counted c.requires.well_formed.1;
       takes = line_takes 4 (codes "array") _ _ counted c.args.width c.args.context.now
-          (λ write. items_lines write known (items_view v.items)) c.args.walk.now.lines.pass c.requires.takes;
+          (λ write. items_lines write c.args.walk.now.shared (items_view v.items)) c.args.walk.now.lines.pass
+          c.requires.takes;
     }
 
 pub dump_array-dump_items-requires : goal.dump_array-dump_items-requires
 dump_array-dump_items-requires t c =
     let v = c.args.items.now in
-    let known = c.args.walk.now.shared in
     let inner = c.inside.ensures in
     let deep = c.requires.well_formed.0 in
     let counted : item_count (items_view v.items) ≡ c.len.result = omega (arith, item_count_view v.items, v.ok.0) in (
@@ -215,12 +213,13 @@ dump_array-dump_items-requires t c =
       (
         (omega (arith, inner.depth, inner.level, c.requires.context.0), omega (arith, inner.level, deep)),
         (
-          ap (λ (p : At). p.tag) inner.at,
+          ap (λ (p : Context). p.tag) inner.context,
           (
             subst (λ n. WellFormedItems n (items_view v.items)) (sym inner.level) c.requires.well_formed.2,
             members_take 4 (codes "array") _ _ counted c.args.width c.args.context.now
-                (λ write. items_lines write known (items_view v.items)) c.args.walk.now.lines.pass c.requires.takes
-                c.container.new.self.pass c.in_ok-container.ensures c.inside.result inner.level inner.at,
+                (λ write. items_lines write c.args.walk.now.shared (items_view v.items)) c.args.walk.now.lines.pass
+                c.requires.takes c.container.new.self.pass c.in_ok-container.ensures c.inside.result inner.level
+                inner.context,
           ),
         ),
       ),
@@ -229,41 +228,38 @@ dump_array-dump_items-requires t c =
 pub dump_array-close-requires : goal.dump_array-close-requires
 dump_array-close-requires t c =
     let v = c.args.items.now in
-    let known = c.args.walk.now.shared in
     let inner = c.inside.ensures in
     let counted : item_count (items_view v.items) ≡ c.len.result = omega (arith, item_count_view v.items, v.ok.0) in
     end_takes 4 (codes "array") _ _ counted c.args.width c.args.context.now
-    (λ write. items_lines write known (items_view v.items)) c.args.walk.now.lines.pass c.requires.takes
-    c.container.new.self.pass c.in_ok-container.ensures c.inside.result inner.level inner.at
+    (λ write. items_lines write c.args.walk.now.shared (items_view v.items)) c.args.walk.now.lines.pass
+    c.requires.takes c.container.new.self.pass c.in_ok-container.ensures c.inside.result inner.level inner.context
     c.dump_items.new.walk.lines.pass c.in_ok-dump_items.ensures.took
 
 pub dump_array-returns-clause-took : goal.dump_array-returns-clause-took
 dump_array-returns-clause-took t c =
     let v = c.args.items.now in
-    let known = c.args.walk.now.shared in
     let inner = c.inside.ensures in
     let counted : item_count (items_view v.items) ≡ c.len.result = omega (arith, item_count_view v.items, v.ok.0) in
     container_took 4 (codes "array") _ _ counted c.args.width c.args.context.now
-    (λ write. items_lines write known (items_view v.items)) c.args.walk.now.lines.pass c.requires.takes
-    c.container.new.self.pass c.in_ok-container.ensures c.inside.result inner.level inner.at
+    (λ write. items_lines write c.args.walk.now.shared (items_view v.items)) c.args.walk.now.lines.pass
+    c.requires.takes c.container.new.self.pass c.in_ok-container.ensures c.inside.result inner.level inner.context
     c.dump_items.new.walk.lines.pass c.in_ok-dump_items.ensures.took c.close.result c.close.new.self.pass
     c.close.ensures
 
 pub dump_map-container-requires : goal.dump_map-container-requires
 dump_map-container-requires t c =
     let v = c.args.pairs.now in
-    let known = c.args.walk.now.shared in
     let counted : pair_count (pairs_view v.items) ≡ c.len.result = omega (arith, pair_count_view v.items, v.ok.0) in
     record {
       fits = subst (λ n. FitsCount c.args.width n) counted c.requires.well_formed.1;
       takes = line_takes 5 (codes "map") _ _ counted c.args.width c.args.context.now
-          (λ write. pairs_lines write known (pairs_view v.items)) c.args.walk.now.lines.pass c.requires.takes;
+          (λ write. pairs_lines write c.args.walk.now.shared (pairs_view v.items)) c.args.walk.now.lines.pass
+          c.requires.takes;
     }
 
 pub dump_map-dump_pairs-requires : goal.dump_map-dump_pairs-requires
 dump_map-dump_pairs-requires t c =
     let v = c.args.pairs.now in
-    let known = c.args.walk.now.shared in
     let inner = c.inside.ensures in
     let deep = c.requires.well_formed.0 in
     let counted : pair_count (pairs_view v.items) ≡ c.len.result = omega (arith, pair_count_view v.items, v.ok.0) in (
@@ -271,12 +267,13 @@ dump_map-dump_pairs-requires t c =
       (
         (omega (arith, inner.depth, inner.level, c.requires.context.0), omega (arith, inner.level, deep)),
         (
-          ap (λ (p : At). p.tag) inner.at,
+          ap (λ (p : Context). p.tag) inner.context,
           (
             subst (λ n. WellFormedPairs n (pairs_view v.items)) (sym inner.level) c.requires.well_formed.2,
             members_take 5 (codes "map") _ _ counted c.args.width c.args.context.now
-                (λ write. pairs_lines write known (pairs_view v.items)) c.args.walk.now.lines.pass c.requires.takes
-                c.container.new.self.pass c.in_ok-container.ensures c.inside.result inner.level inner.at,
+                (λ write. pairs_lines write c.args.walk.now.shared (pairs_view v.items)) c.args.walk.now.lines.pass
+                c.requires.takes c.container.new.self.pass c.in_ok-container.ensures c.inside.result inner.level
+                inner.context,
           ),
         ),
       ),
@@ -285,23 +282,21 @@ dump_map-dump_pairs-requires t c =
 pub dump_map-close-requires : goal.dump_map-close-requires
 dump_map-close-requires t c =
     let v = c.args.pairs.now in
-    let known = c.args.walk.now.shared in
     let inner = c.inside.ensures in
     let counted : pair_count (pairs_view v.items) ≡ c.len.result = omega (arith, pair_count_view v.items, v.ok.0) in
     end_takes 5 (codes "map") _ _ counted c.args.width c.args.context.now
-    (λ write. pairs_lines write known (pairs_view v.items)) c.args.walk.now.lines.pass c.requires.takes
-    c.container.new.self.pass c.in_ok-container.ensures c.inside.result inner.level inner.at
+    (λ write. pairs_lines write c.args.walk.now.shared (pairs_view v.items)) c.args.walk.now.lines.pass
+    c.requires.takes c.container.new.self.pass c.in_ok-container.ensures c.inside.result inner.level inner.context
     c.dump_pairs.new.walk.lines.pass c.in_ok-dump_pairs.ensures.took
 
 pub dump_map-returns-clause-took : goal.dump_map-returns-clause-took
 dump_map-returns-clause-took t c =
     let v = c.args.pairs.now in
-    let known = c.args.walk.now.shared in
     let inner = c.inside.ensures in
     let counted : pair_count (pairs_view v.items) ≡ c.len.result = omega (arith, pair_count_view v.items, v.ok.0) in
     container_took 5 (codes "map") _ _ counted c.args.width c.args.context.now
-    (λ write. pairs_lines write known (pairs_view v.items)) c.args.walk.now.lines.pass c.requires.takes
-    c.container.new.self.pass c.in_ok-container.ensures c.inside.result inner.level inner.at
+    (λ write. pairs_lines write c.args.walk.now.shared (pairs_view v.items)) c.args.walk.now.lines.pass
+    c.requires.takes c.container.new.self.pass c.in_ok-container.ensures c.inside.result inner.level inner.context
     c.dump_pairs.new.walk.lines.pass c.in_ok-dump_pairs.ensures.took c.close.result c.close.new.self.pass
     c.close.ensures
 
@@ -310,96 +305,64 @@ dump_map-returns-clause-took t c =
 pub dump_items-dump_item-requires : goal.dump_items-dump_item-requires
 dump_items-dump_item-requires t c =
     let here = c.args.context.now in
-    let write = lines_at_level here.level (at_of here) in
     let all = c.deref-item-items.result.now in
-    let v = c.item-item.result in
-    let lines = items_lines write c.args.walk.now.shared (items_view all) in
+    let lines = items_there here c.args.walk.now.shared (items_view all) in
     let now = c.items.walk in
-    let well = item_well write here.level all c.items.item-index v c.item-item.is c.items-test.true
-    c.args.walk.now.lines.pass now.lines.pass now.shared lines _ c.items.invariant in
-    let takes = item_takes write here.level all c.items.item-index v c.item-item.is c.items-test.true
-    c.args.walk.now.lines.pass now.lines.pass now.shared lines _ c.items.invariant in
-    let same = untagged here.level (at_of here) now.shared (view v) (well_level here.level (view v) well)
-    c.requires.untagged in
-    (omega (arith, c.decreases), (c.requires.context, (well, subst (CanTake now.lines.pass) same takes)))
+    let well = item_well here c.requires.untagged all c.items.item-index c.item-item.result c.item-item.is
+    c.items-test.true c.args.walk.now.lines.pass now.lines.pass now.shared lines _ c.items.invariant in
+    let takes = item_takes here c.requires.untagged all c.items.item-index c.item-item.result c.item-item.is
+    c.items-test.true c.args.walk.now.lines.pass now.lines.pass now.shared lines _ c.items.invariant in
+    (omega (arith, c.decreases), (c.requires.context, (well, takes)))
 
 pub dump_items-items-preserved : goal.dump_items-items-preserved
 dump_items-items-preserved t c =
     let here = c.args.context.now in
-    let write = lines_at_level here.level (at_of here) in
     let all = c.deref-item-items.result.now in
-    let v = c.item-item.result in
-    let lines = items_lines write c.args.walk.now.shared (items_view all) in
+    let lines = items_there here c.args.walk.now.shared (items_view all) in
     let now = c.items.walk in
-    let done = c.in_ok-dump_item.ensures in
     let new = c.dump_item.new.walk in
-    let well = item_well write here.level all c.items.item-index v c.item-item.is c.items-test.true
-    c.args.walk.now.lines.pass now.lines.pass now.shared lines _ c.items.invariant in
-    let same = untagged here.level (at_of here) now.shared (view v) (well_level here.level (view v) well)
-    c.requires.untagged in
-    item_done write here.level all c.items.item-index v c.item-item.is c.items-test.true c.args.walk.now.lines.pass
-    now.lines.pass now.shared lines _ c.items.invariant new.lines.pass new.shared
-    (subst (Took now.lines.pass new.lines.pass) (sym same) done.took) done.shared
+    item_done here c.requires.untagged all c.items.item-index c.item-item.result c.item-item.is c.items-test.true
+    c.args.walk.now.lines.pass now.lines.pass now.shared lines _ c.items.invariant new.lines.pass new.shared
+    c.in_ok-dump_item.ensures.took c.in_ok-dump_item.ensures.shared
 
 pub dump_pairs-dump_item-requires : goal.dump_pairs-dump_item-requires
 dump_pairs-dump_item-requires t c =
     let here = c.args.context.now in
-    let write = lines_at_level here.level (at_of here) in
     let all = c.deref-key-items.result.now in
-    let v = c.pairs-item.result in
-    let lines = pairs_lines write c.args.walk.now.shared (pairs_view all) in
+    let lines = pairs_there here c.args.walk.now.shared (pairs_view all) in
     let now = c.pairs.walk in
-    let well = pair_well write here.level all c.pairs.key-index v c.pairs-item.is c.pairs-test.true
-    c.args.walk.now.lines.pass now.lines.pass now.shared lines _ c.pairs.invariant in
-    let takes = key_takes write here.level all c.pairs.key-index v c.pairs-item.is c.pairs-test.true
-    c.args.walk.now.lines.pass now.lines.pass now.shared lines _ c.pairs.invariant in
-    let same = untagged here.level (at_of here) now.shared (view v.0) (well_level here.level (view v.0) well.0)
-    c.requires.untagged in
-    (omega (arith, c.decreases), (c.requires.context, (well.0, subst (CanTake now.lines.pass) same takes)))
+    let well = pair_well here c.requires.untagged all c.pairs.key-index c.pairs-item.result c.pairs-item.is
+    c.pairs-test.true c.args.walk.now.lines.pass now.lines.pass now.shared lines _ c.pairs.invariant in
+    let takes = key_takes here c.requires.untagged all c.pairs.key-index c.pairs-item.result c.pairs-item.is
+    c.pairs-test.true c.args.walk.now.lines.pass now.lines.pass now.shared lines _ c.pairs.invariant in
+    (omega (arith, c.decreases), (c.requires.context, (well.0, takes)))
 
 pub dump_pairs-dump_item-requires-in-pairs : goal.dump_pairs-dump_item-requires-in-pairs
 dump_pairs-dump_item-requires-in-pairs t c =
     let here = c.args.context.now in
-    let write = lines_at_level here.level (at_of here) in
     let all = c.deref-key-items.result.now in
-    let v = c.pairs-item.result in
-    let lines = pairs_lines write c.args.walk.now.shared (pairs_view all) in
+    let lines = pairs_there here c.args.walk.now.shared (pairs_view all) in
     let now = c.pairs.walk in
     let between = c.dump_item.new.walk in
-    let well = pair_well write here.level all c.pairs.key-index v c.pairs-item.is c.pairs-test.true
-    c.args.walk.now.lines.pass now.lines.pass now.shared lines _ c.pairs.invariant in
-    let key = untagged here.level (at_of here) now.shared (view v.0) (well_level here.level (view v.0) well.0)
-    c.requires.untagged in
-    let value = untagged here.level (at_of here) between.shared (view v.1) (well_level here.level (view v.1) well.1)
-    c.requires.untagged in
-    let takes = value_takes write here.level all c.pairs.key-index v c.pairs-item.is c.pairs-test.true
-    c.args.walk.now.lines.pass now.lines.pass now.shared lines _ c.pairs.invariant between.lines.pass between.shared
-    (subst (Took now.lines.pass between.lines.pass) (sym key) c.in_ok-dump_item.ensures.took)
-    c.in_ok-dump_item.ensures.shared in
-    (omega (arith, c.decreases), (c.requires.context, (well.1, subst (CanTake between.lines.pass) value takes)))
+    let well = pair_well here c.requires.untagged all c.pairs.key-index c.pairs-item.result c.pairs-item.is
+    c.pairs-test.true c.args.walk.now.lines.pass now.lines.pass now.shared lines _ c.pairs.invariant in
+    let takes = value_takes here c.requires.untagged all c.pairs.key-index c.pairs-item.result c.pairs-item.is
+    c.pairs-test.true c.args.walk.now.lines.pass now.lines.pass now.shared lines _ c.pairs.invariant
+    between.lines.pass between.shared c.in_ok-dump_item.ensures.took c.in_ok-dump_item.ensures.shared in
+    (omega (arith, c.decreases), (c.requires.context, (well.1, takes)))
 
 pub dump_pairs-pairs-preserved : goal.dump_pairs-pairs-preserved
 dump_pairs-pairs-preserved t c =
     let here = c.args.context.now in
-    let write = lines_at_level here.level (at_of here) in
     let all = c.deref-key-items.result.now in
-    let v = c.pairs-item.result in
-    let lines = pairs_lines write c.args.walk.now.shared (pairs_view all) in
+    let lines = pairs_there here c.args.walk.now.shared (pairs_view all) in
     let now = c.pairs.walk in
     let between = c.dump_item.new.walk in
     let new = c.dump_item-in-pairs.new.walk in
-    let well = pair_well write here.level all c.pairs.key-index v c.pairs-item.is c.pairs-test.true
-    c.args.walk.now.lines.pass now.lines.pass now.shared lines _ c.pairs.invariant in
-    let key = untagged here.level (at_of here) now.shared (view v.0) (well_level here.level (view v.0) well.0)
-    c.requires.untagged in
-    let value = untagged here.level (at_of here) between.shared (view v.1) (well_level here.level (view v.1) well.1)
-    c.requires.untagged in
-    pair_done write here.level all c.pairs.key-index v c.pairs-item.is c.pairs-test.true c.args.walk.now.lines.pass
-    now.lines.pass now.shared lines _ c.pairs.invariant between.lines.pass between.shared
-    (subst (Took now.lines.pass between.lines.pass) (sym key) c.in_ok-dump_item.ensures.took)
-    c.in_ok-dump_item.ensures.shared new.lines.pass new.shared
-    (subst (Took between.lines.pass new.lines.pass) (sym value) c.in_ok-dump_item-2.ensures.took)
-    c.in_ok-dump_item-2.ensures.shared
+    pair_done here c.requires.untagged all c.pairs.key-index c.pairs-item.result c.pairs-item.is c.pairs-test.true
+    c.args.walk.now.lines.pass now.lines.pass now.shared lines _ c.pairs.invariant between.lines.pass between.shared
+    c.in_ok-dump_item.ensures.took c.in_ok-dump_item.ensures.shared new.lines.pass new.shared
+    c.in_ok-dump_item-2.ensures.took c.in_ok-dump_item-2.ensures.shared
 
 -- ---- notes
 

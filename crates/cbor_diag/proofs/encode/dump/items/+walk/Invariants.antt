@@ -2,10 +2,9 @@ use Rattle.std.proofs.Common.{◌≡◌, ◌+◌, ◌-◌, ◌*◌, drop, length
 use Rattle.std.specs.List.{flat_map}
 use Rattle.cbor_diag.specs.View.{items_view, pairs_view}
 use Rattle.cbor_diag.specs.WellFormed.{levels_left}
-use Rattle.cbor_diag.specs.Dump.{items_lines, lines_at_level, note_lines, pairs_lines, sequence_notes, shared_in_items}
-use Rattle.cbor_diag.specs.Dump.{shared_in_pairs, top}
-use Rattle.cbor_diag.specs.Embedded.{sequence_at}
-use Rattle.cbor_diag.specs.mirror.Passes.{at_of, held, room, step, taken}
+use Rattle.cbor_diag.specs.Dump.{lines_at_level, note_lines, sequence_notes, shared_in_items, shared_in_pairs, top}
+use Rattle.cbor_diag.specs.Embedded.{sequence}
+use Rattle.cbor_diag.specs.mirror.Passes.{items_there, pairs_there, held, room, step, taken}
 use Rattle.cbor_diag.proofs.dump.EmbeddedDumps.{SequenceLeft}
 use Rattle.cbor_diag.proofs.dump.Members.{ItemsLeft, PairsLeft}
 use Rattle.cbor_diag.proofs.encode.dump.items.+walk.Given as goal
@@ -47,23 +46,20 @@ decreases-embedded_dump l = (129 - l.context.now.level) * 8 + 5
 -- the lines that are left, and those that were taken, are the whole
 abbrev pub invariant-dump_items-items : goal.invariant-dump_items-items
 invariant-dump_items-items l =
-    let write = lines_at_level l.context.level (at_of l.context) in
-    ItemsLeft write l.context.level l.fn.walk.lines.pass l.walk.lines.pass l.walk.shared
-    (drop l.item-index l.item-items)
-    (items_lines write l.fn.walk.shared (items_view l.item-items))
+    ItemsLeft l.context l.fn.walk.lines.pass l.walk.lines.pass l.walk.shared (drop l.item-index l.item-items)
+    (items_there l.context l.fn.walk.shared (items_view l.item-items))
     (l.fn.walk.shared + shared_in_items (items_view l.item-items))
 
 abbrev pub invariant-dump_pairs-pairs : goal.invariant-dump_pairs-pairs
 invariant-dump_pairs-pairs l =
-    let write = lines_at_level l.context.level (at_of l.context) in
-    PairsLeft write l.context.level l.fn.walk.lines.pass l.walk.lines.pass l.walk.shared (drop l.key-index l.key-items)
-    (pairs_lines write l.fn.walk.shared (pairs_view l.key-items))
+    PairsLeft l.context l.fn.walk.lines.pass l.walk.lines.pass l.walk.shared (drop l.key-index l.key-items)
+    (pairs_there l.context l.fn.walk.shared (pairs_view l.key-items))
     (l.fn.walk.shared + shared_in_pairs (pairs_view l.key-items))
 
 abbrev pub invariant-embedded_sequence-items : goal.invariant-embedded_sequence-items
 invariant-embedded_sequence-items l =
     let level = l.context.level + 1 in
-    let notes = sequence_notes (levels_left level) (lines_at_level level top 0) (sequence_at (levels_left level) l.bytes) in
+    let notes = sequence_notes (levels_left level) (lines_at_level level top 0) (sequence level l.bytes) in
     SequenceLeft level l.context.depth (held l.lines.pass) l.rest
     (taken step (held l.fn.lines.pass) (flat_map (note_lines l.context.depth) notes))
     × (room l.lines.pass ≡ room l.fn.lines.pass)
