@@ -1,4 +1,5 @@
-//! Tests alone, of the calls of `cbor_diag`: examples of the standard and of docs/.
+//! Tests of the calls of `cbor_diag`: examples of the standards and of docs/, hostile input, and
+//! the examples of doc comments and pages. `rt test` runs them.
 #![tactic(auto)]
 
 #[cfg(test)]

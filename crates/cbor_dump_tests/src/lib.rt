@@ -1,5 +1,5 @@
-//! Tests alone, of the dumps that `cbor_diag` prints: examples of the standards and of
-//! docs/DUMP.md.
+//! Tests of the dumps of `cbor_diag`: examples of the standards and of docs/DUMP.md. `rt test` runs
+//! them.
 #![tactic(auto)]
 
 #[cfg(test)]

@@ -7,7 +7,7 @@ ghost use Rattle.cbor_notes.specs.Base58.{HasNoLeadingZero, base58_of, character
 
 use std::alloc::{AllocError, Global};
 
-/// The characters for the digits 0 to 57: digits and letters but for `0`, `I`, `O` and `l`.
+/// The characters for the digits 0 to 57: digits and letters except `0`, `I`, `O` and `l`.
 const CHARACTERS: [u8; 58] = *b"123456789ABCDEFGHJKLMNPQRSTUVWXYZabcdefghijkmnopqrstuvwxyz";
 
 /// Returns sixteen bytes in base 58, in Bitcoin's alphabet: a `1` for each leading zero byte, and
@@ -35,8 +35,7 @@ pub fn base58(alloc: Global, bytes: &[u8; 16]) -> Result<String, AllocError>
     Ok(text)
 }
 
-/// Appends what [`base58`] writes of `bytes` to `text`. After an error `text` may end with a part
-/// of it.
+/// Appends the text of [`base58`] to `text`. After an error `text` may end with a part of it.
 pub(crate) fn push_base58(text: &mut String, bytes: &[u8; 16]) -> Result<(), AllocError>
     ensures text { OnOk result
         (string_bytes text.new ≡ string_bytes text.old ++ base58_of bytes.now) }

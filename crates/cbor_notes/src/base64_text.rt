@@ -98,7 +98,7 @@ fn decoded_line(alloc: Global, piece: &[u8], width: usize) -> Result<String, All
     requires width { width ≤ 32 }
     ensures { IfOk result (λ line. string_bytes line ≡ decoded_line width piece.now) }
 {
-    // Enough where each byte is written as it is.
+    // Enough if each byte is written as it is.
     let mut line = String::with_capacity(alloc, width + piece.len() + 5)?;
     push_hex(&mut line, piece)?;
     'blanks: for _ in 2 * piece.len()..width {
@@ -120,8 +120,8 @@ fn is_standard_only(digits: &[u8]) -> bool
         .any(|digit| *digit == b'+' || *digit == b'/' || *digit == b'=')
 }
 
-/// The bytes that `digits` encode in the alphabet that is safe in URLs, without padding, if `url`
-/// is set, and else in the standard alphabet with padding.
+/// The bytes that `digits` encode in the URL-safe alphabet without padding if `url` is set,
+/// otherwise in the standard alphabet with padding.
 fn decode(alloc: Global, digits: &[u8], url: bool) -> Result<Option<Vec<u8>>, AllocError>
     ensures found { IfOk result (λ found. IfSome found
         (λ bytes. AreBytes bytes.items × (digits.now ≡ encoding url bytes.items))) }

@@ -218,7 +218,7 @@ fn push_clock(text: &mut String, seconds: u32) -> Result<(), AllocError>
     push_two_digits(text, (seconds % 60) as u8)
 }
 
-/// Appends a fraction, cut to nine digits: `.` and 3, 6 or 9 digits, or nothing where they are
+/// Appends a fraction, cut to nine digits: `.` and 3, 6 or 9 digits, or nothing if all are
 /// zeros.
 fn push_fraction(text: &mut String, digits: &[u8]) -> Result<(), AllocError>
     requires { IsTrue (list_all is_ascii_digit digits.now) }

@@ -98,7 +98,7 @@ pub fn push_element_text(text: &mut String, tag: u64, bytes: &[u8]) -> Result<bo
     Ok(true)
 }
 
-/// Appends an element, whose highest byte comes first, between brackets, after what it is called.
+/// Appends an element, whose highest byte comes first, between brackets, after its name.
 /// After an error `text` may end with a part of it.
 fn write_value_text(text: &mut String, kind: Kind, bytes: &[u8]) -> Result<(), AllocError>
     requires { IsInRange 1 16 (length bytes.now) }

@@ -28,7 +28,7 @@ use std::alloc::{AllocError, Global};
 pub fn quoted_bytes(alloc: Global, bytes: &[u8]) -> Result<String, AllocError>
     ensures text { IfOk result (λ text. string_bytes text ≡ spec.quoted_bytes bytes.now) }
 {
-    // Enough where each byte is written as it is.
+    // Enough if each byte is written as it is.
     let mut text = String::with_capacity(alloc, bytes.len().saturating_add(2))?;
     push_quoted_bytes(&mut text, bytes)?;
     Ok(text)
@@ -149,7 +149,7 @@ fn push_hex_piece(text: &mut String, piece: &[u8]) -> Result<(), AllocError>
     let mut buffer = [0; 2 * PIECE];
     let digits = &mut buffer[..2 * piece.len()];
     hex::encode_to_slice(piece, digits).unwrap();
-    // Hex digits are ASCII, so a test of UTF-8 would only take time.
+    // Hex digits are ASCII, so they need no test of UTF-8.
     text.push_str(unsafe { str::from_utf8_unchecked(digits) })
 }
 

@@ -1,4 +1,5 @@
-//! Tests alone, of the calls of `cbor_notes`: examples of the standards and of docs/NOTES.md.
+//! Tests of the calls of `cbor_notes`: examples of the standards and of docs/NOTES.md, and the
+//! examples of doc comments. `rt test` runs them.
 #![tactic(auto)]
 
 #[cfg(test)]

@@ -14,7 +14,7 @@ use Rattle.cbor_diag.specs.Answer.{GaveRefusal, IsRefused}
 use Rattle.cbor_notes.specs.Columns.{uncommented}
 use Rattle.cbor_diag.specs.HexText.{IsHexRefused}
 
--- a decoder refuses so, memory apart
+-- a decoder returns this error, out of memory aside
 abbrev Decoder : List ℕ → FromHexError → Type 0
 Decoder s e = (e ≡ OutOfMemory) ⊎ (decode_of s ≡ Err e)
 
@@ -52,19 +52,19 @@ sized_refused s (inr h) =
       | inr w ↦ cc w.1
     ]
 
--- what the refusal of some digits means
+-- what the error of some digits means
 abbrev NoBytes : List ℕ → Error → Type 0
 NoBytes s f =
     (f ≡ refusal.Memory) ⊎ (f ≡ refusal.OddHex) × (length s % 2 ≡ 1) ⊎ (f ≡ refusal.BadHex) × (length s % 2 ≡ 0)
     × ¬ (AllPass is_hex_digit s)
 
--- digits that have bytes are refused for out of memory alone
+-- for digits that have bytes, the only error is out of memory
 pub digits_want_memory : (s b : List ℕ) (f : Error) → NoBytes s f → decode_of s ≡ Ok b → f ≡ refusal.Memory
 digits_want_memory s b f (inl m) h = m
 digits_want_memory s b f (inr (inl w)) h = let even = (decode_of-ok s b h).0 in absurd (omega (arith, w.1))
 digits_want_memory s b f (inr (inr w)) h = absurd (w.2 (decode_of-ok s b h).1)
 
--- a refusal of the digits is the text's
+-- an error of the digits is the text's
 pub digits_refused : (text : List ℕ) (f e : Error) → NoBytes (uncommented text) f → IsHexRefused text e
     → (f ≡ e) ⊎ (f ≡ refusal.Memory)
 digits_refused text f refusal.OddHex (inl m) odd = inr m
@@ -75,7 +75,7 @@ digits_refused text f refusal.BadHex (inr (inl w)) bad = absurd (omega (arith, w
 digits_refused text f refusal.BadHex (inr (inr w)) bad = inl w.0
 digits_refused text f e r w = inr (digits_want_memory (uncommented text) w.0 f r w.1)
 
--- of a text whose digits have bytes, each refusal is the bytes'
+-- for a text whose digits have bytes, each error is the bytes'
 pub bytes_refused : (text b : List ℕ) (result : Result DataItem Error) → decode_of (uncommented text) ≡ Ok b
     → ((e : Error) → IsRefused 1 b e → GaveRefusal result e) → (e : Error) → IsHexRefused text e → GaveRefusal result e
 bytes_refused text b result h gave refusal.OddHex odd = let even =

@@ -250,7 +250,7 @@ closing_err : (left : ℕ) (ts : List ToCome) (e : Error) → closing left ts (E
 closing_err left [] e = refl
 closing_err left (t ∷ ts) e = ap (λ q. q >>= skip_parts left t) (closing_err (left - 1) ts e)
 
--- a refusal of a part is one of all that is open
+-- an error of a part is one of all that is open
 abbrev wanted : List ToCome → ToCome → Skip → Skip
 wanted outer top r = closing deepest outer (r >>= skip_parts (deepest - length outer) (after_part top))
 

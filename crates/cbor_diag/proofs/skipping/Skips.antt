@@ -55,7 +55,7 @@ goes_within F x = record { over = x.over; parts = x.parts; along = λ c. ap F (x
 pub goes_from : {f g h : List ℕ → Skip} {b r : List ℕ} → ((c : List ℕ) → f c ≡ g c) → Goes g h b r → Goes f h b r
 goes_from same x = record { over = x.over; parts = x.parts; along = λ c. same (x.over ++ c) ∙ x.along c }
 
--- what skipping answers at these bytes
+-- the result of skipping at these bytes
 pub goes_at : {f g : List ℕ → Skip} {b r : List ℕ} → Goes f g b r → f b ≡ g r
 goes_at {f = f} {r = r} x = ap f x.parts ∙ x.along r
 

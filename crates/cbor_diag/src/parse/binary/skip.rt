@@ -283,6 +283,8 @@ fn begins(bytes: &[u8]) -> Extent
 /// let (error, end) = (Error::Head, 3);
 /// assert_eq!(rt; extent(b"\x82\x01\x1f\x00"), Extent::Fault { error, end });
 /// ```
+///
+/// [`parse_bytes_partial`]: crate::parse_bytes_partial
 pub fn extent(bytes: &[u8]) -> Extent
     // An item of `n` bytes, exactly if they spell one.
     ensures item { IfItem result (λ n. (i : Item) × BeginsWithItem bytes.now i n) }
