@@ -11,7 +11,8 @@ ghost use Rattle.cbor_diag.specs.mirror.StringView.{bytes_of, kind_of};
 ghost use Rattle.cbor_notes.specs.Base64.{standard, url_safe};
 ghost use Rattle.cbor_diag.specs.WellFormed.{FitsFloat};
 ghost use Rattle.cbor_diag.specs.NotationText.{indicator, number, prefix, encoded_bytes, quoted};
-ghost use Rattle.cbor_diag.specs.NotationText.{is_escaped, escaped, text, string_text, float_text, simple_text};
+ghost use Rattle.cbor_diag.specs.NotationText.{is_escaped, escaped, text, string_text};
+ghost use Rattle.cbor_diag.specs.NotationText.{float_text, simple_text};
 
 use crate::encode::encoding::Encoding;
 use crate::syntax::strings::StringContent;
@@ -106,7 +107,8 @@ pub(crate) fn push_quoted(
 
 /// Writes bytes as they are between quotes.
 fn push_encoded(out: &mut String, bytes: &[u8], encoding: Encoding) -> Result<(), AllocError>
-    ensures { AppendsText result out.old out.new (encoded_bytes (encoding_view encoding) bytes.now) }
+    ensures { AppendsText result out.old out.new
+        (encoded_bytes (encoding_view encoding) bytes.now) }
 {
     match encoding {
         Encoding::Base16 => push_hex(out, bytes),
