@@ -106,7 +106,8 @@ split_at n b = if nat_lt (length b) n then Err refusal.CutShort else Ok (take n 
 -- the string of that content, where its kind may hold it
 abbrev pub checked_chunk : StringKind → IntegerWidth → List ℕ → Result Chunk Error
 checked_chunk bytes_kind w content = Ok (record { bytes = content; width = w })
-checked_chunk text_kind w content = if is_utf8 content then Ok (record { bytes = content; width = w }) else Err refusal.Utf8
+checked_chunk text_kind w content =
+    if is_utf8 content then Ok (record { bytes = content; width = w }) else Err refusal.Utf8
 
 -- a string of that length and its content
 unfoldable pub read_content : StringKind → ℕ → IntegerWidth → List ℕ → Read Chunk

@@ -14,7 +14,8 @@ use Rattle.cbor_diag.specs.Item.{Chunk}
 use Rattle.cbor_diag.specs.Head.{break_byte}
 use Rattle.cbor_diag.specs.Bytes.{ChunkThen, SpellsChunks}
 use Rattle.cbor_diag.specs.StringKind.{StringKind, bytes_kind, text_kind, major_of, IsContent}
-use Rattle.cbor_diag.specs.Reading.{checked_chunk, Read, ◌>>=◌, read_info, split_at, read_content, chunk_of, read_chunk, more_chunks}
+use Rattle.cbor_diag.specs.Reading.{checked_chunk, Read, ◌>>=◌, read_info, split_at}
+use Rattle.cbor_diag.specs.Reading.{read_content, chunk_of, read_chunk, more_chunks}
 use Rattle.cbor_diag.specs.Reading.{read_chunks}
 use Rattle.cbor_diag.proofs.bytes.Heads.{IsBytes, IsBytes-drop, IsBytes-rest, bind_ok, guard_ok, guard_held, ok_is}
 use Rattle.cbor_diag.proofs.bytes.Heads.{head_append, head_front, head_shorter, InfoIs, info_takes, head_then, opened}

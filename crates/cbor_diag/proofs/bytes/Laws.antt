@@ -161,7 +161,8 @@ mutual
       all_bytes-append (encoded_open 5 (pair_count ps) w) (encoded_pairs ps ++ encoded_close w)
       (open_bytes 5 (pair_count ps) w five well.1)
       (all_bytes-append (encoded_pairs ps) (encoded_close w) (pairs_bytes (level + 1) ps well.2) (close_bytes w))
-  item_bytes level (tagged t w i) well = all_bytes-append (encoded_head 6 t w) (encoded i) (written_bytes 6 t w six well.1)
+  item_bytes level (tagged t w i) well =
+      all_bytes-append (encoded_head 6 t w) (encoded i) (written_bytes 6 t w six well.1)
       (item_bytes (level + 1) i well.2)
 
   pub items_bytes : (level : ℕ) (is : Items) → WellFormedItems level is → AllBytes (encoded_items is)

@@ -17,7 +17,8 @@ use Rattle.cbor_diag.specs.Item.{Chunk, byte_string, text_string, byte_chunks, t
 use Rattle.cbor_diag.specs.Item.{Items, no_items, item, Pairs, no_pairs, pair}
 use Rattle.cbor_diag.specs.Head.{break_byte}
 use Rattle.cbor_diag.specs.StringKind.{StringKind, bytes_kind, text_kind, major_of}
-use Rattle.cbor_diag.specs.Reading.{checked_chunk, Read, ◌>>=◌, read_number, read_wide, read_info, head_of, read_head, split_at}
+use Rattle.cbor_diag.specs.Reading.{checked_chunk, Read, ◌>>=◌, read_number, read_wide}
+use Rattle.cbor_diag.specs.Reading.{read_info, head_of, read_head, split_at}
 use Rattle.cbor_diag.specs.Reading.{read_content, chunk_of, read_chunk, more_chunks, read_chunks, read_items, read_pair}
 use Rattle.cbor_diag.specs.Reading.{read_pairs, after_break, unless_break, read_open_items, read_open_pairs, read_body}
 use Rattle.cbor_diag.specs.Reading.{no_level_left, read_item}

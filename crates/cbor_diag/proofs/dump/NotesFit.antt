@@ -23,7 +23,7 @@ use Rattle.cbor_diag.specs.Notes.{Note, value_note}
 use Rattle.cbor_diag.specs.Reading.{Read, read_item}
 use Rattle.cbor_diag.specs.Refusals.{text_of}
 use Rattle.cbor_diag.proofs.shared.EmbeddedItems.{embedded_spells, sequence_spells}
-use Rattle.cbor_diag.proofs.normal.Form.{AllBytes, bytes_at}
+use Rattle.cbor_diag.proofs.bytes.Laws.{AllBytes, bytes_at}
 use Rattle.cbor_diag.proofs.normal.WellFormed.{items_well}
 use Rattle.cbor_diag.proofs.bytes.Resolved.{spells_well}
 use Rattle.cbor_diag.proofs.dump.NoteTexts.{FreeNote, value_note_line}

@@ -24,7 +24,8 @@ use Rattle.cbor_diag.specs.Notation.{IsBlank, Blanked, list_of, pairs_list, Pair
 use Rattle.cbor_diag.specs.Notation.{more, StringOf, ChunksOf, AtomCore, Core, Reads}
 use Rattle.cbor_diag.specs.NotationText.{number, quoted, container_style, members_layout, colon, rest_gap, below}
 use Rattle.cbor_diag.specs.NotationText.{inside, item_texts, pair_texts, embedded_text, rest_text, items_text}
-use Rattle.cbor_diag.specs.NotationText.{item_style, sequence_text, content_text, string_text, chunks_text, atom_text, text_with, text_at}
+use Rattle.cbor_diag.specs.NotationText.{item_style, sequence_text, content_text, string_text, chunks_text}
+use Rattle.cbor_diag.specs.NotationText.{atom_text, text_with, text_at}
 use Rattle.cbor_diag.specs.Normal.{normal_chunk, normal_items, normal_pairs, normal_embedded, normal_sequence}
 use Rattle.cbor_diag.specs.Normal.{normal_content, normal_atom, normal_with, normal_at}
 use Rattle.cbor_diag.proofs.bytes.Refusals.{item_nothing}

@@ -73,7 +73,8 @@ mutual
   spelled_stated level b (spec.map ps None) h = pairs_stated (level + 1) h.1.0 ps _ h.1.2
   spelled_stated level b (tagged t w i) h = (h.1.0, spelled_stated (level + 1) h.1.1 i h.1.3)
 
-  pub items_stated : (level : ℕ) (b : List ℕ) (is : Items) (end : List ℕ) → SpellsItems any level b is end → StatedItems is
+  pub items_stated : (level : ℕ) (b : List ℕ) (is : Items) (end : List ℕ) → SpellsItems any level b is end
+      → StatedItems is
   items_stated level b no_items end h = tt
   items_stated level b (item i is) end h = (spelled_stated level h.0 i h.3, items_stated level h.1 is end h.4)
 
@@ -146,7 +147,8 @@ bytes_resolved f same (c ∷ cs) = rw (same c, bytes_resolved f same cs) refl
 module _ (left : ℕ) (write : Writer)
     (same : (e : Encoding) (tag : Option ℕ) (i : Item) → Stated i → write (at e tag) (resolve i) ≡ write (at e tag) i)
   where
-    pub items_resolved : (e : Encoding) (is : Items) → StatedItems is → item_texts (write (at e None)) (resolve_items is)
+    pub items_resolved : (e : Encoding) (is : Items) → StatedItems is
+        → item_texts (write (at e None)) (resolve_items is)
         ≡ item_texts (write (at e None)) is
     items_resolved e no_items h = refl
     items_resolved e (item i is) h = rw (same e None i h.0, items_resolved e is h.1) refl
@@ -184,7 +186,8 @@ module _ (left : ℕ) (write : Writer)
     with_resolved e tag (tagged t w i) h =
         rw (stated_is w t h.0, same (encoding_below t e) (Some t) i h.1) refl
 
-pub text_resolved : (left : ℕ) (e : Encoding) (tag : Option ℕ) (i : Item) → Stated i → text_at left (at e tag) (resolve i)
+pub text_resolved : (left : ℕ) (e : Encoding) (tag : Option ℕ) (i : Item) → Stated i
+    → text_at left (at e tag) (resolve i)
     ≡ text_at left (at e tag) i
 unfolding text_at
 text_resolved zero e tag i h = refl
@@ -234,7 +237,8 @@ normal_with_resolved level left into same tag (spec.map ps None) well h =
 normal_with_resolved level left into same tag (tagged t w i) well h =
     rw (stated_is w t h.0, same (Some t) i well.2 h.1) refl
 
-pub normal_resolved : (level left : ℕ) → level + left ≡ 129 → (tag : Option ℕ) (i : Item) → WellFormed level i → Stated i
+pub normal_resolved : (level left : ℕ) → level + left ≡ 129 → (tag : Option ℕ) (i : Item) → WellFormed level i
+    → Stated i
     → normal_at left tag (resolve i) ≡ normal_at left tag i
 unfolding normal_at
 normal_resolved level zero levels tag i well h = absurd (omega (arith, well_level level i well))

@@ -358,7 +358,11 @@ module _ (level left : ℕ) (levels : (level + 1) + left ≡ 129) (into : Option
   atom_serves tag (byte_string c) h =
       let x = normal_content left (into None) tag c.bytes in
       let s = content_serves (level + 1) left levels (into None) (serves None) tag c.bytes h.bytes in (
-        record { fits = open_fits (length x) (length c.bytes) c.width s.no_longer h.fits; bytes = s.bytes; content = tt },
+        record {
+          fits = open_fits (length x) (length c.bytes) c.width s.no_longer h.fits;
+          bytes = s.bytes;
+          content = tt;
+        },
         string_no_longer 2 c x h.fits s.no_longer,
       )
   atom_serves tag (text_string c) h =

@@ -108,7 +108,8 @@ pub(crate) fn push_quoted(
 
 /// Writes bytes as they are between quotes.
 fn push_encoded(out: &mut String, bytes: &[u8], encoding: Encoding) -> Result<(), AllocError>
-    ensures { AppendsText result out.old out.new (encoded_bytes (encoding_view encoding) bytes.now) }
+    ensures { AppendsText result out.old out.new
+        (encoded_bytes (encoding_view encoding) bytes.now) }
 {
     match encoding {
         Encoding::Base16 => push_hex(out, bytes),

@@ -3,4 +3,5 @@ use Rattle.cbor_diag.proofs.syntax.equal.chunks_equal.Goals as goal
 
 pub returns : goal.returns
 returns g c =
-    rw c.eq.ensures (lists_compared _ g.S.DefiniteString.chunk g.met.S.DefiniteString.compared c.args.a.now c.args.b.now)
+    let compared = g.met.S.DefiniteString.compared in
+    rw c.eq.ensures (lists_compared _ g.S.DefiniteString.chunk compared c.args.a.now c.args.b.now)

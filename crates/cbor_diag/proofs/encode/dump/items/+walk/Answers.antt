@@ -9,7 +9,7 @@ use Rattle.std.specs.declared.alloc.AllocError.{AllocError}
 use Rattle.cbor_diag.specs.declared.error.Error.TheVariants as refusal
 use Rattle.cbor_diag.specs.declared.encode.head.Head.{Head}
 use Rattle.cbor_diag.specs.declared.encode.dump.pass.Pass.{Pass}
-use Rattle.cbor_diag.specs.Head.{major_number}
+use Rattle.cbor_diag.specs.mirror.MajorNumber.{major_number}
 use Rattle.cbor_diag.specs.Written.{encoded_head}
 use Rattle.cbor_diag.specs.Item.{Item, item_count, pair_count}
 use Rattle.cbor_diag.specs.View.{view, items_view, pairs_view, byte_chunk, text_chunk}

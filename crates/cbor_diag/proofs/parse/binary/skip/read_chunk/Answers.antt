@@ -9,7 +9,8 @@ use Rattle.cbor_diag.specs.mirror.HeadErrors.{head_error}
 use Rattle.cbor_diag.specs.mirror.Skipping.{here, Goes, Shows, StopsSo, stop_of, kind_of, skip_content, skip_chunks}
 use Rattle.cbor_diag.proofs.bytes.Heads.{IsBytes, IsBytes-rest}
 use Rattle.cbor_diag.proofs.skipping.Skips.{goes_then, goes_within, stops_then, stops_within, break_goes, chunk_goes}
-use Rattle.cbor_diag.proofs.skipping.Skips.{kind_shows, indefinite_shows, info_stops, no_chunks, more_keeps, behind_first}
+use Rattle.cbor_diag.proofs.skipping.Skips.{kind_shows, indefinite_shows, info_stops, no_chunks}
+use Rattle.cbor_diag.proofs.skipping.Skips.{more_keeps, behind_first}
 use Rattle.cbor_diag.proofs.skipping.Skips.{first_is, at_first, fits_first, empty_is}
 use Rattle.cbor_diag.proofs.parse.binary.skip.read_chunk.Goals as goal
 
