@@ -9,7 +9,7 @@ use Rattle.cbor_diag.specs.Item.{Item}
 use Rattle.cbor_diag.specs.Facts.{IsItem}
 use Rattle.cbor_diag.specs.Refused.{nothing}
 use Rattle.cbor_diag.specs.Reading.{Read, read_item}
-use Rattle.cbor_diag.proofs.bytes.Found.{item_again}
+use Rattle.cbor_diag.proofs.bytes.FoundAgain.{item_again}
 use Rattle.cbor_diag.proofs.bytes.CutShort.{cut_again, fault_no_cut}
 use Rattle.cbor_diag.proofs.bytes.Faults.{fault_refuses}
 use Rattle.cbor_convert.specs.declared.form.To.{To}
