@@ -8,7 +8,7 @@ pub mod Chunked
 pub mod Numbers
 pub mod Words
 pub mod Containers
-pub mod Again
+pub mod ItemsFound
 pub mod Levels
 pub mod OneReading
 pub mod DigitsFound

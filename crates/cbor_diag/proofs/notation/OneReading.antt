@@ -7,7 +7,7 @@ use Rattle.cbor_diag.specs.Item.{Item}
 use Rattle.cbor_diag.specs.Reading.{Read}
 use Rattle.cbor_diag.specs.Notation.{Reads}
 use Rattle.cbor_diag.specs.mirror.NotationReading.{read_item, notation_of}
-use Rattle.cbor_diag.proofs.notation.Again.{item_whole}
+use Rattle.cbor_diag.proofs.notation.ItemsFound.{item_whole}
 use Rattle.cbor_diag.proofs.notation.Levels.{Grows, levels_grow}
 
 pub levels_more : (left limit : ℕ) (text : List ℕ) → left ≤ limit → Grows (read_item left text) (read_item limit text)

@@ -11,7 +11,7 @@ use Rattle.cbor_diag.specs.Reading.{Fails, Gives}
 use Rattle.cbor_diag.specs.Notation.{Reads}
 use Rattle.cbor_diag.specs.mirror.NotationReading.{notation_of}
 use Rattle.cbor_diag.specs.NotationRefused.{IsNoNotation, IsAnswered, GaveOrTooDeep}
-use Rattle.cbor_diag.proofs.notation.Again.{notation_again}
+use Rattle.cbor_diag.proofs.notation.ItemsFound.{notation_again}
 use Rattle.cbor_diag.proofs.notation.OneReading.{one_reading, read_or_too_deep}
 use Rattle.cbor_diag.proofs.notation.sound.Items.{notation_sound}
 

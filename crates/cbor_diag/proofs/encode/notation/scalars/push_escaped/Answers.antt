@@ -4,7 +4,6 @@ use Rattle.cbor_notes.specs.Ascii.{quote}
 use Rattle.cbor_notes.specs.Token.{in_quotes, is_special}
 use Rattle.std.proofs.lemmas.Str.{IsCharBoundary-start, IsCharBoundary-before_ascii}
 use Rattle.std.specs.String.{string_bytes}
-use Rattle.std.specs.List.{flat_map}
 use Rattle.cbor_diag.proofs.shared.Appending.{begins_same, begins_still, appends_of, appends_as}
 use Rattle.cbor_diag.proofs.text.Scalars.{escaped_ascii, plain_text, plain_more, special_more}
 use Rattle.cbor_diag.proofs.encode.notation.scalars.push_escaped.Goals as goal

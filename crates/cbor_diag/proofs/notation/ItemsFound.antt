@@ -1,4 +1,4 @@
--- An item in notation is read again, whatever may follow it.
+-- An item that the grammar of notation reads, the function finds, whatever may follow it.
 use Rattle.std.proofs.Common.{◌≡◌, ℕ, zero, suc, List, [], ◌∷◌, ◌++◌, codes, Option, Some, None, Ok, refl, sym, ap, ◌∙◌}
 use Rattle.std.proofs.Common.{subst, inl, inr}
 use Rattle.std.proofs.lemmas.List.{append-nil}
