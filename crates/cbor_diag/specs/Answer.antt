@@ -1,4 +1,4 @@
--- What reading answers, out of memory aside.
+-- What a reader returns, out of memory aside.
 use Rattle.std.specs.Prelude.{◌≡◌, ◌≢◌, ℕ, ◌+◌, ◌/◌, ◌%◌, ◌<◌, ◌≤◌, List, [], ◌∷◌, length, take, Option, Some, None}
 use Rattle.std.specs.Prelude.{Result, Ok, Err, MatchResult, IfErr, ◌⊎◌}
 use Rattle.cbor_diag.specs.declared.error.Error.{Error}

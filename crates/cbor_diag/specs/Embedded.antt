@@ -60,7 +60,7 @@ abbrev pub EmbedsExactly : Type 0
 EmbedsExactly = (level : ℕ) (b : List ℕ) → 1 ≤ level → level ≤ deepest + 1
     → ((i : ℕ) → slice_index b i < 256) → Embeds level b
 
--- What reading bytes that are not one item answers at this level, by the grammar of bytes alone: that they are
+-- What reading bytes that are not one item gives at this level, by the grammar of bytes alone: that they are
 -- cut, which fault they have, or the item that some first bytes are and the bytes that remain.
 pub record Rejects (level : ℕ) (b : List ℕ) : Type 0 where
   pub cut : Cut level b → read_item (levels_left level) b ≡ Err CutShort
@@ -68,6 +68,6 @@ pub record Rejects (level : ℕ) (b : List ℕ) : Type 0 where
   pub front : (n : ℕ) (i : Item) → n ≤ length b → Spells any level (take n b) i
       → read_item (levels_left level) b ≡ Ok (i, drop n b)
 
--- It answers so of all bytes, read from any level up to one past the deepest.
+-- It gives this for all bytes, read from any level up to one past the deepest.
 abbrev pub RejectsExactly : Type 0
 RejectsExactly = (level : ℕ) (b : List ℕ) → level ≤ deepest + 1 → Rejects level b

@@ -1,4 +1,4 @@
--- When two items are the same: where all their fields are, widths included. `==` answers so.
+-- When two items are the same: if all their fields are, widths included. `==` tests this.
 use Rattle.std.specs.Prelude.{Bool, true, false, ◌&&◌, nat_eq, Option, Some, None}
 use Rattle.std.specs.Cmp.Lexicographic.{pointwise}
 use Rattle.cbor_diag.specs.declared.syntax.IntegerWidth.{IntegerWidth}

@@ -1,4 +1,4 @@
-//! Laws of the definitions of `specs/` alone: what holds of all bytes, whoever reads them. Nothing
+//! Laws of the definitions of `specs/` alone: what holds of all bytes, whatever reads them. Nothing
 //! calls these functions.
 ghost use Rattle.std.specs.Prelude.{◌≡◌, ℕ, ◌+◌, ◌<◌, ◌≤◌, List, slice_index};
 ghost use Rattle.cbor_diag.specs.WellFormed.{deepest};
@@ -39,7 +39,7 @@ pub(crate) fn one_count_of_turns()
         → fault_spent f ≡ fault_spent g }
 {}
 
-/// What reading a text as notation answers holds of it, under any limit of levels.
+/// What reading a text as notation returns is true of it, under any limit of levels.
 pub(crate) fn notation_read()
     ensures { (limit : ℕ) (text : List ℕ) → IsAnswered limit text (notation_of limit text) }
 {}

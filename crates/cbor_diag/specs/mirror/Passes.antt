@@ -114,7 +114,7 @@ CanTake p lines = AllByRecursion (Takes (room p)) lines
 abbrev pub Took : Pass → Pass → List DumpLine → Type 0
 Took old new lines = (held new ≡ taken step (held old) lines) × (room new ≡ room old)
 
--- ---- what a call does to a walk, `lines` being the lines of something after so many shared values
+-- ---- what a call does to a walk, `lines` being the lines of something by the number of values shared before it
 
 abbrev pub CanWalk : {X : Type 0} → Walk → (ℕ → X → List DumpLine) → X → Type 0
 CanWalk walk lines x = CanTake walk.lines.pass (lines walk.shared x)

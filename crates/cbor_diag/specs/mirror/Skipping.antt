@@ -1,5 +1,5 @@
 -- Skipping over an item, as the code of `parse/binary/skip.rt` does, in the words of `specs/Reading.antt`:
--- what reading answers, its value forgotten, and what is still to come in containers that are open. No
+-- what reading gives, its value forgotten, and what is still to come in containers that are open. No
 -- public clause names it.
 use Rattle.std.specs.Prelude.{◌≡◌, ◌≢◌, ℕ, zero, suc, ◌-◌, List, [], ◌∷◌, ◌++◌, length, Option, Some, None, Result, Ok}
 use Rattle.std.specs.Prelude.{Err}
