@@ -16,6 +16,7 @@ use Rattle.cbor_diag.specs.Item.{Chunk, Atom, integer, negative, byte_string, te
 use Rattle.cbor_diag.specs.Item.{float, simple, Item, atom, array, tagged, Items, no_items, item, Pairs, no_pairs, pair}
 use Rattle.cbor_diag.specs.Item.{item_count, pair_count}
 use Rattle.cbor_diag.specs.Head.{opening, break_byte}
+use Rattle.cbor_diag.specs.StringKind.{StringKind, bytes_kind, text_kind, major_of}
 use Rattle.cbor_diag.specs.Written.{encoded_head, encoded_open, encoded_float, encoded_simple}
 use Rattle.cbor_diag.specs.Comments.{unsigned_comment, negative_comment, float_comment, simple_comment, counted_comment}
 use Rattle.cbor_diag.specs.Comments.{tag_comment, bytes_comment, text_comment, empty_comment, break_comment}
@@ -89,17 +90,22 @@ abbrev pub tagged_lines : ℕ → Option Encoding → Option ℕ → List ℕ �
 tagged_lines depth encoding None bytes = bytes_lines depth encoding bytes
 tagged_lines depth encoding (Some t) bytes = sized_lines depth encoding t (element_size t) bytes
 
--- a string of definite length: its head, and its content one deeper
-abbrev pub byte_string_lines : Context → Chunk → List DumpLine
-byte_string_lines p c =
-    head_line p.depth (encoded_head 2 (length c.bytes) c.width)
-    (counted_comment (codes "bytes") (Some (length c.bytes)))
-    ∷ tagged_lines (p.depth + 1) p.encoding p.tag c.bytes
+-- what a string is called in a comment
+abbrev pub string_word : StringKind → List ℕ
+string_word bytes_kind = codes "bytes"
+string_word text_kind = codes "text"
 
-abbrev pub text_string_lines : ℕ → Chunk → List DumpLine
-text_string_lines depth c =
-    head_line depth (encoded_head 3 (length c.bytes) c.width) (counted_comment (codes "text") (Some (length c.bytes)))
-    ∷ content_lines (depth + 1) text_comment (text_pieces c.bytes)
+-- the content of a string there, one deeper
+abbrev pub string_content_lines : StringKind → Context → List ℕ → List DumpLine
+string_content_lines bytes_kind p bytes = tagged_lines (p.depth + 1) p.encoding p.tag bytes
+string_content_lines text_kind p bytes = content_lines (p.depth + 1) text_comment (text_pieces bytes)
+
+-- a string of definite length: its head, and its content
+abbrev pub string_lines : StringKind → Context → Chunk → List DumpLine
+string_lines kind p c =
+    head_line p.depth (encoded_head (major_of kind) (length c.bytes) c.width)
+    (counted_comment (string_word kind) (Some (length c.bytes)))
+    ∷ string_content_lines kind p c.bytes
 
 -- the opening byte of an indefinite length, and the break that ends it, one deeper
 abbrev pub open_line : ℕ → ℕ → List ℕ → DumpLine
@@ -109,21 +115,18 @@ abbrev pub break_line : ℕ → DumpLine
 break_line depth = head_line depth (break_byte ∷ []) break_comment
 
 -- a string of indefinite length: its chunks between the two
-abbrev pub byte_chunks_lines : Context → List Chunk → List DumpLine
-byte_chunks_lines p cs =
-    open_line p.depth 2 (codes "bytes") ∷ (flat_map (byte_string_lines (inside p)) cs ++ break_line (p.depth + 1) ∷ [])
-
-abbrev pub text_chunks_lines : ℕ → List Chunk → List DumpLine
-text_chunks_lines depth cs =
-    open_line depth 3 (codes "text") ∷ (flat_map (text_string_lines (depth + 1)) cs ++ break_line (depth + 1) ∷ [])
+abbrev pub chunks_lines : StringKind → Context → List Chunk → List DumpLine
+chunks_lines kind p cs =
+    open_line p.depth (major_of kind) (string_word kind)
+    ∷ (flat_map (string_lines kind (inside p)) cs ++ break_line (p.depth + 1) ∷ [])
 
 abbrev pub atom_lines : Context → Atom → List DumpLine
 atom_lines p (integer n w) = head_line p.depth (encoded_head 0 n w) (unsigned_comment n) ∷ []
 atom_lines p (negative n w) = head_line p.depth (encoded_head 1 n w) (negative_comment n) ∷ []
-atom_lines p (byte_string c) = byte_string_lines p c
-atom_lines p (text_string c) = text_string_lines p.depth c
-atom_lines p (byte_chunks cs) = byte_chunks_lines p cs
-atom_lines p (text_chunks cs) = text_chunks_lines p.depth cs
+atom_lines p (byte_string c) = string_lines bytes_kind p c
+atom_lines p (text_string c) = string_lines text_kind p c
+atom_lines p (byte_chunks cs) = chunks_lines bytes_kind p cs
+atom_lines p (text_chunks cs) = chunks_lines text_kind p cs
 atom_lines p (float bits w) = head_line p.depth (encoded_float bits w) (float_comment (encoded_float bits w)) ∷ []
 atom_lines p (simple n) = head_line p.depth (encoded_simple n) (simple_comment n) ∷ []
 

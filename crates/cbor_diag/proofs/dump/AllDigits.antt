@@ -20,13 +20,14 @@ use Rattle.cbor_diag.specs.Item.{Chunk, Atom, integer, negative, byte_string, te
 use Rattle.cbor_diag.specs.Item.{float, simple, Item, atom, array, tagged, Items, no_items, item, Pairs, no_pairs, pair}
 use Rattle.cbor_diag.specs.Item.{item_count, pair_count}
 use Rattle.cbor_diag.specs.Head.{opening, break_byte}
-use Rattle.cbor_diag.specs.Written.{encoded_head, encoded_chunk, encoded_float, encoded_simple, encoded_atom}
+use Rattle.cbor_diag.specs.StringKind.{StringKind, bytes_kind, text_kind, major_of}
+use Rattle.cbor_diag.specs.Written.{encoded_head, encoded_chunk, encoded_chunks, encoded_float, encoded_simple, encoded_atom}
 use Rattle.cbor_diag.specs.Written.{encoded_open, encoded_close, encoded, encoded_items, encoded_pairs}
 use Rattle.cbor_diag.specs.Comments.{unsigned_comment, negative_comment, float_comment, simple_comment, tag_comment}
 use Rattle.cbor_diag.specs.Comments.{bytes_comment, text_comment, counted_comment}
 use Rattle.cbor_diag.specs.Pieces.{pieces_of, byte_pieces, text_pieces, text_cut}
-use Rattle.cbor_diag.specs.Dump.{Context, head_hex, head_line, piece_line, content_lines, byte_string_lines}
-use Rattle.cbor_diag.specs.Dump.{text_string_lines, bytes_lines, element_lines, sized_lines, tagged_lines, note_line}
+use Rattle.cbor_diag.specs.Dump.{Context, head_hex, head_line, piece_line, content_lines, string_lines}
+use Rattle.cbor_diag.specs.Dump.{string_word, string_content_lines, chunks_lines, bytes_lines, element_lines, sized_lines, tagged_lines, note_line}
 use Rattle.cbor_diag.specs.Dump.{note_lines, notes, notes_lines, count_if_definite, break_line, atom_lines, close_lines}
 use Rattle.cbor_diag.specs.Dump.{inside, below, shared_in, shared_from, items_lines, pairs_lines, parts_lines, lines_at}
 use Rattle.cbor_diag.specs.Dump.{top}
@@ -158,31 +159,35 @@ tagged_are : (depth : ℕ) (encoding : Option Encoding) (tag : Option ℕ) (byte
 tagged_are depth encoding None bytes = plain_are depth encoding bytes
 tagged_are depth encoding (Some t) bytes = sized_are depth encoding t (element_size t) bytes (element_small t)
 
-bytes_are : (p : Context) (c : Chunk) → Are (byte_string_lines p c) (encoded_chunk 2 c)
-bytes_are p c =
-    headed p.depth (encoded_head 2 (length c.bytes) c.width) (counted_comment (codes "bytes") (Some (length c.bytes)))
-    (tagged_lines (p.depth + 1) p.encoding p.tag c.bytes) c.bytes (tagged_are (p.depth + 1) p.encoding p.tag c.bytes)
+string_content_are : (kind : StringKind) (p : Context) (bytes : List ℕ) → Are (string_content_lines kind p bytes) bytes
+string_content_are bytes_kind p bytes = tagged_are (p.depth + 1) p.encoding p.tag bytes
+string_content_are text_kind p bytes =
+    subst (Are (content_lines (p.depth + 1) text_comment (text_pieces bytes))) (text_joined bytes)
+    (content_are (p.depth + 1) text_comment (text_pieces bytes))
 
-text_are : (depth : ℕ) (c : Chunk) → Are (text_string_lines depth c) (encoded_chunk 3 c)
-text_are depth c =
-    headed depth (encoded_head 3 (length c.bytes) c.width) (counted_comment (codes "text") (Some (length c.bytes)))
-    (content_lines (depth + 1) text_comment (text_pieces c.bytes)) c.bytes
-    (subst (Are (content_lines (depth + 1) text_comment (text_pieces c.bytes))) (text_joined c.bytes)
-    (content_are (depth + 1) text_comment (text_pieces c.bytes)))
+string_are : (kind : StringKind) (p : Context) (c : Chunk) → Are (string_lines kind p c)
+    (encoded_chunk (major_of kind) c)
+string_are kind p c =
+    headed p.depth (encoded_head (major_of kind) (length c.bytes) c.width)
+    (counted_comment (string_word kind) (Some (length c.bytes)))
+    (string_content_lines kind p c.bytes) c.bytes (string_content_are kind p c.bytes)
 
-byte_chunks_are : (p : Context) (cs : List Chunk)
-    → Are (flat_map (byte_string_lines p) cs) (flat_map (encoded_chunk 2) cs)
-byte_chunks_are p [] = none
-byte_chunks_are p (c ∷ cs) =
-    both (byte_string_lines p c) (flat_map (byte_string_lines p) cs) (encoded_chunk 2 c) (flat_map (encoded_chunk 2) cs)
-    (bytes_are p c) (byte_chunks_are p cs)
+chunks_are : (kind : StringKind) (p : Context) (cs : List Chunk)
+    → Are (flat_map (string_lines kind p) cs) (flat_map (encoded_chunk (major_of kind)) cs)
+chunks_are kind p [] = none
+chunks_are kind p (c ∷ cs) =
+    both (string_lines kind p c) (flat_map (string_lines kind p) cs) (encoded_chunk (major_of kind) c)
+    (flat_map (encoded_chunk (major_of kind)) cs) (string_are kind p c) (chunks_are kind p cs)
 
-text_chunks_are : (depth : ℕ) (cs : List Chunk)
-    → Are (flat_map (text_string_lines depth) cs) (flat_map (encoded_chunk 3) cs)
-text_chunks_are depth [] = none
-text_chunks_are depth (c ∷ cs) =
-    both (text_string_lines depth c) (flat_map (text_string_lines depth) cs) (encoded_chunk 3 c)
-    (flat_map (encoded_chunk 3) cs) (text_are depth c) (text_chunks_are depth cs)
+all_chunks_are : (kind : StringKind) (p : Context) (cs : List Chunk)
+    → Are (chunks_lines kind p cs) (encoded_chunks (major_of kind) cs)
+all_chunks_are kind p cs =
+    headed p.depth (opening (major_of kind) ∷ []) (counted_comment (string_word kind) None)
+    (flat_map (string_lines kind (inside p)) cs ++ break_line (p.depth + 1) ∷ [])
+    (flat_map (encoded_chunk (major_of kind)) cs ++ break_byte ∷ [])
+    (both (flat_map (string_lines kind (inside p)) cs) (break_line (p.depth + 1) ∷ [])
+    (flat_map (encoded_chunk (major_of kind)) cs) (break_byte ∷ []) (chunks_are kind (inside p) cs)
+    (alone (p.depth + 1) (break_byte ∷ []) (codes "break")))
 
 close_are : (depth : ℕ) (w : Option IntegerWidth) → Are (close_lines depth w) (encoded_close w)
 close_are depth (Some w) = none
@@ -191,22 +196,10 @@ close_are depth None = alone depth (break_byte ∷ []) (codes "break")
 atom_are : (p : Context) (a : Atom) → Are (atom_lines p a) (encoded_atom a)
 atom_are p (integer n w) = alone p.depth (encoded_head 0 n w) (unsigned_comment n)
 atom_are p (negative n w) = alone p.depth (encoded_head 1 n w) (negative_comment n)
-atom_are p (byte_string c) = bytes_are p c
-atom_are p (text_string c) = text_are p.depth c
-atom_are p (byte_chunks cs) =
-    headed p.depth (opening 2 ∷ []) (counted_comment (codes "bytes") None)
-    (flat_map (byte_string_lines (inside p)) cs ++ break_line (p.depth + 1) ∷ [])
-    (flat_map (encoded_chunk 2) cs ++ break_byte ∷ [])
-    (both (flat_map (byte_string_lines (inside p)) cs) (break_line (p.depth + 1) ∷ []) (flat_map (encoded_chunk 2) cs)
-    (break_byte ∷ [])
-    (byte_chunks_are (inside p) cs) (alone (p.depth + 1) (break_byte ∷ []) (codes "break")))
-atom_are p (text_chunks cs) =
-    headed p.depth (opening 3 ∷ []) (counted_comment (codes "text") None)
-    (flat_map (text_string_lines (p.depth + 1)) cs ++ break_line (p.depth + 1) ∷ [])
-    (flat_map (encoded_chunk 3) cs ++ break_byte ∷ [])
-    (both (flat_map (text_string_lines (p.depth + 1)) cs) (break_line (p.depth + 1) ∷ [])
-    (flat_map (encoded_chunk 3) cs) (break_byte ∷ []) (text_chunks_are (p.depth + 1) cs)
-    (alone (p.depth + 1) (break_byte ∷ []) (codes "break")))
+atom_are p (byte_string c) = string_are bytes_kind p c
+atom_are p (text_string c) = string_are text_kind p c
+atom_are p (byte_chunks cs) = all_chunks_are bytes_kind p cs
+atom_are p (text_chunks cs) = all_chunks_are text_kind p cs
 atom_are p (float bits w) = alone p.depth (encoded_float bits w) (float_comment (encoded_float bits w))
 atom_are p (simple n) = alone p.depth (encoded_simple n) (simple_comment n)
 

@@ -27,13 +27,14 @@ use Rattle.cbor_diag.specs.Encoding.{Encoding}
 use Rattle.cbor_diag.specs.Item.{Chunk, Atom, integer, negative, byte_string, text_string, byte_chunks, text_chunks}
 use Rattle.cbor_diag.specs.Item.{float, simple}
 use Rattle.cbor_diag.specs.Head.{head, stated, opening, break_byte}
+use Rattle.cbor_diag.specs.StringKind.{StringKind, bytes_kind, text_kind, major_of}
 use Rattle.cbor_diag.specs.WellFormed.{deepest}
 use Rattle.cbor_diag.specs.Written.{encoded_head, encoded_float, encoded_simple, encoded_open}
 use Rattle.cbor_diag.specs.Comments.{bytes_comment, text_comment}
 use Rattle.cbor_diag.specs.Pieces.{pieces_of, byte_pieces, text_pieces, last_start, text_cut, begins_character}
 use Rattle.cbor_diag.specs.Pieces.{piece_size}
-use Rattle.cbor_diag.specs.Dump.{Context, head_hex, head_line, piece_line, content_lines, byte_string_lines}
-use Rattle.cbor_diag.specs.Dump.{text_string_lines, bytes_lines, element_lines, sized_lines, tagged_lines}
+use Rattle.cbor_diag.specs.Dump.{Context, head_hex, head_line, piece_line, content_lines, string_lines}
+use Rattle.cbor_diag.specs.Dump.{string_word, string_content_lines, chunks_lines, bytes_lines, element_lines, sized_lines, tagged_lines}
 use Rattle.cbor_diag.specs.Dump.{count_if_definite, break_line, atom_lines, container_line, close_lines, inside, below}
 use Rattle.cbor_diag.proofs.dump.Elements.{Small, element_small, element_cut}
 use Rattle.cbor_diag.specs.mirror.ShownLines.{Takes}
@@ -199,35 +200,31 @@ tagged_fit : (depth : ℕ) (encoding : Option Encoding) (tag : Option ℕ) (byte
 tagged_fit depth encoding None bytes low = plain_fits depth encoding bytes low
 tagged_fit depth encoding (Some t) bytes low = sized_fit depth encoding t (element_size t) bytes low (element_small t)
 
-bytes_fit : (p : Context) (c : Chunk) → p.depth + 1 < 140 → AllByRecursion IsGood (byte_string_lines p c)
-bytes_fit p c low = (
-  fit_head p.depth (encoded_head 2 (length c.bytes) c.width) _ (omega arith)
-      (head_length 2 (length c.bytes) (stated c.width (length c.bytes)))
-      (counted_line (codes "bytes") (Some (length c.bytes)) (from_test 10 (codes "bytes") refl)),
-  tagged_fit (p.depth + 1) p.encoding p.tag c.bytes low,
+word_line : (kind : StringKind) → Free 10 (string_word kind)
+word_line bytes_kind = from_test 10 (codes "bytes") refl
+word_line text_kind = from_test 10 (codes "text") refl
+
+string_content_fits : (kind : StringKind) (p : Context) (bytes : List ℕ) → p.depth + 1 < 140
+    → AllByRecursion IsGood (string_content_lines kind p bytes)
+string_content_fits bytes_kind p bytes low = tagged_fit (p.depth + 1) p.encoding p.tag bytes low
+string_content_fits text_kind p bytes low =
+    content_fits (p.depth + 1) text_comment text_line (text_pieces bytes) low (text_few bytes)
+
+string_fits : (kind : StringKind) (p : Context) (c : Chunk) → p.depth + 1 < 140
+    → AllByRecursion IsGood (string_lines kind p c)
+string_fits kind p c low = (
+  fit_head p.depth (encoded_head (major_of kind) (length c.bytes) c.width) _ (omega arith)
+      (head_length (major_of kind) (length c.bytes) (stated c.width (length c.bytes)))
+      (counted_line (string_word kind) (Some (length c.bytes)) (word_line kind)),
+  string_content_fits kind p c.bytes low,
 )
 
-text_fits : (depth : ℕ) (c : Chunk) → depth + 1 < 140 → AllByRecursion IsGood (text_string_lines depth c)
-text_fits depth c low = (
-  fit_head depth (encoded_head 3 (length c.bytes) c.width) _ (omega arith)
-      (head_length 3 (length c.bytes) (stated c.width (length c.bytes)))
-      (counted_line (codes "text") (Some (length c.bytes)) (from_test 10 (codes "text") refl)),
-  content_fits (depth + 1) text_comment text_line (text_pieces c.bytes) low (text_few c.bytes),
-)
-
-byte_chunks_fit : (p : Context) (cs : List Chunk) → p.depth + 1 < 140
-    → AllByRecursion IsGood (flat_map (byte_string_lines p) cs)
-byte_chunks_fit p [] low = tt
-byte_chunks_fit p (c ∷ cs) low =
-    all_both IsGood (byte_string_lines p c) (flat_map (byte_string_lines p) cs) (bytes_fit p c low)
-    (byte_chunks_fit p cs low)
-
-text_chunks_fit : (depth : ℕ) (cs : List Chunk) → depth + 1 < 140
-    → AllByRecursion IsGood (flat_map (text_string_lines depth) cs)
-text_chunks_fit depth [] low = tt
-text_chunks_fit depth (c ∷ cs) low =
-    all_both IsGood (text_string_lines depth c) (flat_map (text_string_lines depth) cs) (text_fits depth c low)
-    (text_chunks_fit depth cs low)
+chunks_fit : (kind : StringKind) (p : Context) (cs : List Chunk) → p.depth + 1 < 140
+    → AllByRecursion IsGood (flat_map (string_lines kind p) cs)
+chunks_fit kind p [] low = tt
+chunks_fit kind p (c ∷ cs) low =
+    all_both IsGood (string_lines kind p c) (flat_map (string_lines kind p) cs) (string_fits kind p c low)
+    (chunks_fit kind p cs low)
 
 break_fits : (depth : ℕ) → depth < 140 → AllByRecursion IsGood (break_line depth ∷ [])
 break_fits depth low = (fit_head depth (break_byte ∷ []) _ low (omega arith) (from_test 10 (codes "break") refl), tt)
@@ -235,6 +232,15 @@ break_fits depth low = (fit_head depth (break_byte ∷ []) _ low (omega arith) (
 pub close_fits : (depth : ℕ) (w : Option IntegerWidth) → depth < 140 → AllByRecursion IsGood (close_lines depth w)
 close_fits depth (Some w) low = tt
 close_fits depth None low = break_fits depth low
+
+all_chunks_fit : (kind : StringKind) (p : Context) (cs : List Chunk) → p.depth < 128
+    → AllByRecursion IsGood (chunks_lines kind p cs)
+all_chunks_fit kind p cs low = (
+  fit_head p.depth (opening (major_of kind) ∷ []) _ (omega arith) (omega arith)
+      (counted_line (string_word kind) None (word_line kind)),
+  all_both IsGood (flat_map (string_lines kind (inside p)) cs) (break_line (p.depth + 1) ∷ [])
+      (chunks_fit kind (inside p) cs (omega arith)) (break_fits (p.depth + 1) (omega arith)),
+)
 
 pub atom_fits : (p : Context) (a : Atom) → p.depth < 128 → AllByRecursion IsGood (atom_lines p a)
 atom_fits p (integer n w) low = (
@@ -247,20 +253,10 @@ atom_fits p (negative n w) low = (
       (negative_line n),
   tt,
 )
-atom_fits p (byte_string c) low = bytes_fit p c (omega arith)
-atom_fits p (text_string c) low = text_fits p.depth c (omega arith)
-atom_fits p (byte_chunks cs) low = (
-  fit_head p.depth (opening 2 ∷ []) _ (omega arith) (omega arith)
-      (counted_line (codes "bytes") None (from_test 10 (codes "bytes") refl)),
-  all_both IsGood (flat_map (byte_string_lines (inside p)) cs) (break_line (p.depth + 1) ∷ [])
-      (byte_chunks_fit (inside p) cs (omega arith)) (break_fits (p.depth + 1) (omega arith)),
-)
-atom_fits p (text_chunks cs) low = (
-  fit_head p.depth (opening 3 ∷ []) _ (omega arith) (omega arith)
-      (counted_line (codes "text") None (from_test 10 (codes "text") refl)),
-  all_both IsGood (flat_map (text_string_lines (p.depth + 1)) cs) (break_line (p.depth + 1) ∷ [])
-      (text_chunks_fit (p.depth + 1) cs (omega arith)) (break_fits (p.depth + 1) (omega arith)),
-)
+atom_fits p (byte_string c) low = string_fits bytes_kind p c (omega arith)
+atom_fits p (text_string c) low = string_fits text_kind p c (omega arith)
+atom_fits p (byte_chunks cs) low = all_chunks_fit bytes_kind p cs low
+atom_fits p (text_chunks cs) low = all_chunks_fit text_kind p cs low
 atom_fits p (float bits w) low = (
   fit_head p.depth (encoded_float bits w) _ (omega arith) (float_length bits w)
       (float_line (encoded_float bits w)),

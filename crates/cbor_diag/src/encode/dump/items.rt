@@ -102,10 +102,10 @@ fn dump_item(walk: &mut Walk, context: &DumpContext, item: &DataItem) -> Result<
         DataItem::Negative { value, bitwidth } => {
             lines.number(depth, Head::new(Major::Negative, *value, *bitwidth))
         }
-        DataItem::ByteString(string) => lines.byte_string(context, string),
-        DataItem::TextString(string) => lines.text_string(depth, string),
-        DataItem::IndefiniteByteString(chunks) => lines.byte_chunks(context, chunks),
-        DataItem::IndefiniteTextString(chunks) => lines.text_chunks(depth, chunks),
+        DataItem::ByteString(string) => lines.string(context, string),
+        DataItem::TextString(string) => lines.string(context, string),
+        DataItem::IndefiniteByteString(chunks) => lines.chunks(context, chunks),
+        DataItem::IndefiniteTextString(chunks) => lines.chunks(context, chunks),
         DataItem::Array { content, bitwidth } => dump_array(walk, context, content, *bitwidth),
         DataItem::Map { content, bitwidth } => dump_map(walk, context, content, *bitwidth),
         DataItem::Tag {

@@ -4,9 +4,9 @@ ghost use Rattle.std.specs.List.{AllByRecursion};
 ghost use Rattle.std.specs.Str.{IsCharBoundary};
 ghost use Rattle.cbor_diag.specs.Head.{FitsWidth};
 ghost use Rattle.cbor_diag.specs.mirror.MajorNumber.{major_number};
-ghost use Rattle.cbor_diag.specs.View.{byte_chunk, text_chunk};
 ghost use Rattle.cbor_diag.specs.WellFormed.{deepest, FitsCount, FitsFloat};
-ghost use Rattle.cbor_diag.specs.WellFormed.{IsByteChunk, IsTextChunk};
+ghost use Rattle.cbor_diag.specs.WellFormed.{IsChunk};
+ghost use Rattle.cbor_diag.specs.mirror.StringView.{bytes_of, kind_of};
 ghost use Rattle.cbor_diag.specs.Written.{encoded_head, encoded_float, encoded_simple};
 ghost use Rattle.cbor_diag.specs.Comments.{float_comment, text_comment, simple_comment};
 ghost use Rattle.cbor_diag.specs.Pieces.{text_pieces};
@@ -23,7 +23,8 @@ use super::pass::Pass;
 use crate::encode::encoding::Encoding;
 use crate::encode::head::{Head, Opening, push_float, push_head, push_open, push_simple};
 use crate::syntax::major::Major;
-use crate::syntax::{ByteString, FloatWidth, IntegerWidth, Tag, TextString};
+use crate::syntax::strings::{DefiniteString, StringContent};
+use crate::syntax::{FloatWidth, IntegerWidth, Tag};
 use cbor_notes::element_size;
 use std::alloc::{AllocError, Global};
 
@@ -264,85 +265,64 @@ impl Lines {
         Ok(())
     }
 
-    /// A byte string of definite length.
-    pub(super) fn byte_string(
+    /// The content of a string, one deeper than the context.
+    fn string_content(
         &mut self,
         context: &DumpContext,
-        string: &ByteString,
+        content: StringContent<'_>,
     ) -> Result<(), AllocError>
         requires context { IsContext context.now }
-        requires well_formed { IsByteChunk (byte_chunk string.now) }
-        requires takes { CanTake self.old.pass
-            (spec.byte_string_lines (context_view context.now) (byte_chunk string.now)) }
+        requires takes { CanTake self.old.pass (spec.string_content_lines (kind_of content)
+            (context_view context.now) (bytes_of content)) }
         ensures { OnOk result (Took self.old.pass self.new.pass
-            (spec.byte_string_lines (context_view context.now) (byte_chunk string.now))) }
+            (spec.string_content_lines (kind_of content.entry)
+            (context_view context.now) (bytes_of content.entry))) }
     {
-        let length = string.content.len() as u64;
-        self.number(
-            context.depth,
-            Head::new(Major::Bytes, length, string.bitwidth),
-        )?;
-        self.tagged_content(context, &string.content)
+        match content {
+            StringContent::Bytes(bytes) => self.tagged_content(context, bytes),
+            StringContent::Text(text) => self.text_content(context.depth + 1, text),
+        }
     }
 
-    /// A text string of definite length.
-    pub(super) fn text_string(
-        &mut self,
-        depth: usize,
-        string: &TextString,
-    ) -> Result<(), AllocError>
-        requires depth { depth < 2 ^ 32 }
-        requires well_formed { IsTextChunk (text_chunk string.now) }
-        requires takes { CanTake self.old.pass
-            (spec.text_string_lines depth (text_chunk string.now)) }
-        ensures { OnOk result (Took self.old.pass self.new.pass
-            (spec.text_string_lines depth (text_chunk string.now))) }
-    {
-        let length = string.content.len() as u64;
-        self.number(depth, Head::new(Major::Text, length, string.bitwidth))?;
-        self.text_content(depth + 1, &string.content)
-    }
-
-    /// A byte string in chunks.
-    pub(super) fn byte_chunks(
+    /// A string of definite length.
+    pub(super) fn string<S: DefiniteString>(
         &mut self,
         context: &DumpContext,
-        chunks: &[ByteString],
+        string: &S,
+    ) -> Result<(), AllocError>
+        requires context { IsContext context.now }
+        requires well_formed { IsChunk S.kind (S.chunk string.now) }
+        requires takes { CanTake self.old.pass
+            (spec.string_lines S.kind (context_view context.now) (S.chunk string.now)) }
+        ensures { OnOk result (Took self.old.pass self.new.pass
+            (spec.string_lines S.kind (context_view context.now) (S.chunk string.now))) }
+    {
+        let content = string.content();
+        let length = content.as_bytes().len() as u64;
+        self.number(context.depth, Head::new(S::major(), length, string.width()))?;
+        self.string_content(context, content)
+    }
+
+    /// A string in chunks.
+    pub(super) fn chunks<S: DefiniteString>(
+        &mut self,
+        context: &DumpContext,
+        chunks: &[S],
     ) -> Result<(), AllocError>
         requires context { IsContext context.now }
         requires level { context.now.level ≤ deepest }
-        requires well_formed { AllByRecursion IsByteChunk (map byte_chunk chunks.now) }
+        requires well_formed { AllByRecursion (IsChunk S.kind) (map S.chunk chunks.now) }
         requires takes { CanTake self.old.pass
-            (spec.byte_chunks_lines (context_view context.now) (map byte_chunk chunks.now)) }
+            (spec.chunks_lines S.kind (context_view context.now) (map S.chunk chunks.now)) }
         ensures { OnOk result (Took self.old.pass self.new.pass
-            (spec.byte_chunks_lines (context_view context.now) (map byte_chunk chunks.now))) }
+            (spec.chunks_lines S.kind (context_view context.now) (map S.chunk chunks.now))) }
     {
-        self.open(context.depth, Major::Bytes)?;
+        self.open(context.depth, S::major())?;
         let inner = context.inside();
         'chunks: for chunk in chunks {
-            self.byte_string(&inner, chunk)?;
+            self.string(&inner, chunk)?;
         }
         self.break_line(context.depth + 1)
-    }
-
-    /// A text string in chunks.
-    pub(super) fn text_chunks(
-        &mut self,
-        depth: usize,
-        chunks: &[TextString],
-    ) -> Result<(), AllocError>
-        requires depth { depth < 2 ^ 31 }
-        requires well_formed { AllByRecursion IsTextChunk (map text_chunk chunks.now) }
-        requires takes { CanTake self.old.pass
-            (spec.text_chunks_lines depth (map text_chunk chunks.now)) }
-        ensures { OnOk result (Took self.old.pass self.new.pass
-            (spec.text_chunks_lines depth (map text_chunk chunks.now))) }
-    {
-        self.open(depth, Major::Text)?;
-        'chunks: for chunk in chunks {
-            self.text_string(depth + 1, chunk)?;
-        }
-        self.break_line(depth + 1)
     }
 }
 

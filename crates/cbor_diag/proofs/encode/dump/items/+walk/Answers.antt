@@ -10,11 +10,12 @@ use Rattle.cbor_diag.specs.declared.error.Error.TheVariants as refusal
 use Rattle.cbor_diag.specs.declared.encode.head.Head.{Head}
 use Rattle.cbor_diag.specs.declared.encode.dump.pass.Pass.{Pass}
 use Rattle.cbor_diag.specs.mirror.MajorNumber.{major_number}
+use Rattle.cbor_diag.specs.StringKind.{bytes_kind, text_kind}
 use Rattle.cbor_diag.specs.Written.{encoded_head}
 use Rattle.cbor_diag.specs.Item.{Item, item_count, pair_count}
 use Rattle.cbor_diag.specs.View.{view, items_view, pairs_view, byte_chunk, text_chunk}
 use Rattle.cbor_diag.specs.WellFormed.{levels_left, WellFormed, WellFormedItems, WellFormedPairs, FitsCount}
-use Rattle.cbor_diag.specs.Dump.{Context, head_line, bytes_in, byte_chunks_lines, text_chunks_lines, items_lines}
+use Rattle.cbor_diag.specs.Dump.{Context, head_line, bytes_in, chunks_lines, items_lines}
 use Rattle.cbor_diag.specs.Dump.{lines_at_level, note_line, note_lines, notes, pairs_lines, row, top}
 use Rattle.cbor_diag.specs.mirror.ShownLines.{head_comment, most_width}
 use Rattle.cbor_diag.specs.mirror.Passes.{context_view, embedded_lines, held, item_lines, items_there, pairs_there}
@@ -108,11 +109,11 @@ dump_item-returns-in-IndefiniteByteString-clause-took t c =
     let chunks = c.in-IndefiniteByteString.chunks in
     let seen = ap view c.in-IndefiniteByteString.is ∙ view-IndefiniteByteString chunks in
     let old = c.args.walk.now.lines.pass in
-    let new = c.byte_chunks.new.self.pass in
-    let took = subst (λ xs. OnOk c.byte_chunks.result
-    (Took old new (byte_chunks_lines (context_view c.args.context.now) (map byte_chunk xs)))) c.deref.ensures.value
-    c.byte_chunks.ensures in
-    subst (λ (i : Item). OnOk c.byte_chunks.result
+    let new = c.chunks.new.self.pass in
+    let took = subst (λ xs. OnOk c.chunks.result
+    (Took old new (chunks_lines bytes_kind (context_view c.args.context.now) (map byte_chunk xs)))) c.deref.ensures.value
+    c.chunks.ensures in
+    subst (λ (i : Item). OnOk c.chunks.result
     (Took old new (item_lines c.args.context.now c.args.walk.now.shared i))) (sym seen) took
 
 pub dump_item-returns-in-IndefiniteTextString-clause-took : goal.dump_item-returns-in-IndefiniteTextString-clause-took
@@ -120,11 +121,11 @@ dump_item-returns-in-IndefiniteTextString-clause-took t c =
     let chunks = c.in-IndefiniteTextString.chunks in
     let seen = ap view c.in-IndefiniteTextString.is ∙ view-IndefiniteTextString chunks in
     let old = c.args.walk.now.lines.pass in
-    let new = c.text_chunks.new.self.pass in
-    let took = subst (λ xs. OnOk c.text_chunks.result
-    (Took old new (text_chunks_lines c.args.context.now.depth (map text_chunk xs))))
-    c.deref-in-IndefiniteTextString.ensures.value c.text_chunks.ensures in
-    subst (λ (i : Item). OnOk c.text_chunks.result
+    let new = c.chunks-in-IndefiniteTextString.new.self.pass in
+    let took = subst (λ xs. OnOk c.chunks-in-IndefiniteTextString.result
+    (Took old new (chunks_lines text_kind (context_view c.args.context.now) (map text_chunk xs))))
+    c.deref-in-IndefiniteTextString.ensures.value c.chunks-in-IndefiniteTextString.ensures in
+    subst (λ (i : Item). OnOk c.chunks-in-IndefiniteTextString.result
     (Took old new (item_lines c.args.context.now c.args.walk.now.shared i))) (sym seen) took
 
 -- ---- tags
