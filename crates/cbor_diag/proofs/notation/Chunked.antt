@@ -68,26 +68,26 @@ module _ (Reads : List ℕ → Item → Type 0) (kind : StringKind) where
       closing end (inr last) = subst (λ (t : List ℕ). Begins (codes ",)") (t ++ rest)) (sym last.1) refl
 
 -- the kind that the first byte has
-no_texts : (read : List ℕ → Read Item) (text : List ℕ) (s : Start) → begins_string text_kind s ≡ false
+no_texts : (read : List ℕ → Read Item) (text : List ℕ) (s : Start) → begins_string true s ≡ false
     → chunks_of read text s ≡ read_byte_chunks read text
 no_texts read text start.Quote e = cc e
 no_texts read text _ e = refl
 
-texts : (read : List ℕ → Read Item) (text : List ℕ) (s : Start) → begins_string text_kind s ≡ true
+texts : (read : List ℕ → Read Item) (text : List ℕ) (s : Start) → begins_string true s ≡ true
     → chunks_of read text s ≡ read_text_chunks read text
 texts read text start.Quote e = refl
 texts read text _ e = cc e
 
-no_quote : (text : List ℕ) → Begins (codes "'<bh,)") text → begins_string text_kind (first_start text) ≡ false
+no_quote : (text : List ℕ) → Begins (codes "'<bh,)") text → begins_string true (first_start text) ≡ false
 unfolding start_of
 no_quote [] is = absurd is
-no_quote (b ∷ text) is = not-true (begins_string text_kind (start_of b))
-    (holds_of (λ c. not (begins_string text_kind (start_of c))) (codes "'<bh,)") b refl is)
+no_quote (b ∷ text) is = not-true (begins_string true (start_of b))
+    (holds_of (λ c. not (begins_string true (start_of c))) (codes "'<bh,)") b refl is)
 
-quote : (text : List ℕ) → Begins (codes "\"") text → begins_string text_kind (first_start text) ≡ true
+quote : (text : List ℕ) → Begins (codes "\"") text → begins_string true (first_start text) ≡ true
 unfolding start_of
 quote [] is = absurd is
-quote (b ∷ text) is = holds_of (λ c. begins_string text_kind (start_of c)) (codes "\"") b refl is
+quote (b ∷ text) is = holds_of (λ c. begins_string true (start_of c)) (codes "\"") b refl is
 
 abbrev pub chunks_atom : StringKind → List Chunk → Atom
 chunks_atom bytes_kind cs = byte_chunks cs

@@ -11,14 +11,15 @@ use Rattle.cbor_diag.specs.declared.error.Error.{Error}
 use Rattle.cbor_diag.specs.declared.error.Error.TheVariants as refusal
 use Rattle.cbor_diag.specs.declared.parse.notation.start.Start.{Start}
 use Rattle.cbor_diag.specs.declared.parse.notation.start.Start.TheVariants as start
-use Rattle.cbor_diag.specs.Item.{Item, item_count, pair_count}
+use Rattle.cbor_diag.specs.Item.{Chunk, Item, item_count, pair_count}
 use Rattle.cbor_diag.specs.View.{view, items_view, pairs_view}
 use Rattle.cbor_diag.specs.WellFormed.{WellFormed, WellFormedItems, WellFormedPairs, FitsCount}
-use Rattle.cbor_diag.specs.StringKind.{StringKind, text_kind}
+use Rattle.cbor_diag.specs.StringKind.{StringKind}
 use Rattle.cbor_diag.specs.Reading.{Read, ◌>>=◌, Fails}
 use Rattle.cbor_diag.specs.mirror.NotationReading.{or_refused, after_byte, skip_blank, read_pair, first_start, rest_of}
 use Rattle.cbor_diag.specs.mirror.NotationReading.{core_of, read_core, read_item, piece_of, read_piece, begins_piece}
-use Rattle.cbor_diag.specs.mirror.NotationReading.{begins_string, read_pieces, string_of, read_string, read_byte_string}
+use Rattle.cbor_diag.specs.mirror.NotationReading.{begins_string, read_pieces, content_of, read_content, may_have_texts}
+use Rattle.cbor_diag.specs.mirror.NotationReading.{checked, read_string, read_byte_string}
 use Rattle.cbor_diag.proofs.notation.ChunkLoops.{Fails-bind, onto, onto_fails}
 use Rattle.cbor_diag.proofs.shared.Views.{view-Array, view-Map, item_count_view, pair_count_view}
 
@@ -54,14 +55,30 @@ no_piece read rest start.LetterB q a n b h = absurd (b refl)
 no_piece read rest start.LetterH q a n b h = absurd (h refl)
 no_piece read rest _ q a n b h = refl
 
-pub no_text : (s : Start) → s ≢ start.Quote → begins_string text_kind s ≡ false
-no_text start.Quote q = absurd (q refl)
-no_text _ q = refl
+pub content_by : (read : List ℕ → Read Item) (texts : Bool) (text : List ℕ) (t : Bool)
+    → begins_string texts (first_start text) ≡ t → read_content read texts text ≡ content_of read texts text t
+content_by read texts text t e = ap (content_of read texts text) e
 
-pub string_by : (read : List ℕ → Read Item) (kind : StringKind) (text : List ℕ) (t : Bool)
-    → begins_string kind (first_start text) ≡ t → read_string read kind text ≡ string_of read kind text t
-unfolding read_string
-string_by read kind text t e = ap (string_of read kind text) e
+-- a string, from its content
+
+module _ (read : List ℕ → Read Item) (kind : StringKind) (text : List ℕ) where
+  pub no_content : (e : Error) → Fails e (read_content read (may_have_texts kind) text)
+      → Fails e (read_string read kind text)
+  unfolding read_string
+  no_content e h = Fails-bind e (read_content read (may_have_texts kind) text)
+      (λ x. checked kind x.0 >>= λ c. Ok (c, x.1)) h
+
+  module _ (content rest : List ℕ) (found : read_content read (may_have_texts kind) text ≡ Ok (content, rest)) where
+    from_content : read_string read kind text ≡ (checked kind content >>= λ c. Ok (c, rest))
+    unfolding read_string
+    from_content = ap (λ r. r >>= λ x. checked kind x.0 >>= λ c. Ok (c, x.1)) found
+
+    pub no_string : (e : Error) → Fails e (checked kind content) → Fails e (read_string read kind text)
+    no_string e h = subst (λ r. Fails e r) (sym from_content)
+        (Fails-bind e (checked kind content) (λ c. Ok (c, rest)) h)
+
+    pub string_read : (c : Chunk) → checked kind content ≡ Ok c → read_string read kind text ≡ Ok (c, rest)
+    string_read c e = from_content ∙ ap (λ r. r >>= λ c. Ok (c, rest)) e
 
 pub item_none : (n : ℕ) (text : List ℕ) → n ≡ 0 → read_item n text ≡ Err refusal.TooDeep
 unfolding read_item

@@ -15,7 +15,7 @@ use Rattle.cbor_diag.specs.mirror.NotationReading.{integer_or_tag, read_integer,
 use Rattle.cbor_diag.specs.mirror.NotationReading.{members_or_end, read_members, read_pair, read_length, read_array}
 use Rattle.cbor_diag.specs.mirror.NotationReading.{read_map, read_embedded, piece_of, read_piece, start_of, first_start}
 use Rattle.cbor_diag.specs.mirror.NotationReading.{begins_piece, read_pieces, skip_blank, begins_string, may_have_texts}
-use Rattle.cbor_diag.specs.mirror.NotationReading.{string_of, read_string, read_chunk, chunks_of, read_chunks}
+use Rattle.cbor_diag.specs.mirror.NotationReading.{content_of, read_content, read_string, read_chunk, chunks_of, read_chunks}
 use Rattle.cbor_diag.specs.mirror.NotationReading.{byte_string_of, read_byte_string, text_string_of, read_text_string}
 use Rattle.cbor_diag.specs.mirror.NotationReading.{core_of, read_core, read_item}
 use Rattle.cbor_diag.proofs.notation.Pieces.{pieces_go, pieces_stop}
@@ -125,17 +125,18 @@ module _ (few many : List ℕ → Read Item) (grows : (text : List ℕ) → Grow
         | inr e ↦ inr (pieces_stop few texts n text e ∙ sym (pieces_stop many texts n text e))
       ]
 
-  string_of_grows : (kind : StringKind) (text : List ℕ) (begins : Bool)
-      → Grows (string_of few kind text begins) (string_of many kind text begins)
-  string_of_grows kind text false = inr refl
-  string_of_grows kind text true =
-      grows_made (read_pieces few (may_have_texts kind) (suc (length text)) text)
-      (read_pieces many (may_have_texts kind) (suc (length text)) text) _
-      (pieces_grow (may_have_texts kind) (suc (length text)) text)
+  content_of_grows : (texts : Bool) (text : List ℕ) (begins : Bool)
+      → Grows (content_of few texts text begins) (content_of many texts text begins)
+  content_of_grows texts text false = inr refl
+  content_of_grows texts text true = pieces_grow texts (suc (length text)) text
+
+  content_grows : (texts : Bool) (text : List ℕ) → Grows (read_content few texts text) (read_content many texts text)
+  content_grows texts text = content_of_grows texts text (begins_string texts (first_start text))
 
   string_grows : (kind : StringKind) (text : List ℕ) → Grows (read_string few kind text) (read_string many kind text)
   unfolding read_string
-  string_grows kind text = string_of_grows kind text (begins_string kind (first_start text))
+  string_grows kind text = grows_made (read_content few (may_have_texts kind) text)
+      (read_content many (may_have_texts kind) text) _ (content_grows (may_have_texts kind) text)
 
   chunk_grows : (kind : StringKind) (text : List ℕ) → Grows (read_chunk few kind text) (read_chunk many kind text)
   chunk_grows kind text = string_grows kind (skip_blank text)

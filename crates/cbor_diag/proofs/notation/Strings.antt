@@ -12,8 +12,8 @@ use Rattle.cbor_diag.specs.StringKind.{StringKind, bytes_kind, text_kind, IsCont
 use Rattle.cbor_diag.specs.Reading.{Read}
 use Rattle.cbor_diag.specs.Notation.{IsBlank, QuotedBy, Notation, in_base16, in_base32, in_base32hex, in_base64}
 use Rattle.cbor_diag.specs.Notation.{as_text, as_items, PieceOf, Joined, one, more, StringOf}
-use Rattle.cbor_diag.specs.mirror.NotationReading.{after_word, start_of, first_start, begins_string, checked}
-use Rattle.cbor_diag.specs.mirror.NotationReading.{read_string}
+use Rattle.cbor_diag.specs.mirror.NotationReading.{after_word, start_of, first_start, begins_string, may_have_texts}
+use Rattle.cbor_diag.specs.mirror.NotationReading.{checked, read_string}
 use Rattle.cbor_diag.proofs.shared.Utf8.{utf8_passes}
 use Rattle.cbor_diag.proofs.notation.Ends.{holds_of, Begins, Ends, begins_append, begins_more, begins_ends, ends_more}
 use Rattle.cbor_diag.proofs.notation.Ends.{blank_ends, core_ends, core_starts, notation_starts, Follows, follows_blank}
@@ -37,12 +37,12 @@ string_starts_core bytes_kind text is = begins_more (string_starts bytes_kind) c
 string_starts_core text_kind text is = begins_more (string_starts text_kind) core_starts text refl is
 
 string_goes : (kind : StringKind) (text : List ℕ) → Begins (string_starts kind) text
-    → begins_string kind (first_start text) ≡ true
+    → begins_string (may_have_texts kind) (first_start text) ≡ true
 unfolding start_of
 string_goes kind [] is = absurd is
-string_goes bytes_kind (b ∷ text) is = holds_of (λ c. begins_string bytes_kind (start_of c)) (string_starts bytes_kind)
+string_goes bytes_kind (b ∷ text) is = holds_of (λ c. begins_string false (start_of c)) (string_starts bytes_kind)
     b refl is
-string_goes text_kind (b ∷ text) is = holds_of (λ c. begins_string text_kind (start_of c)) (string_starts text_kind) b
+string_goes text_kind (b ∷ text) is = holds_of (λ c. begins_string true (start_of c)) (string_starts text_kind) b
     refl is
 
 checked_again : (kind : StringKind) (c : Chunk) → c.width ≡ Unknown → IsContent kind c.bytes

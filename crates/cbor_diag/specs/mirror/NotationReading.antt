@@ -302,11 +302,11 @@ read_pieces read texts (suc n) text =
       | false ↦ Ok ([], text)
     ]
 
--- whether a string of this kind begins so
-abbrev pub begins_string : StringKind → Start → Bool
-begins_string bytes_kind s = begins_piece false s
-begins_string text_kind start.Quote = true
-begins_string text_kind _ = false
+-- whether a string begins so; the flag is whether texts may be its pieces, and then one is the first
+abbrev pub begins_string : Bool → Start → Bool
+begins_string false s = begins_piece false s
+begins_string true start.Quote = true
+begins_string true _ = false
 
 abbrev pub may_have_texts : StringKind → Bool
 may_have_texts bytes_kind = false
@@ -316,14 +316,17 @@ may_have_texts text_kind = true
 abbrev pub checked : StringKind → List ℕ → Result Chunk Error
 checked kind content = checked_chunk kind Unknown content
 
-abbrev pub string_of : (List ℕ → Read Item) → StringKind → List ℕ → Bool → Read Chunk
-string_of read kind text false = Err refusal.Notation
-string_of read kind text true = read_pieces read (may_have_texts kind) (suc (length text)) text
-    >>= λ x. checked kind x.0 >>= λ c. Ok (c, x.1)
+abbrev pub content_of : (List ℕ → Read Item) → Bool → List ℕ → Bool → Read (List ℕ)
+content_of read texts text false = Err refusal.Notation
+content_of read texts text true = read_pieces read texts (suc (length text)) text
+
+-- the content of a string of definite length, and the text after the blank after it
+abbrev pub read_content : (List ℕ → Read Item) → Bool → List ℕ → Read (List ℕ)
+read_content read texts text = content_of read texts text (begins_string texts (first_start text))
 
 -- a string of definite length
 unfoldable pub read_string : (List ℕ → Read Item) → StringKind → List ℕ → Read Chunk
-read_string read kind text = string_of read kind text (begins_string kind (first_start text))
+read_string read kind text = read_content read (may_have_texts kind) text >>= λ x. checked kind x.0 >>= λ c. Ok (c, x.1)
 
 -- a chunk of an indefinite string, with the blanks round it
 abbrev pub read_chunk : (List ℕ → Read Item) → StringKind → List ℕ → Read Chunk

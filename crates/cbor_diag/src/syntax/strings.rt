@@ -1,11 +1,13 @@
 //! What byte strings and text strings have in common.
 ghost use Rattle.std.proofs.Common.{rules};
-ghost use Rattle.std.specs.Prelude.{◌≡◌, ◌↔◌, IsTrue, IfErr, IfOk};
+ghost use Rattle.std.specs.Prelude.{◌≡◌, ◌↔◌, length, IsTrue, IfErr, IfOk};
+ghost use Rattle.cbor_diag.specs.Head.{FitsWidth};
 ghost use Rattle.cbor_diag.specs.Item.{Chunk};
 ghost use Rattle.cbor_diag.specs.Reading.{Gives, checked_chunk};
 ghost use Rattle.cbor_diag.specs.StringKind.{StringKind, bytes_kind, text_kind};
 ghost use Rattle.cbor_diag.specs.StringKind.{major_of, IsContent};
 ghost use Rattle.cbor_diag.specs.View.{byte_chunk, text_chunk};
+ghost use Rattle.cbor_diag.specs.WellFormed.{IsChunk};
 ghost use Rattle.cbor_diag.specs.mirror.MajorNumber.{major_number};
 ghost use Rattle.cbor_diag.specs.mirror.StringView.{bytes_of, kind_of};
 
@@ -48,7 +50,9 @@ pub(crate) trait DefiniteString: PartialEq + Drop {
 
     /// The string of this content; a text string if that is UTF-8.
     fn new(content: Vec<u8>, bitwidth: IntegerWidth) -> Result<Self>
-        ensures { Gives chunk result (checked_chunk kind bitwidth content.items) };
+        ensures gives { Gives chunk result (checked_chunk kind bitwidth content.items) }
+        ensures well { FitsWidth bitwidth (length content.items)
+            → IfOk result (λ x. IsChunk kind (chunk x)) };
 
     /// A string with the same content and width, in memory of its own.
     fn copy(&self, alloc: Global) -> Result<Self>

@@ -25,7 +25,7 @@ use Rattle.cbor_diag.specs.Notation.{one, more, StringOf}
 use Rattle.cbor_diag.specs.mirror.NotationReading.{or_refused, skip_blank, after_byte, read_members, h_notation}
 use Rattle.cbor_diag.specs.mirror.NotationReading.{b_notation, read_embedded, start_of, first_start, begins_piece}
 use Rattle.cbor_diag.specs.mirror.NotationReading.{piece_of, read_piece, read_pieces, begins_string, may_have_texts}
-use Rattle.cbor_diag.specs.mirror.NotationReading.{checked, string_of, read_string, read_chunk}
+use Rattle.cbor_diag.specs.mirror.NotationReading.{checked, content_of, read_string, read_chunk}
 use Rattle.cbor_diag.specs.NotationRefused.{MayRefuse, HoldsByte}
 use Rattle.cbor_diag.proofs.notation.sound.Steps.{a_test, Sound, moved, moved_in, weaker, sound_then, sound_map}
 use Rattle.cbor_diag.proofs.notation.sound.Steps.{sound_check, sound_option, sound_refused, after_byte_is}
@@ -270,7 +270,7 @@ module _ (left : ℕ) (R : List ℕ → Item → Type 0) (read : List ℕ → Re
   -- ---- strings
 
   -- a text string begins with a quote
-  quote_start : (s : Start) (b : ℕ) → StartIs s b → begins_string text_kind s ≡ true → b ≡ 34
+  quote_start : (s : Start) (b : ℕ) → StartIs s b → begins_string true s ≡ true → b ≡ 34
   quote_start start.Quote b is h = is
   quote_start start.Apostrophe b is h = absurd cc
   quote_start start.Parenthesis b is h = absurd cc
@@ -283,7 +283,7 @@ module _ (left : ℕ) (R : List ℕ → Item → Type 0) (read : List ℕ → Re
   quote_start start.Brace b is h = absurd cc
   quote_start start.Other b is h = absurd cc
 
-  piece_start : (s : Start) → begins_string text_kind s ≡ true → begins_piece true s ≡ true
+  piece_start : (s : Start) → begins_string true s ≡ true → begins_piece true s ≡ true
   piece_start start.Quote h = refl
   piece_start start.Apostrophe h = refl
   piece_start start.Parenthesis h = h
@@ -296,7 +296,7 @@ module _ (left : ℕ) (R : List ℕ → Item → Type 0) (read : List ℕ → Re
   piece_start start.Brace h = h
   piece_start start.Other h = h
 
-  string_begins : (kind : StringKind) (b : ℕ) → begins_string kind (start_of b) ≡ true
+  string_begins : (kind : StringKind) (b : ℕ) → begins_string (may_have_texts kind) (start_of b) ≡ true
       → begins_piece (may_have_texts kind) (start_of b) ≡ true
   string_begins bytes_kind b h = h
   string_begins text_kind b h = piece_start (start_of b) h
@@ -313,7 +313,7 @@ module _ (left : ℕ) (R : List ℕ → Item → Type 0) (read : List ℕ → Re
         | inr other ↦ absurd (cc (rw other at e))
       ]
 
-  checked_ok : (kind : StringKind) (b : ℕ) (front content : List ℕ) (c : Chunk) → begins_string kind (start_of b) ≡ true
+  checked_ok : (kind : StringKind) (b : ℕ) (front content : List ℕ) (c : Chunk) → begins_string (may_have_texts kind) (start_of b) ≡ true
       → SomePieces kind b front content → checked kind content ≡ Ok c → Trailed (λ core. StringOf kind R core c) front
   checked_ok bytes_kind b front content c begins pieces e =
       let made : Chunk = record { bytes = content; width = Unknown } in
@@ -336,7 +336,7 @@ module _ (left : ℕ) (R : List ℕ → Item → Type 0) (read : List ℕ → Re
         pieces.5,
       )
 
-  checked_odd : (kind : StringKind) (b : ℕ) (text content : List ℕ) (e : Error) → begins_string kind (start_of b) ≡ true
+  checked_odd : (kind : StringKind) (b : ℕ) (text content : List ℕ) (e : Error) → begins_string (may_have_texts kind) (start_of b) ≡ true
       → checked kind content ≡ Err e → MayRefuse (suc left) (b ∷ text) e
   checked_odd bytes_kind b text content e begins is = absurd cc
   checked_odd text_kind b text content e begins is =
@@ -349,8 +349,9 @@ module _ (left : ℕ) (R : List ℕ → Item → Type 0) (read : List ℕ → Re
             subst (MayRefuse (suc left) (b ∷ text)) same (subst (λ (z : ℕ). HoldsByte 34 (z ∷ text)) (sym quote) held)
       ]
 
-  of_test : (kind : StringKind) (text : List ℕ) (t : Bool) → begins_string kind (first_start text) ≡ t
-      → Sound (suc left) (λ g c. Trailed (λ core. StringOf kind R core c) g) text (string_of read kind text t)
+  of_test : (kind : StringKind) (text : List ℕ) (t : Bool) → begins_string (may_have_texts kind) (first_start text) ≡ t
+      → Sound (suc left) (λ g c. Trailed (λ core. StringOf kind R core c) g) text
+      (content_of read (may_have_texts kind) text t >>= λ x. checked kind x.0 >>= λ c. Ok (c, x.1))
   of_test kind text false is = tt
   of_test bytes_kind [] true is = absurd cc
   of_test text_kind [] true is = absurd cc
@@ -364,7 +365,7 @@ module _ (left : ℕ) (R : List ℕ → Item → Type 0) (read : List ℕ → Re
   pub string_sound : (kind : StringKind) (text : List ℕ)
       → Sound (suc left) (λ g c. Trailed (λ core. StringOf kind R core c) g) text (read_string read kind text)
   unfolding read_string
-  string_sound kind text = of_test kind text (begins_string kind (first_start text)) refl
+  string_sound kind text = of_test kind text (begins_string (may_have_texts kind) (first_start text)) refl
 
   -- ---- chunks
 

@@ -1,7 +1,7 @@
 //! What begins with which byte.
 ghost use Rattle.std.specs.Prelude.{◌≡◌, ◌≤◌, length};
-ghost use Rattle.cbor_diag.specs.mirror.NotationReading.{begins_piece, first_start, rest_of};
-ghost use Rattle.cbor_diag.specs.mirror.NotationReading.{start_of};
+ghost use Rattle.cbor_diag.specs.mirror.NotationReading.{begins_piece, begins_string, first_start};
+ghost use Rattle.cbor_diag.specs.mirror.NotationReading.{rest_of, start_of};
 
 /// What an item, or a piece of a string, begins with.
 #[derive(Clone, Copy)]
@@ -71,6 +71,18 @@ impl Start {
     {
         let (start, _) = Start::split(text);
         start
+    }
+
+    /// Whether a string begins so; `texts` is whether texts may be its pieces, and then one is the
+    /// first.
+    pub(super) fn begins_string(self, texts: bool) -> bool
+        ensures { result ≡ begins_string texts self }
+    {
+        if texts {
+            matches!(self, Start::Quote)
+        } else {
+            self.begins_piece(false)
+        }
     }
 
     /// Whether a piece of a string begins so; `texts` is whether texts may be pieces.

@@ -8,8 +8,8 @@ ghost use Rattle.std.specs.Prelude.{IfOk, IfSome, Ok, OnOk, true, false};
 ghost use Rattle.std.specs.List.{AllByRecursion};
 ghost use Rattle.cbor_diag.specs.declared.syntax.IntegerWidth.TheVariants.{Unknown};
 ghost use Rattle.cbor_diag.specs.View.{view, items_view, byte_chunk, text_chunk};
-ghost use Rattle.cbor_diag.specs.WellFormed.{levels_left, WellFormed, WellFormedItems, IsByteChunk};
-ghost use Rattle.cbor_diag.specs.WellFormed.{IsTextChunk};
+ghost use Rattle.cbor_diag.specs.WellFormed.{levels_left, WellFormed, WellFormedItems, IsChunk};
+ghost use Rattle.cbor_diag.specs.WellFormed.{IsByteChunk, IsTextChunk};
 ghost use Rattle.cbor_diag.specs.StringKind.{bytes_kind, text_kind};
 ghost use Rattle.cbor_diag.specs.Written.{encoded_items};
 ghost use Rattle.cbor_diag.specs.Item.{Item};
@@ -19,6 +19,7 @@ ghost use Rattle.cbor_diag.specs.mirror.NotationReading.{read_text_string, check
 ghost use Rattle.cbor_diag.specs.mirror.NotationReading.{read_chunks, read_embedded, ends_string};
 ghost use Rattle.cbor_diag.specs.mirror.NotationReading.{read_item, read_members, one_string};
 ghost use Rattle.cbor_diag.specs.mirror.NotationReading.{read_piece, read_pieces, read_string};
+ghost use Rattle.cbor_diag.specs.mirror.NotationReading.{read_content};
 
 use super::content::{b_notation, base16, h_notation, read_plain, read_quoted};
 use super::read_items;
@@ -26,38 +27,19 @@ use super::scan::{after_blank, after_byte, after_end, after_word, expect_byte};
 use super::start::Start;
 use crate::encode::push_items;
 use crate::error::Error;
+use crate::syntax::strings::DefiniteString;
 use crate::syntax::{ByteString, DataItem, IntegerWidth, TextString};
 use memchr::memchr;
 use std::alloc::{AllocError, Global};
 
-/// A byte string of unstated width.
-fn byte_string(content: Vec<u8>) -> ByteString
-    ensures gives { Ok (byte_chunk result) ≡ checked bytes_kind content.items }
-    ensures well { IsByteChunk (byte_chunk result) }
+/// A string of unstated width; a text string, if the content is UTF-8.
+fn unstated<S: DefiniteString>(content: Vec<u8>) -> crate::Result<S>
+    ensures gives { Gives S.chunk result (checked S.kind content.items) }
+    ensures well { IfOk result (λ x. IsChunk S.kind (S.chunk x)) }
 {
     // A slice's length fits in 64 bits, which `well` needs.
     let _content = content.as_slice();
-    ByteString {
-        content,
-        bitwidth: IntegerWidth::Unknown,
-    }
-}
-
-/// A text string of unstated width, if the content is UTF-8.
-#[tactic(auto, using(crate::proofs::shared::Utf8::utf8_fails, crate::proofs::shared::Utf8::utf8_passes))]
-fn text_string(content: Vec<u8>) -> crate::Result<TextString>
-    ensures gives { Gives (λ x. text_chunk x) result (checked text_kind content.items) }
-    ensures well { IfOk result (λ x. IsTextChunk (text_chunk x)) }
-{
-    let Ok(content) = String::from_utf8(content) else {
-        return Err(Error::Utf8);
-    };
-    // The same of a text.
-    let _content = content.as_str();
-    Ok(TextString {
-        content,
-        bitwidth: IntegerWidth::Unknown,
-    })
+    S::new(content, IntegerWidth::Unknown)
 }
 
 /// Adds bytes to some content, of which there is often none before.
@@ -139,6 +121,26 @@ fn read_pieces(
     Ok((content, rest))
 }
 
+/// The content of a string of definite length, and the blank after it; `texts` is whether texts may
+/// be its pieces, and then one is the first.
+#[cycle(diag)]
+fn read_content(
+    alloc: Global,
+    texts: bool,
+    text: &[u8],
+    inner: u8,
+) -> crate::Result<(Vec<u8>, &[u8])>
+    requires { inner ≤ 129 }
+    ensures gives { Gives (λ x. (x.0.items, x.1.now)) result
+        (read_content (read_item (levels_left inner)) texts text.now) }
+    ensures shorter { IfOk result (λ x. length x.1.now ≤ length text.now) }
+{
+    if !Start::of(text).begins_string(texts) {
+        return Err(Error::Notation);
+    }
+    read_pieces(alloc, texts, text, inner)
+}
+
 /// A byte string of definite length, and the blank after it.
 #[cycle(diag)]
 fn read_byte_string(alloc: Global, text: &[u8], inner: u8) -> crate::Result<(ByteString, &[u8])>
@@ -148,11 +150,8 @@ fn read_byte_string(alloc: Global, text: &[u8], inner: u8) -> crate::Result<(Byt
     ensures well { IfOk result (λ x. IsByteChunk (byte_chunk x.0)) }
     ensures shorter { IfOk result (λ x. length x.1.now ≤ length text.now) }
 {
-    if !Start::of(text).begins_piece(false) {
-        return Err(Error::Notation);
-    }
-    let (content, rest) = read_pieces(alloc, false, text, inner)?;
-    Ok((byte_string(content), rest))
+    let (content, rest) = read_content(alloc, false, text, inner)?;
+    Ok((unstated(content)?, rest))
 }
 
 /// A text string of definite length, and the blank after it.
@@ -164,11 +163,8 @@ fn read_text_string(alloc: Global, text: &[u8], inner: u8) -> crate::Result<(Tex
     ensures well { IfOk result (λ x. IsTextChunk (text_chunk x.0)) }
     ensures shorter { IfOk result (λ x. length x.1.now ≤ length text.now) }
 {
-    let Start::Quote = Start::of(text) else {
-        return Err(Error::Notation);
-    };
-    let (content, rest) = read_pieces(alloc, true, text, inner)?;
-    Ok((text_string(content)?, rest))
+    let (content, rest) = read_content(alloc, true, text, inner)?;
+    Ok((unstated(content)?, rest))
 }
 
 /// Whether a string ends before this text: a list goes on or closes here. Neither a blank nor a
@@ -214,7 +210,7 @@ pub(super) fn read_byte_item(
     // The digits of most byte strings are decoded in place.
     if let Some((digits, rest)) = read_plain_hex(text) {
         if let Some(content) = base16(alloc, digits)? {
-            return Ok((DataItem::ByteString(byte_string(content)), rest));
+            return Ok((DataItem::ByteString(unstated(content)?), rest));
         }
     }
     if let Some(rest) = after_word(text, b"''_") {
@@ -256,8 +252,8 @@ pub(super) fn read_text_item(
 {
     // The content of most texts is copied from where it is.
     if let Some((content, rest)) = read_plain_text(text) {
-        let string = text_string(content.to_vec(alloc)?)?;
-        return Ok((DataItem::TextString(string), rest));
+        let content = content.to_vec(alloc)?;
+        return Ok((DataItem::TextString(unstated(content)?), rest));
     }
     if let Some(rest) = after_word(text, b"\"\"_") {
         return Ok((DataItem::IndefiniteTextString(Vec::new(alloc)), rest));

@@ -16,7 +16,8 @@ use Rattle.cbor_diag.specs.mirror.NotationReading.{begins_piece, begins_string, 
 use Rattle.cbor_diag.proofs.notation.ChunkLoops.{Fails-bind}
 use Rattle.cbor_diag.proofs.notation.Loops.{members_closed, members_begin, member_fails, member_last, no_comma}
 use Rattle.cbor_diag.proofs.notation.Loops.{member_more}
-use Rattle.cbor_diag.proofs.notation.Cores.{core_by, bytes_core, piece_by, no_piece, no_text, string_by, item_none}
+use Rattle.cbor_diag.proofs.notation.Cores.{core_by, bytes_core, piece_by, no_piece, item_none, content_by}
+use Rattle.cbor_diag.proofs.notation.Cores.{no_content, no_string, string_read}
 use Rattle.cbor_diag.proofs.notation.Cores.{item_some, pieces_begin, pieces_end, piece_fails, piece_more, items_push}
 use Rattle.cbor_diag.proofs.notation.Cores.{no_key, no_colon, no_value, pair_read, pair_view, pairs_push, all_push}
 use Rattle.cbor_diag.proofs.notation.Cores.{array_well, map_well}
@@ -602,66 +603,54 @@ strings::read_pieces-returns-clause-gives t c =
     (read_pieces read c.args.texts (suc (length c.args.text.now)) c.args.text.now) i.1 i.2
     (sym (c.begins_piece.ensures ∙ ap (begins_piece c.args.texts) c.of.ensures) ∙ c.pieces-test.false)
 
-pub strings::read_byte_string-returns-then-not-begins_piece-clause-gives :
-    goal.strings::read_byte_string-returns-then-not-begins_piece-clause-gives
-strings::read_byte_string-returns-then-not-begins_piece-clause-gives t c =
-    string_by (read_item (129 - c.args.inner)) bytes_kind c.args.text.now false
-    (sym (c.begins_piece.ensures ∙ ap (begins_piece false) c.of.ensures) ∙ c.if-not-begins_piece.true)
+pub strings::read_content-returns-then-not-begins_string-clause-gives :
+    goal.strings::read_content-returns-then-not-begins_string-clause-gives
+strings::read_content-returns-then-not-begins_string-clause-gives t c =
+    content_by (read_item (129 - c.args.inner)) c.args.texts c.args.text.now false
+    (sym (c.begins_string.ensures ∙ ap (begins_string c.args.texts) c.of.ensures) ∙ c.if-not-begins_string.true)
+
+pub strings::read_content-returns-clause-gives : goal.strings::read_content-returns-clause-gives
+strings::read_content-returns-clause-gives t c =
+    rw (content_by (read_item (129 - c.args.inner)) c.args.texts c.args.text.now true
+    (sym (c.begins_string.ensures ∙ ap (begins_string c.args.texts) c.of.ensures) ∙ c.if-not-begins_string.false))
+    c.read_pieces.ensures.gives
 
 pub strings::read_byte_string-returns-in_err-content-clause-gives :
     goal.strings::read_byte_string-returns-in_err-content-clause-gives
 strings::read_byte_string-returns-in_err-content-clause-gives t c =
     let p = err_from_is_err_and c.from_residual.result c.from_residual.ensures.1 in
-    let read = read_item (129 - c.args.inner) in
-    let text = c.args.text.now in
-    rw (
-      p.1,
-      p.2,
-      string_by read bytes_kind text true
-          (sym (c.begins_piece.ensures ∙ ap (begins_piece false) c.of.ensures) ∙ c.if-not-begins_piece.false),
-    )
-    (Fails-bind c.in_err-content.field-0.0 (read_pieces read false (suc (length text)) text)
-    (λ x. checked bytes_kind x.0 >>= λ k. Ok (k, x.1)) c.in_err-content.ensures.gives)
+    rw (p.1, p.2) (no_content (read_item (129 - c.args.inner)) bytes_kind c.args.text.now c.in_err-content.field-0.0
+    c.in_err-content.ensures.gives)
+
+pub strings::read_byte_string-returns-in_err-unstated-clause-gives :
+    goal.strings::read_byte_string-returns-in_err-unstated-clause-gives
+strings::read_byte_string-returns-in_err-unstated-clause-gives t c =
+    let p = err_from_is_err_and c.from_residual-in_err-unstated.result c.from_residual-in_err-unstated.ensures.1 in
+    rw (p.1, p.2) (no_string (read_item (129 - c.args.inner)) bytes_kind c.args.text.now c.in_ok-content.content.items
+    c.in_ok-content.rest.now c.in_ok-content.ensures.gives c.in_err-unstated.field-0.0 c.in_err-unstated.ensures.gives)
 
 pub strings::read_byte_string-returns-clause-gives : goal.strings::read_byte_string-returns-clause-gives
 strings::read_byte_string-returns-clause-gives t c =
-    let read = read_item (129 - c.args.inner) in
-    string_by read bytes_kind c.args.text.now true (sym (c.begins_piece.ensures ∙ ap (begins_piece false) c.of.ensures)
-    ∙ c.if-not-begins_piece.false)
-    ∙ ap (λ r. r >>= λ x. checked bytes_kind x.0 >>= λ k. Ok (k, x.1)) c.in_ok-content.ensures.gives
-    ∙ ap (λ r. r >>= λ k. Ok (k, c.in_ok-content.rest.now)) (sym c.byte_string.ensures.gives)
-
-pub strings::read_text_string-returns-in_default-clause-gives :
-    goal.strings::read_text_string-returns-in_default-clause-gives
-strings::read_text_string-returns-in_default-clause-gives t c =
-    string_by (read_item (129 - c.args.inner)) text_kind c.args.text.now false
-    (ap (begins_string text_kind) (sym c.of.ensures) ∙ no_text c.of.result c.in_default.not-Quote)
+    string_read (read_item (129 - c.args.inner)) bytes_kind c.args.text.now c.in_ok-content.content.items
+    c.in_ok-content.rest.now c.in_ok-content.ensures.gives (byte_chunk c.in_ok-unstated.field-0)
+    c.in_ok-unstated.ensures.gives
 
 pub strings::read_text_string-returns-in_err-content-clause-gives :
     goal.strings::read_text_string-returns-in_err-content-clause-gives
 strings::read_text_string-returns-in_err-content-clause-gives t c =
     let p = err_from_is_err_and c.from_residual.result c.from_residual.ensures.1 in
-    let read = read_item (129 - c.args.inner) in
-    let text = c.args.text.now in
-    rw (p.1, p.2, string_by read text_kind text true (ap (begins_string text_kind) (sym c.in-Quote.ensures)))
-    (Fails-bind c.in_err-content.field-0.0 (read_pieces read true (suc (length text)) text)
-    (λ x. checked text_kind x.0 >>= λ k. Ok (k, x.1)) c.in_err-content.ensures.gives)
+    rw (p.1, p.2) (no_content (read_item (129 - c.args.inner)) text_kind c.args.text.now c.in_err-content.field-0.0
+    c.in_err-content.ensures.gives)
 
-pub strings::read_text_string-returns-in_err-text_string-clause-gives :
-    goal.strings::read_text_string-returns-in_err-text_string-clause-gives
-strings::read_text_string-returns-in_err-text_string-clause-gives t c =
-    let p = err_from_is_err_and c.from_residual-in_err-text_string.result
-    c.from_residual-in_err-text_string.ensures.1 in
-    let read = read_item (129 - c.args.inner) in
-    let text = c.args.text.now in
-    let begun = string_by read text_kind text true (ap (begins_string text_kind) (sym c.in-Quote.ensures))
-    ∙ ap (λ r. r >>= λ x. checked text_kind x.0 >>= λ k. Ok (k, x.1)) c.in_ok-content.ensures.gives in
-    rw (p.1, p.2, begun) (Fails-bind c.in_err-text_string.field-0.0 (checked text_kind c.in_ok-content.content.items)
-    (λ k. Ok (k, c.in_ok-content.rest.now)) c.in_err-text_string.ensures.gives)
+pub strings::read_text_string-returns-in_err-unstated-clause-gives :
+    goal.strings::read_text_string-returns-in_err-unstated-clause-gives
+strings::read_text_string-returns-in_err-unstated-clause-gives t c =
+    let p = err_from_is_err_and c.from_residual-in_err-unstated.result c.from_residual-in_err-unstated.ensures.1 in
+    rw (p.1, p.2) (no_string (read_item (129 - c.args.inner)) text_kind c.args.text.now c.in_ok-content.content.items
+    c.in_ok-content.rest.now c.in_ok-content.ensures.gives c.in_err-unstated.field-0.0 c.in_err-unstated.ensures.gives)
 
 pub strings::read_text_string-returns-clause-gives : goal.strings::read_text_string-returns-clause-gives
 strings::read_text_string-returns-clause-gives t c =
-    let read = read_item (129 - c.args.inner) in
-    string_by read text_kind c.args.text.now true (ap (begins_string text_kind) (sym c.in-Quote.ensures))
-    ∙ ap (λ r. r >>= λ x. checked text_kind x.0 >>= λ k. Ok (k, x.1)) c.in_ok-content.ensures.gives
-    ∙ ap (λ r. r >>= λ k. Ok (k, c.in_ok-content.rest.now)) c.in_ok-text_string.ensures.gives
+    string_read (read_item (129 - c.args.inner)) text_kind c.args.text.now c.in_ok-content.content.items
+    c.in_ok-content.rest.now c.in_ok-content.ensures.gives (text_chunk c.in_ok-unstated.field-0)
+    c.in_ok-unstated.ensures.gives

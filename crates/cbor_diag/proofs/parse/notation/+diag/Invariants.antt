@@ -10,49 +10,52 @@ use Rattle.cbor_diag.proofs.parse.notation.+diag.Given as goal
 
 -- Each level is deeper than the one before. At one level a call is for less than the one that it is made by.
 abbrev pub decreases-read_item : goal.decreases-read_item
-decreases-read_item l = (130 - l.level) * 9
+decreases-read_item l = (130 - l.level) * 10
 
 abbrev pub decreases-integer_or_tag : goal.decreases-integer_or_tag
-decreases-integer_or_tag l = (130 - l.inner) * 9 + 1
+decreases-integer_or_tag l = (130 - l.inner) * 10 + 1
 
 abbrev pub decreases-read_items : goal.decreases-read_items
-decreases-read_items l = (130 - l.level) * 9 + 1
+decreases-read_items l = (130 - l.level) * 10 + 1
 
 abbrev pub decreases-read_pairs : goal.decreases-read_pairs
-decreases-read_pairs l = (130 - l.level) * 9 + 1
+decreases-read_pairs l = (130 - l.level) * 10 + 1
 
 abbrev pub decreases-strings::read_embedded : goal.decreases-strings::read_embedded
-decreases-strings::read_embedded l = (130 - l.inner) * 9 + 2
+decreases-strings::read_embedded l = (130 - l.inner) * 10 + 2
 
 abbrev pub decreases-strings::read_piece : goal.decreases-strings::read_piece
-decreases-strings::read_piece l = (130 - l.inner) * 9 + 3
+decreases-strings::read_piece l = (130 - l.inner) * 10 + 3
 
 abbrev pub decreases-strings::read_pieces : goal.decreases-strings::read_pieces
-decreases-strings::read_pieces l = (130 - l.inner) * 9 + 4
+decreases-strings::read_pieces l = (130 - l.inner) * 10 + 4
+
+abbrev pub decreases-strings::read_content : goal.decreases-strings::read_content
+decreases-strings::read_content l = (130 - l.inner) * 10 + 5
 
 abbrev pub decreases-strings::read_byte_string : goal.decreases-strings::read_byte_string
-decreases-strings::read_byte_string l = (130 - l.inner) * 9 + 5
+decreases-strings::read_byte_string l = (130 - l.inner) * 10 + 6
 
 abbrev pub decreases-strings::read_text_string : goal.decreases-strings::read_text_string
-decreases-strings::read_text_string l = (130 - l.inner) * 9 + 5
+decreases-strings::read_text_string l = (130 - l.inner) * 10 + 6
 
 abbrev pub decreases-strings::read_byte_item : goal.decreases-strings::read_byte_item
-decreases-strings::read_byte_item l = (130 - l.inner) * 9 + 6
+decreases-strings::read_byte_item l = (130 - l.inner) * 10 + 7
 
 abbrev pub decreases-strings::read_text_item : goal.decreases-strings::read_text_item
-decreases-strings::read_text_item l = (130 - l.inner) * 9 + 6
+decreases-strings::read_text_item l = (130 - l.inner) * 10 + 7
 
 abbrev pub decreases-strings::read_byte_chunks : goal.decreases-strings::read_byte_chunks
-decreases-strings::read_byte_chunks l = (130 - l.inner) * 9 + 6
+decreases-strings::read_byte_chunks l = (130 - l.inner) * 10 + 7
 
 abbrev pub decreases-strings::read_text_chunks : goal.decreases-strings::read_text_chunks
-decreases-strings::read_text_chunks l = (130 - l.inner) * 9 + 6
+decreases-strings::read_text_chunks l = (130 - l.inner) * 10 + 7
 
 abbrev pub decreases-strings::read_chunks : goal.decreases-strings::read_chunks
-decreases-strings::read_chunks l = (130 - l.inner) * 9 + 7
+decreases-strings::read_chunks l = (130 - l.inner) * 10 + 8
 
 abbrev pub decreases-read_core : goal.decreases-read_core
-decreases-read_core l = (130 - l.inner) * 9 + 8
+decreases-read_core l = (130 - l.inner) * 10 + 9
 
 abbrev pub decreases-read_items-items : goal.decreases-read_items-items
 decreases-read_items-items l = length l.rest
