@@ -11,7 +11,7 @@ use Rattle.cbor_diag.specs.Reading.{Read, ◌>>=◌}
 use Rattle.cbor_diag.specs.Notation.{Blanked, Closes, Members, StringOf, ChunksOf}
 use Rattle.cbor_diag.specs.mirror.NotationReading.{skip_blank, start_of, first_start, begins_string, read_chunk}
 use Rattle.cbor_diag.specs.mirror.NotationReading.{read_string, read_byte_chunks, read_text_chunks, chunks_of}
-use Rattle.cbor_diag.specs.mirror.NotationReading.{read_chunks, read_members}
+use Rattle.cbor_diag.specs.mirror.NotationReading.{chunks_atom, read_chunks, read_members}
 use Rattle.cbor_diag.proofs.notation.Ends.{holds_of, Begins, begins_append, begins_more, begins_ends, blank_passed}
 use Rattle.cbor_diag.proofs.notation.Ends.{Starts, starts_passed}
 use Rattle.cbor_diag.proofs.notation.Lists.{ReadsAgain, blanked_parts, blanked_stripped, members_again}
@@ -88,10 +88,6 @@ quote : (text : List ℕ) → Begins (codes "\"") text → begins_string true (f
 unfolding start_of
 quote [] is = absurd is
 quote (b ∷ text) is = holds_of (λ c. begins_string true (start_of c)) (codes "\"") b refl is
-
-abbrev pub chunks_atom : StringKind → List Chunk → Atom
-chunks_atom bytes_kind cs = byte_chunks cs
-chunks_atom text_kind cs = text_chunks cs
 
 -- a text string of no chunks has a core of its own
 abbrev pub HasKind : StringKind → List Chunk → Type 0

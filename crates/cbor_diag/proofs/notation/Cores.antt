@@ -1,6 +1,6 @@
 -- What reading an item, a string or a piece gives, by what is at the front of the text.
 use Rattle.std.proofs.Common.{◌≡◌, ◌≢◌, ℕ, zero, suc, ◌+◌, ◌-◌, ◌<◌, ◌≤◌, ◌^◌, ◌⊎◌, inl, inr, Bool, true, false, List}
-use Rattle.std.proofs.Common.{[], ◌∷◌, ◌++◌, length, Option, Some, None, Ok, Err, Vec, Global, refl, sym, ap, subst}
+use Rattle.std.proofs.Common.{[], ◌∷◌, ◌++◌, length, Option, Some, None, Result, Ok, Err, Vec, Global, refl, sym, ap, subst}
 use Rattle.std.proofs.Common.{◌∙◌, append_assoc, arith}
 use Rattle.std.specs.List.{AllByRecursion}
 use Rattle.std.proofs.lemmas.List.{append-nil}
@@ -11,15 +11,17 @@ use Rattle.cbor_diag.specs.declared.error.Error.{Error}
 use Rattle.cbor_diag.specs.declared.error.Error.TheVariants as refusal
 use Rattle.cbor_diag.specs.declared.parse.notation.start.Start.{Start}
 use Rattle.cbor_diag.specs.declared.parse.notation.start.Start.TheVariants as start
-use Rattle.cbor_diag.specs.Item.{Chunk, Item, item_count, pair_count}
+use Rattle.cbor_diag.specs.Item.{Chunk, Item, atom, item_count, pair_count}
 use Rattle.cbor_diag.specs.View.{view, items_view, pairs_view}
-use Rattle.cbor_diag.specs.WellFormed.{WellFormed, WellFormedItems, WellFormedPairs, FitsCount}
-use Rattle.cbor_diag.specs.StringKind.{StringKind}
+use Rattle.cbor_diag.specs.WellFormed.{IsChunk, WellFormed, WellFormedItems, WellFormedPairs, FitsCount}
+use Rattle.cbor_diag.specs.StringKind.{StringKind, bytes_kind, text_kind}
 use Rattle.cbor_diag.specs.Reading.{Read, ◌>>=◌, Fails}
 use Rattle.cbor_diag.specs.mirror.NotationReading.{or_refused, after_byte, skip_blank, read_pair, first_start, rest_of}
 use Rattle.cbor_diag.specs.mirror.NotationReading.{core_of, read_core, read_item, piece_of, read_piece, begins_piece}
-use Rattle.cbor_diag.specs.mirror.NotationReading.{begins_string, read_pieces, content_of, read_content, may_have_texts}
-use Rattle.cbor_diag.specs.mirror.NotationReading.{checked, read_string, read_byte_string}
+use Rattle.cbor_diag.specs.mirror.NotationReading.{begins_string, read_pieces, content_of, read_content, kind_with}
+use Rattle.cbor_diag.specs.mirror.NotationReading.{checked, with_chunk, read_string, read_chunk, chunks_atom, chunks_of}
+use Rattle.cbor_diag.specs.mirror.NotationReading.{read_members, read_chunks, read_byte_string}
+use Rattle.cbor_diag.proofs.bytes.Heads.{bind_ok, ok_is}
 use Rattle.cbor_diag.proofs.notation.ChunkLoops.{Fails-bind, onto, onto_fails}
 use Rattle.cbor_diag.proofs.shared.Views.{view-Array, view-Map, item_count_view, pair_count_view}
 
@@ -61,24 +63,77 @@ content_by read texts text t e = ap (content_of read texts text) e
 
 -- a string, from its content
 
-module _ (read : List ℕ → Read Item) (kind : StringKind) (text : List ℕ) where
-  pub no_content : (e : Error) → Fails e (read_content read (may_have_texts kind) text)
-      → Fails e (read_string read kind text)
-  unfolding read_string
-  no_content e h = Fails-bind e (read_content read (may_have_texts kind) text)
-      (λ x. checked kind x.0 >>= λ c. Ok (c, x.1)) h
+by_texts : (read : List ℕ → Read Item) (texts : Bool) (text : List ℕ) → read_string read (kind_with texts) text
+    ≡ (read_content read texts text >>= λ x. checked (kind_with texts) x.0 >>= λ c. Ok (c, x.1))
+unfolding read_string
+by_texts read false text = refl
+by_texts read true text = refl
 
-  module _ (content rest : List ℕ) (found : read_content read (may_have_texts kind) text ≡ Ok (content, rest)) where
-    from_content : read_string read kind text ≡ (checked kind content >>= λ c. Ok (c, rest))
-    unfolding read_string
-    from_content = ap (λ r. r >>= λ x. checked kind x.0 >>= λ c. Ok (c, x.1)) found
+no_chunk : (made : Result Chunk Error) (cs : List Chunk) (rest : List ℕ) (e : Error)
+    → Fails e (made >>= λ c. Ok (cs ++ c ∷ [])) → Fails e (◌>>=◌ {B = Chunk × List ℕ} made (λ c. Ok (c, rest)))
+no_chunk made cs rest refusal.Memory h = tt
+no_chunk (Err d) cs rest e h = let same : d ≡ e = cc in ap (λ x. Err x) same
+no_chunk (Ok c) cs rest e h = absurd cc
 
-    pub no_string : (e : Error) → Fails e (checked kind content) → Fails e (read_string read kind text)
-    no_string e h = subst (λ r. Fails e r) (sym from_content)
-        (Fails-bind e (checked kind content) (λ c. Ok (c, rest)) h)
+module _ (read : List ℕ → Read Item) (texts : Bool) (text : List ℕ) where
+  by_content : read_string read (kind_with texts) text
+      ≡ (read_content read texts text >>= λ x. checked (kind_with texts) x.0 >>= λ c. Ok (c, x.1))
+  by_content = by_texts read texts text
 
-    pub string_read : (c : Chunk) → checked kind content ≡ Ok c → read_string read kind text ≡ Ok (c, rest)
-    string_read c e = from_content ∙ ap (λ r. r >>= λ c. Ok (c, rest)) e
+  pub no_content : (e : Error) → Fails e (read_content read texts text) → Fails e (read_string read (kind_with texts) text)
+  no_content e h = subst (λ r. Fails e r) (sym by_content) (Fails-bind e (read_content read texts text)
+      (λ x. checked (kind_with texts) x.0 >>= λ c. Ok (c, x.1)) h)
+
+  module _ (content rest : List ℕ) (found : read_content read texts text ≡ Ok (content, rest)) where
+    from_content : read_string read (kind_with texts) text ≡ (checked (kind_with texts) content >>= λ c. Ok (c, rest))
+    from_content = by_content ∙ ap (λ r. r >>= λ x. checked (kind_with texts) x.0 >>= λ c. Ok (c, x.1)) found
+
+    -- a chunk of this content cannot be added
+    pub no_string : (cs : List Chunk) (e : Error) → Fails e (with_chunk (kind_with texts) cs content)
+        → Fails e (read_string read (kind_with texts) text)
+    no_string cs e h = subst (λ r. Fails e r) (sym from_content) (no_chunk (checked (kind_with texts) content) cs rest e h)
+
+    -- a chunk of this content was added
+    pub string_read : (before after : List Chunk) → with_chunk (kind_with texts) before content ≡ Ok after
+        → (c : Chunk) × (after ≡ before ++ c ∷ []) × (read_string read (kind_with texts) text ≡ Ok (c, rest))
+    string_read before after e =
+        let made = bind_ok (checked (kind_with texts) content) (λ c. Ok (before ++ c ∷ [])) after e in
+        (made.0, sym (ok_is (before ++ made.0 ∷ []) after made.2), from_content
+        ∙ ap (λ r. r >>= λ c. Ok (c, rest)) made.1)
+
+-- an indefinite string, from its chunks
+
+chunks_by : (read : List ℕ → Read Item) (text : List ℕ) (s : Start) (texts : Bool) → texts ≡ begins_string true s
+    → chunks_of read text s ≡ (read_members (read_chunk read (kind_with texts)) 41 text
+    >>= λ cs. Ok (atom (chunks_atom (kind_with texts) cs.0), cs.1))
+chunks_by read text start.Quote texts e = rw e refl
+chunks_by read text _ texts e = rw e refl
+
+module _ (read : List ℕ → Read Item) (text opened first : List ℕ) (texts : Bool)
+    (opens : or_refused (after_byte 95 text) ≡ Ok opened) (blank : first ≡ skip_blank opened)
+    (kind : texts ≡ begins_string true (first_start first)) where
+  by_chunks : read_chunks read text ≡ (read_members (read_chunk read (kind_with texts)) 41 first
+      >>= λ cs. Ok (atom (chunks_atom (kind_with texts) cs.0), cs.1))
+  by_chunks = ap (λ r. r >>= λ o. chunks_of read (skip_blank o) (first_start (skip_blank o))) opens
+      ∙ ap (λ f. chunks_of read f (first_start f)) (sym blank) ∙ chunks_by read first (first_start first) texts kind
+
+  pub no_chunks : (e : Error) → Fails e (read_members (read_chunk read (kind_with texts)) 41 first)
+      → Fails e (read_chunks read text)
+  no_chunks e h = subst (λ r. Fails e r) (sym by_chunks) (Fails-bind e
+      (read_members (read_chunk read (kind_with texts)) 41 first)
+      (λ cs. Ok (atom (chunks_atom (kind_with texts) cs.0), cs.1)) h)
+
+  pub chunks_read : (cs : List Chunk) (rest : List ℕ) (i : Item)
+      → read_members (read_chunk read (kind_with texts)) 41 first ≡ Ok (cs, rest)
+      → i ≡ atom (chunks_atom (kind_with texts) cs) → read_chunks read text ≡ Ok (i, rest)
+  chunks_read cs rest i e made = by_chunks
+      ∙ ap (λ r. r >>= λ cs. Ok (atom (chunks_atom (kind_with texts) cs.0), cs.1)) e
+      ∙ ap (λ i. Ok (i, rest)) (sym made)
+
+pub chunks_well : (level : ℕ) (kind : StringKind) (cs : List Chunk) (i : Item) → level ≤ 128
+    → AllByRecursion (IsChunk kind) cs → i ≡ atom (chunks_atom kind cs) → WellFormed level i
+chunks_well level bytes_kind cs i low held made = rw made (low, held)
+chunks_well level text_kind cs i low held made = rw made (low, held)
 
 pub item_none : (n : ℕ) (text : List ℕ) → n ≡ 0 → read_item n text ≡ Err refusal.TooDeep
 unfolding read_item

@@ -10,13 +10,13 @@ use Rattle.cbor_diag.specs.StringKind.{StringKind, bytes_kind, text_kind}
 use Rattle.cbor_diag.specs.Reading.{Read}
 use Rattle.cbor_diag.specs.Notation.{IsBlank, Opens, StringOf, ChunksOf, AtomCore, Core, Reads}
 use Rattle.cbor_diag.specs.mirror.NotationReading.{skip_blank, byte_string_of, read_byte_string, text_string_of}
-use Rattle.cbor_diag.specs.mirror.NotationReading.{read_text_string, read_chunks, start_of, read_core, core_of}
+use Rattle.cbor_diag.specs.mirror.NotationReading.{chunks_atom, read_text_string, read_chunks, start_of, read_core, core_of}
 use Rattle.cbor_diag.specs.mirror.NotationReading.{read_item, notation_of}
 use Rattle.cbor_diag.proofs.notation.Ends.{Begins, begins_append, begins_more, core_starts, digits, Follows}
 use Rattle.cbor_diag.proofs.notation.Ends.{follows_passed, follows_blank, Starts, starts_passed}
 use Rattle.cbor_diag.proofs.notation.Lists.{ReadsAgain, blanked_parts, blanked_stripped}
 use Rattle.cbor_diag.proofs.notation.Strings.{string_begins, string_starts_core, string_again, string_no_word}
-use Rattle.cbor_diag.proofs.notation.Chunked.{chunks_again, chunks_atom, HasKind}
+use Rattle.cbor_diag.proofs.notation.Chunked.{chunks_again, HasKind}
 use Rattle.cbor_diag.proofs.notation.Numbers.{at_one_of, number_begins, integer_again, negative_again, tag_again}
 use Rattle.cbor_diag.proofs.notation.Words.{simple_again, float_again}
 use Rattle.cbor_diag.proofs.notation.Containers.{array_again, map_again}

@@ -23,7 +23,7 @@ use Rattle.cbor_diag.specs.declared.error.Error.TheVariants as refusal
 use Rattle.cbor_diag.specs.declared.parse.notation.start.Start.{Start}
 use Rattle.cbor_diag.specs.declared.parse.notation.start.Start.TheVariants as start
 use Rattle.cbor_diag.specs.Item as spec
-use Rattle.cbor_diag.specs.Item.{Chunk, integer, negative, byte_string, text_string, byte_chunks, text_chunks, float}
+use Rattle.cbor_diag.specs.Item.{Chunk, Atom, integer, negative, byte_string, text_string, byte_chunks, text_chunks, float}
 use Rattle.cbor_diag.specs.Item.{simple, Item, atom, array, tagged}
 use Rattle.cbor_diag.specs.View.{items_of, pairs_of}
 use Rattle.cbor_diag.specs.StringKind.{StringKind, bytes_kind, text_kind}
@@ -327,6 +327,19 @@ read_content read texts text = content_of read texts text (begins_string texts (
 -- a string of definite length
 unfoldable pub read_string : (List ℕ → Read Item) → StringKind → List ℕ → Read Chunk
 read_string read kind text = read_content read (may_have_texts kind) text >>= λ x. checked kind x.0 >>= λ c. Ok (c, x.1)
+
+-- the kind of a string that may have texts
+abbrev pub kind_with : Bool → StringKind
+kind_with false = bytes_kind
+kind_with true = text_kind
+
+abbrev pub chunks_atom : StringKind → List Chunk → Atom
+chunks_atom bytes_kind cs = byte_chunks cs
+chunks_atom text_kind cs = text_chunks cs
+
+-- one chunk more, of this content
+abbrev pub with_chunk : StringKind → List Chunk → List ℕ → Result (List Chunk) Error
+with_chunk kind cs content = checked kind content >>= λ c. Ok (cs ++ c ∷ [])
 
 -- a chunk of an indefinite string, with the blanks round it
 abbrev pub read_chunk : (List ℕ → Read Item) → StringKind → List ℕ → Read Chunk

@@ -1,8 +1,13 @@
--- What the content of a string is, as the readers and printers hand it on.
-use Rattle.std.specs.Prelude.{ℕ, List}
+-- What the content of a string, and the chunks of one that is read, are as the readers and printers hand
+-- them on.
+use Rattle.std.specs.Prelude.{ℕ, List, map}
+use Rattle.cbor_diag.specs.declared.parse.notation.strings.Chunks.{Chunks}
+use Rattle.cbor_diag.specs.declared.parse.notation.strings.Chunks.TheVariants as chunks
 use Rattle.cbor_diag.specs.declared.syntax.strings.StringContent.{StringContent}
 use Rattle.cbor_diag.specs.declared.syntax.strings.StringContent.TheVariants as content
+use Rattle.cbor_diag.specs.Item.{Chunk}
 use Rattle.cbor_diag.specs.StringKind.{StringKind, bytes_kind, text_kind}
+use Rattle.cbor_diag.specs.View.{byte_chunk, text_chunk}
 
 abbrev pub kind_of : StringContent → StringKind
 kind_of (content.Bytes bytes) = bytes_kind
@@ -12,3 +17,11 @@ kind_of (content.Text text) = text_kind
 abbrev pub bytes_of : StringContent → List ℕ
 bytes_of (content.Bytes bytes) = bytes.now
 bytes_of (content.Text text) = text.now
+
+abbrev pub list_kind : Chunks → StringKind
+list_kind (chunks.Bytes v) = bytes_kind
+list_kind (chunks.Text v) = text_kind
+
+abbrev pub chunk_list : Chunks → List Chunk
+chunk_list (chunks.Bytes v) = map byte_chunk v.items
+chunk_list (chunks.Text v) = map text_chunk v.items

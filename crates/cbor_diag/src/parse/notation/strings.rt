@@ -3,23 +3,24 @@
 //! Most strings are one piece, a text without escapes or hex digits without blanks, and right after
 //! it a list goes on or closes. A fast path reads these straight into the item; all others are read
 //! piece by piece.
-ghost use Rattle.std.specs.Prelude.{◌≡◌, ◌-◌, ◌++◌, ◌<◌, ◌≤◌, ℕ, List, Some, suc, length, map};
+ghost use Rattle.std.specs.Prelude.{◌≡◌, ◌-◌, ◌++◌, ◌<◌, ◌≤◌, ℕ, List, [], Some, suc, length};
 ghost use Rattle.std.specs.Prelude.{IfOk, IfSome, Ok, OnOk, true, false};
 ghost use Rattle.std.specs.List.{AllByRecursion};
 ghost use Rattle.cbor_diag.specs.declared.syntax.IntegerWidth.TheVariants.{Unknown};
-ghost use Rattle.cbor_diag.specs.View.{view, items_view, byte_chunk, text_chunk};
+ghost use Rattle.cbor_diag.specs.View.{view, items_view};
 ghost use Rattle.cbor_diag.specs.WellFormed.{levels_left, WellFormed, WellFormedItems, IsChunk};
-ghost use Rattle.cbor_diag.specs.WellFormed.{IsByteChunk, IsTextChunk};
 ghost use Rattle.cbor_diag.specs.StringKind.{bytes_kind, text_kind};
 ghost use Rattle.cbor_diag.specs.Written.{encoded_items};
-ghost use Rattle.cbor_diag.specs.Item.{Item};
+ghost use Rattle.cbor_diag.specs.Item.{Item, atom};
 ghost use Rattle.cbor_diag.specs.Reading.{Gives, Read};
 ghost use Rattle.cbor_diag.specs.mirror.NotationReading.{base16_of, read_byte_string};
 ghost use Rattle.cbor_diag.specs.mirror.NotationReading.{read_text_string, checked, read_chunk};
 ghost use Rattle.cbor_diag.specs.mirror.NotationReading.{read_chunks, read_embedded, ends_string};
 ghost use Rattle.cbor_diag.specs.mirror.NotationReading.{read_item, read_members, one_string};
 ghost use Rattle.cbor_diag.specs.mirror.NotationReading.{read_piece, read_pieces, read_string};
-ghost use Rattle.cbor_diag.specs.mirror.NotationReading.{read_content};
+ghost use Rattle.cbor_diag.specs.mirror.NotationReading.{chunks_atom, kind_with, read_content};
+ghost use Rattle.cbor_diag.specs.mirror.NotationReading.{with_chunk};
+ghost use Rattle.cbor_diag.specs.mirror.StringView.{chunk_list, list_kind};
 
 use super::content::{b_notation, base16, h_notation, read_plain, read_quoted};
 use super::read_items;
@@ -40,6 +41,53 @@ fn unstated<S: DefiniteString>(content: Vec<u8>) -> crate::Result<S>
     // A slice's length fits in 64 bits, which `well` needs.
     let _content = content.as_slice();
     S::new(content, IntegerWidth::Unknown)
+}
+
+/// The chunks of an indefinite string.
+#[derive(Drop)]
+enum Chunks {
+    Bytes(Vec<ByteString>),
+    Text(Vec<TextString>),
+}
+
+impl Chunks {
+    /// No chunks, of a text string if `texts` and else of a byte string.
+    fn new(alloc: Global, texts: bool) -> Chunks
+        ensures none { chunk_list result ≡ [] }
+        ensures kind { list_kind result ≡ kind_with texts }
+    {
+        if texts {
+            Chunks::Text(Vec::new(alloc))
+        } else {
+            Chunks::Bytes(Vec::new(alloc))
+        }
+    }
+
+    /// Adds a chunk of unstated width; to a text string, if the content is UTF-8.
+    fn push(&mut self, content: Vec<u8>) -> crate::Result<()>
+        ensures gives { Gives (λ _. chunk_list self.new) result
+            (with_chunk (list_kind self.old) (chunk_list self.old) content.items) }
+        ensures kind { IfOk result (λ _. list_kind self.new ≡ list_kind self.old) }
+        ensures well { IfOk result (λ _.
+            AllByRecursion (IsChunk (list_kind self.old)) (chunk_list self.old)
+            → AllByRecursion (IsChunk (list_kind self.old)) (chunk_list self.new)) }
+    {
+        match self {
+            Chunks::Bytes(chunks) => chunks.push(unstated(content)?)?,
+            Chunks::Text(chunks) => chunks.push(unstated(content)?)?,
+        }
+        Ok(())
+    }
+
+    /// The string of these chunks.
+    fn into_item(self) -> DataItem
+        ensures { view result ≡ atom (chunks_atom (list_kind self) (chunk_list self)) }
+    {
+        match self {
+            Chunks::Bytes(chunks) => DataItem::IndefiniteByteString(chunks),
+            Chunks::Text(chunks) => DataItem::IndefiniteTextString(chunks),
+        }
+    }
 }
 
 /// Adds bytes to some content, of which there is often none before.
@@ -80,6 +128,7 @@ fn read_embedded(alloc: Global, text: &[u8], inner: u8) -> crate::Result<(Vec<u8
 
 /// A piece of a string: a text, or a notation of bytes, whose items are at `inner`.
 #[cycle(diag)]
+#[tactic(auto, using(crate::proofs::notation::Cores::piece_by))]
 fn read_piece(alloc: Global, text: &[u8], inner: u8) -> crate::Result<(Vec<u8>, &[u8])>
     requires { inner ≤ 129 }
     ensures gives { Gives (λ x. (x.0.items, x.1.now)) result
@@ -141,32 +190,6 @@ fn read_content(
     read_pieces(alloc, texts, text, inner)
 }
 
-/// A byte string of definite length, and the blank after it.
-#[cycle(diag)]
-fn read_byte_string(alloc: Global, text: &[u8], inner: u8) -> crate::Result<(ByteString, &[u8])>
-    requires { inner ≤ 129 }
-    ensures gives { Gives (λ x. (byte_chunk x.0, x.1.now)) result
-        (read_string (read_item (levels_left inner)) bytes_kind text.now) }
-    ensures well { IfOk result (λ x. IsByteChunk (byte_chunk x.0)) }
-    ensures shorter { IfOk result (λ x. length x.1.now ≤ length text.now) }
-{
-    let (content, rest) = read_content(alloc, false, text, inner)?;
-    Ok((unstated(content)?, rest))
-}
-
-/// A text string of definite length, and the blank after it.
-#[cycle(diag)]
-fn read_text_string(alloc: Global, text: &[u8], inner: u8) -> crate::Result<(TextString, &[u8])>
-    requires { inner ≤ 129 }
-    ensures gives { Gives (λ x. (text_chunk x.0, x.1.now)) result
-        (read_string (read_item (levels_left inner)) text_kind text.now) }
-    ensures well { IfOk result (λ x. IsTextChunk (text_chunk x.0)) }
-    ensures shorter { IfOk result (λ x. length x.1.now ≤ length text.now) }
-{
-    let (content, rest) = read_content(alloc, true, text, inner)?;
-    Ok((unstated(content)?, rest))
-}
-
 /// Whether a string ends before this text: a list goes on or closes here. Neither a blank nor a
 /// piece of a string begins so.
 fn ends_string(text: &[u8]) -> bool
@@ -195,6 +218,7 @@ fn read_plain_hex(text: &[u8]) -> Option<(&[u8], &[u8])>
 
 /// A byte string, or `''_`, an indefinite one of no chunks.
 #[cycle(diag)]
+#[tactic(auto, unfolding(crate::specs::mirror::NotationReading::read_string))]
 pub(super) fn read_byte_item(
     alloc: Global,
     text: &[u8],
@@ -216,8 +240,8 @@ pub(super) fn read_byte_item(
     if let Some(rest) = after_word(text, b"''_") {
         return Ok((DataItem::IndefiniteByteString(Vec::new(alloc)), rest));
     }
-    let (string, rest) = read_byte_string(alloc, text, inner)?;
-    Ok((DataItem::ByteString(string), rest))
+    let (content, rest) = read_content(alloc, false, text, inner)?;
+    Ok((DataItem::ByteString(unstated(content)?), rest))
 }
 
 /// The content of a text of one piece without escapes, and the text after it, if a string ends
@@ -238,6 +262,7 @@ fn read_plain_text(text: &[u8]) -> Option<(&[u8], &[u8])>
 
 /// A text string, or `""_`, an indefinite one of no chunks.
 #[cycle(diag)]
+#[tactic(auto, unfolding(crate::specs::mirror::NotationReading::read_string))]
 pub(super) fn read_text_item(
     alloc: Global,
     text: &[u8],
@@ -258,59 +283,35 @@ pub(super) fn read_text_item(
     if let Some(rest) = after_word(text, b"\"\"_") {
         return Ok((DataItem::IndefiniteTextString(Vec::new(alloc)), rest));
     }
-    let (string, rest) = read_text_string(alloc, text, inner)?;
-    Ok((DataItem::TextString(string), rest))
+    let (content, rest) = read_content(alloc, true, text, inner)?;
+    Ok((DataItem::TextString(unstated(content)?), rest))
 }
 
-/// The chunks of an indefinite byte string after its opening, up to its closing byte.
+/// The chunks of an indefinite string after its opening, up to its closing byte; those of a text
+/// string if `texts`.
 #[cycle(diag)]
-fn read_byte_chunks(
+fn read_chunk_list(
     alloc: Global,
+    texts: bool,
     text: &[u8],
     inner: u8,
-) -> crate::Result<(Vec<ByteString>, &[u8])>
+) -> crate::Result<(Chunks, &[u8])>
     requires { inner ≤ 129 }
-    ensures gives { Gives (λ x. (map byte_chunk x.0.items, x.1.now)) result
-        (read_members (read_chunk (read_item (levels_left inner)) bytes_kind) 41 text.now) }
-    ensures well { IfOk result (λ x. AllByRecursion IsByteChunk (map byte_chunk x.0.items)) }
+    ensures gives { Gives (λ x. (chunk_list x.0, x.1.now)) result
+        (read_members (read_chunk (read_item (levels_left inner)) (kind_with texts)) 41 text.now) }
+    ensures kind { IfOk result (λ x. list_kind x.0 ≡ kind_with texts) }
+    ensures well { IfOk result (λ x.
+        AllByRecursion (IsChunk (kind_with texts)) (chunk_list x.0)) }
     ensures shorter { IfOk result (λ x. length x.1.now ≤ length text.now) }
 {
-    let mut chunks = Vec::new(alloc);
+    let mut chunks = Chunks::new(alloc, texts);
     let mut rest = after_blank(text);
     if let Some(after) = after_end(rest, b')') {
         return Ok((chunks, after));
     }
     'chunks: loop {
-        let (chunk, after) = read_byte_string(alloc, after_blank(rest), inner)?;
-        chunks.push(chunk)?;
-        if let Some(end) = after_end(after, b')') {
-            return Ok((chunks, end));
-        }
-        rest = expect_byte(after, b',')?;
-    }
-}
-
-/// The chunks of an indefinite text string after its opening, up to its closing byte.
-#[cycle(diag)]
-fn read_text_chunks(
-    alloc: Global,
-    text: &[u8],
-    inner: u8,
-) -> crate::Result<(Vec<TextString>, &[u8])>
-    requires { inner ≤ 129 }
-    ensures gives { Gives (λ x. (map text_chunk x.0.items, x.1.now)) result
-        (read_members (read_chunk (read_item (levels_left inner)) text_kind) 41 text.now) }
-    ensures well { IfOk result (λ x. AllByRecursion IsTextChunk (map text_chunk x.0.items)) }
-    ensures shorter { IfOk result (λ x. length x.1.now ≤ length text.now) }
-{
-    let mut chunks = Vec::new(alloc);
-    let mut rest = after_blank(text);
-    if let Some(after) = after_end(rest, b')') {
-        return Ok((chunks, after));
-    }
-    'chunks: loop {
-        let (chunk, after) = read_text_string(alloc, after_blank(rest), inner)?;
-        chunks.push(chunk)?;
+        let (content, after) = read_content(alloc, texts, after_blank(rest), inner)?;
+        chunks.push(content)?;
         if let Some(end) = after_end(after, b')') {
             return Ok((chunks, end));
         }
@@ -329,15 +330,8 @@ pub(super) fn read_chunks(alloc: Global, text: &[u8], inner: u8) -> crate::Resul
     ensures well { IfOk result (λ x. WellFormed (inner - 1) (view x.0)) }
     ensures shorter { IfOk result (λ x. length x.1.now ≤ length text.now) }
 {
-    let rest = after_blank(expect_byte(text, b'_')?);
-    match Start::of(rest) {
-        Start::Quote => {
-            let (chunks, rest) = read_text_chunks(alloc, rest, inner)?;
-            Ok((DataItem::IndefiniteTextString(chunks), rest))
-        }
-        _ => {
-            let (chunks, rest) = read_byte_chunks(alloc, rest, inner)?;
-            Ok((DataItem::IndefiniteByteString(chunks), rest))
-        }
-    }
+    let first = after_blank(expect_byte(text, b'_')?);
+    let texts = Start::of(first).begins_string(true);
+    let (chunks, rest) = read_chunk_list(alloc, texts, first, inner)?;
+    Ok((chunks.into_item(), rest))
 }

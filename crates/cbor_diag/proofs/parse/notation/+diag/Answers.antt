@@ -12,12 +12,13 @@ use Rattle.cbor_diag.specs.StringKind.{bytes_kind, text_kind}
 use Rattle.cbor_diag.specs.Reading.{◌>>=◌, Fails}
 use Rattle.cbor_diag.specs.mirror.NotationReading.{skip_blank, after_end, read_negative_number, read_length, read_pair}
 use Rattle.cbor_diag.specs.mirror.NotationReading.{read_chunk, read_item, read_core, read_members, read_pieces, checked}
-use Rattle.cbor_diag.specs.mirror.NotationReading.{begins_piece, begins_string, read_string}
-use Rattle.cbor_diag.proofs.notation.ChunkLoops.{Fails-bind}
+use Rattle.cbor_diag.specs.mirror.NotationReading.{begins_piece, begins_string, kind_with, members_from, read_content}
+use Rattle.cbor_diag.specs.mirror.StringView.{chunk_list, list_kind}
+use Rattle.cbor_diag.proofs.notation.ChunkLoops.{Fails-bind, onto}
 use Rattle.cbor_diag.proofs.notation.Loops.{members_closed, members_begin, member_fails, member_last, no_comma}
 use Rattle.cbor_diag.proofs.notation.Loops.{member_more}
 use Rattle.cbor_diag.proofs.notation.Cores.{core_by, bytes_core, piece_by, no_piece, item_none, content_by}
-use Rattle.cbor_diag.proofs.notation.Cores.{no_content, no_string, string_read}
+use Rattle.cbor_diag.proofs.notation.Cores.{no_content, no_string, string_read, no_chunks, chunks_read, chunks_well}
 use Rattle.cbor_diag.proofs.notation.Cores.{item_some, pieces_begin, pieces_end, piece_fails, piece_more, items_push}
 use Rattle.cbor_diag.proofs.notation.Cores.{no_key, no_colon, no_value, pair_read, pair_view, pairs_push, all_push}
 use Rattle.cbor_diag.proofs.notation.Cores.{array_well, map_well}
@@ -205,167 +206,134 @@ read_pairs-returns-in-Some-after_end-clause-well t c =
     rw c.in_ok-push.ensures.items (pairs_push c.args.level c.pairs.pairs.items (c.in_ok-key.key, c.in_ok-value.value)
     c.pairs.invariant.4 c.in_ok-key.ensures.well c.in_ok-value.ensures.well)
 
-pub strings::read_byte_chunks-returns-in-Some-clause-gives : goal.strings::read_byte_chunks-returns-in-Some-clause-gives
-strings::read_byte_chunks-returns-in-Some-clause-gives t c =
-    let read = read_chunk (read_item (129 - c.args.inner)) bytes_kind in
+pub strings::read_chunk_list-returns-in-Some-clause-gives : goal.strings::read_chunk_list-returns-in-Some-clause-gives
+strings::read_chunk_list-returns-in-Some-clause-gives t c =
+    let read = read_chunk (read_item (129 - c.args.inner)) (kind_with c.args.texts) in
     let close : ℕ = 41 in
     let ended : after_end close (skip_blank c.args.text.now) ≡ Some c.in-Some.after.now =
     ap (after_end close) (sym c.after_blank-rest.ensures.gives) ∙ sym c.in-Some.ensures.gives in
-    rw c.new-chunks.ensures.items (members_closed read close c.args.text.now c.in-Some.after.now ended)
+    rw c.new-chunks.ensures.none (members_closed read close c.args.text.now c.in-Some.after.now ended)
 
-pub strings::read_byte_chunks-chunks-init : goal.strings::read_byte_chunks-chunks-init
-strings::read_byte_chunks-chunks-init t c =
-    let read = read_chunk (read_item (129 - c.args.inner)) bytes_kind in
-    let close : ℕ = 41 in
-    let begun = members_begin read close c.args.text.now c.after_blank-rest.result.now
-    (map byte_chunk c.new-chunks.result.items) (ap (map byte_chunk) c.new-chunks.ensures.items)
-    c.after_blank-rest.ensures.gives (sym c.in_default.ensures.gives) in
-    (begun.0, begun.1, begun.2, c.after_blank-rest.ensures.shorter, rw c.new-chunks.ensures.items tt)
-
-pub strings::read_byte_chunks-returns-in_err-chunk-clause-gives :
-    goal.strings::read_byte_chunks-returns-in_err-chunk-clause-gives
-strings::read_byte_chunks-returns-in_err-chunk-clause-gives t c =
-    let p = err_from_is_err_and c.from_residual.result c.from_residual.ensures.1 in
-    let read = read_chunk (read_item (129 - c.args.inner)) bytes_kind in
-    let close : ℕ = 41 in
-    let total = read_members read close c.args.text.now in
-    let i = c.chunks.invariant in
-    rw (p.1, p.2) (member_fails read close (map byte_chunk c.chunks.chunks.items) i.0 c.chunks.rest.now total i.1 i.2
-    c.in_err-chunk.field-0.0 (subst (λ b. Fails c.in_err-chunk.field-0.0
-    (read_string (read_item (129 - c.args.inner)) bytes_kind b)) c.after_blank.ensures.gives
-    c.in_err-chunk.ensures.gives))
-
-pub strings::read_byte_chunks-returns-in-Some-after_end-clause-gives :
-    goal.strings::read_byte_chunks-returns-in-Some-after_end-clause-gives
-strings::read_byte_chunks-returns-in-Some-after_end-clause-gives t c =
-    let read = read_chunk (read_item (129 - c.args.inner)) bytes_kind in
-    let close : ℕ = 41 in
-    let total = read_members read close c.args.text.now in
-    let i = c.chunks.invariant in
-    let held = c.chunks.chunks.items in
-    let pushed : map byte_chunk c.push.new.self.items ≡ map byte_chunk held ++ (byte_chunk c.in_ok-chunk.chunk) ∷ [] =
-    rw c.in_ok-push.ensures.items (map_push byte_chunk held c.in_ok-chunk.chunk) in
-    rw pushed (member_last read close (map byte_chunk held) i.0 c.chunks.rest.now total i.1 i.2
-    (byte_chunk c.in_ok-chunk.chunk) c.in_ok-chunk.after.now c.in-Some-after_end.end.now
-    (ap (read_string (read_item (129 - c.args.inner)) bytes_kind) (sym c.after_blank.ensures.gives)
-    ∙ c.in_ok-chunk.ensures.gives) (sym c.in-Some-after_end.ensures.gives))
-
-pub strings::read_byte_chunks-returns-in_err-rest-clause-gives :
-    goal.strings::read_byte_chunks-returns-in_err-rest-clause-gives
-strings::read_byte_chunks-returns-in_err-rest-clause-gives t c =
-    let p = err_from_is_err_and c.from_residual-in_err-rest.result c.from_residual-in_err-rest.ensures.1 in
-    let read = read_chunk (read_item (129 - c.args.inner)) bytes_kind in
-    let close : ℕ = 41 in
-    let total = read_members read close c.args.text.now in
-    let i = c.chunks.invariant in
-    rw (p.1, p.2) (no_comma read close (map byte_chunk c.chunks.chunks.items) i.0 c.chunks.rest.now total i.1 i.2
-    (byte_chunk c.in_ok-chunk.chunk) c.in_ok-chunk.after.now c.in_err-rest.field-0.0
-    (ap (read_string (read_item (129 - c.args.inner)) bytes_kind) (sym c.after_blank.ensures.gives)
-    ∙ c.in_ok-chunk.ensures.gives) (sym c.in_default-after_end.ensures.gives) c.in_err-rest.ensures.gives)
-
-pub strings::read_byte_chunks-chunks-preserved : goal.strings::read_byte_chunks-chunks-preserved
-strings::read_byte_chunks-chunks-preserved t c =
-    let read = read_chunk (read_item (129 - c.args.inner)) bytes_kind in
-    let close : ℕ = 41 in
-    let total = read_members read close c.args.text.now in
-    let i = c.chunks.invariant in
-    let held = c.chunks.chunks.items in
-    let pushed : map byte_chunk c.push.new.self.items ≡ map byte_chunk held ++ (byte_chunk c.in_ok-chunk.chunk) ∷ [] =
-    rw c.in_ok-push.ensures.items (map_push byte_chunk held c.in_ok-chunk.chunk) in
-    let next = member_more read close (map byte_chunk held) i.0 c.chunks.rest.now total i.1 i.2
-    (byte_chunk c.in_ok-chunk.chunk) c.in_ok-chunk.after.now c.in_ok-rest.rest.now
-    (ap (read_string (read_item (129 - c.args.inner)) bytes_kind) (sym c.after_blank.ensures.gives)
-    ∙ c.in_ok-chunk.ensures.gives) (sym c.in_default-after_end.ensures.gives) c.in_ok-rest.ensures.gives
-    (omega (arith, c.in_ok-chunk.ensures.shorter, c.after_blank.ensures.shorter)) c.in_ok-rest.ensures.shorter in (
-      next.0,
-      next.1,
-      rw pushed next.2,
-      omega
-          (arith, c.in_ok-rest.ensures.shorter, c.in_ok-chunk.ensures.shorter, c.after_blank.ensures.shorter),
-      rw pushed (all_push IsByteChunk (map byte_chunk held) (byte_chunk c.in_ok-chunk.chunk) i.4
-          c.in_ok-chunk.ensures.well),
+pub strings::read_chunk_list-chunks-init : goal.strings::read_chunk_list-chunks-init
+strings::read_chunk_list-chunks-init t c =
+    let read = read_chunk (read_item (129 - c.args.inner)) (kind_with c.args.texts) in
+    let begun = members_begin read 41 c.args.text.now c.after_blank-rest.result.now (chunk_list c.new-chunks.result)
+    c.new-chunks.ensures.none c.after_blank-rest.ensures.gives (sym c.in_default.ensures.gives) in (
+      begun.0,
+      begun.1,
+      begun.2,
+      c.after_blank-rest.ensures.shorter,
+      rw c.new-chunks.ensures.none tt,
+      c.new-chunks.ensures.kind,
     )
 
-pub strings::read_text_chunks-returns-in-Some-clause-gives : goal.strings::read_text_chunks-returns-in-Some-clause-gives
-strings::read_text_chunks-returns-in-Some-clause-gives t c =
-    let read = read_chunk (read_item (129 - c.args.inner)) text_kind in
-    let close : ℕ = 41 in
-    let ended : after_end close (skip_blank c.args.text.now) ≡ Some c.in-Some.after.now =
-    ap (after_end close) (sym c.after_blank-rest.ensures.gives) ∙ sym c.in-Some.ensures.gives in
-    rw c.new-chunks.ensures.items (members_closed read close c.args.text.now c.in-Some.after.now ended)
-
-pub strings::read_text_chunks-chunks-init : goal.strings::read_text_chunks-chunks-init
-strings::read_text_chunks-chunks-init t c =
-    let read = read_chunk (read_item (129 - c.args.inner)) text_kind in
-    let close : ℕ = 41 in
-    let begun = members_begin read close c.args.text.now c.after_blank-rest.result.now
-    (map text_chunk c.new-chunks.result.items) (ap (map text_chunk) c.new-chunks.ensures.items)
-    c.after_blank-rest.ensures.gives (sym c.in_default.ensures.gives) in
-    (begun.0, begun.1, begun.2, c.after_blank-rest.ensures.shorter, rw c.new-chunks.ensures.items tt)
-
-pub strings::read_text_chunks-returns-in_err-chunk-clause-gives :
-    goal.strings::read_text_chunks-returns-in_err-chunk-clause-gives
-strings::read_text_chunks-returns-in_err-chunk-clause-gives t c =
+pub strings::read_chunk_list-returns-in_err-content-clause-gives :
+    goal.strings::read_chunk_list-returns-in_err-content-clause-gives
+strings::read_chunk_list-returns-in_err-content-clause-gives t c =
     let p = err_from_is_err_and c.from_residual.result c.from_residual.ensures.1 in
-    let read = read_chunk (read_item (129 - c.args.inner)) text_kind in
-    let close : ℕ = 41 in
-    let total = read_members read close c.args.text.now in
+    let item = read_item (129 - c.args.inner) in
+    let read = read_chunk item (kind_with c.args.texts) in
     let i = c.chunks.invariant in
-    rw (p.1, p.2) (member_fails read close (map text_chunk c.chunks.chunks.items) i.0 c.chunks.rest.now total i.1 i.2
-    c.in_err-chunk.field-0.0 (subst (λ b. Fails c.in_err-chunk.field-0.0
-    (read_string (read_item (129 - c.args.inner)) text_kind b)) c.after_blank.ensures.gives
-    c.in_err-chunk.ensures.gives))
+    rw (p.1, p.2) (member_fails read 41 (chunk_list c.chunks.chunks) i.0 c.chunks.rest.now
+    (read_members read 41 c.args.text.now) i.1 i.2 c.in_err-content.field-0.0
+    (no_content item c.args.texts (skip_blank c.chunks.rest.now) c.in_err-content.field-0.0
+    (subst (λ b. Fails c.in_err-content.field-0.0 (read_content item c.args.texts b)) c.after_blank.ensures.gives
+    c.in_err-content.ensures.gives)))
 
-pub strings::read_text_chunks-returns-in-Some-after_end-clause-gives :
-    goal.strings::read_text_chunks-returns-in-Some-after_end-clause-gives
-strings::read_text_chunks-returns-in-Some-after_end-clause-gives t c =
-    let read = read_chunk (read_item (129 - c.args.inner)) text_kind in
-    let close : ℕ = 41 in
-    let total = read_members read close c.args.text.now in
+pub strings::read_chunk_list-returns-in_err-push-clause-gives :
+    goal.strings::read_chunk_list-returns-in_err-push-clause-gives
+strings::read_chunk_list-returns-in_err-push-clause-gives t c =
+    let p = err_from_is_err_and c.from_residual-in_err-push.result c.from_residual-in_err-push.ensures.1 in
+    let item = read_item (129 - c.args.inner) in
+    let read = read_chunk item (kind_with c.args.texts) in
     let i = c.chunks.invariant in
-    let held = c.chunks.chunks.items in
-    let pushed : map text_chunk c.push.new.self.items ≡ map text_chunk held ++ (text_chunk c.in_ok-chunk.chunk) ∷ [] =
-    rw c.in_ok-push.ensures.items (map_push text_chunk held c.in_ok-chunk.chunk) in
-    rw pushed (member_last read close (map text_chunk held) i.0 c.chunks.rest.now total i.1 i.2
-    (text_chunk c.in_ok-chunk.chunk) c.in_ok-chunk.after.now c.in-Some-after_end.end.now
-    (ap (read_string (read_item (129 - c.args.inner)) text_kind) (sym c.after_blank.ensures.gives)
-    ∙ c.in_ok-chunk.ensures.gives) (sym c.in-Some-after_end.ensures.gives))
+    let found = ap (read_content item c.args.texts) (sym c.after_blank.ensures.gives) ∙ c.in_ok-content.ensures.gives in
+    let refused = rw i.5 at c.in_err-push.ensures.gives in
+    rw (p.1, p.2) (member_fails read 41 (chunk_list c.chunks.chunks) i.0 c.chunks.rest.now
+    (read_members read 41 c.args.text.now) i.1 i.2 c.in_err-push.field-0.0
+    (no_string item c.args.texts (skip_blank c.chunks.rest.now) c.in_ok-content.content.items
+    c.in_ok-content.after.now found (chunk_list c.chunks.chunks) c.in_err-push.field-0.0 refused))
 
-pub strings::read_text_chunks-returns-in_err-rest-clause-gives :
-    goal.strings::read_text_chunks-returns-in_err-rest-clause-gives
-strings::read_text_chunks-returns-in_err-rest-clause-gives t c =
+pub strings::read_chunk_list-returns-in-Some-after_end-clause-gives :
+    goal.strings::read_chunk_list-returns-in-Some-after_end-clause-gives
+strings::read_chunk_list-returns-in-Some-after_end-clause-gives t c =
+    let item = read_item (129 - c.args.inner) in
+    let read = read_chunk item (kind_with c.args.texts) in
+    let i = c.chunks.invariant in
+    let found = ap (read_content item c.args.texts) (sym c.after_blank.ensures.gives) ∙ c.in_ok-content.ensures.gives in
+    let added = string_read item c.args.texts (skip_blank c.chunks.rest.now) c.in_ok-content.content.items
+    c.in_ok-content.after.now found (chunk_list c.chunks.chunks) (chunk_list c.push.new.self)
+    (rw i.5 at c.in_ok-push.ensures.gives) in
+    rw added.1 (member_last read 41 (chunk_list c.chunks.chunks) i.0 c.chunks.rest.now
+    (read_members read 41 c.args.text.now) i.1 i.2 added.0 c.in_ok-content.after.now c.in-Some-after_end.end.now added.2
+    (sym c.in-Some-after_end.ensures.gives))
+
+pub strings::read_chunk_list-returns-in-Some-after_end-clause-well :
+    goal.strings::read_chunk_list-returns-in-Some-after_end-clause-well
+strings::read_chunk_list-returns-in-Some-after_end-clause-well t c =
+    let i = c.chunks.invariant in
+    (rw i.5 at c.in_ok-push.ensures.well) i.4
+
+pub strings::read_chunk_list-returns-in_err-rest-clause-gives :
+    goal.strings::read_chunk_list-returns-in_err-rest-clause-gives
+strings::read_chunk_list-returns-in_err-rest-clause-gives t c =
     let p = err_from_is_err_and c.from_residual-in_err-rest.result c.from_residual-in_err-rest.ensures.1 in
-    let read = read_chunk (read_item (129 - c.args.inner)) text_kind in
-    let close : ℕ = 41 in
-    let total = read_members read close c.args.text.now in
+    let item = read_item (129 - c.args.inner) in
+    let read = read_chunk item (kind_with c.args.texts) in
     let i = c.chunks.invariant in
-    rw (p.1, p.2) (no_comma read close (map text_chunk c.chunks.chunks.items) i.0 c.chunks.rest.now total i.1 i.2
-    (text_chunk c.in_ok-chunk.chunk) c.in_ok-chunk.after.now c.in_err-rest.field-0.0
-    (ap (read_string (read_item (129 - c.args.inner)) text_kind) (sym c.after_blank.ensures.gives)
-    ∙ c.in_ok-chunk.ensures.gives) (sym c.in_default-after_end.ensures.gives) c.in_err-rest.ensures.gives)
+    let found = ap (read_content item c.args.texts) (sym c.after_blank.ensures.gives) ∙ c.in_ok-content.ensures.gives in
+    let added = string_read item c.args.texts (skip_blank c.chunks.rest.now) c.in_ok-content.content.items
+    c.in_ok-content.after.now found (chunk_list c.chunks.chunks) (chunk_list c.push.new.self)
+    (rw i.5 at c.in_ok-push.ensures.gives) in
+    rw (p.1, p.2) (no_comma read 41 (chunk_list c.chunks.chunks) i.0 c.chunks.rest.now
+    (read_members read 41 c.args.text.now) i.1 i.2 added.0 c.in_ok-content.after.now c.in_err-rest.field-0.0 added.2
+    (sym c.in_default-after_end.ensures.gives) c.in_err-rest.ensures.gives)
 
-pub strings::read_text_chunks-chunks-preserved : goal.strings::read_text_chunks-chunks-preserved
-strings::read_text_chunks-chunks-preserved t c =
-    let read = read_chunk (read_item (129 - c.args.inner)) text_kind in
-    let close : ℕ = 41 in
-    let total = read_members read close c.args.text.now in
+pub strings::read_chunk_list-chunks-preserved : goal.strings::read_chunk_list-chunks-preserved
+strings::read_chunk_list-chunks-preserved t c =
+    let item = read_item (129 - c.args.inner) in
+    let read = read_chunk item (kind_with c.args.texts) in
     let i = c.chunks.invariant in
-    let held = c.chunks.chunks.items in
-    let pushed : map text_chunk c.push.new.self.items ≡ map text_chunk held ++ (text_chunk c.in_ok-chunk.chunk) ∷ [] =
-    rw c.in_ok-push.ensures.items (map_push text_chunk held c.in_ok-chunk.chunk) in
-    let next = member_more read close (map text_chunk held) i.0 c.chunks.rest.now total i.1 i.2
-    (text_chunk c.in_ok-chunk.chunk) c.in_ok-chunk.after.now c.in_ok-rest.rest.now
-    (ap (read_string (read_item (129 - c.args.inner)) text_kind) (sym c.after_blank.ensures.gives)
-    ∙ c.in_ok-chunk.ensures.gives) (sym c.in_default-after_end.ensures.gives) c.in_ok-rest.ensures.gives
-    (omega (arith, c.in_ok-chunk.ensures.shorter, c.after_blank.ensures.shorter)) c.in_ok-rest.ensures.shorter in (
+    let found = ap (read_content item c.args.texts) (sym c.after_blank.ensures.gives) ∙ c.in_ok-content.ensures.gives in
+    let added = string_read item c.args.texts (skip_blank c.chunks.rest.now) c.in_ok-content.content.items
+    c.in_ok-content.after.now found (chunk_list c.chunks.chunks) (chunk_list c.push.new.self)
+    (rw i.5 at c.in_ok-push.ensures.gives) in
+    let shorter : length c.in_ok-content.after.now ≤ length c.chunks.rest.now =
+    omega (arith, c.in_ok-content.ensures.shorter, c.after_blank.ensures.shorter) in
+    let next = member_more read 41 (chunk_list c.chunks.chunks) i.0 c.chunks.rest.now
+    (read_members read 41 c.args.text.now) i.1 i.2 added.0 c.in_ok-content.after.now c.in_ok-rest.rest.now added.2
+    (sym c.in_default-after_end.ensures.gives) c.in_ok-rest.ensures.gives shorter c.in_ok-rest.ensures.shorter in (
       next.0,
       next.1,
-      rw pushed next.2,
-      omega
-          (arith, c.in_ok-rest.ensures.shorter, c.in_ok-chunk.ensures.shorter, c.after_blank.ensures.shorter),
-      rw pushed (all_push IsTextChunk (map text_chunk held) (text_chunk c.in_ok-chunk.chunk) i.4
-          c.in_ok-chunk.ensures.well),
+      subst (λ cs. onto (λ xs. cs ++ xs) (members_from read 41 next.0 c.in_ok-rest.rest.now)
+          ≡ read_members read 41 c.args.text.now) (sym added.1) next.2,
+      omega (arith, c.in_ok-rest.ensures.shorter, shorter),
+      (rw i.5 at c.in_ok-push.ensures.well) i.4,
+      c.in_ok-push.ensures.kind ∙ i.5,
     )
+
+pub strings::read_chunks-returns-in_err-chunks-clause-gives :
+    goal.strings::read_chunks-returns-in_err-chunks-clause-gives
+strings::read_chunks-returns-in_err-chunks-clause-gives t c =
+    let p = err_from_is_err_and c.from_residual-in_err-chunks.result c.from_residual-in_err-chunks.ensures.1 in
+    rw (p.1, p.2) (no_chunks (read_item (129 - c.args.inner)) c.args.text.now c.in_ok-expect_byte.field-0.now
+    c.after_blank-first.result.now c.begins_string-texts.result c.in_ok-expect_byte.ensures.gives
+    c.after_blank-first.ensures.gives (c.begins_string-texts.ensures ∙ ap (begins_string true) c.of.ensures)
+    c.in_err-chunks.field-0.0 c.in_err-chunks.ensures.gives)
+
+pub strings::read_chunks-returns-clause-gives : goal.strings::read_chunks-returns-clause-gives
+strings::read_chunks-returns-clause-gives t c =
+    chunks_read (read_item (129 - c.args.inner)) c.args.text.now c.in_ok-expect_byte.field-0.now
+    c.after_blank-first.result.now c.begins_string-texts.result c.in_ok-expect_byte.ensures.gives
+    c.after_blank-first.ensures.gives (c.begins_string-texts.ensures ∙ ap (begins_string true) c.of.ensures)
+    (chunk_list c.in_ok-chunks.chunks) c.in_ok-chunks.rest.now (view c.into_item.result) c.in_ok-chunks.ensures.gives
+    (rw c.in_ok-chunks.ensures.kind at c.into_item.ensures)
+
+pub strings::read_chunks-returns-clause-well : goal.strings::read_chunks-returns-clause-well
+strings::read_chunks-returns-clause-well t c =
+    chunks_well (c.args.inner - 1) (kind_with c.begins_string-texts.result) (chunk_list c.in_ok-chunks.chunks)
+    (view c.into_item.result) (omega (arith, c.requires.high)) c.in_ok-chunks.ensures.well
+    (rw c.in_ok-chunks.ensures.kind at c.into_item.ensures)
 
 pub read_core-returns-in-Digit-clause-gives : goal.read_core-returns-in-Digit-clause-gives
 read_core-returns-in-Digit-clause-gives t c =
@@ -525,45 +493,6 @@ read_item-returns-clause-gives t c =
     ∙ ap (λ r. r >>= λ i. Ok (i.0, skip_blank i.1)) found
     ∙ ap (λ b. Ok (view c.in_ok-item.item, b)) (sym c.after_blank-2.ensures.gives)
 
-pub strings::read_piece-returns-in-Quote-clause-gives : goal.strings::read_piece-returns-in-Quote-clause-gives
-strings::read_piece-returns-in-Quote-clause-gives t c =
-    let read = read_item (129 - c.args.inner) in
-    rw (piece_by read c.args.text.now c.split-start.result.1.now start.Quote
-    (sym c.in-Quote.is ∙ c.split-start.ensures.start) c.split-start.ensures.rest) c.read_quoted.ensures.gives
-
-pub strings::read_piece-returns-in-Apostrophe-clause-gives : goal.strings::read_piece-returns-in-Apostrophe-clause-gives
-strings::read_piece-returns-in-Apostrophe-clause-gives t c =
-    let read = read_item (129 - c.args.inner) in
-    rw (piece_by read c.args.text.now c.split-start.result.1.now start.Apostrophe
-    (sym c.in-Apostrophe.is ∙ c.split-start.ensures.start) c.split-start.ensures.rest)
-    c.read_quoted-in-Apostrophe.ensures.gives
-
-pub strings::read_piece-returns-in-Angle-clause-gives : goal.strings::read_piece-returns-in-Angle-clause-gives
-strings::read_piece-returns-in-Angle-clause-gives t c =
-    let read = read_item (129 - c.args.inner) in
-    rw (piece_by read c.args.text.now c.split-start.result.1.now start.Angle
-    (sym c.in-Angle.is ∙ c.split-start.ensures.start) c.split-start.ensures.rest) c.read_embedded.ensures.gives
-
-pub strings::read_piece-returns-in-LetterB-clause-gives : goal.strings::read_piece-returns-in-LetterB-clause-gives
-strings::read_piece-returns-in-LetterB-clause-gives t c =
-    let read = read_item (129 - c.args.inner) in
-    rw (piece_by read c.args.text.now c.split-start.result.1.now start.LetterB
-    (sym c.in-LetterB.is ∙ c.split-start.ensures.start) c.split-start.ensures.rest) c.b_notation.ensures.gives
-
-pub strings::read_piece-returns-in-LetterH-clause-gives : goal.strings::read_piece-returns-in-LetterH-clause-gives
-strings::read_piece-returns-in-LetterH-clause-gives t c =
-    let read = read_item (129 - c.args.inner) in
-    rw (piece_by read c.args.text.now c.split-start.result.1.now start.LetterH
-    (sym c.in-LetterH.is ∙ c.split-start.ensures.start) c.split-start.ensures.rest) c.h_notation.ensures.gives
-
-pub strings::read_piece-returns-in_default-clause-gives : goal.strings::read_piece-returns-in_default-clause-gives
-strings::read_piece-returns-in_default-clause-gives t c =
-    let read = read_item (129 - c.args.inner) in
-    piece_by read c.args.text.now c.split-start.result.1.now c.split-start.result.0 c.split-start.ensures.start
-    c.split-start.ensures.rest
-    ∙ no_piece read c.split-start.result.1.now c.split-start.result.0 c.in_default.not-Quote c.in_default.not-Apostrophe
-    c.in_default.not-Angle c.in_default.not-LetterB c.in_default.not-LetterH
-
 pub strings::read_pieces-pieces-init : goal.strings::read_pieces-pieces-init
 strings::read_pieces-pieces-init t c =
     let begun = pieces_begin (read_item (129 - c.args.inner)) c.args.texts c.args.text.now c.new-content.result.items
@@ -614,43 +543,3 @@ strings::read_content-returns-clause-gives t c =
     rw (content_by (read_item (129 - c.args.inner)) c.args.texts c.args.text.now true
     (sym (c.begins_string.ensures ∙ ap (begins_string c.args.texts) c.of.ensures) ∙ c.if-not-begins_string.false))
     c.read_pieces.ensures.gives
-
-pub strings::read_byte_string-returns-in_err-content-clause-gives :
-    goal.strings::read_byte_string-returns-in_err-content-clause-gives
-strings::read_byte_string-returns-in_err-content-clause-gives t c =
-    let p = err_from_is_err_and c.from_residual.result c.from_residual.ensures.1 in
-    rw (p.1, p.2) (no_content (read_item (129 - c.args.inner)) bytes_kind c.args.text.now c.in_err-content.field-0.0
-    c.in_err-content.ensures.gives)
-
-pub strings::read_byte_string-returns-in_err-unstated-clause-gives :
-    goal.strings::read_byte_string-returns-in_err-unstated-clause-gives
-strings::read_byte_string-returns-in_err-unstated-clause-gives t c =
-    let p = err_from_is_err_and c.from_residual-in_err-unstated.result c.from_residual-in_err-unstated.ensures.1 in
-    rw (p.1, p.2) (no_string (read_item (129 - c.args.inner)) bytes_kind c.args.text.now c.in_ok-content.content.items
-    c.in_ok-content.rest.now c.in_ok-content.ensures.gives c.in_err-unstated.field-0.0 c.in_err-unstated.ensures.gives)
-
-pub strings::read_byte_string-returns-clause-gives : goal.strings::read_byte_string-returns-clause-gives
-strings::read_byte_string-returns-clause-gives t c =
-    string_read (read_item (129 - c.args.inner)) bytes_kind c.args.text.now c.in_ok-content.content.items
-    c.in_ok-content.rest.now c.in_ok-content.ensures.gives (byte_chunk c.in_ok-unstated.field-0)
-    c.in_ok-unstated.ensures.gives
-
-pub strings::read_text_string-returns-in_err-content-clause-gives :
-    goal.strings::read_text_string-returns-in_err-content-clause-gives
-strings::read_text_string-returns-in_err-content-clause-gives t c =
-    let p = err_from_is_err_and c.from_residual.result c.from_residual.ensures.1 in
-    rw (p.1, p.2) (no_content (read_item (129 - c.args.inner)) text_kind c.args.text.now c.in_err-content.field-0.0
-    c.in_err-content.ensures.gives)
-
-pub strings::read_text_string-returns-in_err-unstated-clause-gives :
-    goal.strings::read_text_string-returns-in_err-unstated-clause-gives
-strings::read_text_string-returns-in_err-unstated-clause-gives t c =
-    let p = err_from_is_err_and c.from_residual-in_err-unstated.result c.from_residual-in_err-unstated.ensures.1 in
-    rw (p.1, p.2) (no_string (read_item (129 - c.args.inner)) text_kind c.args.text.now c.in_ok-content.content.items
-    c.in_ok-content.rest.now c.in_ok-content.ensures.gives c.in_err-unstated.field-0.0 c.in_err-unstated.ensures.gives)
-
-pub strings::read_text_string-returns-clause-gives : goal.strings::read_text_string-returns-clause-gives
-strings::read_text_string-returns-clause-gives t c =
-    string_read (read_item (129 - c.args.inner)) text_kind c.args.text.now c.in_ok-content.content.items
-    c.in_ok-content.rest.now c.in_ok-content.ensures.gives (text_chunk c.in_ok-unstated.field-0)
-    c.in_ok-unstated.ensures.gives

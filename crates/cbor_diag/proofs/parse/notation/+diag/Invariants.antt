@@ -1,61 +1,52 @@
 use Rattle.std.proofs.Common.{◌≡◌, ℕ, suc, ◌+◌, ◌-◌, ◌*◌, ◌<◌, ◌≤◌, ◌++◌, length, map}
 use Rattle.std.specs.List.{AllByRecursion}
-use Rattle.cbor_diag.specs.View.{view, items_view, pairs_view, byte_chunk, text_chunk}
-use Rattle.cbor_diag.specs.WellFormed.{WellFormedItems, WellFormedPairs, IsByteChunk, IsTextChunk}
-use Rattle.cbor_diag.specs.StringKind.{bytes_kind, text_kind}
+use Rattle.cbor_diag.specs.View.{view, items_view, pairs_view}
+use Rattle.cbor_diag.specs.WellFormed.{WellFormedItems, WellFormedPairs, IsChunk}
 use Rattle.cbor_diag.specs.mirror.NotationReading.{read_item, read_pair, read_chunk, read_members, members_from}
-use Rattle.cbor_diag.specs.mirror.NotationReading.{read_pieces}
+use Rattle.cbor_diag.specs.mirror.NotationReading.{kind_with, read_pieces}
+use Rattle.cbor_diag.specs.mirror.StringView.{chunk_list, list_kind}
 use Rattle.cbor_diag.proofs.notation.ChunkLoops.{onto}
 use Rattle.cbor_diag.proofs.parse.notation.+diag.Given as goal
 
 -- Each level is deeper than the one before. At one level a call is for less than the one that it is made by.
 abbrev pub decreases-read_item : goal.decreases-read_item
-decreases-read_item l = (130 - l.level) * 10
+decreases-read_item l = (130 - l.level) * 9
 
 abbrev pub decreases-integer_or_tag : goal.decreases-integer_or_tag
-decreases-integer_or_tag l = (130 - l.inner) * 10 + 1
+decreases-integer_or_tag l = (130 - l.inner) * 9 + 1
 
 abbrev pub decreases-read_items : goal.decreases-read_items
-decreases-read_items l = (130 - l.level) * 10 + 1
+decreases-read_items l = (130 - l.level) * 9 + 1
 
 abbrev pub decreases-read_pairs : goal.decreases-read_pairs
-decreases-read_pairs l = (130 - l.level) * 10 + 1
+decreases-read_pairs l = (130 - l.level) * 9 + 1
 
 abbrev pub decreases-strings::read_embedded : goal.decreases-strings::read_embedded
-decreases-strings::read_embedded l = (130 - l.inner) * 10 + 2
+decreases-strings::read_embedded l = (130 - l.inner) * 9 + 2
 
 abbrev pub decreases-strings::read_piece : goal.decreases-strings::read_piece
-decreases-strings::read_piece l = (130 - l.inner) * 10 + 3
+decreases-strings::read_piece l = (130 - l.inner) * 9 + 3
 
 abbrev pub decreases-strings::read_pieces : goal.decreases-strings::read_pieces
-decreases-strings::read_pieces l = (130 - l.inner) * 10 + 4
+decreases-strings::read_pieces l = (130 - l.inner) * 9 + 4
 
 abbrev pub decreases-strings::read_content : goal.decreases-strings::read_content
-decreases-strings::read_content l = (130 - l.inner) * 10 + 5
-
-abbrev pub decreases-strings::read_byte_string : goal.decreases-strings::read_byte_string
-decreases-strings::read_byte_string l = (130 - l.inner) * 10 + 6
-
-abbrev pub decreases-strings::read_text_string : goal.decreases-strings::read_text_string
-decreases-strings::read_text_string l = (130 - l.inner) * 10 + 6
+decreases-strings::read_content l = (130 - l.inner) * 9 + 5
 
 abbrev pub decreases-strings::read_byte_item : goal.decreases-strings::read_byte_item
-decreases-strings::read_byte_item l = (130 - l.inner) * 10 + 7
+decreases-strings::read_byte_item l = (130 - l.inner) * 9 + 6
 
 abbrev pub decreases-strings::read_text_item : goal.decreases-strings::read_text_item
-decreases-strings::read_text_item l = (130 - l.inner) * 10 + 7
+decreases-strings::read_text_item l = (130 - l.inner) * 9 + 6
 
-abbrev pub decreases-strings::read_byte_chunks : goal.decreases-strings::read_byte_chunks
-decreases-strings::read_byte_chunks l = (130 - l.inner) * 10 + 7
-
-abbrev pub decreases-strings::read_text_chunks : goal.decreases-strings::read_text_chunks
-decreases-strings::read_text_chunks l = (130 - l.inner) * 10 + 7
+abbrev pub decreases-strings::read_chunk_list : goal.decreases-strings::read_chunk_list
+decreases-strings::read_chunk_list l = (130 - l.inner) * 9 + 6
 
 abbrev pub decreases-strings::read_chunks : goal.decreases-strings::read_chunks
-decreases-strings::read_chunks l = (130 - l.inner) * 10 + 8
+decreases-strings::read_chunks l = (130 - l.inner) * 9 + 7
 
 abbrev pub decreases-read_core : goal.decreases-read_core
-decreases-read_core l = (130 - l.inner) * 10 + 9
+decreases-read_core l = (130 - l.inner) * 9 + 8
 
 abbrev pub decreases-read_items-items : goal.decreases-read_items-items
 decreases-read_items-items l = length l.rest
@@ -86,22 +77,13 @@ invariant-strings::read_pieces-pieces l =
     (n : ℕ) × (length l.rest < n) × (onto (λ xs. l.content.items ++ xs) (read_pieces read l.texts n l.rest)
     ≡ read_pieces read l.texts (suc (length l.text)) l.text) × (length l.rest ≤ length l.text)
 
-abbrev pub decreases-strings::read_byte_chunks-chunks : goal.decreases-strings::read_byte_chunks-chunks
-decreases-strings::read_byte_chunks-chunks l = length l.rest
+abbrev pub decreases-strings::read_chunk_list-chunks : goal.decreases-strings::read_chunk_list-chunks
+decreases-strings::read_chunk_list-chunks l = length l.rest
 
-abbrev pub invariant-strings::read_byte_chunks-chunks : goal.invariant-strings::read_byte_chunks-chunks
-invariant-strings::read_byte_chunks-chunks l =
-    let read = read_chunk (read_item (129 - l.inner)) bytes_kind in
-    (n : ℕ) × (length l.rest < n) × (onto (λ xs. map byte_chunk l.chunks.items ++ xs) (members_from read 41 n l.rest)
+abbrev pub invariant-strings::read_chunk_list-chunks : goal.invariant-strings::read_chunk_list-chunks
+invariant-strings::read_chunk_list-chunks l =
+    let kind = kind_with l.texts in
+    let read = read_chunk (read_item (129 - l.inner)) kind in
+    (n : ℕ) × (length l.rest < n) × (onto (λ xs. chunk_list l.chunks ++ xs) (members_from read 41 n l.rest)
     ≡ read_members read 41 l.text) × (length l.rest ≤ length l.text)
-    × AllByRecursion IsByteChunk (map byte_chunk l.chunks.items)
-
-abbrev pub decreases-strings::read_text_chunks-chunks : goal.decreases-strings::read_text_chunks-chunks
-decreases-strings::read_text_chunks-chunks l = length l.rest
-
-abbrev pub invariant-strings::read_text_chunks-chunks : goal.invariant-strings::read_text_chunks-chunks
-invariant-strings::read_text_chunks-chunks l =
-    let read = read_chunk (read_item (129 - l.inner)) text_kind in
-    (n : ℕ) × (length l.rest < n) × (onto (λ xs. map text_chunk l.chunks.items ++ xs) (members_from read 41 n l.rest)
-    ≡ read_members read 41 l.text) × (length l.rest ≤ length l.text)
-    × AllByRecursion IsTextChunk (map text_chunk l.chunks.items)
+    × AllByRecursion (IsChunk kind) (chunk_list l.chunks) × (list_kind l.chunks ≡ kind)
