@@ -75,30 +75,31 @@ no_chunk made cs rest refusal.Memory h = tt
 no_chunk (Err d) cs rest e h = let same : d ≡ e = cc in ap (λ x. Err x) same
 no_chunk (Ok c) cs rest e h = absurd cc
 
-module _ (read : List ℕ → Read Item) (texts : Bool) (text : List ℕ) where
-  by_content : read_string read (kind_with texts) text
-      ≡ (read_content read texts text >>= λ x. checked (kind_with texts) x.0 >>= λ c. Ok (c, x.1))
-  by_content = by_texts read texts text
+module _ (read : List ℕ → Read Item) (texts : Bool) (text first : List ℕ) (blank : first ≡ skip_blank text) where
+  by_content : read_chunk read (kind_with texts) text
+      ≡ (read_content read texts first >>= λ x. checked (kind_with texts) x.0 >>= λ c. Ok (c, x.1))
+  by_content = ap (read_string read (kind_with texts)) (sym blank) ∙ by_texts read texts first
 
-  pub no_content : (e : Error) → Fails e (read_content read texts text) → Fails e (read_string read (kind_with texts) text)
-  no_content e h = subst (λ r. Fails e r) (sym by_content) (Fails-bind e (read_content read texts text)
+  pub no_content : (e : Error) → Fails e (read_content read texts first) → Fails e (read_chunk read (kind_with texts) text)
+  no_content e h = subst (λ r. Fails e r) (sym by_content) (Fails-bind e (read_content read texts first)
       (λ x. checked (kind_with texts) x.0 >>= λ c. Ok (c, x.1)) h)
 
-  module _ (content rest : List ℕ) (found : read_content read texts text ≡ Ok (content, rest)) where
-    from_content : read_string read (kind_with texts) text ≡ (checked (kind_with texts) content >>= λ c. Ok (c, rest))
+  module _ (content rest : List ℕ) (found : read_content read texts first ≡ Ok (content, rest)) (kind : StringKind)
+      (cs : List Chunk) (same : kind ≡ kind_with texts) where
+    from_content : read_chunk read (kind_with texts) text ≡ (checked kind content >>= λ c. Ok (c, rest))
     from_content = by_content ∙ ap (λ r. r >>= λ x. checked (kind_with texts) x.0 >>= λ c. Ok (c, x.1)) found
+        ∙ ap (λ k. checked k content >>= λ c. Ok (c, rest)) (sym same)
 
     -- a chunk of this content cannot be added
-    pub no_string : (cs : List Chunk) (e : Error) → Fails e (with_chunk (kind_with texts) cs content)
-        → Fails e (read_string read (kind_with texts) text)
-    no_string cs e h = subst (λ r. Fails e r) (sym from_content) (no_chunk (checked (kind_with texts) content) cs rest e h)
+    pub no_string : (e : Error) → Fails e (with_chunk kind cs content) → Fails e (read_chunk read (kind_with texts) text)
+    no_string e h = subst (λ r. Fails e r) (sym from_content) (no_chunk (checked kind content) cs rest e h)
 
     -- a chunk of this content was added
-    pub string_read : (before after : List Chunk) → with_chunk (kind_with texts) before content ≡ Ok after
-        → (c : Chunk) × (after ≡ before ++ c ∷ []) × (read_string read (kind_with texts) text ≡ Ok (c, rest))
-    string_read before after e =
-        let made = bind_ok (checked (kind_with texts) content) (λ c. Ok (before ++ c ∷ [])) after e in
-        (made.0, sym (ok_is (before ++ made.0 ∷ []) after made.2), from_content
+    pub string_read : (after : List Chunk) → with_chunk kind cs content ≡ Ok after
+        → (c : Chunk) × (after ≡ cs ++ c ∷ []) × (read_chunk read (kind_with texts) text ≡ Ok (c, rest))
+    string_read after e =
+        let made = bind_ok (checked kind content) (λ c. Ok (cs ++ c ∷ [])) after e in
+        (made.0, sym (ok_is (cs ++ made.0 ∷ []) after made.2), from_content
         ∙ ap (λ r. r >>= λ c. Ok (c, rest)) made.1)
 
 -- an indefinite string, from its chunks

@@ -11,10 +11,13 @@ use Rattle.cbor_diag.proofs.notation.ChunkLoops.{Fails-bind, onto, onto_fails}
 -- ---- the members of a list
 
 -- a list that is closed before any member
-pub members_closed : {X : Type 0} (read : List ℕ → Read X) (close : ℕ) (text after : List ℕ)
-    → after_end close (skip_blank text) ≡ Some after → read_members read close text ≡ Ok ([], after)
+pub members_closed : {X : Type 0} (read : List ℕ → Read X) (close : ℕ) (text rest after : List ℕ) (front : List X)
+    → front ≡ [] → rest ≡ skip_blank text → after_end close rest ≡ Some after
+    → read_members read close text ≡ Ok (front, after)
 unfolding read_members
-members_closed read close text after e = ap (members_or_end read close (skip_blank text)) e
+members_closed read close text rest after front none blank e =
+    ap (λ b. members_or_end read close b (after_end close b)) (sym blank) ∙ ap (members_or_end read close rest) e
+    ∙ ap (λ f. Ok (f, after)) (sym none)
 
 -- before the first member
 pub members_begin : {X : Type 0} (read : List ℕ → Read X) (close : ℕ) (text rest : List ℕ) (front : List X) → front ≡ []

@@ -1,14 +1,12 @@
 use Rattle.std.proofs.Common.{◌≡◌, ℕ, suc, ◌+◌, ◌-◌, ◌≤◌, ◌++◌, ◌∷◌, [], true, false, Ok, length, map, Some, sym, ap}
 use Rattle.std.proofs.Common.{subst, ◌∙◌, arith}
-use Rattle.std.proofs.lemmas.Result.{err_from_is_err_and}
 use Rattle.std.proofs.lemmas.List.{map_push}
+use Rattle.std.proofs.lemmas.Result.{err_from_is_err_and}
 use Rattle.cbor_diag.specs.declared.parse.notation.start.Start.TheVariants as start
 use Rattle.cbor_diag.specs.declared.syntax.DataItem.{DataItem}
 use Rattle.cbor_diag.specs.Item as spec
 use Rattle.cbor_diag.specs.Item.{Item, atom, negative, array, byte_chunks, text_chunks}
 use Rattle.cbor_diag.specs.View.{view, items_of, pairs_of, items_view, pairs_view, byte_chunk, text_chunk}
-use Rattle.cbor_diag.specs.WellFormed.{IsByteChunk, IsTextChunk}
-use Rattle.cbor_diag.specs.StringKind.{bytes_kind, text_kind}
 use Rattle.cbor_diag.specs.Reading.{◌>>=◌, Fails}
 use Rattle.cbor_diag.specs.mirror.NotationReading.{skip_blank, after_end, read_negative_number, read_length, read_pair}
 use Rattle.cbor_diag.specs.mirror.NotationReading.{read_chunk, read_item, read_core, read_members, read_pieces, checked}
@@ -27,17 +25,14 @@ use Rattle.cbor_diag.proofs.parse.notation.+diag.Goals as goal
 
 pub read_items-returns-in-Some-clause-gives : goal.read_items-returns-in-Some-clause-gives
 read_items-returns-in-Some-clause-gives t c =
-    let read = read_item (129 - c.args.level) in
-    let close : ℕ = c.args.close in
-    let ended : after_end close (skip_blank c.args.text.now) ≡ Some c.in-Some.after.now =
-    ap (after_end close) (sym c.after_blank-rest.ensures.gives) ∙ sym c.in-Some.ensures.gives in
-    rw c.new.ensures.items (members_closed read close c.args.text.now c.in-Some.after.now ended)
+    members_closed (read_item (129 - c.args.level)) c.args.close c.args.text.now c.after_blank-rest.result.now
+    c.in-Some.after.now (map view c.new.result.items) (ap (map view) c.new.ensures.items)
+    c.after_blank-rest.ensures.gives (sym c.in-Some.ensures.gives)
 
 pub read_items-items-init : goal.read_items-items-init
 read_items-items-init t c =
     let read = read_item (129 - c.args.level) in
-    let close : ℕ = c.args.close in
-    let begun = members_begin read close c.args.text.now c.after_blank-rest.result.now
+    let begun = members_begin read c.args.close c.args.text.now c.after_blank-rest.result.now
     (map view c.in_ok-items.items.items) (ap (map view) c.in_ok-items.ensures.items)
     c.after_blank-rest.ensures.gives (sym c.in_default.ensures.gives) in
     (begun.0, begun.1, begun.2, c.after_blank-rest.ensures.shorter, rw c.in_ok-items.ensures.items tt)
@@ -46,22 +41,20 @@ pub read_items-returns-in_err-item-clause-gives : goal.read_items-returns-in_err
 read_items-returns-in_err-item-clause-gives t c =
     let p = err_from_is_err_and c.from_residual-in_err-item.result c.from_residual-in_err-item.ensures.1 in
     let read = read_item (129 - c.args.level) in
-    let close : ℕ = c.args.close in
-    let total = read_members read close c.args.text.now in
     let i = c.items.invariant in
-    rw (p.1, p.2) (member_fails read close (map view c.items.items.items) i.0 c.items.rest.now total i.1 i.2
+    rw (p.1, p.2) (member_fails read c.args.close (map view c.items.items.items) i.0 c.items.rest.now (read_members
+    read c.args.close c.args.text.now) i.1 i.2
     c.in_err-item.field-0.0 c.in_err-item.ensures.gives)
 
 pub read_items-returns-in-Some-after_end-clause-gives : goal.read_items-returns-in-Some-after_end-clause-gives
 read_items-returns-in-Some-after_end-clause-gives t c =
     let read = read_item (129 - c.args.level) in
-    let close : ℕ = c.args.close in
-    let total = read_members read close c.args.text.now in
     let i = c.items.invariant in
     let held = c.items.items.items in
     let pushed : map view c.push.new.self.items ≡ map view held ++ (view c.in_ok-item.item) ∷ [] =
     rw c.in_ok-push.ensures.items (map_push view held c.in_ok-item.item) in
-    rw pushed (member_last read close (map view held) i.0 c.items.rest.now total i.1 i.2 (view c.in_ok-item.item)
+    rw pushed (member_last read c.args.close (map view held) i.0 c.items.rest.now (read_members read c.args.close
+    c.args.text.now) i.1 i.2 (view c.in_ok-item.item)
     c.in_ok-item.after.now c.in-Some-after_end.end.now c.in_ok-item.ensures.gives
     (sym c.in-Some-after_end.ensures.gives))
 
@@ -69,23 +62,21 @@ pub read_items-returns-in_err-rest-clause-gives : goal.read_items-returns-in_err
 read_items-returns-in_err-rest-clause-gives t c =
     let p = err_from_is_err_and c.from_residual-in_err-rest.result c.from_residual-in_err-rest.ensures.1 in
     let read = read_item (129 - c.args.level) in
-    let close : ℕ = c.args.close in
-    let total = read_members read close c.args.text.now in
     let i = c.items.invariant in
-    rw (p.1, p.2) (no_comma read close (map view c.items.items.items) i.0 c.items.rest.now total i.1 i.2
+    rw (p.1, p.2) (no_comma read c.args.close (map view c.items.items.items) i.0 c.items.rest.now (read_members read
+    c.args.close c.args.text.now) i.1 i.2
     (view c.in_ok-item.item) c.in_ok-item.after.now c.in_err-rest.field-0.0 c.in_ok-item.ensures.gives
     (sym c.in_default-after_end.ensures.gives) c.in_err-rest.ensures.gives)
 
 pub read_items-items-preserved : goal.read_items-items-preserved
 read_items-items-preserved t c =
     let read = read_item (129 - c.args.level) in
-    let close : ℕ = c.args.close in
-    let total = read_members read close c.args.text.now in
     let i = c.items.invariant in
     let held = c.items.items.items in
     let pushed : map view c.push.new.self.items ≡ map view held ++ (view c.in_ok-item.item) ∷ [] =
     rw c.in_ok-push.ensures.items (map_push view held c.in_ok-item.item) in
-    let next = member_more read close (map view held) i.0 c.items.rest.now total i.1 i.2 (view c.in_ok-item.item)
+    let next = member_more read c.args.close (map view held) i.0 c.items.rest.now (read_members read c.args.close
+    c.args.text.now) i.1 i.2 (view c.in_ok-item.item)
     c.in_ok-item.after.now c.in_ok-rest.rest.now c.in_ok-item.ensures.gives
     (sym c.in_default-after_end.ensures.gives) c.in_ok-rest.ensures.gives c.in_ok-item.ensures.shorter
     c.in_ok-rest.ensures.shorter in (
@@ -103,17 +94,14 @@ read_items-returns-in-Some-after_end-clause-well t c =
 
 pub read_pairs-returns-in-Some-clause-gives : goal.read_pairs-returns-in-Some-clause-gives
 read_pairs-returns-in-Some-clause-gives t c =
-    let read = read_pair (read_item (129 - c.args.level)) in
-    let close : ℕ = 125 in
-    let ended : after_end close (skip_blank c.args.text.now) ≡ Some c.in-Some.after.now =
-    ap (after_end close) (sym c.after_blank-rest.ensures.gives) ∙ sym c.in-Some.ensures.gives in
-    rw c.new.ensures.items (members_closed read close c.args.text.now c.in-Some.after.now ended)
+    members_closed (read_pair (read_item (129 - c.args.level))) 125 c.args.text.now c.after_blank-rest.result.now
+    c.in-Some.after.now (map pair_view c.new.result.items) (ap (map pair_view) c.new.ensures.items)
+    c.after_blank-rest.ensures.gives (sym c.in-Some.ensures.gives)
 
 pub read_pairs-pairs-init : goal.read_pairs-pairs-init
 read_pairs-pairs-init t c =
     let read = read_pair (read_item (129 - c.args.level)) in
-    let close : ℕ = 125 in
-    let begun = members_begin read close c.args.text.now c.after_blank-rest.result.now
+    let begun = members_begin read 125 c.args.text.now c.after_blank-rest.result.now
     (map pair_view c.in_ok-pairs.pairs.items) (ap (map pair_view) c.in_ok-pairs.ensures.items)
     c.after_blank-rest.ensures.gives (sym c.in_default.ensures.gives) in
     (begun.0, begun.1, begun.2, c.after_blank-rest.ensures.shorter, rw c.in_ok-pairs.ensures.items tt)
@@ -122,18 +110,18 @@ pub read_pairs-returns-in_err-key-clause-gives : goal.read_pairs-returns-in_err-
 read_pairs-returns-in_err-key-clause-gives t c =
     let p = err_from_is_err_and c.from_residual-in_err-key.result c.from_residual-in_err-key.ensures.1 in
     let item = read_item (129 - c.args.level) in
-    let total = read_members (read_pair item) 125 c.args.text.now in
     let i = c.pairs.invariant in
-    rw (p.1, p.2) (member_fails (read_pair item) 125 (map pair_view c.pairs.pairs.items) i.0 c.pairs.rest.now total i.1
+    rw (p.1, p.2) (member_fails (read_pair item) 125 (map pair_view c.pairs.pairs.items) i.0 c.pairs.rest.now
+    (read_members (read_pair item) 125 c.args.text.now) i.1
     i.2 c.in_err-key.field-0.0 (no_key item c.pairs.rest.now c.in_err-key.field-0.0 c.in_err-key.ensures.gives))
 
 pub read_pairs-returns-in_err-next-clause-gives : goal.read_pairs-returns-in_err-next-clause-gives
 read_pairs-returns-in_err-next-clause-gives t c =
     let p = err_from_is_err_and c.from_residual-in_err-next.result c.from_residual-in_err-next.ensures.1 in
     let item = read_item (129 - c.args.level) in
-    let total = read_members (read_pair item) 125 c.args.text.now in
     let i = c.pairs.invariant in
-    rw (p.1, p.2) (member_fails (read_pair item) 125 (map pair_view c.pairs.pairs.items) i.0 c.pairs.rest.now total i.1
+    rw (p.1, p.2) (member_fails (read_pair item) 125 (map pair_view c.pairs.pairs.items) i.0 c.pairs.rest.now
+    (read_members (read_pair item) 125 c.args.text.now) i.1
     i.2 c.in_err-next.field-0.0 (no_colon item c.pairs.rest.now (view c.in_ok-key.key) c.in_ok-key.behind.now
     c.in_ok-key.ensures.gives c.in_err-next.field-0.0 c.in_err-next.ensures.gives))
 
@@ -141,9 +129,9 @@ pub read_pairs-returns-in_err-value-clause-gives : goal.read_pairs-returns-in_er
 read_pairs-returns-in_err-value-clause-gives t c =
     let p = err_from_is_err_and c.from_residual-in_err-value.result c.from_residual-in_err-value.ensures.1 in
     let item = read_item (129 - c.args.level) in
-    let total = read_members (read_pair item) 125 c.args.text.now in
     let i = c.pairs.invariant in
-    rw (p.1, p.2) (member_fails (read_pair item) 125 (map pair_view c.pairs.pairs.items) i.0 c.pairs.rest.now total i.1
+    rw (p.1, p.2) (member_fails (read_pair item) 125 (map pair_view c.pairs.pairs.items) i.0 c.pairs.rest.now
+    (read_members (read_pair item) 125 c.args.text.now) i.1
     i.2 c.in_err-value.field-0.0 (no_value item c.pairs.rest.now (view c.in_ok-key.key) c.in_ok-key.behind.now
     c.in_ok-key.ensures.gives c.in_ok-next.next.now c.in_ok-next.ensures.gives c.in_err-value.field-0.0
     c.in_err-value.ensures.gives))
@@ -151,7 +139,6 @@ read_pairs-returns-in_err-value-clause-gives t c =
 pub read_pairs-returns-in-Some-after_end-clause-gives : goal.read_pairs-returns-in-Some-after_end-clause-gives
 read_pairs-returns-in-Some-after_end-clause-gives t c =
     let item = read_item (129 - c.args.level) in
-    let total = read_members (read_pair item) 125 c.args.text.now in
     let i = c.pairs.invariant in
     let held = c.pairs.pairs.items in
     let p : DataItem × DataItem = (c.in_ok-key.key, c.in_ok-value.value) in
@@ -160,26 +147,26 @@ read_pairs-returns-in-Some-after_end-clause-gives t c =
     c.in_ok-value.ensures.gives in
     let pushed : map pair_view c.push.new.self.items ≡ map pair_view held ++ pair_view p ∷ [] =
     rw c.in_ok-push.ensures.items (map_push pair_view held p) in
-    rw pushed (member_last (read_pair item) 125 (map pair_view held) i.0 c.pairs.rest.now total i.1 i.2 (pair_view p)
+    rw pushed (member_last (read_pair item) 125 (map pair_view held) i.0 c.pairs.rest.now (read_members (read_pair
+    item) 125 c.args.text.now) i.1 i.2 (pair_view p)
     c.in_ok-value.after.now c.in-Some-after_end.end.now read (sym c.in-Some-after_end.ensures.gives))
 
 pub read_pairs-returns-in_err-rest-clause-gives : goal.read_pairs-returns-in_err-rest-clause-gives
 read_pairs-returns-in_err-rest-clause-gives t c =
     let p = err_from_is_err_and c.from_residual-in_err-rest.result c.from_residual-in_err-rest.ensures.1 in
     let item = read_item (129 - c.args.level) in
-    let total = read_members (read_pair item) 125 c.args.text.now in
     let i = c.pairs.invariant in
     let read = pair_read item c.pairs.rest.now (view c.in_ok-key.key) c.in_ok-key.behind.now c.in_ok-key.ensures.gives
     c.in_ok-next.next.now c.in_ok-next.ensures.gives (view c.in_ok-value.value) c.in_ok-value.after.now
     c.in_ok-value.ensures.gives in
-    rw (p.1, p.2) (no_comma (read_pair item) 125 (map pair_view c.pairs.pairs.items) i.0 c.pairs.rest.now total i.1 i.2
+    rw (p.1, p.2) (no_comma (read_pair item) 125 (map pair_view c.pairs.pairs.items) i.0 c.pairs.rest.now (read_members
+    (read_pair item) 125 c.args.text.now) i.1 i.2
     (view c.in_ok-key.key, view c.in_ok-value.value) c.in_ok-value.after.now c.in_err-rest.field-0.0 read
     (sym c.in_default-after_end.ensures.gives) c.in_err-rest.ensures.gives)
 
 pub read_pairs-pairs-preserved : goal.read_pairs-pairs-preserved
 read_pairs-pairs-preserved t c =
     let item = read_item (129 - c.args.level) in
-    let total = read_members (read_pair item) 125 c.args.text.now in
     let i = c.pairs.invariant in
     let held = c.pairs.pairs.items in
     let p : DataItem × DataItem = (c.in_ok-key.key, c.in_ok-value.value) in
@@ -190,7 +177,8 @@ read_pairs-pairs-preserved t c =
     omega (arith, c.in_ok-key.ensures.shorter, c.in_ok-next.ensures.shorter, c.in_ok-value.ensures.shorter) in
     let pushed : map pair_view c.push.new.self.items ≡ map pair_view held ++ pair_view p ∷ [] =
     rw c.in_ok-push.ensures.items (map_push pair_view held p) in
-    let next = member_more (read_pair item) 125 (map pair_view held) i.0 c.pairs.rest.now total i.1 i.2 (pair_view p)
+    let next = member_more (read_pair item) 125 (map pair_view held) i.0 c.pairs.rest.now (read_members (read_pair
+    item) 125 c.args.text.now) i.1 i.2 (pair_view p)
     c.in_ok-value.after.now c.in_ok-rest.rest.now read (sym c.in_default-after_end.ensures.gives)
     c.in_ok-rest.ensures.gives shorter c.in_ok-rest.ensures.shorter in (
       next.0,
@@ -208,11 +196,9 @@ read_pairs-returns-in-Some-after_end-clause-well t c =
 
 pub strings::read_chunk_list-returns-in-Some-clause-gives : goal.strings::read_chunk_list-returns-in-Some-clause-gives
 strings::read_chunk_list-returns-in-Some-clause-gives t c =
-    let read = read_chunk (read_item (129 - c.args.inner)) (kind_with c.args.texts) in
-    let close : ℕ = 41 in
-    let ended : after_end close (skip_blank c.args.text.now) ≡ Some c.in-Some.after.now =
-    ap (after_end close) (sym c.after_blank-rest.ensures.gives) ∙ sym c.in-Some.ensures.gives in
-    rw c.new-chunks.ensures.none (members_closed read close c.args.text.now c.in-Some.after.now ended)
+    members_closed (read_chunk (read_item (129 - c.args.inner)) (kind_with c.args.texts)) 41 c.args.text.now
+    c.after_blank-rest.result.now c.in-Some.after.now (chunk_list c.new-chunks.result) c.new-chunks.ensures.none
+    c.after_blank-rest.ensures.gives (sym c.in-Some.ensures.gives)
 
 pub strings::read_chunk_list-chunks-init : goal.strings::read_chunk_list-chunks-init
 strings::read_chunk_list-chunks-init t c =
@@ -234,11 +220,10 @@ strings::read_chunk_list-returns-in_err-content-clause-gives t c =
     let item = read_item (129 - c.args.inner) in
     let read = read_chunk item (kind_with c.args.texts) in
     let i = c.chunks.invariant in
-    rw (p.1, p.2) (member_fails read 41 (chunk_list c.chunks.chunks) i.0 c.chunks.rest.now
-    (read_members read 41 c.args.text.now) i.1 i.2 c.in_err-content.field-0.0
-    (no_content item c.args.texts (skip_blank c.chunks.rest.now) c.in_err-content.field-0.0
-    (subst (λ b. Fails c.in_err-content.field-0.0 (read_content item c.args.texts b)) c.after_blank.ensures.gives
-    c.in_err-content.ensures.gives)))
+    rw (p.1, p.2) (member_fails read 41 (chunk_list c.chunks.chunks) i.0
+    c.chunks.rest.now (read_members read 41 c.args.text.now) i.1 i.2 c.in_err-content.field-0.0
+    (no_content item c.args.texts c.chunks.rest.now c.after_blank.result.now c.after_blank.ensures.gives
+    c.in_err-content.field-0.0 c.in_err-content.ensures.gives))
 
 pub strings::read_chunk_list-returns-in_err-push-clause-gives :
     goal.strings::read_chunk_list-returns-in_err-push-clause-gives
@@ -247,12 +232,12 @@ strings::read_chunk_list-returns-in_err-push-clause-gives t c =
     let item = read_item (129 - c.args.inner) in
     let read = read_chunk item (kind_with c.args.texts) in
     let i = c.chunks.invariant in
-    let found = ap (read_content item c.args.texts) (sym c.after_blank.ensures.gives) ∙ c.in_ok-content.ensures.gives in
-    let refused = rw i.5 at c.in_err-push.ensures.gives in
-    rw (p.1, p.2) (member_fails read 41 (chunk_list c.chunks.chunks) i.0 c.chunks.rest.now
-    (read_members read 41 c.args.text.now) i.1 i.2 c.in_err-push.field-0.0
-    (no_string item c.args.texts (skip_blank c.chunks.rest.now) c.in_ok-content.content.items
-    c.in_ok-content.after.now found (chunk_list c.chunks.chunks) c.in_err-push.field-0.0 refused))
+    rw (p.1, p.2) (member_fails read 41
+    (chunk_list c.chunks.chunks) i.0 c.chunks.rest.now (read_members read 41 c.args.text.now) i.1 i.2
+    c.in_err-push.field-0.0 (no_string item c.args.texts c.chunks.rest.now c.after_blank.result.now
+    c.after_blank.ensures.gives c.in_ok-content.content.items c.in_ok-content.after.now
+    c.in_ok-content.ensures.gives (list_kind c.chunks.chunks) (chunk_list c.chunks.chunks) i.5
+    c.in_err-push.field-0.0 c.in_err-push.ensures.gives))
 
 pub strings::read_chunk_list-returns-in-Some-after_end-clause-gives :
     goal.strings::read_chunk_list-returns-in-Some-after_end-clause-gives
@@ -260,10 +245,10 @@ strings::read_chunk_list-returns-in-Some-after_end-clause-gives t c =
     let item = read_item (129 - c.args.inner) in
     let read = read_chunk item (kind_with c.args.texts) in
     let i = c.chunks.invariant in
-    let found = ap (read_content item c.args.texts) (sym c.after_blank.ensures.gives) ∙ c.in_ok-content.ensures.gives in
-    let added = string_read item c.args.texts (skip_blank c.chunks.rest.now) c.in_ok-content.content.items
-    c.in_ok-content.after.now found (chunk_list c.chunks.chunks) (chunk_list c.push.new.self)
-    (rw i.5 at c.in_ok-push.ensures.gives) in
+    let added = string_read item c.args.texts c.chunks.rest.now c.after_blank.result.now c.after_blank.ensures.gives
+    c.in_ok-content.content.items c.in_ok-content.after.now c.in_ok-content.ensures.gives
+    (list_kind c.chunks.chunks) (chunk_list c.chunks.chunks) i.5 (chunk_list c.push.new.self)
+    c.in_ok-push.ensures.gives in
     rw added.1 (member_last read 41 (chunk_list c.chunks.chunks) i.0 c.chunks.rest.now
     (read_members read 41 c.args.text.now) i.1 i.2 added.0 c.in_ok-content.after.now c.in-Some-after_end.end.now added.2
     (sym c.in-Some-after_end.ensures.gives))
@@ -281,23 +266,24 @@ strings::read_chunk_list-returns-in_err-rest-clause-gives t c =
     let item = read_item (129 - c.args.inner) in
     let read = read_chunk item (kind_with c.args.texts) in
     let i = c.chunks.invariant in
-    let found = ap (read_content item c.args.texts) (sym c.after_blank.ensures.gives) ∙ c.in_ok-content.ensures.gives in
-    let added = string_read item c.args.texts (skip_blank c.chunks.rest.now) c.in_ok-content.content.items
-    c.in_ok-content.after.now found (chunk_list c.chunks.chunks) (chunk_list c.push.new.self)
-    (rw i.5 at c.in_ok-push.ensures.gives) in
-    rw (p.1, p.2) (no_comma read 41 (chunk_list c.chunks.chunks) i.0 c.chunks.rest.now
-    (read_members read 41 c.args.text.now) i.1 i.2 added.0 c.in_ok-content.after.now c.in_err-rest.field-0.0 added.2
-    (sym c.in_default-after_end.ensures.gives) c.in_err-rest.ensures.gives)
+    let added = string_read item c.args.texts c.chunks.rest.now c.after_blank.result.now c.after_blank.ensures.gives
+    c.in_ok-content.content.items c.in_ok-content.after.now c.in_ok-content.ensures.gives
+    (list_kind c.chunks.chunks) (chunk_list c.chunks.chunks) i.5 (chunk_list c.push.new.self)
+    c.in_ok-push.ensures.gives in
+    rw (p.1, p.2) (no_comma read 41
+    (chunk_list c.chunks.chunks) i.0 c.chunks.rest.now (read_members read 41 c.args.text.now) i.1 i.2 added.0
+    c.in_ok-content.after.now c.in_err-rest.field-0.0 added.2 (sym c.in_default-after_end.ensures.gives)
+    c.in_err-rest.ensures.gives)
 
 pub strings::read_chunk_list-chunks-preserved : goal.strings::read_chunk_list-chunks-preserved
 strings::read_chunk_list-chunks-preserved t c =
     let item = read_item (129 - c.args.inner) in
     let read = read_chunk item (kind_with c.args.texts) in
     let i = c.chunks.invariant in
-    let found = ap (read_content item c.args.texts) (sym c.after_blank.ensures.gives) ∙ c.in_ok-content.ensures.gives in
-    let added = string_read item c.args.texts (skip_blank c.chunks.rest.now) c.in_ok-content.content.items
-    c.in_ok-content.after.now found (chunk_list c.chunks.chunks) (chunk_list c.push.new.self)
-    (rw i.5 at c.in_ok-push.ensures.gives) in
+    let added = string_read item c.args.texts c.chunks.rest.now c.after_blank.result.now c.after_blank.ensures.gives
+    c.in_ok-content.content.items c.in_ok-content.after.now c.in_ok-content.ensures.gives
+    (list_kind c.chunks.chunks) (chunk_list c.chunks.chunks) i.5 (chunk_list c.push.new.self)
+    c.in_ok-push.ensures.gives in
     let shorter : length c.in_ok-content.after.now ≤ length c.chunks.rest.now =
     omega (arith, c.in_ok-content.ensures.shorter, c.after_blank.ensures.shorter) in
     let next = member_more read 41 (chunk_list c.chunks.chunks) i.0 c.chunks.rest.now
@@ -337,22 +323,18 @@ strings::read_chunks-returns-clause-well t c =
 
 pub read_core-returns-in-Digit-clause-gives : goal.read_core-returns-in-Digit-clause-gives
 read_core-returns-in-Digit-clause-gives t c =
-    let read = read_item (129 - c.args.inner) in
-    rw (core_by read c.args.text.now c.split-start.result.1.now start.Digit
-    (sym c.in-Digit.is ∙ c.split-start.ensures.start) c.split-start.ensures.rest) c.integer_or_tag.ensures.gives
+    rw (core_by (read_item (129 - c.args.inner)) c.args.text.now c.split-start.result.1.now start.Digit
+    (sym c.in-Digit.is ∙ c.split-start.ensures.start) c.split-start.ensures.rest)
+    c.integer_or_tag.ensures.gives
 
 pub read_core-returns-in_err-value-in-Minus-clause-gives : goal.read_core-returns-in_err-value-in-Minus-clause-gives
 read_core-returns-in_err-value-in-Minus-clause-gives t c =
     let p = err_from_is_err_and c.from_residual.result c.from_residual.ensures.1 in
-    let read = read_item (129 - c.args.inner) in
-    rw (
-      p.1,
-      p.2,
-      core_by read c.args.text.now c.split-start.result.1.now start.Minus
-          (sym c.in-Minus.is ∙ c.split-start.ensures.start) c.split-start.ensures.rest,
-    )
-    (Fails-bind c.in_err-value-in-Minus.field-0.0 (read_negative_number c.split-start.result.1.now)
-    (λ n. Ok (atom (negative n.0.0 n.0.1), n.1)) c.in_err-value-in-Minus.ensures.gives)
+    rw (core_by (read_item (129 - c.args.inner)) c.args.text.now c.split-start.result.1.now start.Minus
+    (sym c.in-Minus.is ∙ c.split-start.ensures.start) c.split-start.ensures.rest)
+    (rw (p.1, p.2) (Fails-bind c.in_err-value-in-Minus.field-0.0
+    (read_negative_number c.split-start.result.1.now) (λ n. Ok (atom (negative n.0.0 n.0.1), n.1))
+    c.in_err-value-in-Minus.ensures.gives))
 
 pub read_core-returns-in_ok-value-in-Minus-clause-gives : goal.read_core-returns-in_ok-value-in-Minus-clause-gives
 read_core-returns-in_ok-value-in-Minus-clause-gives t c =
@@ -369,18 +351,14 @@ read_core-returns-in_err-content-in-Bracket-clause-gives t c =
     let p = err_from_is_err_and c.from_residual-in_err-content-in-Bracket.result
     c.from_residual-in_err-content-in-Bracket.ensures.1 in
     let read = read_item (129 - c.args.inner) in
-    let length_is = c.read_length-bitwidth.ensures.gives in
-    let failed = subst (λ b. Fails c.in_err-content-in-Bracket.field-0.0 (read_members read 93 b)) length_is.1
+    let e = c.in_err-content-in-Bracket.field-0.0 in
+    let opened = read_length c.split-start.result.1.now in
+    let failed = subst (λ b. Fails e (read_members read 93 b)) c.read_length-bitwidth.ensures.gives.1
     c.in_err-content-in-Bracket.ensures.gives in
-    rw (
-      p.1,
-      p.2,
-      core_by read c.args.text.now c.split-start.result.1.now start.Bracket
-          (sym c.in-Bracket.is ∙ c.split-start.ensures.start) c.split-start.ensures.rest,
-    )
-    (Fails-bind c.in_err-content-in-Bracket.field-0.0
-    (read_members read 93 (read_length c.split-start.result.1.now).1)
-    (λ is. Ok (array (items_of is.0) (read_length c.split-start.result.1.now).0, is.1)) failed)
+    rw (core_by read c.args.text.now c.split-start.result.1.now start.Bracket
+    (sym c.in-Bracket.is ∙ c.split-start.ensures.start) c.split-start.ensures.rest)
+    (rw (p.1, p.2) (Fails-bind e (read_members read 93 opened.1) (λ is. Ok (array (items_of is.0) opened.0, is.1))
+    failed))
 
 pub read_core-returns-in_ok-content-in-Bracket-clause-gives :
     goal.read_core-returns-in_ok-content-in-Bracket-clause-gives
@@ -409,18 +387,15 @@ read_core-returns-in_err-content-in-Brace-clause-gives t c =
     let p = err_from_is_err_and c.from_residual-in_err-content-in-Brace.result
     c.from_residual-in_err-content-in-Brace.ensures.1 in
     let read = read_item (129 - c.args.inner) in
-    let length_is = c.read_length-bitwidth-in-Brace.ensures.gives in
-    let failed = subst (λ b. Fails c.in_err-content-in-Brace.field-0.0 (read_members (read_pair read) 125 b))
-    length_is.1 c.in_err-content-in-Brace.ensures.gives in
-    rw (
-      p.1,
-      p.2,
-      core_by read c.args.text.now c.split-start.result.1.now start.Brace
-          (sym c.in-Brace.is ∙ c.split-start.ensures.start) c.split-start.ensures.rest,
-    )
-    (Fails-bind c.in_err-content-in-Brace.field-0.0
-    (read_members (read_pair read) 125 (read_length c.split-start.result.1.now).1)
-    (λ ps. Ok (spec.map (pairs_of ps.0) (read_length c.split-start.result.1.now).0, ps.1)) failed)
+    let e = c.in_err-content-in-Brace.field-0.0 in
+    let opened = read_length c.split-start.result.1.now in
+    let failed = subst (λ b. Fails e (read_members (read_pair read) 125 b))
+    c.read_length-bitwidth-in-Brace.ensures.gives.1
+    c.in_err-content-in-Brace.ensures.gives in
+    rw (core_by read c.args.text.now c.split-start.result.1.now start.Brace
+    (sym c.in-Brace.is ∙ c.split-start.ensures.start) c.split-start.ensures.rest)
+    (rw (p.1, p.2) (Fails-bind e (read_members (read_pair read) 125 opened.1) (λ is. Ok (spec.map (pairs_of is.0)
+    opened.0, is.1)) failed))
 
 pub read_core-returns-in_ok-content-in-Brace-clause-gives : goal.read_core-returns-in_ok-content-in-Brace-clause-gives
 read_core-returns-in_ok-content-in-Brace-clause-gives t c =
@@ -445,15 +420,15 @@ read_core-returns-in_ok-content-in-Brace-clause-well t c =
 
 pub read_core-returns-in-Parenthesis-clause-gives : goal.read_core-returns-in-Parenthesis-clause-gives
 read_core-returns-in-Parenthesis-clause-gives t c =
-    let read = read_item (129 - c.args.inner) in
-    rw (core_by read c.args.text.now c.split-start.result.1.now start.Parenthesis
-    (sym c.in-Parenthesis.is ∙ c.split-start.ensures.start) c.split-start.ensures.rest) c.read_chunks.ensures.gives
+    rw (core_by (read_item (129 - c.args.inner)) c.args.text.now c.split-start.result.1.now start.Parenthesis
+    (sym c.in-Parenthesis.is ∙ c.split-start.ensures.start) c.split-start.ensures.rest)
+    c.read_chunks.ensures.gives
 
 pub read_core-returns-in-Other-clause-gives : goal.read_core-returns-in-Other-clause-gives
 read_core-returns-in-Other-clause-gives t c =
-    let read = read_item (129 - c.args.inner) in
-    rw (core_by read c.args.text.now c.split-start.result.1.now start.Other
-    (sym c.in-Other.is ∙ c.split-start.ensures.start) c.split-start.ensures.rest) c.read_word.ensures.gives
+    rw (core_by (read_item (129 - c.args.inner)) c.args.text.now c.split-start.result.1.now start.Other
+    (sym c.in-Other.is ∙ c.split-start.ensures.start) c.split-start.ensures.rest)
+    c.read_word.ensures.gives
 
 pub read_core-returns-in-Apostrophe-clause-gives : goal.read_core-returns-in-Apostrophe-clause-gives
 read_core-returns-in-Apostrophe-clause-gives t c =
@@ -468,9 +443,9 @@ read_core-returns-in-Apostrophe-clause-gives t c =
 
 pub read_core-returns-in-Quote-clause-gives : goal.read_core-returns-in-Quote-clause-gives
 read_core-returns-in-Quote-clause-gives t c =
-    let read = read_item (129 - c.args.inner) in
-    rw (core_by read c.args.text.now c.split-start.result.1.now start.Quote
-    (sym c.in-Quote.is ∙ c.split-start.ensures.start) c.split-start.ensures.rest) c.read_text_item.ensures.gives
+    rw (core_by (read_item (129 - c.args.inner)) c.args.text.now c.split-start.result.1.now start.Quote
+    (sym c.in-Quote.is ∙ c.split-start.ensures.start) c.split-start.ensures.rest)
+    c.read_text_item.ensures.gives
 
 pub read_item-returns-then-level-gt-DEEPEST-clause-gives : goal.read_item-returns-then-level-gt-DEEPEST-clause-gives
 read_item-returns-then-level-gt-DEEPEST-clause-gives t c = item_none (129 - c.args.level) c.args.text.now (omega arith)
@@ -481,9 +456,9 @@ read_item-returns-in_err-item-clause-gives t c =
     let read = read_item (129 - (c.args.level + 1)) in
     let failed = subst (λ b. Fails c.in_err-item.field-0.0 (read_core read b)) c.after_blank.ensures.gives
     c.in_err-item.ensures.gives in
-    rw (p.1, p.2, item_some (129 - c.args.level) (129 - (c.args.level + 1)) c.args.text.now (omega arith))
-    (Fails-bind c.in_err-item.field-0.0 (read_core read (skip_blank c.args.text.now))
-    (λ i. Ok (i.0, skip_blank i.1)) failed)
+    rw (item_some (129 - c.args.level) (129 - (c.args.level + 1)) c.args.text.now (omega arith))
+    (rw (p.1, p.2) (Fails-bind c.in_err-item.field-0.0
+    (read_core read (skip_blank c.args.text.now)) (λ i. Ok (i.0, skip_blank i.1)) failed))
 
 pub read_item-returns-clause-gives : goal.read_item-returns-clause-gives
 read_item-returns-clause-gives t c =
