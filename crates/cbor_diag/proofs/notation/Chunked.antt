@@ -5,7 +5,7 @@ use Rattle.std.proofs.lemmas.Bool.{not-true}
 use Rattle.std.proofs.lemmas.List.{append_assoc}
 use Rattle.cbor_diag.specs.declared.parse.notation.start.Start.{Start}
 use Rattle.cbor_diag.specs.declared.parse.notation.start.Start.TheVariants as start
-use Rattle.cbor_diag.specs.Item.{Chunk, Atom, byte_chunks, text_chunks, Item, atom}
+use Rattle.cbor_diag.specs.Item.{Chunk, Item, atom}
 use Rattle.cbor_diag.specs.StringKind.{StringKind, bytes_kind, text_kind}
 use Rattle.cbor_diag.specs.Reading.{Read, ◌>>=◌}
 use Rattle.cbor_diag.specs.Notation.{Blanked, Closes, Members, StringOf, ChunksOf}

@@ -98,9 +98,12 @@ module _ (read : List ℕ → Read Item) (texts : Bool) (text first : List ℕ) 
     pub string_read : (after : List Chunk) → with_chunk kind cs content ≡ Ok after
         → (c : Chunk) × (after ≡ cs ++ c ∷ []) × (read_chunk read (kind_with texts) text ≡ Ok (c, rest))
     string_read after e =
-        let made = bind_ok (checked kind content) (λ c. Ok (cs ++ c ∷ [])) after e in
-        (made.0, sym (ok_is (cs ++ made.0 ∷ []) after made.2), from_content
-        ∙ ap (λ r. r >>= λ c. Ok (c, rest)) made.1)
+        let made = bind_ok (checked kind content) (λ c. Ok (cs ++ c ∷ [])) after e in (
+          made.0,
+          sym (ok_is (cs ++ made.0 ∷ []) after made.2),
+          from_content
+              ∙ ap (λ r. r >>= λ c. Ok (c, rest)) made.1,
+        )
 
 -- an indefinite string, from its chunks
 

@@ -173,6 +173,7 @@ fn read_pieces(
 /// The content of a string of definite length, and the blank after it; `texts` is whether texts may
 /// be its pieces, and then one is the first.
 #[cycle(diag)]
+#[tactic(auto, using(crate::proofs::notation::Cores::content_by))]
 fn read_content(
     alloc: Global,
     texts: bool,

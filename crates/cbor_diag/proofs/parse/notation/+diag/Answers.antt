@@ -1,4 +1,4 @@
-use Rattle.std.proofs.Common.{◌≡◌, ℕ, suc, ◌+◌, ◌-◌, ◌≤◌, ◌++◌, ◌∷◌, [], true, false, Ok, length, map, Some, sym, ap}
+use Rattle.std.proofs.Common.{◌≡◌, suc, ◌+◌, ◌-◌, ◌≤◌, ◌++◌, ◌∷◌, [], true, Ok, length, map, sym, ap}
 use Rattle.std.proofs.Common.{subst, ◌∙◌, arith}
 use Rattle.std.proofs.lemmas.List.{map_push}
 use Rattle.std.proofs.lemmas.Result.{err_from_is_err_and}
@@ -6,19 +6,19 @@ use Rattle.cbor_diag.specs.declared.parse.notation.start.Start.TheVariants as st
 use Rattle.cbor_diag.specs.declared.syntax.DataItem.{DataItem}
 use Rattle.cbor_diag.specs.Item as spec
 use Rattle.cbor_diag.specs.Item.{Item, atom, negative, array, byte_chunks, text_chunks}
-use Rattle.cbor_diag.specs.View.{view, items_of, pairs_of, items_view, pairs_view, byte_chunk, text_chunk}
+use Rattle.cbor_diag.specs.View.{view, items_of, pairs_of, items_view, pairs_view}
 use Rattle.cbor_diag.specs.Reading.{◌>>=◌, Fails}
-use Rattle.cbor_diag.specs.mirror.NotationReading.{skip_blank, after_end, read_negative_number, read_length, read_pair}
-use Rattle.cbor_diag.specs.mirror.NotationReading.{read_chunk, read_item, read_core, read_members, read_pieces, checked}
-use Rattle.cbor_diag.specs.mirror.NotationReading.{begins_piece, begins_string, kind_with, members_from, read_content}
+use Rattle.cbor_diag.specs.mirror.NotationReading.{skip_blank, read_negative_number, read_length, read_pair}
+use Rattle.cbor_diag.specs.mirror.NotationReading.{read_chunk, read_item, read_core, read_members, read_pieces}
+use Rattle.cbor_diag.specs.mirror.NotationReading.{begins_piece, begins_string, kind_with, members_from}
 use Rattle.cbor_diag.specs.mirror.StringView.{chunk_list, list_kind}
 use Rattle.cbor_diag.proofs.notation.ChunkLoops.{Fails-bind, onto}
 use Rattle.cbor_diag.proofs.notation.Loops.{members_closed, members_begin, member_fails, member_last, no_comma}
 use Rattle.cbor_diag.proofs.notation.Loops.{member_more}
-use Rattle.cbor_diag.proofs.notation.Cores.{core_by, bytes_core, piece_by, no_piece, item_none, content_by}
+use Rattle.cbor_diag.proofs.notation.Cores.{core_by, bytes_core, item_none}
 use Rattle.cbor_diag.proofs.notation.Cores.{no_content, no_string, string_read, no_chunks, chunks_read, chunks_well}
 use Rattle.cbor_diag.proofs.notation.Cores.{item_some, pieces_begin, pieces_end, piece_fails, piece_more, items_push}
-use Rattle.cbor_diag.proofs.notation.Cores.{no_key, no_colon, no_value, pair_read, pair_view, pairs_push, all_push}
+use Rattle.cbor_diag.proofs.notation.Cores.{no_key, no_colon, no_value, pair_read, pair_view, pairs_push}
 use Rattle.cbor_diag.proofs.notation.Cores.{array_well, map_well}
 use Rattle.cbor_diag.proofs.shared.Views.{view-Array, view-Map, view-Negative}
 use Rattle.cbor_diag.proofs.parse.notation.+diag.Goals as goal
@@ -42,9 +42,8 @@ read_items-returns-in_err-item-clause-gives t c =
     let p = err_from_is_err_and c.from_residual-in_err-item.result c.from_residual-in_err-item.ensures.1 in
     let read = read_item (129 - c.args.level) in
     let i = c.items.invariant in
-    rw (p.1, p.2) (member_fails read c.args.close (map view c.items.items.items) i.0 c.items.rest.now (read_members
-    read c.args.close c.args.text.now) i.1 i.2
-    c.in_err-item.field-0.0 c.in_err-item.ensures.gives)
+    rw (p.1, p.2) (member_fails read c.args.close (map view c.items.items.items) i.0 c.items.rest.now (read_members read
+    c.args.close c.args.text.now) i.1 i.2 c.in_err-item.field-0.0 c.in_err-item.ensures.gives)
 
 pub read_items-returns-in-Some-after_end-clause-gives : goal.read_items-returns-in-Some-after_end-clause-gives
 read_items-returns-in-Some-after_end-clause-gives t c =
@@ -54,9 +53,8 @@ read_items-returns-in-Some-after_end-clause-gives t c =
     let pushed : map view c.push.new.self.items ≡ map view held ++ (view c.in_ok-item.item) ∷ [] =
     rw c.in_ok-push.ensures.items (map_push view held c.in_ok-item.item) in
     rw pushed (member_last read c.args.close (map view held) i.0 c.items.rest.now (read_members read c.args.close
-    c.args.text.now) i.1 i.2 (view c.in_ok-item.item)
-    c.in_ok-item.after.now c.in-Some-after_end.end.now c.in_ok-item.ensures.gives
-    (sym c.in-Some-after_end.ensures.gives))
+    c.args.text.now) i.1 i.2 (view c.in_ok-item.item) c.in_ok-item.after.now c.in-Some-after_end.end.now
+    c.in_ok-item.ensures.gives (sym c.in-Some-after_end.ensures.gives))
 
 pub read_items-returns-in_err-rest-clause-gives : goal.read_items-returns-in_err-rest-clause-gives
 read_items-returns-in_err-rest-clause-gives t c =
@@ -64,9 +62,8 @@ read_items-returns-in_err-rest-clause-gives t c =
     let read = read_item (129 - c.args.level) in
     let i = c.items.invariant in
     rw (p.1, p.2) (no_comma read c.args.close (map view c.items.items.items) i.0 c.items.rest.now (read_members read
-    c.args.close c.args.text.now) i.1 i.2
-    (view c.in_ok-item.item) c.in_ok-item.after.now c.in_err-rest.field-0.0 c.in_ok-item.ensures.gives
-    (sym c.in_default-after_end.ensures.gives) c.in_err-rest.ensures.gives)
+    c.args.close c.args.text.now) i.1 i.2 (view c.in_ok-item.item) c.in_ok-item.after.now c.in_err-rest.field-0.0
+    c.in_ok-item.ensures.gives (sym c.in_default-after_end.ensures.gives) c.in_err-rest.ensures.gives)
 
 pub read_items-items-preserved : goal.read_items-items-preserved
 read_items-items-preserved t c =
@@ -131,10 +128,9 @@ read_pairs-returns-in_err-value-clause-gives t c =
     let item = read_item (129 - c.args.level) in
     let i = c.pairs.invariant in
     rw (p.1, p.2) (member_fails (read_pair item) 125 (map pair_view c.pairs.pairs.items) i.0 c.pairs.rest.now
-    (read_members (read_pair item) 125 c.args.text.now) i.1
-    i.2 c.in_err-value.field-0.0 (no_value item c.pairs.rest.now (view c.in_ok-key.key) c.in_ok-key.behind.now
-    c.in_ok-key.ensures.gives c.in_ok-next.next.now c.in_ok-next.ensures.gives c.in_err-value.field-0.0
-    c.in_err-value.ensures.gives))
+    (read_members (read_pair item) 125 c.args.text.now) i.1 i.2 c.in_err-value.field-0.0 (no_value item c.pairs.rest.now
+    (view c.in_ok-key.key) c.in_ok-key.behind.now c.in_ok-key.ensures.gives c.in_ok-next.next.now
+    c.in_ok-next.ensures.gives c.in_err-value.field-0.0 c.in_err-value.ensures.gives))
 
 pub read_pairs-returns-in-Some-after_end-clause-gives : goal.read_pairs-returns-in-Some-after_end-clause-gives
 read_pairs-returns-in-Some-after_end-clause-gives t c =
@@ -220,10 +216,9 @@ strings::read_chunk_list-returns-in_err-content-clause-gives t c =
     let item = read_item (129 - c.args.inner) in
     let read = read_chunk item (kind_with c.args.texts) in
     let i = c.chunks.invariant in
-    rw (p.1, p.2) (member_fails read 41 (chunk_list c.chunks.chunks) i.0
-    c.chunks.rest.now (read_members read 41 c.args.text.now) i.1 i.2 c.in_err-content.field-0.0
-    (no_content item c.args.texts c.chunks.rest.now c.after_blank.result.now c.after_blank.ensures.gives
-    c.in_err-content.field-0.0 c.in_err-content.ensures.gives))
+    rw (p.1, p.2) (member_fails read 41 (chunk_list c.chunks.chunks) i.0 c.chunks.rest.now (read_members read 41
+    c.args.text.now) i.1 i.2 c.in_err-content.field-0.0 (no_content item c.args.texts c.chunks.rest.now
+    c.after_blank.result.now c.after_blank.ensures.gives c.in_err-content.field-0.0 c.in_err-content.ensures.gives))
 
 pub strings::read_chunk_list-returns-in_err-push-clause-gives :
     goal.strings::read_chunk_list-returns-in_err-push-clause-gives
@@ -232,12 +227,11 @@ strings::read_chunk_list-returns-in_err-push-clause-gives t c =
     let item = read_item (129 - c.args.inner) in
     let read = read_chunk item (kind_with c.args.texts) in
     let i = c.chunks.invariant in
-    rw (p.1, p.2) (member_fails read 41
-    (chunk_list c.chunks.chunks) i.0 c.chunks.rest.now (read_members read 41 c.args.text.now) i.1 i.2
-    c.in_err-push.field-0.0 (no_string item c.args.texts c.chunks.rest.now c.after_blank.result.now
-    c.after_blank.ensures.gives c.in_ok-content.content.items c.in_ok-content.after.now
-    c.in_ok-content.ensures.gives (list_kind c.chunks.chunks) (chunk_list c.chunks.chunks) i.5
-    c.in_err-push.field-0.0 c.in_err-push.ensures.gives))
+    rw (p.1, p.2) (member_fails read 41 (chunk_list c.chunks.chunks) i.0 c.chunks.rest.now (read_members read 41
+    c.args.text.now) i.1 i.2 c.in_err-push.field-0.0 (no_string item c.args.texts c.chunks.rest.now
+    c.after_blank.result.now c.after_blank.ensures.gives c.in_ok-content.content.items c.in_ok-content.after.now
+    c.in_ok-content.ensures.gives (list_kind c.chunks.chunks) (chunk_list c.chunks.chunks) i.5 c.in_err-push.field-0.0
+    c.in_err-push.ensures.gives))
 
 pub strings::read_chunk_list-returns-in-Some-after_end-clause-gives :
     goal.strings::read_chunk_list-returns-in-Some-after_end-clause-gives
@@ -270,10 +264,9 @@ strings::read_chunk_list-returns-in_err-rest-clause-gives t c =
     c.in_ok-content.content.items c.in_ok-content.after.now c.in_ok-content.ensures.gives
     (list_kind c.chunks.chunks) (chunk_list c.chunks.chunks) i.5 (chunk_list c.push.new.self)
     c.in_ok-push.ensures.gives in
-    rw (p.1, p.2) (no_comma read 41
-    (chunk_list c.chunks.chunks) i.0 c.chunks.rest.now (read_members read 41 c.args.text.now) i.1 i.2 added.0
-    c.in_ok-content.after.now c.in_err-rest.field-0.0 added.2 (sym c.in_default-after_end.ensures.gives)
-    c.in_err-rest.ensures.gives)
+    rw (p.1, p.2) (no_comma read 41 (chunk_list c.chunks.chunks) i.0 c.chunks.rest.now (read_members read 41
+    c.args.text.now) i.1 i.2 added.0 c.in_ok-content.after.now c.in_err-rest.field-0.0 added.2 (sym
+    c.in_default-after_end.ensures.gives) c.in_err-rest.ensures.gives)
 
 pub strings::read_chunk_list-chunks-preserved : goal.strings::read_chunk_list-chunks-preserved
 strings::read_chunk_list-chunks-preserved t c =
@@ -323,18 +316,19 @@ strings::read_chunks-returns-clause-well t c =
 
 pub read_core-returns-in-Digit-clause-gives : goal.read_core-returns-in-Digit-clause-gives
 read_core-returns-in-Digit-clause-gives t c =
-    rw (core_by (read_item (129 - c.args.inner)) c.args.text.now c.split-start.result.1.now start.Digit
-    (sym c.in-Digit.is ∙ c.split-start.ensures.start) c.split-start.ensures.rest)
-    c.integer_or_tag.ensures.gives
+    rw (core_by (read_item (129 - c.args.inner)) c.args.text.now c.split-start.result.1.now start.Digit (sym
+    c.in-Digit.is ∙ c.split-start.ensures.start) c.split-start.ensures.rest) c.integer_or_tag.ensures.gives
 
 pub read_core-returns-in_err-value-in-Minus-clause-gives : goal.read_core-returns-in_err-value-in-Minus-clause-gives
 read_core-returns-in_err-value-in-Minus-clause-gives t c =
     let p = err_from_is_err_and c.from_residual.result c.from_residual.ensures.1 in
-    rw (core_by (read_item (129 - c.args.inner)) c.args.text.now c.split-start.result.1.now start.Minus
-    (sym c.in-Minus.is ∙ c.split-start.ensures.start) c.split-start.ensures.rest)
-    (rw (p.1, p.2) (Fails-bind c.in_err-value-in-Minus.field-0.0
-    (read_negative_number c.split-start.result.1.now) (λ n. Ok (atom (negative n.0.0 n.0.1), n.1))
-    c.in_err-value-in-Minus.ensures.gives))
+    rw (core_by (read_item (129 - c.args.inner)) c.args.text.now c.split-start.result.1.now start.Minus (sym
+    c.in-Minus.is ∙ c.split-start.ensures.start) c.split-start.ensures.rest) (rw (p.1, p.2) (Fails-bind
+    c.in_err-value-in-Minus.field-0.0 (read_negative_number c.split-start.result.1.now) (λ n. Ok (
+      atom (negative n.0.0
+          n.0.1),
+      n.1,
+    )) c.in_err-value-in-Minus.ensures.gives))
 
 pub read_core-returns-in_ok-value-in-Minus-clause-gives : goal.read_core-returns-in_ok-value-in-Minus-clause-gives
 read_core-returns-in_ok-value-in-Minus-clause-gives t c =
@@ -355,10 +349,9 @@ read_core-returns-in_err-content-in-Bracket-clause-gives t c =
     let opened = read_length c.split-start.result.1.now in
     let failed = subst (λ b. Fails e (read_members read 93 b)) c.read_length-bitwidth.ensures.gives.1
     c.in_err-content-in-Bracket.ensures.gives in
-    rw (core_by read c.args.text.now c.split-start.result.1.now start.Bracket
-    (sym c.in-Bracket.is ∙ c.split-start.ensures.start) c.split-start.ensures.rest)
-    (rw (p.1, p.2) (Fails-bind e (read_members read 93 opened.1) (λ is. Ok (array (items_of is.0) opened.0, is.1))
-    failed))
+    rw (core_by read c.args.text.now c.split-start.result.1.now start.Bracket (sym c.in-Bracket.is ∙
+    c.split-start.ensures.start) c.split-start.ensures.rest) (rw (p.1, p.2) (Fails-bind e (read_members read 93
+    opened.1) (λ is. Ok (array (items_of is.0) opened.0, is.1)) failed))
 
 pub read_core-returns-in_ok-content-in-Bracket-clause-gives :
     goal.read_core-returns-in_ok-content-in-Bracket-clause-gives
@@ -392,10 +385,9 @@ read_core-returns-in_err-content-in-Brace-clause-gives t c =
     let failed = subst (λ b. Fails e (read_members (read_pair read) 125 b))
     c.read_length-bitwidth-in-Brace.ensures.gives.1
     c.in_err-content-in-Brace.ensures.gives in
-    rw (core_by read c.args.text.now c.split-start.result.1.now start.Brace
-    (sym c.in-Brace.is ∙ c.split-start.ensures.start) c.split-start.ensures.rest)
-    (rw (p.1, p.2) (Fails-bind e (read_members (read_pair read) 125 opened.1) (λ is. Ok (spec.map (pairs_of is.0)
-    opened.0, is.1)) failed))
+    rw (core_by read c.args.text.now c.split-start.result.1.now start.Brace (sym c.in-Brace.is ∙
+    c.split-start.ensures.start) c.split-start.ensures.rest) (rw (p.1, p.2) (Fails-bind e (read_members (read_pair read)
+    125 opened.1) (λ is. Ok (spec.map (pairs_of is.0) opened.0, is.1)) failed))
 
 pub read_core-returns-in_ok-content-in-Brace-clause-gives : goal.read_core-returns-in_ok-content-in-Brace-clause-gives
 read_core-returns-in_ok-content-in-Brace-clause-gives t c =
@@ -420,15 +412,13 @@ read_core-returns-in_ok-content-in-Brace-clause-well t c =
 
 pub read_core-returns-in-Parenthesis-clause-gives : goal.read_core-returns-in-Parenthesis-clause-gives
 read_core-returns-in-Parenthesis-clause-gives t c =
-    rw (core_by (read_item (129 - c.args.inner)) c.args.text.now c.split-start.result.1.now start.Parenthesis
-    (sym c.in-Parenthesis.is ∙ c.split-start.ensures.start) c.split-start.ensures.rest)
-    c.read_chunks.ensures.gives
+    rw (core_by (read_item (129 - c.args.inner)) c.args.text.now c.split-start.result.1.now start.Parenthesis (sym
+    c.in-Parenthesis.is ∙ c.split-start.ensures.start) c.split-start.ensures.rest) c.read_chunks.ensures.gives
 
 pub read_core-returns-in-Other-clause-gives : goal.read_core-returns-in-Other-clause-gives
 read_core-returns-in-Other-clause-gives t c =
-    rw (core_by (read_item (129 - c.args.inner)) c.args.text.now c.split-start.result.1.now start.Other
-    (sym c.in-Other.is ∙ c.split-start.ensures.start) c.split-start.ensures.rest)
-    c.read_word.ensures.gives
+    rw (core_by (read_item (129 - c.args.inner)) c.args.text.now c.split-start.result.1.now start.Other (sym
+    c.in-Other.is ∙ c.split-start.ensures.start) c.split-start.ensures.rest) c.read_word.ensures.gives
 
 pub read_core-returns-in-Apostrophe-clause-gives : goal.read_core-returns-in-Apostrophe-clause-gives
 read_core-returns-in-Apostrophe-clause-gives t c =
@@ -443,9 +433,8 @@ read_core-returns-in-Apostrophe-clause-gives t c =
 
 pub read_core-returns-in-Quote-clause-gives : goal.read_core-returns-in-Quote-clause-gives
 read_core-returns-in-Quote-clause-gives t c =
-    rw (core_by (read_item (129 - c.args.inner)) c.args.text.now c.split-start.result.1.now start.Quote
-    (sym c.in-Quote.is ∙ c.split-start.ensures.start) c.split-start.ensures.rest)
-    c.read_text_item.ensures.gives
+    rw (core_by (read_item (129 - c.args.inner)) c.args.text.now c.split-start.result.1.now start.Quote (sym
+    c.in-Quote.is ∙ c.split-start.ensures.start) c.split-start.ensures.rest) c.read_text_item.ensures.gives
 
 pub read_item-returns-then-level-gt-DEEPEST-clause-gives : goal.read_item-returns-then-level-gt-DEEPEST-clause-gives
 read_item-returns-then-level-gt-DEEPEST-clause-gives t c = item_none (129 - c.args.level) c.args.text.now (omega arith)
@@ -506,15 +495,3 @@ strings::read_pieces-returns-clause-gives t c =
     pieces_end read c.args.texts c.pieces.content.items i.0 c.pieces.rest.now
     (read_pieces read c.args.texts (suc (length c.args.text.now)) c.args.text.now) i.1 i.2
     (sym (c.begins_piece.ensures ∙ ap (begins_piece c.args.texts) c.of.ensures) ∙ c.pieces-test.false)
-
-pub strings::read_content-returns-then-not-begins_string-clause-gives :
-    goal.strings::read_content-returns-then-not-begins_string-clause-gives
-strings::read_content-returns-then-not-begins_string-clause-gives t c =
-    content_by (read_item (129 - c.args.inner)) c.args.texts c.args.text.now false
-    (sym (c.begins_string.ensures ∙ ap (begins_string c.args.texts) c.of.ensures) ∙ c.if-not-begins_string.true)
-
-pub strings::read_content-returns-clause-gives : goal.strings::read_content-returns-clause-gives
-strings::read_content-returns-clause-gives t c =
-    rw (content_by (read_item (129 - c.args.inner)) c.args.texts c.args.text.now true
-    (sym (c.begins_string.ensures ∙ ap (begins_string c.args.texts) c.of.ensures) ∙ c.if-not-begins_string.false))
-    c.read_pieces.ensures.gives
