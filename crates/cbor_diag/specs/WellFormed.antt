@@ -25,12 +25,6 @@ pub record IsChunk (kind : StringKind) (c : Chunk) : Type 0 where
   pub bytes : AllByRecursion (λ b. b < 256) c.bytes
   pub content : IsContent kind c.bytes
 
-abbrev pub IsByteChunk : Chunk → Type 0
-IsByteChunk = IsChunk bytes_kind
-
-abbrev pub IsTextChunk : Chunk → Type 0
-IsTextChunk = IsChunk text_kind
-
 -- the bits of a float can be written in this width; an unstated one is 64 bits
 abbrev pub FitsFloat : FloatWidth → ℕ → Type 0
 FitsFloat float_width.Unknown bits = bits < 2 ^ 64
