@@ -1,6 +1,7 @@
 pub mod Blanks
 pub mod NumberRuns
 pub mod Numbers
+pub mod NumberPlaces
 pub mod NumberParts
 pub mod NumberFronts
 pub mod WrittenNumbers

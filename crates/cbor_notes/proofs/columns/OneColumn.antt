@@ -132,15 +132,7 @@ front_digits width line =
       | true ↦ λ e.
           let none : length line.hex ≡ 0 = grind (arith, nat_tests) in
           rw (nothing line.hex none, filter-append, no_blanks width) refl
-      | false ↦ λ e. rw (
-        filter-append,
-        filter-append,
-        filter-append,
-        no_blanks (3 * line.depth),
-        no_blanks (width - reach line),
-        append-nil,
-        append-nil,
-      ) refl
+      | false ↦ λ e. simp (filter-append, no_blanks (3 * line.depth), no_blanks (width - reach line), append-nil)
     ] refl
 
 hash_lacks : Lacks 10 (35 ∷ 32 ∷ [])

@@ -35,6 +35,15 @@ between_blank comments front rest read is more = (
   Spaced-blank is more.2,
 )
 
+between_digit : (comments : Bool) (byte : ℕ) (rest : List ℕ) (next read : List ℕ × List ℕ)
+    → IsTrue (is_digit comments byte) → Between comments rest next → read.0 ≡ byte ∷ next.0 → read.1 ≡ next.1
+    → Between comments (byte ∷ rest) read
+between_digit comments byte rest next read is_one more digits after = (
+  byte ∷ more.0,
+  ap (λ (t : List ℕ). byte ∷ t) more.1 ∙ ap (λ (t : List ℕ). byte ∷ more.0 ++ 39 ∷ t) (sym after),
+  subst (Spaced comments (byte ∷ more.0)) (sym digits) (digit [] more.0 nothing is_one more.2 refl),
+)
+
 -- where reading is: at a place, or in a comment whose words so far have no `/`
 abbrev Stands : Bool → Bool → List ℕ → List ℕ → Type 0
 Stands comments false text whole = whole ≡ text
@@ -94,11 +103,8 @@ read_in comments false (byte ∷ rest) whole read stands is =
           elim (cases_Bool (is_digit comments byte)) [
             | inl is_one ↦
                 let next = from_front (byte ∷ []) (digits_in comments false rest) read (rw (is_one, goes_on) at is) in
-                let more = read_in comments false rest rest next.0 refl next.1 in (
-                  byte ∷ more.0,
-                  ap (λ (t : List ℕ). byte ∷ t) more.1 ∙ ap (λ (t : List ℕ). byte ∷ more.0 ++ 39 ∷ t) (sym next.3),
-                  subst (Spaced comments (byte ∷ more.0)) (sym next.2) (digit [] more.0 nothing is_one more.2 refl),
-                )
+                between_digit comments byte rest next.0 read is_one
+                (read_in comments false rest rest next.0 refl next.1) next.2 next.3
             | inr no_digit ↦
                 elim (cases_Bool (comments && (byte == 47))) [
                   | inl opens ↦
@@ -352,7 +358,7 @@ digits_of-some comments (byte ∷ more) digits rest read some =
 pub digits_of-blank : (comments : Bool) (text digits rest : List ℕ)
     → digits_in comments false text ≡ Some (digits, rest) → length digits ≡ 0 → length rest + 1 < length text
     → digits_of comments text ≡ None
-digits_of-blank comments [] digits rest read none longer = cc read
+digits_of-blank comments [] digits rest read none longer = refl
 digits_of-blank comments (byte ∷ more) digits rest read none longer =
     cond-false (byte == 39) (Some ([], more)) (some_digits (digits_in comments false (byte ∷ more)))
     (not_quote comments byte more digits rest read (λ _ same. omega (arith, ap length same, longer)))

@@ -1,6 +1,6 @@
 -- Parts of a text by their places.
 use Rattle.std.proofs.Common.{◌≡◌, ℕ, ◌+◌, ◌-◌, ◌<◌, ◌≤◌, Bool, not, nat_lt, List, ◌∷◌, ◌++◌, length, drop, slice_range}
-use Rattle.std.proofs.Common.{get_or, Option, Some, None, sym, ap, ◌∙◌, inl, inr, arith}
+use Rattle.std.proofs.Common.{get_or, unwrap_or, Option, Some, None, refl, sym, ap, ◌∙◌, inl, inr, arith}
 use Rattle.std.specs.List.{position_or_len, position}
 use Rattle.std.proofs.lemmas.List.{take-append-drop, drop-drop, drop_more, append_cancel_right}
 use Rattle.std.proofs.lemmas.List.Sums.{prefix_len-le-length}
@@ -40,6 +40,16 @@ first_nowhere test text answer is none =
       | inl within ↦ let never : ◌≡◌ {A = Option ℕ} None (Some n) = sym none
           ∙ (is ∙ cond-true _ (Some n) None within) in cc never
       | inr past ↦ omega (arith, ltb-false n (length text) past, prefix_len-le-length (λ b. not (test b)) text)
+    ]
+
+-- the first place that passes, or the length
+pub first_or_length : (test : ℕ → Bool) (text : List ℕ) → unwrap_or (position test text) (length text)
+    ≡ position_or_len test text
+first_or_length test text =
+    let n = position_or_len test text in
+    elim (cases_Bool (nat_lt n (length text))) [
+      | inl within ↦ rw within refl
+      | inr past ↦ rw past (omega (arith, ltb-false n (length text) past, prefix_len-le-length (λ b. not (test b)) text))
     ]
 
 -- the byte at a place, and what follows

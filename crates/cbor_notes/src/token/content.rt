@@ -123,7 +123,9 @@ fn plain_end(text: &[u8], at: usize, quote: u8) -> Option<usize>
     ensures none { IfNone result (position_or_len (is_special quote) (drop at text.now)
         ≡ length text.now - at) }
 {
-    let plain = text[at..].iter().position(|byte| is_special(quote, *byte))?;
+    let plain = text[at..]
+        .iter()
+        .position(move |byte| is_special(quote, *byte))?;
     Some(at + plain)
 }
 
@@ -141,13 +143,9 @@ fn digits_end(text: &[u8], at: usize, comments: bool) -> usize
     ensures first { result ≡ at + position_or_len (λ b. not (is_digit comments b))
         (drop at text.now) }
 {
-    match text[at..]
-        .iter()
-        .position(|byte| !is_digit(comments, *byte))
-    {
-        Some(digits) => at + digits,
-        None => text.len(),
-    }
+    let rest = &text[at..];
+    let digits = rest.iter().position(move |byte| !is_digit(comments, *byte));
+    at + digits.unwrap_or(rest.len())
 }
 
 /// Whether a byte may be a digit: neither whitespace nor `'`, nor `/` where comments are allowed.

@@ -3,7 +3,8 @@ use Rattle.std.proofs.lemmas.List.{length-drop}
 use Rattle.cbor_notes.specs.Token.{prefix, capped}
 use Rattle.cbor_notes.specs.TokenReading.{with_indicator}
 use Rattle.cbor_notes.specs.declared.token.number.Base.{Base}
-use Rattle.cbor_notes.proofs.tokens.Numbers.{prefix_fits, no_number_at, number_at_run, IsReadAt, read_at}
+use Rattle.cbor_notes.proofs.tokens.Numbers.{prefix_fits}
+use Rattle.cbor_notes.proofs.tokens.NumberPlaces.{no_number_at, number_at_run, IsReadAt, read_at}
 use Rattle.cbor_notes.proofs.token.number.number_at.Goals as goal
 use Rattle.cbor_notes.proofs.token.number.number_at.Goals.{In-Some, In-None}
 

@@ -2,7 +2,7 @@ use Rattle.std.proofs.Common.{◌+◌, drop, refl, sym, ap, ◌∙◌, arith}
 use Rattle.std.proofs.lemmas.List.{length-drop}
 use Rattle.cbor_notes.specs.TokenReading.{base_of}
 use Rattle.cbor_notes.proofs.tokens.TextPlaces.{from_byte}
-use Rattle.cbor_notes.proofs.tokens.Numbers.{base_of-short, base_of-other}
+use Rattle.cbor_notes.proofs.tokens.NumberPlaces.{base_of-short, base_of-other}
 use Rattle.cbor_notes.proofs.token.number.Base.at.Goals as goal
 use Rattle.cbor_notes.proofs.token.number.Base.at.Goals.{then-text-at-le2-via-then-text-at-le2}
 use Rattle.cbor_notes.proofs.token.number.Base.at.Goals.{then-text-at-le2-via-else-text-at-le2+then-text-at-ne48}
