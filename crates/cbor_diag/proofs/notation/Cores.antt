@@ -199,13 +199,14 @@ module _ (read : List ℕ → Read Item) (texts : Bool) (front : List ℕ) (n : 
       → (m : ℕ) × (length rest < m) × (onto (λ xs. (front ++ piece) ++ xs) (read_pieces read texts m rest) ≡ total)
   piece_more piece after rest begins r blank less shorter =
       let left = room_left n room in
+      let fewer : length rest < left.0 = omega (arith, left.1) in
       let many = λ (x : List ℕ × List ℕ). read_pieces read texts left.0 (skip_blank x.1)
       >>= λ xs. Ok (x.0 ++ xs.0, xs.1) in
       let here : read_pieces read texts n text
       ≡ (read_pieces read texts left.0 (skip_blank after) >>= λ xs. Ok (piece ++ xs.0, xs.1)) =
       begun n left.0 left.1 begins ∙ ap (λ o. o >>= many) r in (
         left.0,
-        omega (arith, left.1),
+        fewer,
         ap (λ b. onto (λ xs. (front ++ piece) ++ xs) (read_pieces read texts left.0 b))
             blank ∙ sym (joined piece (read_pieces read texts left.0 (skip_blank after)))
             ∙ sym (ap (onto (λ xs. front ++ xs)) here) ∙ so_far,

@@ -341,6 +341,13 @@ more_keeps kind e = refl
 
 -- ---- heads
 
+-- a head whose info is read, whatever is after it
+head_reads : (h : ItemHead) (first : ℕ) (b c : List ℕ) (i : Info) → head_of (first / 32) i ≡ Ok h
+    → read_info (first % 32) b ≡ Ok (i, c) → read_head (first ∷ b) ≡ Ok (h, c)
+unfolding read_head
+head_reads h first b c i named info = ap (λ r. r >>= λ i. head_of (first / 32) i.0 >>= λ h. Ok (h, i.1)) info
+    ∙ ap (λ r. r >>= λ h. Ok (h, c)) named
+
 -- a head that is read, whatever is after it
 head_over : (h : ItemHead) (first : ℕ) (b rest : List ℕ) → IsBytes (first ∷ b) → read_head (first ∷ b) ≡ Ok (h, rest)
     → (x : List ℕ) × (b ≡ x ++ rest) × ((c : List ℕ) → read_head (first ∷ (x ++ c)) ≡ Ok (h, c))
@@ -349,16 +356,12 @@ head_over h first b rest fits e =
     let a = bind_ok (read_info (first % 32) b) (λ i. head_of (first / 32) i.0 >>= λ h. Ok (h, i.1)) (h, rest) e in
     let o = bind_ok (head_of (first / 32) a.0.0) (λ h. Ok (h, a.0.1)) (h, rest) a.2 in
     let made = ok_is (o.0, a.0.1) (h, rest) o.2 in
-    let h-is : o.0 ≡ h = ap (λ (p : ItemHead × List ℕ). p.0) made in
-    let rest-is : a.0.1 ≡ rest = ap (λ (p : ItemHead × List ℕ). p.1) made in
-    let f = info_over (first % 32) a.0.0 b a.0.1
-    (info_takes (first % 32) b a.0.1 a.0.0 (IsBytes-rest first b fits) a.1) in (
-      f.0,
-      f.1 ∙ ap (λ (z : List ℕ). f.0 ++ z) rest-is,
-      λ c.
-          ap (λ r. r >>= λ i. head_of (first / 32) i.0 >>= λ h. Ok (h, i.1)) (f.2 c)
-          ∙ (ap (λ r. r >>= λ h. Ok (h, c)) o.1 ∙ ap (λ x. Ok (x, c)) h-is),
-    )
+    let named : head_of (first / 32) a.0.0 ≡ Ok h = o.1 ∙ ap (λ (p : ItemHead × List ℕ). Ok p.0) made in
+    let info : read_info (first % 32) b ≡ Ok (a.0.0, rest) = a.1
+    ∙ ap (λ (p : ItemHead × List ℕ). Ok (a.0.0, p.1)) made in
+    let f = info_over (first % 32) a.0.0 b rest
+    (info_takes (first % 32) b rest a.0.0 (IsBytes-rest first b fits) info) in
+    (f.0, f.1, λ c. head_reads h first (f.0 ++ c) c a.0.0 named (f.2 c))
 
 pub head_goes : (left : ℕ) (h : ItemHead) (first : ℕ) (b rest : List ℕ) → 0 < left → IsBytes (first ∷ b)
     → read_head (first ∷ b) ≡ Ok (h, rest) → Goes (skip_item left) (skip_body (left - 1) h) (first ∷ b) rest

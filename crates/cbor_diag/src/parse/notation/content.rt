@@ -1,7 +1,8 @@
 //! What is between quotes: text with escapes, and digits with blanks.
 ghost use Rattle.std.specs.Prelude.{◌≡◌, ◌⊎◌, ◌<◌, length, true, false, option_map, IfOk, IfErr};
-ghost use Rattle.std.specs.Prelude.{IfSome, Some, None, Err};
+ghost use Rattle.std.specs.Prelude.{IfSome, Some, None, Err, position};
 ghost use Rattle.cbor_diag.specs.Reading.{Gives};
+ghost use Rattle.cbor_notes.specs.Token.{is_special};
 ghost use Rattle.cbor_notes.specs.TokenReading.{unquoted, digits_of};
 ghost use Rattle.cbor_diag.specs.mirror.NotationReading.{or_refused, base16_of, base32_of};
 ghost use Rattle.cbor_diag.specs.mirror.NotationReading.{base32hex_of, base64_of, read_decoded};
@@ -26,13 +27,20 @@ pub(super) fn read_quoted(alloc: Global, text: &[u8], quote: u8) -> Result<(Vec<
     }
 }
 
+/// How many bytes come before the first double quote or backslash, if there is one.
+fn plain_len(text: &[u8]) -> Option<usize>
+    ensures { result ≡ position (is_special 34) text.now }
+{
+    text.iter().position(|byte| matches!(*byte, b'"' | b'\\'))
+}
+
 /// The content of a text without escapes after its opening quote, and the text after its closing
 /// one. `None` if a backslash comes first, or there is no closing quote.
 pub(super) fn read_plain(text: &[u8]) -> Option<(&[u8], &[u8])>
     ensures gives { IfSome result (λ x. unquoted 34 false text.now ≡ Some (x.0.now, x.1.now)) }
     ensures shorter { IfSome result (λ x. length x.1.now < length text.now) }
 {
-    let end = text.iter().position(|byte| matches!(*byte, b'"' | b'\\'))?;
+    let end = plain_len(text)?;
     let (content, rest) = text.split_at(end);
     let behind = after_byte(rest, b'"')?;
     Some((content, behind))

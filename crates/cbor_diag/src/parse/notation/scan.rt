@@ -1,5 +1,6 @@
 //! What separates the items of a text: blanks, commas, and what closes a list.
-ghost use Rattle.std.specs.Prelude.{◌≡◌, ◌⊎◌, ◌<◌, ◌≤◌, length, IfOk, IfSome, option_map};
+ghost use Rattle.std.specs.Prelude.{◌≡◌, ◌⊎◌, ◌<◌, ◌≤◌, length, position, not, IfOk, IfSome};
+ghost use Rattle.std.specs.Prelude.{option_map};
 ghost use Rattle.cbor_notes.specs.Token.{is_whitespace};
 ghost use Rattle.cbor_diag.specs.Reading.{Gives};
 ghost use Rattle.cbor_diag.specs.mirror.NotationReading.{or_refused, skip_blank, after_byte};
@@ -59,12 +60,19 @@ pub(super) fn after_word<'a>(text: &'a [u8], word: &[u8]) -> Option<&'a [u8]>
     }
 }
 
+/// How many bytes of whitespace come first, if another byte follows them.
+fn whitespace_len(text: &[u8]) -> Option<usize>
+    ensures { result ≡ position (λ b. not (is_whitespace b)) text.now }
+{
+    text.iter().position(|byte| !is_whitespace(*byte))
+}
+
 /// The text after whitespace and the closing byte of a list, if it begins with both.
 fn after_space(text: &[u8], close: u8) -> Option<&[u8]>
     ensures gives { option_map (λ x. x.now) result ≡ after_space close text.now }
     ensures shorter { IfSome result (λ x. length x.now < length text.now) }
 {
-    let spaces = text.iter().position(|byte| !is_whitespace(*byte))?;
+    let spaces = whitespace_len(text)?;
     if spaces == 0 {
         return None;
     }

@@ -1,10 +1,11 @@
-use Rattle.std.proofs.Common.{◌≡◌, ◌≢◌, ℕ, List, ◌/◌, ◌∷◌, get_or, length, Ok, subst, ap, sym, ◌∙◌, arith}
+use Rattle.std.proofs.Common.{◌≡◌, ◌≢◌, ℕ, ◌/◌, ◌%◌, ◌≤◌, List, ◌∷◌, get_or, length, Ok, subst, ap, sym, ◌∙◌, arith}
 use Rattle.std.proofs.lemmas.Result.{err_from_is_err_and}
+use Rattle.cbor_diag.specs.declared.syntax.IntegerWidth.{IntegerWidth}
 use Rattle.cbor_diag.specs.declared.error.Error.TheVariants.{Head}
-use Rattle.cbor_diag.specs.declared.parse.binary.head.Info.{Info}
+use Rattle.cbor_diag.specs.declared.parse.binary.head.Info.TheVariants.{Number}
 use Rattle.cbor_diag.specs.Head.{break_byte}
-use Rattle.cbor_diag.specs.StringKind.{major_of}
-use Rattle.cbor_diag.specs.Reading.{◌>>=◌}
+use Rattle.cbor_diag.specs.StringKind.{StringKind, major_of}
+use Rattle.cbor_diag.specs.Reading.{◌>>=◌, read_info}
 use Rattle.cbor_diag.specs.mirror.HeadErrors.{head_error}
 use Rattle.cbor_diag.specs.mirror.Skipping.{here, Goes, Shows, StopsSo, stop_of, kind_of, skip_content, skip_chunks}
 use Rattle.cbor_diag.proofs.bytes.Heads.{IsBytes, IsBytes-rest}
@@ -36,21 +37,26 @@ returns-then-first-number-clause-stops c =
     at_first (λ (x : List ℕ). Shows (skip_chunks kind) x Head (length (behind_first b))) b c.in-len1-up.len_at_least
     (kind_shows kind (get_or b 0 0) (behind_first b) no_break other)
 
+-- a chunk's head, with its content and more chunks after it
+head_goes : (kind : StringKind) (n : ℕ) (w : IntegerWidth) (b rest : List ℕ) → 1 ≤ length b → IsBytes b
+    → get_or b 0 0 ≢ break_byte → get_or b 0 0 / 32 ≡ major_of kind
+    → read_info (get_or b 0 0 % 32) (behind_first b) ≡ Ok (Number n w, rest)
+    → Goes (skip_chunks kind) (λ c. skip_content kind n w c >>= skip_chunks kind) b rest
+head_goes kind n w b rest some fits no_break major read =
+    let behind = IsBytes-rest (get_or b 0 0) (behind_first b) (fits_first b some fits) in
+    at_first (λ (x : List ℕ). Goes (skip_chunks kind) (λ c. skip_content kind n w c >>= skip_chunks kind) x rest) b some
+    (chunk_goes kind (get_or b 0 0) n w (behind_first b) rest behind no_break major read)
+
 pub returns-in_err-rest-in-Ok-Number-default-clause-stops : goal.returns-in_err-rest-in-Ok-Number-default-clause-stops
 returns-in_err-rest-in-Ok-Number-default-clause-stops c =
     let b = c.args.bytes.now in
     let kind = kind_of c.args.kind in
-    let some = c.in-len1-up.len_at_least in
-    let fits : IsBytes (behind_first b) = IsBytes-rest (get_or b 0 0) (behind_first b)
-    (fits_first b some (λ i. omega (arith, c.type_inv.bytes i))) in
-    let no_break : get_or b 0 0 ≢ break_byte = λ is. omega arith in
-    let major : get_or b 0 0 / 32 ≡ major_of kind = omega arith in
     let i = c.in-Ok-Number-default in
     let width = i.field-0-0-1 in
-    let read = i.ensures.gives ∙ ap (λ (x : Info). Ok (x, i.rest.now)) i.field-0-0-is in
-    let head = at_first (λ (x : List ℕ). Goes (skip_chunks kind)
-    (λ c. skip_content kind i.count width c >>= skip_chunks kind) x i.rest.now) b some
-    (chunk_goes kind (get_or b 0 0) i.count width (behind_first b) i.rest.now fits no_break major read) in
+    let fits : IsBytes b = λ i. omega (arith, c.type_inv.bytes i) in
+    let no_break : get_or b 0 0 ≢ break_byte = λ is. omega arith in
+    let read = rw i.field-0-0-is at i.ensures.gives in
+    let head = head_goes kind i.count width b i.rest.now c.in-len1-up.len_at_least fits no_break (omega arith) read in
     let p = err_from_is_err_and c.from_residual.result c.from_residual.ensures.1 in
     let stop = c.in_err-rest-in-Ok-Number-default.field-0.0 in
     rw (p.1, p.2) (stops_then stop head (stops_within (skip_content kind i.count width) i.rest.now stop
@@ -60,17 +66,12 @@ pub returns-in_ok-rest-in-Ok-Number-default-clause-goes : goal.returns-in_ok-res
 returns-in_ok-rest-in-Ok-Number-default-clause-goes c =
     let b = c.args.bytes.now in
     let kind = kind_of c.args.kind in
-    let some = c.in-len1-up.len_at_least in
-    let fits : IsBytes (behind_first b) = IsBytes-rest (get_or b 0 0) (behind_first b)
-    (fits_first b some (λ i. omega (arith, c.type_inv.bytes i))) in
-    let no_break : get_or b 0 0 ≢ break_byte = λ is. omega arith in
-    let major : get_or b 0 0 / 32 ≡ major_of kind = omega arith in
     let i = c.in-Ok-Number-default in
     let width = i.field-0-0-1 in
-    let read = i.ensures.gives ∙ ap (λ (x : Info). Ok (x, i.rest.now)) i.field-0-0-is in
-    let head = at_first (λ (x : List ℕ). Goes (skip_chunks kind)
-    (λ c. skip_content kind i.count width c >>= skip_chunks kind) x i.rest.now) b some
-    (chunk_goes kind (get_or b 0 0) i.count width (behind_first b) i.rest.now fits no_break major read) in
+    let fits : IsBytes b = λ i. omega (arith, c.type_inv.bytes i) in
+    let no_break : get_or b 0 0 ≢ break_byte = λ is. omega arith in
+    let read = rw i.field-0-0-is at i.ensures.gives in
+    let head = head_goes kind i.count width b i.rest.now c.in-len1-up.len_at_least fits no_break (omega arith) read in
     goes_then head (goes_within (λ r. r >>= skip_chunks kind) (c.in_ok-rest-in-Ok-Number-default.ensures.goes width))
 
 pub returns-in-Ok-Indefinite-default-clause-stops : goal.returns-in-Ok-Indefinite-default-clause-stops
@@ -83,7 +84,7 @@ returns-in-Ok-Indefinite-default-clause-stops c =
     let no_break : get_or b 0 0 ≢ break_byte = λ is. omega arith in
     let major : get_or b 0 0 / 32 ≡ major_of kind = omega arith in
     let i = c.in-Ok-Indefinite-default in
-    let read = i.ensures.gives ∙ ap (λ (x : Info). Ok (x, i.field-0-1.now)) i.field-0-0-is in
+    let read = rw i.field-0-0-is at i.ensures.gives in
     at_first (λ (x : List ℕ). Shows (skip_chunks kind) x Head (length (behind_first b))) b some
     (indefinite_shows kind (get_or b 0 0) (behind_first b) i.field-0-1.now fits no_break major read)
 
