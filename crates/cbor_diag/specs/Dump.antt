@@ -1,12 +1,12 @@
 -- The lines of the dump of an item: what its bytes are, in their order, each with a comment, and notes on what
 -- tags say of their values. The layout of the lines depends on the lines alone.
-use Rattle.std.specs.Prelude.{ℕ, zero, suc, ◌+◌, ◌%◌, ◌*◌, ◌==◌, List, [], ◌∷◌, ◌++◌, length, min, map, Option, Some}
+use Rattle.std.specs.Prelude.{ℕ, zero, suc, ◌+◌, ◌%◌, ◌==◌, List, [], ◌∷◌, ◌++◌, length, min, map, Option, Some}
 use Rattle.std.specs.Prelude.{None, Ok, Err, unwrap_or, codes, nat_le, take, drop, if◌then◌else◌}
 use Rattle.std.specs.List.{flat_map}
 use Rattle.std.specs.Option.{option_to_list}
 use Rattle.hex.specs.Hex.{encode_lower}
 use Rattle.cbor_notes.specs.Element.{element_size, element_text}
-use Rattle.cbor_notes.specs.Layout.{DumpLine, layout, blanks, left_column, width_of}
+use Rattle.cbor_notes.specs.Layout.{DumpLine, layout, row, width_of}
 use Rattle.cbor_diag.specs.declared.error.Error.{Error}
 use Rattle.cbor_diag.specs.declared.error.Error.TheVariants.{Remaining}
 use Rattle.cbor_diag.specs.declared.syntax.IntegerWidth.{IntegerWidth}
@@ -176,10 +176,6 @@ note_line depth text = record { depth = depth; hex = []; comment = text }
 -- a note, and what belongs to it one deeper
 abbrev pub note_lines : ℕ → Note → List DumpLine
 note_lines depth note = note_line depth note.text ∷ map (note_line (depth + 1)) note.below
-
--- a line as it is in a dump of that width, without its line feed
-abbrev pub row : ℕ → DumpLine → List ℕ
-row width line = left_column width line ++ codes " # " ++ blanks (2 * line.depth) ++ line.comment
 
 -- an embedded item: its own dump in columns of its own, a text for each line
 abbrev pub embedded_note : List DumpLine → Note

@@ -27,9 +27,12 @@ left_column width line =
     if length line.hex == 0 then blanks width
     else blanks (3 * line.depth) ++ line.hex ++ blanks (width - reach line)
 
--- a line: its left column, ` # `, two blanks for each depth, the comment, and a line feed
+-- a line without its line feed: its left column, ` # `, two blanks for each depth, and the comment
+abbrev pub row : ℕ → DumpLine → List ℕ
+row width line = left_column width line ++ codes " # " ++ blanks (2 * line.depth) ++ line.comment
+
 abbrev pub line_text : ℕ → DumpLine → List ℕ
-line_text width line = left_column width line ++ codes " # " ++ blanks (2 * line.depth) ++ line.comment ++ codes "\n"
+line_text width line = row width line ++ codes "\n"
 
 -- all lines, one after the other, with their comments in one column
 abbrev pub layout : List DumpLine → List ℕ

@@ -7,7 +7,7 @@ use Rattle.std.proofs.Math.Seq.{drop-append-add, get_or-append_seam}
 use Rattle.std.proofs.lemmas.List.{length-append, length-drop, length-take}
 use Rattle.std.proofs.lemmas.Str.{IsCharBoundary-after_ascii, IsUtf8-drop}
 use Rattle.cbor_notes.specs.Columns.{IsPlain}
-use Rattle.cbor_notes.specs.Layout.{DumpLine, line_text}
+use Rattle.cbor_notes.specs.Layout.{DumpLine, line_text, row}
 use Rattle.cbor_notes.proofs.columns.OneColumn.{first_at, before, after}
 use Rattle.cbor_notes.proofs.columns.OneLine.{lacks_of}
 use Rattle.cbor_diag.specs.declared.error.Error.{Error}
@@ -18,7 +18,7 @@ use Rattle.cbor_diag.specs.Bytes.{any, Spells}
 use Rattle.cbor_diag.specs.Embedded.{and_then, sequence_of, before as item_before}
 use Rattle.cbor_diag.specs.WellFormed.{levels_left}
 use Rattle.cbor_diag.specs.Notes.{Note}
-use Rattle.cbor_diag.specs.Dump.{note_line, note_lines, row, sequence_notes, failed_note, embedded_note, lines_at}
+use Rattle.cbor_diag.specs.Dump.{note_line, note_lines, sequence_notes, failed_note, embedded_note, lines_at}
 use Rattle.cbor_diag.specs.Dump.{lines_at_level, top, whole_note}
 use Rattle.cbor_diag.specs.mirror.Passes.{taken, Held, step}
 use Rattle.cbor_diag.specs.Reading.{read_item}

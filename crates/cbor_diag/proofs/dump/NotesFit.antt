@@ -3,7 +3,7 @@ use Rattle.std.proofs.Common.{◌≡◌, ℕ, suc, ◌+◌, ◌-◌, ◌*◌, �
 use Rattle.std.proofs.Common.{◌++◌, map, length, codes, Option, Some, None, refl, ap, arith}
 use Rattle.std.specs.List.{AllByRecursion, flat_map}
 use Rattle.std.specs.Option.{option_to_list}
-use Rattle.cbor_notes.specs.Layout.{DumpLine, blanks, left_column, reach, width_of}
+use Rattle.cbor_notes.specs.Layout.{DumpLine, blanks, left_column, reach, row, width_of}
 use Rattle.cbor_notes.specs.Columns.{IsPlain, Lacks}
 use Rattle.cbor_notes.proofs.columns.OneLine.{Free, from_test, free_both, free_cond, free_same, lacks_of}
 use Rattle.cbor_notes.proofs.texts.HexLemmas.{IsAscii-from_test}
@@ -15,7 +15,7 @@ use Rattle.cbor_diag.specs.Item.{Chunk, Atom, integer, negative, byte_string, te
 use Rattle.cbor_diag.specs.Item.{float, simple, Item, atom, array, tagged, Items, no_items, item, Pairs, no_pairs, pair}
 use Rattle.cbor_diag.specs.Item.{item_count, pair_count}
 use Rattle.cbor_diag.specs.WellFormed.{WellFormed, WellFormedItems}
-use Rattle.cbor_diag.specs.Dump.{note_line, note_lines, notes, notes_lines, row, embedded_note, failed_note, whole_note}
+use Rattle.cbor_diag.specs.Dump.{note_line, note_lines, notes, notes_lines, embedded_note, failed_note, whole_note}
 use Rattle.cbor_diag.specs.Dump.{items_notes, rest_note, sequence_notes, bytes_in, encoded_item_note}
 use Rattle.cbor_diag.specs.Dump.{encoded_sequence_notes}
 use Rattle.cbor_diag.specs.Embedded.{if_whole, sequence_at}

@@ -211,3 +211,9 @@ capped_more value base digit some =
           let there : (2 ^ 64 + 1) * base ≤ value * base = mul-le-mul_right base large in
           rw same (omega (arith, here, there))
     ]
+
+-- a capped number times a base up to 16, and a digit more, fit 128 bits
+pub capped_fits : (value base number : ℕ) → number ≡ capped value → base ≤ 16 → number * base + 16 < 2 ^ 128
+capped_fits value base number is small =
+    let product : number * base ≤ number * 16 = mul-le-mul_left number small in
+    omega (arith, product, is)

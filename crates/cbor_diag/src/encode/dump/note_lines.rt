@@ -2,7 +2,7 @@
 ghost use Rattle.std.specs.Prelude.{◌≡◌, ◌<◌, ◌∷◌, ℕ, List, [], map, flat_map, OnOk};
 ghost use Rattle.std.specs.List.{AllByRecursion};
 ghost use Rattle.cbor_notes.specs.Columns.{IsPlain};
-ghost use Rattle.cbor_notes.specs.Layout.{DumpLine, line_text};
+ghost use Rattle.cbor_notes.specs.Layout.{DumpLine, line_text, row};
 ghost use Rattle.cbor_diag.specs.Dump as spec;
 ghost use Rattle.cbor_diag.specs.mirror.NotesView.{note_view};
 ghost use Rattle.cbor_diag.specs.mirror.Passes.{Took};
@@ -58,7 +58,7 @@ impl Lines {
         requires { depth < 140 }
         ensures { OnOk result ((width : ℕ) (lines : List DumpLine) → AllByRecursion IsPlain lines
             → text.now ≡ flat_map (line_text width) lines → Took self.old.pass self.new.pass
-            (map (spec.note_line depth) (map (spec.row width) lines))) }
+            (map (spec.note_line depth) (map (row width) lines))) }
     {
         let mut rest = text;
         'rows: while let Some((row, after)) = rest.split_once('\n') {

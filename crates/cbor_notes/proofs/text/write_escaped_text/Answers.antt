@@ -1,4 +1,5 @@
-use Rattle.std.proofs.Common.{ap, sym, ◌∙◌, ◌++◌, string_bytes}
+use Rattle.std.proofs.Common.{ap, sym, ◌∙◌, ◌++◌, string_bytes, arith}
+use Rattle.std.proofs.lemmas.Grind.{common_steps}
 use Rattle.std.proofs.lemmas.Iterator.{YieldsList-from_chars}
 use Rattle.std.proofs.lemmas.Iterator.Consumers.{YieldsList-end}
 use Rattle.std.proofs.lemmas.List.{map-id}
@@ -23,3 +24,6 @@ pub returns-in_err-push_escaped_char-clause-front : goal.returns-in_err-push_esc
 returns-in_err-push_escaped_char-clause-front c =
     on_err c.from_residual.result (front_before _ (string_bytes c.loop-character.escaped) _ _ c.loop-character.invariant
     c.in_err-push_escaped_char.ensures.front)
+
+pub loop-character-preserved : goal.loop-character-preserved
+loop-character-preserved c = grind (arith, common_steps)

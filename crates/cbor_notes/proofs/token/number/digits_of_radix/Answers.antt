@@ -1,7 +1,24 @@
-use Rattle.std.proofs.Common.{◌≡◌, ℕ, ◌+◌, ◌*◌, ◌<◌, sym, subst, ◌∙◌, arith}
+use Rattle.std.proofs.Common.{◌≡◌, ℕ, ◌+◌, ◌*◌, ◌<◌, ◌≤◌, sym, subst, ◌∙◌, arith}
 use Rattle.std.specs.Char.{digit_value}
-use Rattle.cbor_notes.proofs.tokens.NumberRuns.{run_more, capped_more}
+use Rattle.cbor_notes.proofs.tokens.NumberRuns.{run_more, capped_more, capped_fits}
 use Rattle.cbor_notes.proofs.token.number.digits_of_radix.Goals as goal
+
+pub overflow_mul-value : goal.overflow_mul-value
+overflow_mul-value c =
+    let before = c.loop-end.invariant.read in
+    let small : c.from-in-loop-end.result ≤ 16 = omega (arith, c.requires.radix.1) in
+    omega (arith, capped_fits before.0 c.from-in-loop-end.result c.loop-end.value before.1 small)
+
+pub overflow_add-value : goal.overflow_add-value
+overflow_add-value c =
+    let before = c.loop-end.invariant.read in
+    let small : c.from-in-loop-end.result ≤ 16 = omega (arith, c.requires.radix.1) in
+    omega (
+      arith,
+      capped_fits before.0 c.from-in-loop-end.result c.loop-end.value before.1 small,
+      c.in-Some.ensures.value,
+      c.requires.radix.1,
+    )
 
 pub loop-end-preserved : goal.loop-end-preserved
 loop-end-preserved c =

@@ -4,7 +4,7 @@ use Rattle.std.specs.List.{flat_map}
 use Rattle.std.proofs.lemmas.List.{nil_from_length}
 use Rattle.std.proofs.lemmas.Bool.Decides.{nat_tests}
 use Rattle.std.proofs.lemmas.Result.{on_ok_weaker}
-use Rattle.cbor_notes.specs.Layout.{DumpLine, width_of}
+use Rattle.cbor_notes.specs.Layout.{DumpLine, row, width_of}
 use Rattle.std.specs.declared.alloc.AllocError.{AllocError}
 use Rattle.cbor_diag.specs.declared.error.Error.TheVariants as refusal
 use Rattle.cbor_diag.specs.declared.encode.head.Head.{Head}
@@ -16,7 +16,7 @@ use Rattle.cbor_diag.specs.Item.{Item, item_count, pair_count}
 use Rattle.cbor_diag.specs.View.{view, items_view, pairs_view, byte_chunk, text_chunk}
 use Rattle.cbor_diag.specs.WellFormed.{levels_left, WellFormed, WellFormedItems, WellFormedPairs, FitsCount}
 use Rattle.cbor_diag.specs.Dump.{Context, head_line, bytes_in, chunks_lines, items_lines}
-use Rattle.cbor_diag.specs.Dump.{lines_at_level, note_line, note_lines, notes, pairs_lines, row, top}
+use Rattle.cbor_diag.specs.Dump.{lines_at_level, note_line, note_lines, notes, pairs_lines, top}
 use Rattle.cbor_diag.specs.mirror.ShownLines.{head_comment, most_width}
 use Rattle.cbor_diag.specs.mirror.Passes.{context_view, embedded_lines, held, item_lines, items_there, pairs_there}
 use Rattle.cbor_diag.specs.mirror.Passes.{room, step, taken, Took}

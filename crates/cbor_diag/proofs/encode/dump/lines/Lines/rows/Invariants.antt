@@ -3,8 +3,8 @@ use denote.Text.{Utf8}
 use Rattle.std.proofs.Common.{◌≡◌, ℕ, List, length, map}
 use Rattle.std.specs.List.{AllByRecursion, flat_map}
 use Rattle.cbor_notes.specs.Columns.{IsPlain}
-use Rattle.cbor_notes.specs.Layout.{DumpLine, line_text}
-use Rattle.cbor_diag.specs.Dump.{note_line, row}
+use Rattle.cbor_notes.specs.Layout.{DumpLine, line_text, row}
+use Rattle.cbor_diag.specs.Dump.{note_line}
 use Rattle.cbor_diag.specs.mirror.Passes.{taken, held, room, step}
 use Rattle.cbor_diag.proofs.dump.EmbeddedDumps.{RowsLeft}
 use Rattle.cbor_diag.proofs.encode.dump.lines.Lines.rows.Given as goal
