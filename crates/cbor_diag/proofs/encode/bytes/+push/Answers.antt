@@ -1,12 +1,13 @@
-use Rattle.std.proofs.Common.{drop, drop-cons, suc, ◌∷◌, ◌≡◌, ℕ, List, ◌++◌, ap, sym, subst, ◌∙◌, append_assoc, arith}
+use Rattle.std.proofs.Common.{◌≡◌, ℕ, List, ◌++◌, ap, sym, subst, ◌∙◌, append_assoc, arith}
 use Rattle.std.proofs.Common.{rules}
 use Rattle.cbor_diag.specs.Item.{item_count, pair_count}
 use Rattle.cbor_diag.specs.View.{items_view, pairs_view}
-use Rattle.cbor_diag.specs.WellFormed.{WellFormedPairs, FitsCount}
+use Rattle.cbor_diag.specs.WellFormed.{WellFormedItems, WellFormedPairs, FitsCount}
 use Rattle.cbor_diag.specs.Written.{encoded_items, encoded_pairs, encoded_open, encoded_close}
 use Rattle.cbor_diag.specs.declared.syntax.DataItem.{the_lemmas}
 use Rattle.cbor_diag.proofs.shared.Appending.{begins_still, begins_through, begins_two, appends_after, appends_last}
 use Rattle.cbor_diag.proofs.shared.Views.{item_count_view, pair_count_view}
+use Rattle.cbor_diag.proofs.text.Scalars.{drop_here}
 use Rattle.cbor_diag.proofs.encode.bytes.+push.Goals as goal
 
 around : (out opening members closing all : List ℕ) → all ≡ (out ++ opening) ++ members
@@ -65,9 +66,7 @@ push_pairs-push_item-requires-in-pairs t c = (
   search (rules, the_lemmas),
   let all = c.deref-key-items.result.now in
       let i = c.pairs.key-index in
-      let here : drop i all ≡ c.pairs-item.result ∷ drop (suc i) all =
-      drop-cons all i c.pairs-item.result c.pairs-test.true
-      ∙ ap (λ p. p ∷ drop (suc i) all) (sym c.pairs-item.is) in
+      let here = drop_here all i c.pairs-item.result c.pairs-test.true c.pairs-item.is in
       let well = subst (λ ps. WellFormedPairs c.pairs.invariant.1 (pairs_view ps)) here c.pairs.invariant.2 in
       (c.pairs.invariant.1, well.1),
 )
@@ -84,4 +83,36 @@ push_pairs-returns-in_err-push_item-2 t c =
     c.in_ok-push_item.ensures in
     let begun = begins_through out c.push_item.new.out.items c.push_item-in-pairs.new.out.items
     c.in_err-push_item-2.ensures key in
+    search (rules, begun)
+
+pub push_items-push_item-requires : goal.push_items-push_item-requires
+push_items-push_item-requires t c = (
+  search (rules, the_lemmas),
+  let all = c.deref-item-items.result.now in
+      let i = c.items.item-index in
+      let here = drop_here all i c.item-item.result c.items-test.true c.item-item.is in
+      let well = subst (λ vs. WellFormedItems c.items.invariant.1 (items_view vs)) here c.items.invariant.2 in
+      (c.items.invariant.1, well.0),
+)
+
+pub push_items-returns-in_err-push_item : goal.push_items-returns-in_err-push_item
+push_items-returns-in_err-push_item t c =
+    let begun = begins_through c.args.out.now.items c.items.out.items c.push_item.new.out.items
+    c.in_err-push_item.ensures c.items.invariant.3 in
+    search (rules, begun)
+
+pub push_pairs-push_item-requires : goal.push_pairs-push_item-requires
+push_pairs-push_item-requires t c = (
+  search (rules, the_lemmas),
+  let all = c.deref-key-items.result.now in
+      let i = c.pairs.key-index in
+      let here = drop_here all i c.pairs-item.result c.pairs-test.true c.pairs-item.is in
+      let well = subst (λ ps. WellFormedPairs c.pairs.invariant.1 (pairs_view ps)) here c.pairs.invariant.2 in
+      (c.pairs.invariant.1, well.0),
+)
+
+pub push_pairs-returns-in_err-push_item : goal.push_pairs-returns-in_err-push_item
+push_pairs-returns-in_err-push_item t c =
+    let begun = begins_through c.args.out.now.items c.pairs.out.items c.push_item.new.out.items
+    c.in_err-push_item.ensures c.pairs.invariant.3 in
     search (rules, begun)
