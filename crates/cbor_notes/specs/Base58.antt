@@ -15,7 +15,8 @@ leading_zeros bytes = length (take_while (λ byte. byte == 0) bytes)
 -- zero, of the number that the bytes are, the first byte highest
 unfoldable pub base58_of : List ℕ → List ℕ
 base58_of bytes =
-    replicate (leading_zeros bytes) digit_one ++ map (slice_index characters) (digits_of 58 (number_from_digits 256 bytes))
+    replicate (leading_zeros bytes) digit_one
+    ++ map (slice_index characters) (digits_of 58 (number_from_digits 256 bytes))
 
 -- the digits are none, or the first one is not zero
 abbrev pub HasNoLeadingZero : List ℕ → Type 0

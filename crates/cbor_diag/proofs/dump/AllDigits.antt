@@ -21,16 +21,16 @@ use Rattle.cbor_diag.specs.Item.{float, simple, Item, atom, array, tagged, Items
 use Rattle.cbor_diag.specs.Item.{item_count, pair_count}
 use Rattle.cbor_diag.specs.Head.{opening, break_byte}
 use Rattle.cbor_diag.specs.StringKind.{StringKind, bytes_kind, text_kind, major_of}
-use Rattle.cbor_diag.specs.Written.{encoded_head, encoded_chunk, encoded_chunks, encoded_float, encoded_simple, encoded_atom}
-use Rattle.cbor_diag.specs.Written.{encoded_open, encoded_close, encoded, encoded_items, encoded_pairs}
+use Rattle.cbor_diag.specs.Written.{encoded_head, encoded_chunk, encoded_chunks, encoded_float, encoded_simple}
+use Rattle.cbor_diag.specs.Written.{encoded_atom, encoded_open, encoded_close, encoded, encoded_items, encoded_pairs}
 use Rattle.cbor_diag.specs.Comments.{unsigned_comment, negative_comment, float_comment, simple_comment, tag_comment}
 use Rattle.cbor_diag.specs.Comments.{bytes_comment, text_comment, counted_comment}
 use Rattle.cbor_diag.specs.Pieces.{pieces_of, byte_pieces, text_pieces, text_cut}
-use Rattle.cbor_diag.specs.Dump.{Context, head_hex, head_line, piece_line, content_lines, string_lines}
-use Rattle.cbor_diag.specs.Dump.{string_word, string_content_lines, chunks_lines, bytes_lines, element_lines, sized_lines, tagged_lines, note_line}
-use Rattle.cbor_diag.specs.Dump.{note_lines, notes, notes_lines, count_if_definite, break_line, atom_lines, close_lines}
-use Rattle.cbor_diag.specs.Dump.{inside, below, shared_in, shared_from, items_lines, pairs_lines, parts_lines, lines_at}
-use Rattle.cbor_diag.specs.Dump.{top}
+use Rattle.cbor_diag.specs.Dump.{Context, head_hex, head_line, piece_line, content_lines, string_lines, string_word}
+use Rattle.cbor_diag.specs.Dump.{string_content_lines, chunks_lines, bytes_lines, element_lines, sized_lines}
+use Rattle.cbor_diag.specs.Dump.{tagged_lines, note_line, note_lines, notes, notes_lines, count_if_definite, break_line}
+use Rattle.cbor_diag.specs.Dump.{atom_lines, close_lines, inside, below, shared_in, shared_from, items_lines}
+use Rattle.cbor_diag.specs.Dump.{pairs_lines, parts_lines, lines_at, top}
 use Rattle.cbor_diag.specs.Notes.{Note}
 use Rattle.cbor_diag.specs.WellFormed.{WellFormed, WellFormedItems, WellFormedPairs}
 use Rattle.cbor_diag.proofs.dump.Digits.{head_short, head_long}

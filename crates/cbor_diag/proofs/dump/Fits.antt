@@ -34,7 +34,8 @@ use Rattle.cbor_diag.specs.Comments.{bytes_comment, text_comment}
 use Rattle.cbor_diag.specs.Pieces.{pieces_of, byte_pieces, text_pieces, last_start, text_cut, begins_character}
 use Rattle.cbor_diag.specs.Pieces.{piece_size}
 use Rattle.cbor_diag.specs.Dump.{Context, head_hex, head_line, piece_line, content_lines, string_lines}
-use Rattle.cbor_diag.specs.Dump.{string_word, string_content_lines, chunks_lines, bytes_lines, element_lines, sized_lines, tagged_lines}
+use Rattle.cbor_diag.specs.Dump.{string_word, string_content_lines, chunks_lines, bytes_lines, element_lines}
+use Rattle.cbor_diag.specs.Dump.{sized_lines, tagged_lines}
 use Rattle.cbor_diag.specs.Dump.{count_if_definite, break_line, atom_lines, container_line, close_lines, inside, below}
 use Rattle.cbor_diag.proofs.dump.Elements.{Small, element_small, element_cut}
 use Rattle.cbor_diag.specs.mirror.ShownLines.{Takes}

@@ -145,7 +145,8 @@ cut_whole text none = uncommented_last text (λ k lt. (none k lt).1) ∙ uncomme
 -- a line feed comes first
 pub cut_feed : (text : List ℕ) (n : ℕ) → n < length text
     → ((k : ℕ) → k < n → (get_or text k 0 ≢ 35) × (get_or text k 0 ≢ 10))
-    → get_or text n 0 ≡ 10 → uncommented text ≡ unspaced (strip_carriage_return (take n text)) ++ uncommented (drop (n + 1) text)
+    → get_or text n 0 ≡ 10 → uncommented text
+    ≡ unspaced (strip_carriage_return (take n text)) ++ uncommented (drop (n + 1) text)
 cut_feed text n lt none here =
     let len = length-take-le n text (omega arith) in
     let whole = return_whole (take n text) (λ k below.
@@ -180,7 +181,8 @@ comment_then_feed text n m lt none here later feed =
 -- a `#` comes first
 pub cut_comment : (text : List ℕ) (n : ℕ) → n < length text
     → ((k : ℕ) → k < n → (get_or text k 0 ≢ 35) × (get_or text k 0 ≢ 10))
-    → get_or text n 0 ≡ 35 → uncommented text ≡ unspaced (take n text) ++ uncommented (after_first (λ b. b == 10) (drop n text))
+    → get_or text n 0 ≡ 35 → uncommented text
+    ≡ unspaced (take n text) ++ uncommented (after_first (λ b. b == 10) (drop n text))
 cut_comment text n lt none here =
     let feed = λ (b : ℕ). b == 10 in
     let rest = drop n text in

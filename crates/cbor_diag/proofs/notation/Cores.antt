@@ -1,7 +1,7 @@
 -- What reading an item, a string or a piece gives, by what is at the front of the text.
 use Rattle.std.proofs.Common.{◌≡◌, ◌≢◌, ℕ, zero, suc, ◌+◌, ◌-◌, ◌<◌, ◌≤◌, ◌^◌, ◌⊎◌, inl, inr, Bool, true, false, List}
-use Rattle.std.proofs.Common.{[], ◌∷◌, ◌++◌, length, Option, Some, None, Result, Ok, Err, Vec, Global, refl, sym, ap, subst}
-use Rattle.std.proofs.Common.{◌∙◌, append_assoc, arith}
+use Rattle.std.proofs.Common.{[], ◌∷◌, ◌++◌, length, Option, Some, None, Result, Ok, Err, Vec, Global, refl, sym, ap}
+use Rattle.std.proofs.Common.{subst, ◌∙◌, append_assoc, arith}
 use Rattle.std.specs.List.{AllByRecursion}
 use Rattle.std.proofs.lemmas.List.{append-nil}
 use Rattle.cbor_diag.specs.declared.syntax.IntegerWidth.{IntegerWidth}
@@ -80,7 +80,8 @@ module _ (read : List ℕ → Read Item) (texts : Bool) (text first : List ℕ) 
       ≡ (read_content read texts first >>= λ x. checked (kind_with texts) x.0 >>= λ c. Ok (c, x.1))
   by_content = ap (read_string read (kind_with texts)) (sym blank) ∙ by_texts read texts first
 
-  pub no_content : (e : Error) → Fails e (read_content read texts first) → Fails e (read_chunk read (kind_with texts) text)
+  pub no_content : (e : Error) → Fails e (read_content read texts first)
+      → Fails e (read_chunk read (kind_with texts) text)
   no_content e h = subst (λ r. Fails e r) (sym by_content) (Fails-bind e (read_content read texts first)
       (λ x. checked (kind_with texts) x.0 >>= λ c. Ok (c, x.1)) h)
 
@@ -91,7 +92,8 @@ module _ (read : List ℕ → Read Item) (texts : Bool) (text first : List ℕ) 
         ∙ ap (λ k. checked k content >>= λ c. Ok (c, rest)) (sym same)
 
     -- a chunk of this content cannot be added
-    pub no_string : (e : Error) → Fails e (with_chunk kind cs content) → Fails e (read_chunk read (kind_with texts) text)
+    pub no_string : (e : Error) → Fails e (with_chunk kind cs content)
+        → Fails e (read_chunk read (kind_with texts) text)
     no_string e h = subst (λ r. Fails e r) (sym from_content) (no_chunk (checked kind content) cs rest e h)
 
     -- a chunk of this content was added

@@ -10,8 +10,8 @@ use Rattle.cbor_diag.specs.StringKind.{StringKind, bytes_kind, text_kind}
 use Rattle.cbor_diag.specs.Reading.{Read}
 use Rattle.cbor_diag.specs.Notation.{IsBlank, Opens, StringOf, ChunksOf, AtomCore, Core, Reads}
 use Rattle.cbor_diag.specs.mirror.NotationReading.{skip_blank, byte_string_of, read_byte_string, text_string_of}
-use Rattle.cbor_diag.specs.mirror.NotationReading.{chunks_atom, read_text_string, read_chunks, start_of, read_core, core_of}
-use Rattle.cbor_diag.specs.mirror.NotationReading.{read_item, notation_of}
+use Rattle.cbor_diag.specs.mirror.NotationReading.{chunks_atom, read_text_string, read_chunks, start_of, read_core}
+use Rattle.cbor_diag.specs.mirror.NotationReading.{core_of, read_item, notation_of}
 use Rattle.cbor_diag.proofs.notation.Ends.{Begins, begins_append, begins_more, core_starts, digits, Follows}
 use Rattle.cbor_diag.proofs.notation.Ends.{follows_passed, follows_blank, Starts, starts_passed}
 use Rattle.cbor_diag.proofs.notation.Lists.{ReadsAgain, blanked_parts, blanked_stripped}

@@ -15,9 +15,9 @@ use Rattle.cbor_diag.specs.mirror.NotationReading.{integer_or_tag, read_integer,
 use Rattle.cbor_diag.specs.mirror.NotationReading.{members_or_end, read_members, read_pair, read_length, read_array}
 use Rattle.cbor_diag.specs.mirror.NotationReading.{read_map, read_embedded, piece_of, read_piece, start_of, first_start}
 use Rattle.cbor_diag.specs.mirror.NotationReading.{begins_piece, read_pieces, skip_blank, begins_string, may_have_texts}
-use Rattle.cbor_diag.specs.mirror.NotationReading.{content_of, read_content, read_string, read_chunk, chunks_of, read_chunks}
-use Rattle.cbor_diag.specs.mirror.NotationReading.{byte_string_of, read_byte_string, text_string_of, read_text_string}
-use Rattle.cbor_diag.specs.mirror.NotationReading.{core_of, read_core, read_item}
+use Rattle.cbor_diag.specs.mirror.NotationReading.{content_of, read_content, read_string, read_chunk, chunks_of}
+use Rattle.cbor_diag.specs.mirror.NotationReading.{read_chunks, byte_string_of, read_byte_string, text_string_of}
+use Rattle.cbor_diag.specs.mirror.NotationReading.{read_text_string, core_of, read_core, read_item}
 use Rattle.cbor_diag.proofs.notation.Pieces.{pieces_go, pieces_stop}
 
 -- the first is TooDeep, or both are one answer

@@ -14,7 +14,8 @@ use Rattle.cbor_notes.specs.declared.base32.Alphabet.{Alphabet}
 use Rattle.cbor_notes.proofs.bases.Base32Alphabet.{no_equals_sign}
 use Rattle.cbor_notes.proofs.bases.Base32Numbers.{written_at, written-lt}
 use Rattle.cbor_notes.proofs.bases.Base32Padding.{digit_counts}
-use Rattle.cbor_notes.proofs.dates.Places.{length-places, AllBelowBase-places, number-places, places-number, take-places}
+use Rattle.cbor_notes.proofs.dates.Places.{length-places, AllBelowBase-places, number-places, places-number}
+use Rattle.cbor_notes.proofs.dates.Places.{take-places}
 
 -- a group whose forty bits begin with the number that its digits write
 pub encode_group_is : (a : Alphabet) (group digits : List ℕ) (number k : ℕ) → k ≡ digit_count (length group) → k ≤ 8

@@ -10,7 +10,8 @@ use Rattle.cbor_notes.specs.Base32.{base32, base32hex}
 use Rattle.cbor_notes.specs.declared.base32.Alphabet.{Alphabet}
 use Rattle.cbor_notes.specs.declared.base32.Alphabet.TheVariants.{Standard, ExtendedHex}
 use Rattle.cbor_notes.proofs.bases.Base32Groups.{few_digits, group_bits}
-use Rattle.cbor_notes.proofs.dates.Places.{length-places, AllBelowBase-places, number-places, places-number, take-places}
+use Rattle.cbor_notes.proofs.dates.Places.{length-places, AllBelowBase-places, number-places, places-number}
+use Rattle.cbor_notes.proofs.dates.Places.{take-places}
 
 -- the values of the digits that hold a group's bits
 abbrev pub group_values : List ℕ → List ℕ

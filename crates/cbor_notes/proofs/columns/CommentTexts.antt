@@ -23,8 +23,9 @@ use Rattle.cbor_notes.specs.Identifier.{version_name}
 use Rattle.cbor_notes.specs.Text.{grouped, quoted_bytes}
 use Rattle.cbor_notes.specs.declared.element.Kind.{Kind}
 use Rattle.cbor_notes.specs.declared.element.Kind.TheVariants.{Unsigned, Signed, Float}
-use Rattle.cbor_notes.proofs.columns.OneLine.{Free, from_test, free_both, free_cond, free_digit, free_same, free_symbols}
-use Rattle.cbor_notes.proofs.columns.OneLine.{zero_other, decimal_line, digits_line, grouped_line, hex_line, quoted_line}
+use Rattle.cbor_notes.proofs.columns.OneLine.{Free, from_test, free_both, free_cond, free_digit, free_same}
+use Rattle.cbor_notes.proofs.columns.OneLine.{free_symbols, zero_other, decimal_line, digits_line, grouped_line}
+use Rattle.cbor_notes.proofs.columns.OneLine.{hex_line, quoted_line}
 
 -- words without a line feed, as one sees by computing
 abbrev Plain : List ℕ → Type 0

@@ -1,7 +1,6 @@
 -- Numbers: reading finds the longest one.
-use Rattle.std.proofs.Common.{◌≡◌, ◌≢◌, ◌⊎◌, ℕ, ◌<◌, ◌≤◌, true, false, not, ◌==◌, ◌&&◌, nat_lt, List, [], ◌∷◌}
-use Rattle.std.proofs.Common.{◌++◌, length, drop, Option, Some, None, refl, sym, ap, ◌∙◌, inl, inr, subst}
-use Rattle.std.proofs.Common.{arith}
+use Rattle.std.proofs.Common.{◌≡◌, ◌≢◌, ◌⊎◌, ℕ, ◌<◌, ◌≤◌, true, false, not, ◌==◌, ◌&&◌, nat_lt, List, [], ◌∷◌, ◌++◌}
+use Rattle.std.proofs.Common.{length, drop, Option, Some, None, refl, sym, ap, ◌∙◌, inl, inr, subst, arith}
 use Rattle.std.specs.Char.{digit_value}
 use Rattle.std.specs.Str.Parse.{AllDigits}
 use Rattle.std.proofs.lemmas.List.{length-append, append_assoc}
@@ -13,7 +12,8 @@ use Rattle.cbor_notes.specs.Token.{AreDigits, Indicates, IsNumber, IsSomeNumber,
 use Rattle.cbor_notes.specs.TokenReading.{starts_with_digit, base_of, digit_run, indicator_of, with_indicator}
 use Rattle.cbor_notes.specs.TokenReading.{after_run, number_in, number_of}
 use Rattle.cbor_notes.proofs.tokens.NumberRuns.{digit_run-append, digit_run-stops, IsRun, is_run, length-digit_run}
-use Rattle.cbor_notes.proofs.tokens.NumberRuns.{small_run-stops, length-small_run, indicator_of-append, Indicates-indicator_of}
+use Rattle.cbor_notes.proofs.tokens.NumberRuns.{small_run-stops, length-small_run, indicator_of-append}
+use Rattle.cbor_notes.proofs.tokens.NumberRuns.{Indicates-indicator_of}
 use Rattle.cbor_notes.proofs.tokens.Longest.{one_longest}
 
 -- the prefix of this base begins the text, and a digit of this base follows it

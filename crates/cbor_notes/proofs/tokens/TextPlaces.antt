@@ -49,7 +49,11 @@ first_or_length test text =
     let n = position_or_len test text in
     elim (cases_Bool (nat_lt n (length text))) [
       | inl within ↦ rw within refl
-      | inr past ↦ rw past (omega (arith, ltb-false n (length text) past, prefix_len-le-length (λ b. not (test b)) text))
+      | inr past ↦ rw past (omega (
+        arith,
+        ltb-false n (length text) past,
+        prefix_len-le-length (λ b. not (test b)) text,
+      ))
     ]
 
 -- the byte at a place, and what follows

@@ -313,7 +313,8 @@ module _ (left : ℕ) (R : List ℕ → Item → Type 0) (read : List ℕ → Re
         | inr other ↦ absurd (cc (rw other at e))
       ]
 
-  checked_ok : (kind : StringKind) (b : ℕ) (front content : List ℕ) (c : Chunk) → begins_string (may_have_texts kind) (start_of b) ≡ true
+  checked_ok : (kind : StringKind) (b : ℕ) (front content : List ℕ) (c : Chunk)
+      → begins_string (may_have_texts kind) (start_of b) ≡ true
       → SomePieces kind b front content → checked kind content ≡ Ok c → Trailed (λ core. StringOf kind R core c) front
   checked_ok bytes_kind b front content c begins pieces e =
       let made : Chunk = record { bytes = content; width = Unknown } in
@@ -336,7 +337,8 @@ module _ (left : ℕ) (R : List ℕ → Item → Type 0) (read : List ℕ → Re
         pieces.5,
       )
 
-  checked_odd : (kind : StringKind) (b : ℕ) (text content : List ℕ) (e : Error) → begins_string (may_have_texts kind) (start_of b) ≡ true
+  checked_odd : (kind : StringKind) (b : ℕ) (text content : List ℕ) (e : Error)
+      → begins_string (may_have_texts kind) (start_of b) ≡ true
       → checked kind content ≡ Err e → MayRefuse (suc left) (b ∷ text) e
   checked_odd bytes_kind b text content e begins is = absurd cc
   checked_odd text_kind b text content e begins is =

@@ -4,8 +4,8 @@ use Rattle.std.proofs.lemmas.Bool.{eqb-true, eqb-false}
 use Rattle.std.proofs.lemmas.List.{nil_from_length}
 use Rattle.cbor_notes.specs.Base32.{forty_bits}
 use Rattle.cbor_notes.proofs.bases.Base32Encode.{AllBelowBase-append, length-encode, encode-nil, no_bytes, decoded_none}
-use Rattle.cbor_notes.proofs.bases.Base32Encode.{decoded_more, next_group, last_slice, last_found, last_only, first_bytes}
-use Rattle.cbor_notes.proofs.bases.Base32Encode.{forty_bits-lt}
+use Rattle.cbor_notes.proofs.bases.Base32Encode.{decoded_more, next_group, last_slice, last_found, last_only}
+use Rattle.cbor_notes.proofs.bases.Base32Encode.{first_bytes, forty_bits-lt}
 use Rattle.cbor_notes.proofs.base32.decode.Goals as goal
 
 pub returns-then-digits-ne0-clause-only : goal.returns-then-digits-ne0-clause-only

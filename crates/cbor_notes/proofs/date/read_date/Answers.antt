@@ -1,6 +1,7 @@
 use Rattle.std.proofs.Common.{◌≡◌, ◌+◌, ◌*◌, ◌∷◌, [], ◌∙◌, ◌/◌, ◌%◌, ap, get_or, inl, inr, unsigned_abs, arith}
 use Rattle.std.proofs.lemmas.Option.{IfSome_then}
-use Rattle.cbor_notes.proofs.dates.DateTexts.{civil_parts, date_found, date_text-ten, day_below, text_of_parts, year_below}
+use Rattle.cbor_notes.proofs.dates.DateTexts.{civil_parts, date_found, date_text-ten, day_below, text_of_parts}
+use Rattle.cbor_notes.proofs.dates.DateTexts.{year_below}
 use Rattle.cbor_notes.proofs.date.read_date.Goals as goal
 
 pub returns-then-first-ne45-clause-only : goal.returns-then-first-ne45-clause-only

@@ -6,9 +6,10 @@ use Rattle.std.specs.String.{string_bytes}
 use Rattle.jiff.proofs.Family.{epoch_day_range}
 use Rattle.jiff.proofs.SpanFacts.{signed_arith}
 use Rattle.jiff.specs.Words.{IsEpochDay, epoch_day}
-use Rattle.cbor_notes.proofs.dates.Moments.{day_and_clock, day_fits, four_pieces, moment_found, moment_only, moment_text}
-use Rattle.cbor_notes.proofs.dates.Moments.{one_day}
-use Rattle.cbor_notes.proofs.dates.DateNotes.{datetime_of_epoch-out, datetime_of_epoch_is, datetime_of_epoch_some, same_text}
+use Rattle.cbor_notes.proofs.dates.Moments.{day_and_clock, day_fits, four_pieces, moment_found, moment_only}
+use Rattle.cbor_notes.proofs.dates.Moments.{moment_text, one_day}
+use Rattle.cbor_notes.proofs.dates.DateNotes.{datetime_of_epoch-out, datetime_of_epoch_is, datetime_of_epoch_some}
+use Rattle.cbor_notes.proofs.dates.DateNotes.{same_text}
 use Rattle.cbor_notes.specs.Date.{datetime_of_epoch}
 use Rattle.cbor_notes.proofs.datetime.datetime_of_epoch.Goals as goal
 

@@ -6,6 +6,7 @@ use Rattle.jiff.specs.Words.{epoch_day}
 use Rattle.cbor_notes.specs.Date.{clock_text, date_text}
 use Rattle.cbor_notes.proofs.dates.DateTimeTexts.{datetime_pieces, five_parts, time_parts, zone_fits}
 use Rattle.cbor_notes.proofs.datetime.read_datetime.Goals as goal
+use Rattle.cbor_notes.proofs.datetime.read_datetime.Goals.{}
 use Rattle.cbor_notes.proofs.datetime.read_datetime.Goals.{else-separator-ne84-via-then-separator-ne84+else-separator-ne116}
 use Rattle.cbor_notes.proofs.datetime.read_datetime.Goals.{else-separator-ne84-via-else-separator-ne84}
 

@@ -104,7 +104,8 @@ returns-in_ok-open-in-Some-2-clause-level c =
     omega (
       arith,
       opened_level (129 - c.args.level) (outer_of s) (outer_of c.open.new.self) (top_of s)
-          (top_of c.open.new.self) c.args.bytes.now c.in_ok-head.head (frame c.in-Some-2.container) c.in_ok-head.rest.now
+          (top_of c.open.new.self) c.args.bytes.now c.in_ok-head.head (frame c.in-Some-2.container)
+          c.in_ok-head.rest.now
           c.requires.bottom wanted c.in_ok-open-in-Some-2.ensures.outer c.in_ok-open-in-Some-2.ensures.top,
     )
 

@@ -19,7 +19,8 @@ returns-in-Some-clause-kept c =
     let rest = take_rest c.args.text.now c.in-Some.end in
     cut_comment c.args.text.now c.in-Some.end (omega (arith, found.0.high))
     (neither_before c.args.text.now c.in-Some.end found) c.if-text-end-eq35.true
-    ∙ ap (λ (after : List ℕ). unspaced (take c.in-Some.end c.args.text.now) ++ uncommented after) (sym (rw rest at behind))
+    ∙ ap (λ (after : List ℕ). unspaced (take c.in-Some.end c.args.text.now) ++ uncommented after)
+    (sym (rw rest at behind))
 
 pub returns-in-Some-2-clause-kept : goal.returns-in-Some-2-clause-kept
 returns-in-Some-2-clause-kept c =

@@ -1,5 +1,6 @@
 use Rattle.std.proofs.Common.{ap, arith, inl, inr, Some}
-use Rattle.cbor_notes.proofs.bases.Base32Alphabet.{standard_letter, standard_figure, standard_other, hex_letter, hex_figure}
+use Rattle.cbor_notes.proofs.bases.Base32Alphabet.{standard_letter, standard_figure, standard_other, hex_letter}
+use Rattle.cbor_notes.proofs.bases.Base32Alphabet.{hex_figure}
 use Rattle.cbor_notes.proofs.bases.Base32Alphabet.{hex_other, standard_letter_at, standard_figure_at, hex_letter_at}
 use Rattle.cbor_notes.proofs.base32.Alphabet.value.Goals as goal
 

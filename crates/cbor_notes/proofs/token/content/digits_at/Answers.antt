@@ -7,7 +7,8 @@ use Rattle.cbor_notes.proofs.tokens.TextPlaces.{from_byte}
 use Rattle.cbor_notes.proofs.tokens.Blanks.{after_blank-again}
 use Rattle.cbor_notes.proofs.tokens.Contents.{with_front-append, with_front-nil}
 use Rattle.cbor_notes.proofs.tokens.Spaced.{digits_in-after_blank, run_to, none_from, digits_closed, digits_of-some}
-use Rattle.cbor_notes.proofs.tokens.Spaced.{digits_of-blank, digits_of-none, DigitsBetween-digits_of, only_digits, none_digits}
+use Rattle.cbor_notes.proofs.tokens.Spaced.{digits_of-blank, digits_of-none, DigitsBetween-digits_of, only_digits}
+use Rattle.cbor_notes.proofs.tokens.Spaced.{none_digits}
 use Rattle.cbor_notes.proofs.token.content.digits_at.Goals as goal
 use Rattle.cbor_notes.proofs.token.content.digits_at.Goals.{After-drop-digits, After-drop-digits-then-end-text}
 use Rattle.cbor_notes.proofs.token.content.digits_at.Goals.{After-drop-digits-then-end-at, Joined-else-is_empty}

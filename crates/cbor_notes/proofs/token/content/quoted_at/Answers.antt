@@ -4,8 +4,8 @@ use Rattle.std.proofs.lemmas.List.{append-nil, drop_all, length-drop}
 use Rattle.cbor_notes.specs.TokenReading.{unquoted, with_front}
 use Rattle.cbor_notes.proofs.tokens.TextPlaces.{from_byte}
 use Rattle.cbor_notes.proofs.tokens.Contents.{with_front-append}
-use Rattle.cbor_notes.proofs.tokens.Quoted.{plain_to, plain_to_end, closes, opens, escape_is, no_escape, in_quotes-unquoted}
-use Rattle.cbor_notes.proofs.tokens.Quoted.{only_quoted, none_quoted, no_backslash}
+use Rattle.cbor_notes.proofs.tokens.Quoted.{plain_to, plain_to_end, closes, opens, escape_is, no_escape}
+use Rattle.cbor_notes.proofs.tokens.Quoted.{in_quotes-unquoted, only_quoted, none_quoted, no_backslash}
 use Rattle.cbor_notes.proofs.token.content.quoted_at.Goals as goal
 use Rattle.cbor_notes.proofs.token.content.quoted_at.Goals.{Then-text-end, After-drop-content-then-end-text}
 use Rattle.cbor_notes.proofs.token.content.quoted_at.Goals.{After-drop-content-2, then-end-text-via-then-end-text}

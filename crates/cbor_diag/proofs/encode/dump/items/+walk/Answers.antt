@@ -111,7 +111,8 @@ dump_item-returns-in-IndefiniteByteString-clause-took t c =
     let old = c.args.walk.now.lines.pass in
     let new = c.chunks.new.self.pass in
     let took = subst (λ xs. OnOk c.chunks.result
-    (Took old new (chunks_lines bytes_kind (context_view c.args.context.now) (map byte_chunk xs)))) c.deref.ensures.value
+    (Took old new (chunks_lines bytes_kind (context_view c.args.context.now) (map byte_chunk xs))))
+    c.deref.ensures.value
     c.chunks.ensures in
     subst (λ (i : Item). OnOk c.chunks.result
     (Took old new (item_lines c.args.context.now c.args.walk.now.shared i))) (sym seen) took
