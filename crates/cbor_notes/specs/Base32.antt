@@ -4,13 +4,16 @@ use Rattle.std.specs.Prelude.{replicate, length, slice_index, codes}
 use Rattle.std.specs.Int.Digits.{AllBelowBase, number_from_digits}
 use Rattle.cbor_notes.specs.AreBytes.{AreBytes}
 use Rattle.cbor_notes.specs.Ascii.{equals_sign}
-use Rattle.cbor_notes.specs.declared.base32.Alphabet.{Alphabet}
-use Rattle.cbor_notes.specs.declared.base32.Alphabet.TheVariants.{Standard, ExtendedHex}
+
+-- the alphabet of section 6, and that of section 7
+pub data Alphabet : Type 0 where
+  standard : Alphabet
+  extended_hex : Alphabet
 
 -- the 32 characters of an alphabet, at their values of five bits
 abbrev pub characters : Alphabet → List ℕ
-characters Standard = codes "ABCDEFGHIJKLMNOPQRSTUVWXYZ234567"
-characters ExtendedHex = codes "0123456789ABCDEFGHIJKLMNOPQRSTUV"
+characters standard = codes "ABCDEFGHIJKLMNOPQRSTUVWXYZ234567"
+characters extended_hex = codes "0123456789ABCDEFGHIJKLMNOPQRSTUV"
 
 -- these digits write this number in base 32, the first one highest
 pub record Writes (alphabet : Alphabet) (digits : List ℕ) (number : ℕ) : Type 0 where
@@ -54,8 +57,8 @@ encode alphabet group = encode_group alphabet group
 
 -- the encoding in the alphabet of section 6
 abbrev pub base32 : List ℕ → List ℕ
-base32 = encode Standard
+base32 = encode standard
 
 -- the encoding in the extended hex alphabet of section 7
 abbrev pub base32hex : List ℕ → List ℕ
-base32hex = encode ExtendedHex
+base32hex = encode extended_hex

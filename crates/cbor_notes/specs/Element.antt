@@ -3,9 +3,13 @@ use Rattle.std.specs.Prelude.{ℕ, ◌+◌, ◌-◌, ◌*◌, ◌/◌, ◌%◌, 
 use Rattle.std.specs.Prelude.{if◌then◌else◌, Option, Some, None, List, ◌++◌, length, reverse, codes}
 use Rattle.std.specs.Int.Digits.{number_from_digits}
 use Rattle.hex.specs.Hex.{encode_lower}
-use Rattle.cbor_notes.specs.declared.element.Kind.{Kind}
-use Rattle.cbor_notes.specs.declared.element.Kind.TheVariants.{Unsigned, Signed, Float}
 use Rattle.cbor_notes.specs.Text.{grouped}
+
+-- what an element is: a number without a sign, one with a sign, or a float
+pub data Kind : Type 0 where
+  unsigned : Kind
+  signed : Kind
+  float : Kind
 
 -- a tag of a typed array: 64 to 87, but for 76, which is reserved
 abbrev pub is_typed_array : ℕ → Bool
@@ -15,7 +19,7 @@ is_typed_array tag = nat_le 64 tag && nat_le tag 87 && not (tag == 76)
 -- f is set for floats, and else s for numbers with a sign
 abbrev pub kind : ℕ → Kind
 kind tag =
-    if tag / 16 % 2 == 1 then Float else if tag / 8 % 2 == 1 then Signed else Unsigned
+    if tag / 16 % 2 == 1 then float else if tag / 8 % 2 == 1 then signed else unsigned
 
 -- e is set where the lowest byte comes first; of 68, whose elements are single bytes, it says that they
 -- are clamped, and their order is no question
@@ -38,15 +42,15 @@ signed_text bytes number =
 
 -- what an element is called
 abbrev pub word : Kind → List ℕ
-word Unsigned = codes "unsigned"
-word Signed = codes "signed"
-word Float = codes "float"
+word unsigned = codes "unsigned"
+word signed = codes "signed"
+word float = codes "float"
 
 -- an element, its highest byte first: a number, grouped, or the bits of a float in hex
 abbrev pub value : Kind → List ℕ → List ℕ
-value Unsigned bytes = grouped (number_from_digits 256 bytes) false
-value Signed bytes = signed_text (length bytes) (number_from_digits 256 bytes)
-value Float bytes = encode_lower bytes
+value unsigned bytes = grouped (number_from_digits 256 bytes) false
+value signed bytes = signed_text (length bytes) (number_from_digits 256 bytes)
+value float bytes = encode_lower bytes
 
 -- the same between brackets, after what it is called
 abbrev pub value_text : Kind → List ℕ → List ℕ

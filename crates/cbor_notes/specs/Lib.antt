@@ -20,3 +20,4 @@ pub mod Text
 pub mod Token
 pub mod TokenReading
 pub mod Url
+pub mod Views

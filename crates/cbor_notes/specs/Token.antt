@@ -5,8 +5,6 @@ use Rattle.std.specs.Prelude.{IsTrue, List, [], ◌∷◌, ◌++◌, length, fla
 use Rattle.std.specs.List.{AllByRecursion}
 use Rattle.std.specs.Str.Parse.{IsNumeral, digits_value}
 use Rattle.cbor_notes.specs.Ascii.{space, tab, line_feed, carriage_return, slash, backslash, apostrophe}
-use Rattle.cbor_notes.specs.declared.token.number.Base.{Base}
-use Rattle.cbor_notes.specs.declared.token.number.Base.TheVariants.{Decimal, Hexadecimal, Octal, Binary}
 
 -- The front of a text is such, and no longer front of the same text is.
 pub record IsLongest (Is : List ℕ → Type 0) (front rest : List ℕ) : Type 0 where
@@ -30,18 +28,25 @@ pub data Blank (comments : Bool) : List ℕ → Type 0 where
 
 -- Numbers
 
+-- the bases that a number may be written in
+pub data Base : Type 0 where
+  decimal_base : Base
+  hexadecimal_base : Base
+  octal_base : Base
+  binary_base : Base
+
 -- what comes before the digits of a base
 abbrev pub prefix : Base → List ℕ
-prefix Decimal = []
-prefix Hexadecimal = codes "0x"
-prefix Octal = codes "0o"
-prefix Binary = codes "0b"
+prefix decimal_base = []
+prefix hexadecimal_base = codes "0x"
+prefix octal_base = codes "0o"
+prefix binary_base = codes "0b"
 
 abbrev pub radix : Base → ℕ
-radix Decimal = 10
-radix Hexadecimal = 16
-radix Octal = 8
-radix Binary = 2
+radix decimal_base = 10
+radix hexadecimal_base = 16
+radix octal_base = 8
+radix binary_base = 2
 
 -- one digit or more of a base, letters of either case, and the number that they write
 abbrev pub AreDigits : ℕ → List ℕ → ℕ → Type 0

@@ -4,8 +4,8 @@ use Rattle.std.specs.Prelude.{ℕ, ◌+◌, ◌*◌, Bool, true, false, not, ◌
 use Rattle.std.specs.Prelude.{◌∷◌, ◌++◌, length, drop, Option, Some, None}
 use Rattle.std.specs.Char.{digit_value}
 use Rattle.cbor_notes.specs.Token.{is_whitespace, is_digit, is_special, prefix, radix}
-use Rattle.cbor_notes.specs.declared.token.number.Base.{Base}
-use Rattle.cbor_notes.specs.declared.token.number.Base.TheVariants.{Decimal, Hexadecimal, Octal, Binary}
+use Rattle.cbor_notes.specs.Token.{Base}
+use Rattle.cbor_notes.specs.Token.{decimal_base, hexadecimal_base, octal_base, binary_base}
 
 -- What is left after the longest blank. In a comment, `opened` is the text from its first `/` on, which is
 -- what is left where no `/` closes it.
@@ -28,14 +28,14 @@ starts_with_digit base (byte ∷ rest) = nat_lt (digit_value byte) base
 
 -- the base of a number: that of its prefix if a digit of that base follows, else decimal
 abbrev pub base_of : List ℕ → Base
-base_of [] = Decimal
-base_of (first ∷ []) = Decimal
+base_of [] = decimal_base
+base_of (first ∷ []) = decimal_base
 base_of (first ∷ letter ∷ rest) =
-    if not (first == 48) then Decimal
-    else if (letter == 120) && starts_with_digit 16 rest then Hexadecimal
-    else if (letter == 111) && starts_with_digit 8 rest then Octal
-    else if (letter == 98) && starts_with_digit 2 rest then Binary
-    else Decimal
+    if not (first == 48) then decimal_base
+    else if (letter == 120) && starts_with_digit 16 rest then hexadecimal_base
+    else if (letter == 111) && starts_with_digit 8 rest then octal_base
+    else if (letter == 98) && starts_with_digit 2 rest then binary_base
+    else decimal_base
 
 -- the value of all digits that follow those of a value, and the rest
 abbrev pub digit_run : ℕ → ℕ → List ℕ → ℕ × List ℕ

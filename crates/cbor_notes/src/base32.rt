@@ -15,6 +15,7 @@ ghost use Rattle.cbor_notes.specs.Base32.{
   encode_group,
   forty_bits,
 };
+ghost use Rattle.cbor_notes.specs.Views.{alphabet_view};
 
 use std::alloc::{AllocError, Global};
 
@@ -78,8 +79,9 @@ pub fn base32hex_decode(alloc: Global, digits: &[u8]) -> Result<Option<Vec<u8>>,
 fn decode(alloc: Global, alphabet: Alphabet, digits: &[u8]) -> Result<Option<Vec<u8>>, AllocError>
     ensures found { IfOk result
         (λ found. IfSome found (λ bytes. AreBytes bytes.items
-        × (digits.now ≡ encode alphabet bytes.items))) }
-    ensures only { (bytes : List ℕ) → AreBytes bytes → digits.now ≡ encode alphabet bytes
+        × (digits.now ≡ encode (alphabet_view alphabet) bytes.items))) }
+    ensures only { (bytes : List ℕ) → AreBytes bytes
+        → digits.now ≡ encode (alphabet_view alphabet) bytes
         → IfOk result (λ found. IsSomeAnd found (λ answer. answer.items ≡ bytes)) }
 {
     if digits.len() % 8 != 0 {
@@ -109,8 +111,10 @@ impl Alphabet {
     /// The five bits of a digit.
     fn value(self, digit: u8) -> Option<u8>
         ensures found { IfSome result
-            (λ value. (value < 32) × (slice_index (characters self) value ≡ digit)) }
-        ensures only { (value : ℕ) → value < 32 → slice_index (characters self) value ≡ digit
+            (λ value. (value < 32)
+            × (slice_index (characters (alphabet_view self)) value ≡ digit)) }
+        ensures only { (value : ℕ) → value < 32
+            → slice_index (characters (alphabet_view self)) value ≡ digit
             → result ≡ Some value }
     {
         match self {
@@ -130,8 +134,9 @@ impl Alphabet {
     /// The number that at most eight digits write, the first one highest.
     fn number(self, digits: &[u8]) -> Option<u64>
         requires { length digits.now ≤ 8 }
-        ensures found { IfSome result (λ number. Writes self digits.now number) }
-        ensures only { (number : ℕ) → Writes self digits.now number → result ≡ Some number }
+        ensures found { IfSome result (λ number. Writes (alphabet_view self) digits.now number) }
+        ensures only { (number : ℕ) → Writes (alphabet_view self) digits.now number
+            → result ≡ Some number }
     {
         let mut number = 0;
         for digit in digits {
@@ -145,9 +150,9 @@ impl Alphabet {
         requires { length digits.now ≡ 8 }
         ensures found { IfSome result
             (λ group. AreBytes group × (length group ≡ 5)
-            × (digits.now ≡ encode_group self group)) }
+            × (digits.now ≡ encode_group (alphabet_view self) group)) }
         ensures only { (group : List ℕ) → AreBytes group → length group ≡ 5
-            → digits.now ≡ encode_group self group → result ≡ Some group }
+            → digits.now ≡ encode_group (alphabet_view self) group → result ≡ Some group }
     {
         Some(five_bytes(self.number(digits)?))
     }
@@ -156,9 +161,10 @@ impl Alphabet {
     fn last_group(self, digits: &[u8]) -> Option<(u64, usize)>
         requires { length digits.now ≡ 8 }
         ensures found { IfSome result (λ answer. (group : List ℕ) × IsLastGroup group
-            × (digits.now ≡ encode_group self group)
+            × (digits.now ≡ encode_group (alphabet_view self) group)
             × (answer.0 ≡ forty_bits group) × (answer.1 ≡ length group)) }
-        ensures only { (group : List ℕ) → IsLastGroup group → digits.now ≡ encode_group self group
+        ensures only { (group : List ℕ) → IsLastGroup group
+            → digits.now ≡ encode_group (alphabet_view self) group
             → result ≡ Some (forty_bits group, length group) }
     {
         let digit_count = unpadded_len(digits);

@@ -8,6 +8,7 @@ ghost use Rattle.std.specs.Int.{IsInRange};
 ghost use Rattle.std.specs.Int.Digits.{number_from_digits};
 ghost use Rattle.std.specs.String.{string_bytes};
 ghost use Rattle.cbor_notes.specs.Element as spec;
+ghost use Rattle.cbor_notes.specs.Views.{kind_view};
 
 use crate::text::{cut_after_error, push_grouped, push_hex};
 use std::alloc::{AllocError, Global};
@@ -103,7 +104,8 @@ pub fn push_element_text(text: &mut String, tag: u64, bytes: &[u8]) -> Result<bo
 fn write_value_text(text: &mut String, kind: Kind, bytes: &[u8]) -> Result<(), AllocError>
     requires { IsInRange 1 16 (length bytes.now) }
     ensures text { OnOk result
-        (string_bytes text.new ≡ string_bytes text.old ++ spec.value_text kind bytes.now) }
+        (string_bytes text.new
+        ≡ string_bytes text.old ++ spec.value_text (kind_view kind) bytes.now) }
     ensures front { OnErr result (StartsWith (string_bytes text.new) (string_bytes text.old)) }
 {
     text.push_str(kind.word())?;
@@ -115,7 +117,7 @@ fn write_value_text(text: &mut String, kind: Kind, bytes: &[u8]) -> Result<(), A
 impl Kind {
     /// What an element is called.
     fn word(self) -> &'static str
-        ensures word { result.now ≡ spec.word self }
+        ensures word { result.now ≡ spec.word (kind_view self) }
     {
         match self {
             Kind::Unsigned => "unsigned",
@@ -129,7 +131,7 @@ impl Element {
     /// How the typed array of a tag holds its elements.
     fn of_tag(tag: u64) -> Option<Element>
         ensures found { IfSome result (λ element. (spec.is_typed_array tag ≡ true)
-            × (element.kind ≡ spec.kind tag)
+            × (kind_view element.kind ≡ spec.kind tag)
             × (element.little_endian ≡ spec.is_little_endian tag)
             × (element.size ≡ spec.size tag)) }
         ensures none { IfNone result (spec.is_typed_array tag ≡ false) }
@@ -174,7 +176,7 @@ impl Element {
 fn push_value(text: &mut String, kind: Kind, bytes: &[u8]) -> Result<(), AllocError>
     requires { IsInRange 1 16 (length bytes.now) }
     ensures text { OnOk result
-        (string_bytes text.new ≡ string_bytes text.old ++ spec.value kind bytes.now) }
+        (string_bytes text.new ≡ string_bytes text.old ++ spec.value (kind_view kind) bytes.now) }
     ensures unchanged { OnErr result (string_bytes text.new ≡ string_bytes text.old) }
 {
     match kind {

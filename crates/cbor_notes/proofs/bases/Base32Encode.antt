@@ -6,7 +6,7 @@ use Rattle.std.proofs.lemmas.List.{append_assoc, append-nil, take_at, drop_at, t
 use Rattle.std.proofs.lemmas.List.{nil_from_length, take-take, drop-take}
 use Rattle.cbor_notes.specs.AreBytes.{AreBytes}
 use Rattle.cbor_notes.specs.Base32.{characters, IsLastGroup, places, digit_count, forty_bits, encode_group, encode}
-use Rattle.cbor_notes.specs.declared.base32.Alphabet.{Alphabet}
+use Rattle.cbor_notes.specs.Base32.{Alphabet}
 use Rattle.cbor_notes.proofs.dates.Places.{length-places, same_digits}
 use Rattle.cbor_notes.proofs.bases.Base32Groups.{few_digits, group_bits}
 use Rattle.std.specs.Int.Digits.{AllBelowBase, number_from_digits}

@@ -10,7 +10,7 @@ use Rattle.std.specs.Int.Digits.{number_from_digits}
 use Rattle.cbor_notes.specs.AreBytes.{AreBytes}
 use Rattle.cbor_notes.specs.Base32.{characters, Writes, IsLastGroup, IsDigitCount, places, digit_count, forty_bits}
 use Rattle.cbor_notes.specs.Base32.{encode_group}
-use Rattle.cbor_notes.specs.declared.base32.Alphabet.{Alphabet}
+use Rattle.cbor_notes.specs.Base32.{Alphabet}
 use Rattle.cbor_notes.proofs.bases.Base32Alphabet.{no_equals_sign}
 use Rattle.cbor_notes.proofs.bases.Base32Numbers.{written_at, written-lt}
 use Rattle.cbor_notes.proofs.bases.Base32Padding.{digit_counts}

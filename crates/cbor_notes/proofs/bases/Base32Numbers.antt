@@ -5,7 +5,7 @@ use Rattle.std.proofs.lemmas.List.{map_push, length-map, get_or-map}
 use Rattle.std.proofs.lemmas.Int.Digits.{number_push, number_lt}
 use Rattle.std.specs.Int.Digits.{AllBelowBase, number_from_digits}
 use Rattle.cbor_notes.specs.Base32.{characters, Writes}
-use Rattle.cbor_notes.specs.declared.base32.Alphabet.{Alphabet}
+use Rattle.cbor_notes.specs.Base32.{Alphabet}
 use Rattle.cbor_notes.proofs.bases.Base32Alphabet.{same_value}
 use Rattle.cbor_notes.proofs.dates.Places.{AllBelowBase_push}
 

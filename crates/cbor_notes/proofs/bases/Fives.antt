@@ -7,8 +7,8 @@ use Rattle.std.specs.Int.Digits.{AllBelowBase, number_from_digits}
 use Rattle.cbor_notes.specs.AreBytes.{AreBytes}
 use Rattle.cbor_notes.specs.Base32.{characters, IsLastGroup, places, digit_count, forty_bits, encode_group, encode}
 use Rattle.cbor_notes.specs.Base32.{base32, base32hex}
-use Rattle.cbor_notes.specs.declared.base32.Alphabet.{Alphabet}
-use Rattle.cbor_notes.specs.declared.base32.Alphabet.TheVariants.{Standard, ExtendedHex}
+use Rattle.cbor_notes.specs.Base32.{Alphabet}
+use Rattle.cbor_notes.specs.Base32.{standard, extended_hex}
 use Rattle.cbor_notes.proofs.bases.Base32Groups.{few_digits, group_bits}
 use Rattle.cbor_notes.proofs.dates.Places.{length-places, AllBelowBase-places, number-places, places-number}
 use Rattle.cbor_notes.proofs.dates.Places.{take-places}
@@ -42,11 +42,11 @@ encode_values alphabet (a ∷ b ∷ c ∷ d ∷ e ∷ bytes) =
 
 pub base32_values : (bytes : List ℕ) → base32 bytes ≡ map (slice_index (codes "ABCDEFGHIJKLMNOPQRSTUVWXYZ234567"))
     (fives bytes) ++ replicate (padding bytes) 61
-base32_values bytes = encode_values Standard bytes
+base32_values bytes = encode_values standard bytes
 
 pub base32hex_values : (bytes : List ℕ) → base32hex bytes ≡ map (slice_index (codes "0123456789ABCDEFGHIJKLMNOPQRSTUV"))
     (fives bytes) ++ replicate (padding bytes) 61
-base32hex_values bytes = encode_values ExtendedHex bytes
+base32hex_values bytes = encode_values extended_hex bytes
 
 -- ---- a group's bytes from its values
 

@@ -21,8 +21,8 @@ use Rattle.cbor_notes.specs.Element.{big_endian, element_text, kind, signed_text
 use Rattle.cbor_notes.specs.Identifier.{fields_line, base16_line, base58_line, base64_line, uuid_lines, variant_name}
 use Rattle.cbor_notes.specs.Identifier.{version_name}
 use Rattle.cbor_notes.specs.Text.{grouped, quoted_bytes}
-use Rattle.cbor_notes.specs.declared.element.Kind.{Kind}
-use Rattle.cbor_notes.specs.declared.element.Kind.TheVariants.{Unsigned, Signed, Float}
+use Rattle.cbor_notes.specs.Element.{Kind}
+use Rattle.cbor_notes.specs.Element.{unsigned, signed, float}
 use Rattle.cbor_notes.proofs.columns.OneLine.{Free, from_test, free_both, free_cond, free_digit, free_same}
 use Rattle.cbor_notes.proofs.columns.OneLine.{free_symbols, zero_other, decimal_line, digits_line, grouped_line}
 use Rattle.cbor_notes.proofs.columns.OneLine.{hex_line, quoted_line}
@@ -170,9 +170,9 @@ uuid_lines_line bytes = (fields_free bytes, (base16_free bytes, (base58_free byt
 
 -- elements
 word_plain : (k : Kind) → Plain (word k)
-word_plain Unsigned = refl
-word_plain Signed = refl
-word_plain Float = refl
+word_plain unsigned = refl
+word_plain signed = refl
+word_plain float = refl
 
 signed_line : (bytes number : ℕ) → Free 10 (signed_text bytes number)
 signed_line bytes number =
@@ -180,9 +180,9 @@ signed_line bytes number =
     (grouped_line number false) (grouped_line (2 ^ (8 * bytes) - number) true)
 
 value_line : (k : Kind) (bytes : List ℕ) → Free 10 (value k bytes)
-value_line Unsigned bytes = grouped_line (number_from_digits 256 bytes) false
-value_line Signed bytes = signed_line (length bytes) (number_from_digits 256 bytes)
-value_line Float bytes = hex_line bytes
+value_line unsigned bytes = grouped_line (number_from_digits 256 bytes) false
+value_line signed bytes = signed_line (length bytes) (number_from_digits 256 bytes)
+value_line float bytes = hex_line bytes
 
 value_text_line : (k : Kind) (bytes : List ℕ) → Free 10 (value_text k bytes)
 value_text_line k bytes =

@@ -2,8 +2,8 @@
 use Rattle.std.proofs.Common.{◌≡◌, ℕ, List, [], ◌∷◌, ◌++◌, Option, Some, None, ap, subst, sym, ◌∙◌, append-nil}
 use Rattle.std.proofs.Common.{append_assoc, arith}
 use Rattle.std.specs.Str.Parse.{AllDigits}
-use Rattle.cbor_notes.specs.declared.token.number.Base.TheVariants.{Decimal, Hexadecimal, Octal, Binary}
-use Rattle.cbor_notes.specs.declared.token.number.Base.{Base}
+use Rattle.cbor_notes.specs.Token.{decimal_base, hexadecimal_base, octal_base, binary_base}
+use Rattle.cbor_notes.specs.Token.{Base}
 use Rattle.cbor_notes.specs.Token.{prefix, radix, AreDigits, Indicates, IsNumber}
 
 -- an indicator follows `_`
@@ -24,16 +24,16 @@ digits_behind (d ∷ front) rest h = digits_behind front rest h.1
 only_digits : (base : Base) (text digits after : List ℕ) (value : ℕ) (indicator : Option ℕ)
     → text ≡ prefix base ++ (digits ++ after) → AreDigits (radix base) digits value → Indicates after indicator
     → AllDigits 10 text → AreDigits 10 text value
-only_digits Hexadecimal text digits after value indicator is are behind all =
+only_digits hexadecimal_base text digits after value indicator is are behind all =
     let h : AllDigits 10 (48 ∷ 120 ∷ (digits ++ after)) = subst (AllDigits 10) is all in absurd (omega (arith, h.1.0))
-only_digits Octal text digits after value indicator is are behind all =
+only_digits octal_base text digits after value indicator is are behind all =
     let h : AllDigits 10 (48 ∷ 111 ∷ (digits ++ after)) = subst (AllDigits 10) is all in absurd (omega (arith, h.1.0))
-only_digits Binary text digits after value indicator is are behind all =
+only_digits binary_base text digits after value indicator is are behind all =
     let h : AllDigits 10 (48 ∷ 98 ∷ (digits ++ after)) = subst (AllDigits 10) is all in absurd (omega (arith, h.1.0))
-only_digits Decimal text digits after value None is are behind all =
+only_digits decimal_base text digits after value None is are behind all =
     subst (λ (z : List ℕ). AreDigits 10 z value)
     (sym (is ∙ ap (λ (z : List ℕ). digits ++ z) behind ∙ append-nil digits)) are
-only_digits Decimal text digits after value (Some i) is are behind all =
+only_digits decimal_base text digits after value (Some i) is are behind all =
     let h : AllDigits 10 (digits ++ (95 ∷ behind.0)) =
     subst (AllDigits 10) (is ∙ ap (λ (z : List ℕ). digits ++ z) behind.1) all in
     absurd (omega (arith, (digits_behind digits (95 ∷ behind.0) h).0))

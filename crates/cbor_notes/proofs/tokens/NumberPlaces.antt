@@ -5,8 +5,8 @@ use Rattle.std.proofs.Common.{arith}
 use Rattle.std.proofs.lemmas.List.{length-append, length-drop, drop-drop}
 use Rattle.std.proofs.lemmas.Bool.{and_parts, cond_both, cond-true, cond-false, cases_Bool, ne_eqb}
 use Rattle.std.proofs.lemmas.Bool.{false≢true}
-use Rattle.cbor_notes.specs.declared.token.number.Base.{Base}
-use Rattle.cbor_notes.specs.declared.token.number.Base.TheVariants.{Decimal, Hexadecimal, Octal, Binary}
+use Rattle.cbor_notes.specs.Token.{Base}
+use Rattle.cbor_notes.specs.Token.{decimal_base, hexadecimal_base, octal_base, binary_base}
 use Rattle.cbor_notes.specs.Token.{IsNumber, IsSomeNumber, IsLongest, prefix, radix}
 use Rattle.cbor_notes.specs.TokenReading.{starts_with_digit, base_of, digit_run, indicator_of, with_indicator}
 use Rattle.cbor_notes.specs.TokenReading.{after_run, number_of}
@@ -81,20 +81,20 @@ read_at text at end value indicator in_order read =
     }
 
 -- a text of two bytes has no prefix and digit
-pub base_of-short : (text : List ℕ) → length text ≤ 2 → base_of text ≡ Decimal
+pub base_of-short : (text : List ℕ) → length text ≤ 2 → base_of text ≡ decimal_base
 base_of-short [] short = refl
 base_of-short (first ∷ []) short = refl
 base_of-short (first ∷ letter ∷ next ∷ rest) short = absurd (omega arith)
 base_of-short (first ∷ letter ∷ []) short =
-    cond_both (not (first == 48)) Decimal _ (λ b. b ≡ Decimal) (λ _. refl)
-    (λ _. cond_both ((letter == 120) && false) Hexadecimal _ (λ b. b ≡ Decimal)
+    cond_both (not (first == 48)) decimal_base _ (λ b. b ≡ decimal_base) (λ _. refl)
+    (λ _. cond_both ((letter == 120) && false) hexadecimal_base _ (λ b. b ≡ decimal_base)
     (λ is. absurd (false≢true (and_parts _ _ is).1))
-    (λ _. cond_both ((letter == 111) && false) Octal _ (λ b. b ≡ Decimal)
+    (λ _. cond_both ((letter == 111) && false) octal_base _ (λ b. b ≡ decimal_base)
     (λ is. absurd (false≢true (and_parts _ _ is).1))
-    (λ _. cond_both ((letter == 98) && false) Binary Decimal (λ b. b ≡ Decimal)
+    (λ _. cond_both ((letter == 98) && false) binary_base decimal_base (λ b. b ≡ decimal_base)
     (λ is. absurd (false≢true (and_parts _ _ is).1)) (λ _. refl))))
 
-pub base_of-other : (first : ℕ) (rest : List ℕ) → first ≢ 48 → base_of (first ∷ rest) ≡ Decimal
+pub base_of-other : (first : ℕ) (rest : List ℕ) → first ≢ 48 → base_of (first ∷ rest) ≡ decimal_base
 base_of-other first [] other = refl
 base_of-other first (letter ∷ rest) other = rw (ne_eqb first 48 other) refl
 

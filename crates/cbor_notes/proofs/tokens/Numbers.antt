@@ -6,8 +6,8 @@ use Rattle.std.specs.Str.Parse.{AllDigits}
 use Rattle.std.proofs.lemmas.List.{length-append, append_assoc}
 use Rattle.std.proofs.lemmas.Bool.{and_parts, cond_both, cond-true, cond-false, cases_Bool, eqb-true, ne_eqb, lt-ltb}
 use Rattle.std.proofs.lemmas.Bool.{le-ltb, not-false, false≢true}
-use Rattle.cbor_notes.specs.declared.token.number.Base.{Base}
-use Rattle.cbor_notes.specs.declared.token.number.Base.TheVariants.{Decimal, Hexadecimal, Octal, Binary}
+use Rattle.cbor_notes.specs.Token.{Base}
+use Rattle.cbor_notes.specs.Token.{decimal_base, hexadecimal_base, octal_base, binary_base}
 use Rattle.cbor_notes.specs.Token.{AreDigits, Indicates, IsNumber, IsSomeNumber, IsLongest, prefix, radix}
 use Rattle.cbor_notes.specs.TokenReading.{starts_with_digit, base_of, digit_run, indicator_of, with_indicator}
 use Rattle.cbor_notes.specs.TokenReading.{after_run, number_in, number_of}
@@ -19,30 +19,30 @@ use Rattle.cbor_notes.proofs.tokens.Longest.{one_longest}
 -- the prefix of this base begins the text, and a digit of this base follows it
 abbrev Begins : List ℕ → Base → Type 0
 Begins text base = (text ≡ prefix base ++ drop (length (prefix base)) text)
-    × ((base ≡ Decimal) ⊎ (starts_with_digit (radix base) (drop (length (prefix base)) text) ≡ true))
+    × ((base ≡ decimal_base) ⊎ (starts_with_digit (radix base) (drop (length (prefix base)) text) ≡ true))
 
-begins_decimal : (text : List ℕ) → Begins text Decimal
+begins_decimal : (text : List ℕ) → Begins text decimal_base
 begins_decimal text = (refl, inl refl)
 
 begins : (text : List ℕ) → Begins text (base_of text)
 begins [] = begins_decimal []
 begins (first ∷ []) = begins_decimal (first ∷ [])
 begins (first ∷ letter ∷ rest) =
-    cond_both (not (first == 48)) Decimal _ (Begins text)
+    cond_both (not (first == 48)) decimal_base _ (Begins text)
     (λ _. begins_decimal text)
     (λ zero_first.
     let first_is : first ≡ 48 = eqb-true first 48 (not-false _ zero_first) in
-    cond_both ((letter == 120) && starts_with_digit 16 rest) Hexadecimal _ (Begins text)
+    cond_both ((letter == 120) && starts_with_digit 16 rest) hexadecimal_base _ (Begins text)
     (λ is. let parts = and_parts _ _ is in (
       both first letter 48 120 rest first_is (eqb-true letter 120 parts.0),
       inr parts.1,
     ))
-    (λ _. cond_both ((letter == 111) && starts_with_digit 8 rest) Octal _ (Begins text)
+    (λ _. cond_both ((letter == 111) && starts_with_digit 8 rest) octal_base _ (Begins text)
     (λ is. let parts = and_parts _ _ is in (
       both first letter 48 111 rest first_is (eqb-true letter 111 parts.0),
       inr parts.1,
     ))
-    (λ _. cond_both ((letter == 98) && starts_with_digit 2 rest) Binary Decimal (Begins text)
+    (λ _. cond_both ((letter == 98) && starts_with_digit 2 rest) binary_base decimal_base (Begins text)
     (λ is. let parts = and_parts _ _ is in (
       both first letter 48 98 rest first_is (eqb-true letter 98 parts.0),
       inr parts.1,
@@ -64,9 +64,9 @@ prefix_fits text = omega (
 
 -- no prefix has such a second byte
 base_of-decimal : (first letter : ℕ) (rest : List ℕ) → (digit_value letter < 10) ⊎ (36 ≤ digit_value letter)
-    → base_of (first ∷ letter ∷ rest) ≡ Decimal
+    → base_of (first ∷ letter ∷ rest) ≡ decimal_base
 base_of-decimal first letter rest other =
-    cond_both (not (first == 48)) Decimal _ (λ b. b ≡ Decimal) (λ _. refl)
+    cond_both (not (first == 48)) decimal_base _ (λ b. b ≡ decimal_base) (λ _. refl)
     (λ _. rw (
       ne_eqb letter 120 (apart 120 33 refl (omega arith) (omega arith)),
       ne_eqb letter 111 (apart 111 24 refl (omega arith) (omega arith)),
@@ -82,18 +82,19 @@ base_of-decimal first letter rest other =
     ]
 
 -- a prefix and a digit of its base
-base_of-prefixed : (base : Base) (d : ℕ) (rest : List ℕ) → digit_value d < radix base → base ≢ Decimal
+base_of-prefixed : (base : Base) (d : ℕ) (rest : List ℕ) → digit_value d < radix base → base ≢ decimal_base
     → base_of (prefix base ++ d ∷ rest) ≡ base
-base_of-prefixed Decimal d rest is other = absurd (other refl)
-base_of-prefixed Hexadecimal d rest is other = cond-true (nat_lt (digit_value d) 16) _ _ (lt-ltb (digit_value d) 16 is)
-base_of-prefixed Octal d rest is other = cond-true (nat_lt (digit_value d) 8) _ _ (lt-ltb (digit_value d) 8 is)
-base_of-prefixed Binary d rest is other = cond-true (nat_lt (digit_value d) 2) _ _ (lt-ltb (digit_value d) 2 is)
+base_of-prefixed decimal_base d rest is other = absurd (other refl)
+base_of-prefixed hexadecimal_base d rest is other =
+    cond-true (nat_lt (digit_value d) 16) _ _ (lt-ltb (digit_value d) 16 is)
+base_of-prefixed octal_base d rest is other = cond-true (nat_lt (digit_value d) 8) _ _ (lt-ltb (digit_value d) 8 is)
+base_of-prefixed binary_base d rest is other = cond-true (nat_lt (digit_value d) 2) _ _ (lt-ltb (digit_value d) 2 is)
 
 drop-prefix : (base : Base) (rest : List ℕ) → drop (length (prefix base)) (prefix base ++ rest) ≡ rest
-drop-prefix Decimal rest = refl
-drop-prefix Hexadecimal rest = refl
-drop-prefix Octal rest = refl
-drop-prefix Binary rest = refl
+drop-prefix decimal_base rest = refl
+drop-prefix hexadecimal_base rest = refl
+drop-prefix octal_base rest = refl
+drop-prefix binary_base rest = refl
 
 number_of-prefixed : (base : Base) (rest : List ℕ) → base_of (prefix base ++ rest) ≡ base
     → number_of (prefix base ++ rest) ≡ number_in base rest
@@ -102,16 +103,16 @@ number_of-prefixed base rest is = ap (λ (b : Base). number_in b (drop (length (
 
 -- `_` is no digit
 no_digit : (base : Base) (rest : List ℕ) → starts_with_digit (radix base) (95 ∷ rest) ≡ false
-no_digit Decimal rest = refl
-no_digit Hexadecimal rest = refl
-no_digit Octal rest = refl
-no_digit Binary rest = refl
+no_digit decimal_base rest = refl
+no_digit hexadecimal_base rest = refl
+no_digit octal_base rest = refl
+no_digit binary_base rest = refl
 
 radix_small : (base : Base) → radix base ≤ 36
-radix_small Decimal = omega arith
-radix_small Hexadecimal = omega arith
-radix_small Octal = omega arith
-radix_small Binary = omega arith
+radix_small decimal_base = omega arith
+radix_small hexadecimal_base = omega arith
+radix_small octal_base = omega arith
+radix_small binary_base = omega arith
 
 -- digits of a base are read
 number_in-digits : (base : Base) (digits rest : List ℕ) (value : ℕ) → AreDigits (radix base) digits value
@@ -263,7 +264,7 @@ after_reaches base value after rest (Some indicator) is =
     omega (arith, ap (λ (r : ℕ × Option ℕ × List ℕ). length r.2) read, length-small_run indicator rest is.3)
 
 -- the base of a number with a prefix, and of one that goes on after its first digit
-same_base : (base : Base) (digits rest : List ℕ) (value : ℕ) → AreDigits (radix base) digits value → base ≢ Decimal
+same_base : (base : Base) (digits rest : List ℕ) (value : ℕ) → AreDigits (radix base) digits value → base ≢ decimal_base
     → number_of (prefix base ++ (digits ++ rest)) ≡ number_in base (digits ++ rest)
 same_base base [] rest value is other = absurd (omega (arith, is.0.0))
 same_base base (d ∷ digits) rest value is other =
@@ -273,9 +274,10 @@ abbrev GoesOn : List ℕ → Type 0
 GoesOn [] = Unit {0}
 GoesOn (letter ∷ rest) = (digit_value letter < 10) ⊎ (36 ≤ digit_value letter)
 
-decimal_goes_on : (d : ℕ) (rest : List ℕ) → GoesOn rest → number_of (d ∷ rest) ≡ number_in Decimal (d ∷ rest)
+decimal_goes_on : (d : ℕ) (rest : List ℕ) → GoesOn rest → number_of (d ∷ rest) ≡ number_in decimal_base (d ∷ rest)
 decimal_goes_on d [] on = refl
-decimal_goes_on d (letter ∷ rest) on = number_of-prefixed Decimal (d ∷ letter ∷ rest) (base_of-decimal d letter rest on)
+decimal_goes_on d (letter ∷ rest) on =
+    number_of-prefixed decimal_base (d ∷ letter ∷ rest) (base_of-decimal d letter rest on)
 
 -- a number is not empty
 pub length-IsNumber : (text : List ℕ) (value : ℕ) (indicator : Option ℕ) → IsNumber text value indicator
@@ -309,15 +311,15 @@ goes_on [] after (byte ∷ rest) value None all is ends =
 in_base : (base : Base) (digits after rest : List ℕ) (value : ℕ) (indicator : Option ℕ)
     → AreDigits (radix base) digits value → Indicates after indicator → EndsNumber rest
     → number_of (prefix base ++ (digits ++ (after ++ rest))) ≡ number_in base (digits ++ (after ++ rest))
-in_base Decimal [] after rest value indicator digits_are is ends = absurd (omega (arith, digits_are.0.0))
-in_base Decimal (d ∷ digits) after rest value indicator digits_are is ends =
+in_base decimal_base [] after rest value indicator digits_are is ends = absurd (omega (arith, digits_are.0.0))
+in_base decimal_base (d ∷ digits) after rest value indicator digits_are is ends =
     decimal_goes_on d (digits ++ (after ++ rest)) (goes_on digits after rest value indicator digits_are.0.1.1 is ends)
-in_base Hexadecimal digits after rest value indicator digits_are is ends =
-    same_base Hexadecimal digits (after ++ rest) value digits_are (λ same. cc same)
-in_base Octal digits after rest value indicator digits_are is ends =
-    same_base Octal digits (after ++ rest) value digits_are (λ same. cc same)
-in_base Binary digits after rest value indicator digits_are is ends =
-    same_base Binary digits (after ++ rest) value digits_are (λ same. cc same)
+in_base hexadecimal_base digits after rest value indicator digits_are is ends =
+    same_base hexadecimal_base digits (after ++ rest) value digits_are (λ same. cc same)
+in_base octal_base digits after rest value indicator digits_are is ends =
+    same_base octal_base digits (after ++ rest) value digits_are (λ same. cc same)
+in_base binary_base digits after rest value indicator digits_are is ends =
+    same_base binary_base digits (after ++ rest) value digits_are (λ same. cc same)
 
 -- a number is read whole where no number goes on after it
 pub number_of-append : (front rest : List ℕ) (value : ℕ) (indicator : Option ℕ) → IsNumber front value indicator
@@ -362,10 +364,10 @@ reaches_decimal : (digits after rest : List ℕ) (value : ℕ) (indicator : Opti
     → Indicates after indicator → Reaches (digits ++ (after ++ rest)) rest
 reaches_decimal [] after rest value indicator digits_are is = absurd (omega (arith, digits_are.0.0))
 reaches_decimal (d ∷ e ∷ digits) after rest value indicator digits_are is =
-    reaches_in Decimal (d ∷ e ∷ digits) after rest value indicator digits_are is
+    reaches_in decimal_base (d ∷ e ∷ digits) after rest value indicator digits_are is
     (decimal_goes_on d (e ∷ (digits ++ (after ++ rest))) (inl digits_are.0.1.1.0))
 reaches_decimal (d ∷ []) after rest value (Some indicator) digits_are is =
-    reaches_in Decimal (d ∷ []) after rest value (Some indicator) digits_are is
+    reaches_in decimal_base (d ∷ []) after rest value (Some indicator) digits_are is
     (decimal_goes_on d (after ++ rest) (subst (λ (t : List ℕ). GoesOn (t ++ rest)) (sym is.1) (inr (omega arith))))
 reaches_decimal (d ∷ []) after rest value None digits_are is =
     subst (λ (t : List ℕ). Reaches (d ∷ (t ++ rest)) rest) (sym is) (reaches_digit d rest digits_are.0.1.0)
@@ -373,17 +375,17 @@ reaches_decimal (d ∷ []) after rest value None digits_are is =
 reaches : (base : Base) (digits after rest : List ℕ) (value : ℕ) (indicator : Option ℕ)
     → AreDigits (radix base) digits value → Indicates after indicator
     → Reaches (prefix base ++ (digits ++ (after ++ rest))) rest
-reaches Decimal digits after rest value indicator digits_are is =
+reaches decimal_base digits after rest value indicator digits_are is =
     reaches_decimal digits after rest value indicator digits_are is
-reaches Hexadecimal digits after rest value indicator digits_are is =
-    reaches_in Hexadecimal digits after rest value indicator digits_are is
-    (same_base Hexadecimal digits (after ++ rest) value digits_are (λ same. cc same))
-reaches Octal digits after rest value indicator digits_are is =
-    reaches_in Octal digits after rest value indicator digits_are is
-    (same_base Octal digits (after ++ rest) value digits_are (λ same. cc same))
-reaches Binary digits after rest value indicator digits_are is =
-    reaches_in Binary digits after rest value indicator digits_are is
-    (same_base Binary digits (after ++ rest) value digits_are (λ same. cc same))
+reaches hexadecimal_base digits after rest value indicator digits_are is =
+    reaches_in hexadecimal_base digits after rest value indicator digits_are is
+    (same_base hexadecimal_base digits (after ++ rest) value digits_are (λ same. cc same))
+reaches octal_base digits after rest value indicator digits_are is =
+    reaches_in octal_base digits after rest value indicator digits_are is
+    (same_base octal_base digits (after ++ rest) value digits_are (λ same. cc same))
+reaches binary_base digits after rest value indicator digits_are is =
+    reaches_in binary_base digits after rest value indicator digits_are is
+    (same_base binary_base digits (after ++ rest) value digits_are (λ same. cc same))
 
 -- reading reaches at least to the end of any number that begins the text
 pub number_of-reaches : (front rest : List ℕ) (value : ℕ) (indicator : Option ℕ) → IsNumber front value indicator

@@ -4,6 +4,7 @@ ghost use Rattle.std.specs.Prelude.{◌≡◌, ◌++◌, ◌+◌, ◌<◌, ◌�
 ghost use Rattle.std.specs.Prelude.{slice_range, IfNone, IfSome, Some};
 ghost use Rattle.cbor_notes.specs.Token.{capped, prefix, radix, IsLongest, IsNumber, IsSomeNumber};
 ghost use Rattle.cbor_notes.specs.TokenReading.{base_of, digit_run, indicator_of, small_run};
+ghost use Rattle.cbor_notes.specs.Views.{base_view};
 
 /// The value that is returned for all values past 2^64.
 const CAP: u128 = (1 << 64) + 1;
@@ -68,7 +69,7 @@ impl Base {
     /// decimal.
     fn at(text: &[u8], at: usize) -> Base
         requires { at ≤ length text.now }
-        ensures { result ≡ base_of (drop at text.now) }
+        ensures { base_view result ≡ base_of (drop at text.now) }
     {
         if text.len() - at <= 2 || text[at] != b'0' {
             return Base::Decimal;
@@ -88,7 +89,7 @@ impl Base {
 
     /// How many bytes come before the digits.
     fn prefix_len(self) -> usize
-        ensures { result ≡ length (prefix self) }
+        ensures { result ≡ length (prefix (base_view self)) }
     {
         match self {
             Base::Decimal => 0,
@@ -98,7 +99,7 @@ impl Base {
 
     /// How many digits there are.
     fn radix(self) -> u32
-        ensures { result ≡ radix self }
+        ensures { result ≡ radix (base_view self) }
     {
         match self {
             Base::Decimal => 10,

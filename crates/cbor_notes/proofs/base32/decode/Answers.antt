@@ -6,26 +6,27 @@ use Rattle.cbor_notes.specs.Base32.{forty_bits}
 use Rattle.cbor_notes.proofs.bases.Base32Encode.{AllBelowBase-append, length-encode, encode-nil, no_bytes, decoded_none}
 use Rattle.cbor_notes.proofs.bases.Base32Encode.{decoded_more, next_group, last_slice, last_found, last_only}
 use Rattle.cbor_notes.proofs.bases.Base32Encode.{first_bytes, forty_bits-lt}
+use Rattle.cbor_notes.specs.Views.{alphabet_view}
 use Rattle.cbor_notes.proofs.base32.decode.Goals as goal
 
 pub returns-then-digits-ne0-clause-only : goal.returns-then-digits-ne0-clause-only
 returns-then-digits-ne0-clause-only c = λ bytes all is. absurd
-    (c.if-digits-ne0.true (rw is (length-encode c.args.alphabet bytes)))
+    (c.if-digits-ne0.true (rw is (length-encode (alphabet_view c.args.alphabet) bytes)))
 
 pub returns-then-is_empty-clause-found : goal.returns-then-is_empty-clause-found
 returns-then-is_empty-clause-found c =
     let none : c.args.digits.now ≡ [] = nil_from_length c.args.digits.now
     (eqb-true (length c.args.digits.now) 0 (sym c.is_empty.ensures ∙ c.if-is_empty.true)) in
-    rw c.in_ok-bytes.ensures.items (tt, none ∙ sym (encode-nil c.args.alphabet))
+    rw c.in_ok-bytes.ensures.items (tt, none ∙ sym (encode-nil (alphabet_view c.args.alphabet)))
 
 pub returns-then-is_empty-clause-only : goal.returns-then-is_empty-clause-only
 returns-then-is_empty-clause-only c = λ bytes all is.
     let none : length c.args.digits.now ≡ 0 =
     eqb-true (length c.args.digits.now) 0 (sym c.is_empty.ensures ∙ c.if-is_empty.true) in
-    c.in_ok-bytes.ensures.items ∙ sym (no_bytes c.args.alphabet bytes (sym (ap length is) ∙ none))
+    c.in_ok-bytes.ensures.items ∙ sym (no_bytes (alphabet_view c.args.alphabet) bytes (sym (ap length is) ∙ none))
 
 pub loop-i-init : goal.loop-i-init
-loop-i-init c = rw c.in_ok-bytes.ensures.items (decoded_none c.args.alphabet c.args.digits.now)
+loop-i-init c = rw c.in_ok-bytes.ensures.items (decoded_none (alphabet_view c.args.alphabet) c.args.digits.now)
 
 -- the slice of a whole group
 eight : (digits : List ℕ) (i : ℕ) → take (8 * i + 8 - 8 * i) (drop (8 * i) digits) ≡ take 8 (drop (8 * i) digits)
@@ -35,7 +36,8 @@ pub returns-in_default-clause-only : goal.returns-in_default-clause-only
 returns-in_default-clause-only c = λ bytes all is.
     let digits = c.args.digits.now in
     let more : 8 * c.loop-i.i + 8 < length digits = omega arith in
-    let next = next_group c.args.alphabet digits c.loop-i.bytes.items c.loop-i.i c.loop-i.invariant more bytes all is in
+    let next = next_group (alphabet_view c.args.alphabet) digits c.loop-i.bytes.items c.loop-i.i c.loop-i.invariant more
+    bytes all is in
     let first = next.2 in
     let never = c.in_default.ensures.only first.group first.are_bytes first.five
     (eight digits c.loop-i.i ∙ first.front) in
@@ -47,7 +49,8 @@ loop-i-preserved c =
     let found = c.in-Some.ensures.found in
     let slice = eight digits c.loop-i.i in
     rw c.in_ok-extend_from_slice.ensures.items
-    (decoded_more c.args.alphabet digits c.loop-i.bytes.items c.in-Some.group c.loop-i.i c.loop-i.invariant
+    (decoded_more (alphabet_view c.args.alphabet) digits c.loop-i.bytes.items c.in-Some.group c.loop-i.i
+    c.loop-i.invariant
     (omega arith) found.0
     found.1 (sym slice ∙ found.2) (λ other are_bytes five shown. c.in-Some.ensures.only other are_bytes five
     (slice ∙ shown)))
@@ -62,7 +65,8 @@ returns-in_default-last_group-clause-only c = λ bytes all is.
     let i = c.loop-i.i in
     let some = eqb-false (length digits) 0 (sym c.is_empty.ensures ∙ c.if-is_empty.false) in
     let read = all_read (length digits) i c.if-digits-ne0.false some c.loop-i-test.false c.loop-i.auto.i-end in
-    let last = last_only c.args.alphabet digits c.loop-i.bytes.items bytes i c.loop-i.invariant read all is in
+    let last = last_only (alphabet_view c.args.alphabet) digits c.loop-i.bytes.items bytes i c.loop-i.invariant read all
+    is in
     let never = c.in_default-last_group.ensures.only last.0 last.1 (last_slice digits i read ∙ last.3) in
     cc never
 
@@ -83,7 +87,7 @@ returns-clause-found c =
     (five.ensures.number ∙ found.3) found.4 in
     rw (c.in_ok-extend_from_slice-2.ensures.items, group) (
       AllBelowBase-append 256 c.loop-i.bytes.items found.0 c.loop-i.invariant.are_bytes found.1.0,
-      last_found c.args.alphabet digits c.loop-i.bytes.items found.0 i c.loop-i.invariant found.1
+      last_found (alphabet_view c.args.alphabet) digits c.loop-i.bytes.items found.0 i c.loop-i.invariant found.1
           (sym (last_slice digits i read) ∙ found.2),
     )
 
@@ -99,7 +103,8 @@ returns-clause-only c = λ bytes all is.
     let i = c.loop-i.i in
     let some = eqb-false (length digits) 0 (sym c.is_empty.ensures ∙ c.if-is_empty.false) in
     let read = all_read (length digits) i c.if-digits-ne0.false some c.loop-i-test.false c.loop-i.auto.i-end in
-    let last = last_only c.args.alphabet digits c.loop-i.bytes.items bytes i c.loop-i.invariant read all is in
+    let last = last_only (alphabet_view c.args.alphabet) digits c.loop-i.bytes.items bytes i c.loop-i.invariant read all
+    is in
     let is_group = c.in-Some-last_group.ensures.only last.0 last.1 (last_slice digits i read ∙ last.3) in
     let parts = same_parts c.in-Some-last_group.number c.in-Some-last_group.count (forty_bits last.0) (length last.0)
     is_group in

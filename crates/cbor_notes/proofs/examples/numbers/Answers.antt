@@ -1,5 +1,5 @@
 use Rattle.std.proofs.Common.{◌≡◌, ℕ, List, [], ◌∷◌, ◌++◌, codes, Option, Some, None, refl, sym, ap, ◌∙◌, arith}
-use Rattle.cbor_notes.specs.declared.token.number.Base.TheVariants.{Decimal, Hexadecimal, Binary}
+use Rattle.cbor_notes.specs.Token.{decimal_base, hexadecimal_base, binary_base}
 use Rattle.cbor_notes.specs.Token.{IsNumber, IsSomeNumber}
 use Rattle.cbor_notes.specs.TokenReading.{number_of}
 use Rattle.cbor_notes.proofs.tokens.Numbers.{longest_number, number_of-append}
@@ -23,7 +23,7 @@ part_alone text value indicator byte rest read is =
 
 pub returns-clause-zeros : goal.returns-clause-zeros
 returns-clause-zeros c = record {
-  base = Decimal;
+  base = decimal_base;
   digits = codes "007";
   after = [];
   text_is = refl;
@@ -34,7 +34,7 @@ returns-clause-zeros c = record {
 
 pub returns-clause-hexadecimal : goal.returns-clause-hexadecimal
 returns-clause-hexadecimal c = record {
-  base = Hexadecimal;
+  base = hexadecimal_base;
   digits = codes "1aF";
   after = codes "_1";
   text_is = refl;
@@ -44,7 +44,7 @@ returns-clause-hexadecimal c = record {
 
 pub returns-clause-zeros_of_the_indicator : goal.returns-clause-zeros_of_the_indicator
 returns-clause-zeros_of_the_indicator c = record {
-  base = Binary;
+  base = binary_base;
   digits = codes "11";
   after = codes "_002";
   text_is = refl;
@@ -69,7 +69,7 @@ returns-clause-no_indicator c = λ is. part_alone (codes "1_") 1 None 95 [] refl
 
 one_zero : IsNumber (codes "1_0") 1 (Some 0)
 one_zero = record {
-  base = Decimal;
+  base = decimal_base;
   digits = codes "1";
   after = codes "_0";
   text_is = refl;

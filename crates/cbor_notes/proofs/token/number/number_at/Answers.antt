@@ -2,7 +2,8 @@ use Rattle.std.proofs.Common.{ℕ, List, length, drop, Option, Some, None, ap, �
 use Rattle.std.proofs.lemmas.List.{length-drop}
 use Rattle.cbor_notes.specs.Token.{prefix, capped}
 use Rattle.cbor_notes.specs.TokenReading.{with_indicator}
-use Rattle.cbor_notes.specs.declared.token.number.Base.{Base}
+use Rattle.cbor_notes.specs.Token.{Base}
+use Rattle.cbor_notes.specs.Views.{base_view}
 use Rattle.cbor_notes.proofs.tokens.Numbers.{prefix_fits}
 use Rattle.cbor_notes.proofs.tokens.NumberPlaces.{no_number_at, number_at_run, IsReadAt, read_at}
 use Rattle.cbor_notes.proofs.token.number.number_at.Goals as goal
@@ -23,7 +24,7 @@ pub returns-then-end-start-clause-none : goal.returns-then-end-start-clause-none
 returns-then-end-start-clause-none c =
     let run = c.digits_from-value.ensures.run in
     no_number_at c.args.text.now c.args.at c.prefix_len.result c.radix.result c.digits_from-value.result.1 run.0
-    c.at-base.result c.at-base.ensures c.prefix_len.ensures c.radix.ensures run.2 c.if-end-start.true
+    (base_view c.at-base.result) c.at-base.ensures c.prefix_len.ensures c.radix.ensures run.2 c.if-end-start.true
 
 -- a number with an indicator
 with_one : (c : In-Some) → IsReadAt c.args.text.now c.args.at c.in-Some.end c.digits_from-value.ensures.run.0
@@ -32,8 +33,9 @@ with_one c =
     let run = c.digits_from-value.ensures.run in
     let end = c.digits_from-value.result.1 in
     let within = c.digits_from-value.ensures.within in
-    let read = number_at_run c.args.text.now c.args.at c.prefix_len.result c.radix.result end run.0 c.at-base.result
-    c.at-base.ensures c.prefix_len.ensures c.radix.ensures run.2 within.0 within.1 c.if-end-start.false in
+    let read = number_at_run c.args.text.now c.args.at c.prefix_len.result c.radix.result end run.0
+    (base_view c.at-base.result) c.at-base.ensures c.prefix_len.ensures c.radix.ensures run.2 within.0 within.1
+    c.if-end-start.false in
     read_at c.args.text.now c.args.at c.in-Some.end run.0 (Some c.in-Some.indicator)
     (omega (arith, within.0, c.in-Some.ensures.within.0))
     (read ∙ ap (λ (o : Option (ℕ × List ℕ)). Some (with_indicator run.0 (drop end c.args.text.now) o))
@@ -57,8 +59,9 @@ without c =
     let run = c.digits_from-value.ensures.run in
     let end = c.digits_from-value.result.1 in
     let within = c.digits_from-value.ensures.within in
-    let read = number_at_run c.args.text.now c.args.at c.prefix_len.result c.radix.result end run.0 c.at-base.result
-    c.at-base.ensures c.prefix_len.ensures c.radix.ensures run.2 within.0 within.1 c.if-end-start.false in
+    let read = number_at_run c.args.text.now c.args.at c.prefix_len.result c.radix.result end run.0
+    (base_view c.at-base.result) c.at-base.ensures c.prefix_len.ensures c.radix.ensures run.2 within.0 within.1
+    c.if-end-start.false in
     read_at c.args.text.now c.args.at end run.0 None (omega (arith, within.0))
     (read ∙ ap (λ (o : Option (ℕ × List ℕ)). Some (with_indicator run.0 (drop end c.args.text.now) o))
     c.in-None.ensures.none)
