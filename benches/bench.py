@@ -3,14 +3,14 @@
 
     benches/bench.py PROGRAM [OTHER] [--rounds N] [--size PERCENT] [--only KIND] [--folder FOLDER] [--status]
 
-PROGRAM is `crates/cbor_view/out/cbor_view`, as `rt run` leaves it. For each kind of input and each
-conversion that PROGRAM serves, the two programs run in turn, so many rounds each, and a line shows the
-least time of each in milliseconds, what that is in megabytes of input a second, its peak memory in
-megabytes, and the ratio of the two times. A dash stands where a run failed. The inputs are the same on
-every machine. They are kept in FOLDER, or in one that is removed at the end. At last records as a
-sequence are timed beside the same ones in an array. With --status the programs take no words: each reads
-bytes and answers by its exit status alone, as `crates/cbor_extent/out/cbor_extent` does. It needs Python
-and its standard library alone.
+PROGRAM is `crates/cbor_view/out/cbor_view`, which `rt run` builds. For each kind of input and each
+conversion that PROGRAM has, the two programs run in turn, N times each. A line shows, for each of them, the
+least time in milliseconds, the megabytes of input per second and the peak memory in megabytes, and then the
+ratio of the two times. A dash means that a run failed. The inputs are the same on every machine. They are
+kept in FOLDER, or in a folder that is removed at the end. The last lines compare records in a sequence with
+the same records in an array. With --status, the programs take no arguments: each reads bytes and reports by
+its exit status alone, as `crates/cbor_extent/out/cbor_extent` does. The script needs only Python and its
+standard library.
 """
 import argparse
 import os

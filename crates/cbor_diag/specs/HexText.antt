@@ -12,7 +12,8 @@ use Rattle.cbor_diag.specs.Facts.{IsItem, IsNoItem}
 abbrev pub IsHexOf : List ℕ → Item → Type 0
 IsHexOf text i = (b : List ℕ) × (decode_of (uncommented text) ≡ Ok b) × IsItem b i
 
--- why a text is not an item in hex: an odd number of digits, else what is no digit, else what its bytes are
+-- why a text is not an item in hex: an odd number of digits, else a character that is
+-- no digit, else what its bytes are
 abbrev pub IsHexRefused : List ℕ → Error → Type 0
 IsHexRefused text refusal.OddHex = length (uncommented text) % 2 ≡ 1
 IsHexRefused text refusal.BadHex = (length (uncommented text) % 2 ≡ 0) × ¬ (AllPass is_hex_digit (uncommented text))

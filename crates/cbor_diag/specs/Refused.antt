@@ -132,7 +132,7 @@ pub data Fault : ℕ → List ℕ → Error → Type 0 where
   bad_head : {level : ℕ} {b : List ℕ} → level ≤ deepest → BadHead b → Fault level b Head
   -- a text that is not UTF-8
   bad_text : {level : ℕ} {b : List ℕ} → level ≤ deepest → BadText b → Fault level b Utf8
-  -- after whole chunks of an indefinite string what is no chunk, nor the break
+  -- after whole chunks of an indefinite string something that is neither a chunk nor the break
   bad_chunk_head : {level : ℕ} {b : List ℕ} (kind : StringKind) (rest : List ℕ)
       → level ≤ deepest → InsideString kind b rest → NoChunk kind rest
       → Fault level b Head

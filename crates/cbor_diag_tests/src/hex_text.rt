@@ -31,12 +31,12 @@ const TEXTS: &[(&str, &str)] = &[
         "# one\n0 # half\r\n1",
         "Integer { value: 1, bitwidth: Zero }",
     ),
-    // what is no hex of an item
+    // not the hex of an item
     ("0", "OddHex"),
     ("0\t", "BadHex"),
     ("0g", "BadHex"),
     ("é", "BadHex"),
-    // odd comes before what is no digit
+    // an odd number of digits is reported before a wrong one
     ("0gg", "OddHex"),
     // without a line feed after it a carriage return is kept
     ("01\r", "OddHex"),

@@ -56,7 +56,7 @@ const IPV4: &[(&str, &str)] = &[
     ("52(h'c00002')", "invalid data length for IPv4 address"),
     ("52(h'c000020101')", "invalid data length for IPv4 address"),
     ("52(h'')", "  \"\"\ninvalid data length for IPv4 address"),
-    // a length, and what is no bytes
+    // a length, and a value that is not bytes
     ("52([24, 1])", "invalid type for network address"),
     (r#"52([24, "a"])"#, "invalid type for network address"),
     (
@@ -121,7 +121,7 @@ const IPV4_INTERFACES: &[(&str, &str)] = &[
         "52([h'c0000201', undefined, 1])",
         "invalid type for network address",
     ),
-    // what is no zone
+    // not a zone
     (
         "52([h'c0000201', 24, null])",
         "invalid type for network address",

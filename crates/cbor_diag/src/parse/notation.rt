@@ -162,8 +162,8 @@ fn read_pairs(alloc: Global, text: &[u8], level: u8) -> Result<(Vec<(DataItem, D
     }
     let mut pairs = Vec::with_capacity(alloc, 1)?;
     'pairs: loop {
-        let (key, behind) = read_item(alloc, rest, level)?;
-        let next = expect_byte(behind, b':')?;
+        let (key, after_key) = read_item(alloc, rest, level)?;
+        let next = expect_byte(after_key, b':')?;
         let (value, after) = read_item(alloc, next, level)?;
         pairs.push((key, value))?;
         if let Some(end) = after_end(after, b'}') {

@@ -42,8 +42,8 @@ pub(super) fn read_plain(text: &[u8]) -> Option<(&[u8], &[u8])>
 {
     let end = plain_len(text)?;
     let (content, rest) = text.split_at(end);
-    let behind = after_byte(rest, b'"')?;
-    Some((content, behind))
+    let after = after_byte(rest, b'"')?;
+    Some((content, after))
 }
 
 /// The digits up to the closing apostrophe, without the blanks between them.

@@ -119,7 +119,7 @@ read_pairs-returns-in_err-next-clause-gives t c =
     let i = c.pairs.invariant in
     rw (p.1, p.2) (member_fails (read_pair item) 125 (map pair_view c.pairs.pairs.items) i.0 c.pairs.rest.now
     (read_members (read_pair item) 125 c.args.text.now) i.1
-    i.2 c.in_err-next.field-0.0 (no_colon item c.pairs.rest.now (view c.in_ok-key.key) c.in_ok-key.behind.now
+    i.2 c.in_err-next.field-0.0 (no_colon item c.pairs.rest.now (view c.in_ok-key.key) c.in_ok-key.after_key.now
     c.in_ok-key.ensures.gives c.in_err-next.field-0.0 c.in_err-next.ensures.gives))
 
 pub read_pairs-returns-in_err-value-clause-gives : goal.read_pairs-returns-in_err-value-clause-gives
@@ -129,7 +129,7 @@ read_pairs-returns-in_err-value-clause-gives t c =
     let i = c.pairs.invariant in
     rw (p.1, p.2) (member_fails (read_pair item) 125 (map pair_view c.pairs.pairs.items) i.0 c.pairs.rest.now
     (read_members (read_pair item) 125 c.args.text.now) i.1 i.2 c.in_err-value.field-0.0 (no_value item c.pairs.rest.now
-    (view c.in_ok-key.key) c.in_ok-key.behind.now c.in_ok-key.ensures.gives c.in_ok-next.next.now
+    (view c.in_ok-key.key) c.in_ok-key.after_key.now c.in_ok-key.ensures.gives c.in_ok-next.next.now
     c.in_ok-next.ensures.gives c.in_err-value.field-0.0 c.in_err-value.ensures.gives))
 
 pub read_pairs-returns-in-Some-after_end-clause-gives : goal.read_pairs-returns-in-Some-after_end-clause-gives
@@ -138,7 +138,7 @@ read_pairs-returns-in-Some-after_end-clause-gives t c =
     let i = c.pairs.invariant in
     let held = c.pairs.pairs.items in
     let p : DataItem × DataItem = (c.in_ok-key.key, c.in_ok-value.value) in
-    let read = pair_read item c.pairs.rest.now (view p.0) c.in_ok-key.behind.now c.in_ok-key.ensures.gives
+    let read = pair_read item c.pairs.rest.now (view p.0) c.in_ok-key.after_key.now c.in_ok-key.ensures.gives
     c.in_ok-next.next.now c.in_ok-next.ensures.gives (view p.1) c.in_ok-value.after.now
     c.in_ok-value.ensures.gives in
     let pushed : map pair_view c.push.new.self.items ≡ map pair_view held ++ pair_view p ∷ [] =
@@ -152,9 +152,9 @@ read_pairs-returns-in_err-rest-clause-gives t c =
     let p = err_from_is_err_and c.from_residual-in_err-rest.result c.from_residual-in_err-rest.ensures.1 in
     let item = read_item (129 - c.args.level) in
     let i = c.pairs.invariant in
-    let read = pair_read item c.pairs.rest.now (view c.in_ok-key.key) c.in_ok-key.behind.now c.in_ok-key.ensures.gives
-    c.in_ok-next.next.now c.in_ok-next.ensures.gives (view c.in_ok-value.value) c.in_ok-value.after.now
-    c.in_ok-value.ensures.gives in
+    let read = pair_read item c.pairs.rest.now (view c.in_ok-key.key) c.in_ok-key.after_key.now
+    c.in_ok-key.ensures.gives c.in_ok-next.next.now c.in_ok-next.ensures.gives (view c.in_ok-value.value)
+    c.in_ok-value.after.now c.in_ok-value.ensures.gives in
     rw (p.1, p.2) (no_comma (read_pair item) 125 (map pair_view c.pairs.pairs.items) i.0 c.pairs.rest.now (read_members
     (read_pair item) 125 c.args.text.now) i.1 i.2
     (view c.in_ok-key.key, view c.in_ok-value.value) c.in_ok-value.after.now c.in_err-rest.field-0.0 read
@@ -166,7 +166,7 @@ read_pairs-pairs-preserved t c =
     let i = c.pairs.invariant in
     let held = c.pairs.pairs.items in
     let p : DataItem × DataItem = (c.in_ok-key.key, c.in_ok-value.value) in
-    let read = pair_read item c.pairs.rest.now (view p.0) c.in_ok-key.behind.now c.in_ok-key.ensures.gives
+    let read = pair_read item c.pairs.rest.now (view p.0) c.in_ok-key.after_key.now c.in_ok-key.ensures.gives
     c.in_ok-next.next.now c.in_ok-next.ensures.gives (view p.1) c.in_ok-value.after.now
     c.in_ok-value.ensures.gives in
     let shorter : length c.in_ok-value.after.now ≤ length c.pairs.rest.now =
