@@ -302,7 +302,7 @@ read_pieces read texts (suc n) text =
       | false ↦ Ok ([], text)
     ]
 
--- whether a string begins so; the flag is whether texts may be its pieces, and then one is the first
+-- whether a string begins so: with the flag a text string, whose first piece is a text, else a byte string
 abbrev pub begins_string : Bool → Start → Bool
 begins_string false s = begins_piece false s
 begins_string true start.Quote = true
@@ -328,7 +328,7 @@ read_content read texts text = content_of read texts text (begins_string texts (
 unfoldable pub read_string : (List ℕ → Read Item) → StringKind → List ℕ → Read Chunk
 read_string read kind text = read_content read (may_have_texts kind) text >>= λ x. checked kind x.0 >>= λ c. Ok (c, x.1)
 
--- the kind of a string that may have texts
+-- the kind of a string, by whether texts may be pieces of it
 abbrev pub kind_with : Bool → StringKind
 kind_with false = bytes_kind
 kind_with true = text_kind

@@ -73,8 +73,8 @@ impl Start {
         start
     }
 
-    /// Whether a string begins so; `texts` is whether texts may be its pieces, and then one is the
-    /// first.
+    /// Whether a string begins so: a text string if `texts` is set, and a byte string otherwise.
+    /// The first piece of a text string is a text.
     pub(super) fn begins_string(self, texts: bool) -> bool
         ensures { result ≡ begins_string texts self }
     {
@@ -85,7 +85,7 @@ impl Start {
         }
     }
 
-    /// Whether a piece of a string begins so; `texts` is whether texts may be pieces.
+    /// Whether a piece of a string begins so. A text is one only if `texts` is set.
     pub(super) fn begins_piece(self, texts: bool) -> bool
         ensures { result ≡ begins_piece texts self }
     {

@@ -33,7 +33,7 @@ use crate::syntax::{ByteString, DataItem, IntegerWidth, TextString};
 use memchr::memchr;
 use std::alloc::{AllocError, Global};
 
-/// A string of unstated width; a text string, if the content is UTF-8.
+/// The string with this content and of unstated width. A text string has to be UTF-8.
 fn unstated<S: DefiniteString>(content: Vec<u8>) -> crate::Result<S>
     ensures gives { Gives S.chunk result (checked S.kind content.items) }
     ensures well { IfOk result (λ x. IsChunk S.kind (S.chunk x)) }
@@ -51,7 +51,7 @@ enum Chunks {
 }
 
 impl Chunks {
-    /// No chunks, of a text string if `texts` and else of a byte string.
+    /// No chunks yet: of a text string if `texts` is set, and of a byte string otherwise.
     fn new(alloc: Global, texts: bool) -> Chunks
         ensures none { chunk_list result ≡ [] }
         ensures kind { list_kind result ≡ kind_with texts }
@@ -63,7 +63,7 @@ impl Chunks {
         }
     }
 
-    /// Adds a chunk of unstated width; to a text string, if the content is UTF-8.
+    /// Adds a chunk of unstated width. In a text string its content has to be UTF-8.
     fn push(&mut self, content: Vec<u8>) -> crate::Result<()>
         ensures gives { Gives (λ _. chunk_list self.new) result
             (with_chunk (list_kind self.old) (chunk_list self.old) content.items) }
@@ -146,8 +146,8 @@ fn read_piece(alloc: Global, text: &[u8], inner: u8) -> crate::Result<(Vec<u8>, 
     }
 }
 
-/// The pieces from here on, with blanks between them and after them; `texts` is whether texts may
-/// be pieces.
+/// The pieces from here on, with blanks between them and after them. Texts may be pieces only if
+/// `texts` is set.
 #[cycle(diag)]
 fn read_pieces(
     alloc: Global,
@@ -170,8 +170,8 @@ fn read_pieces(
     Ok((content, rest))
 }
 
-/// The content of a string of definite length, and the blank after it; `texts` is whether texts may
-/// be its pieces, and then one is the first.
+/// The content of a string of definite length, with the blank after it. If `texts` is set, it is a
+/// text string, whose first piece is a text; otherwise no piece is one.
 #[cycle(diag)]
 #[tactic(auto, using(crate::proofs::notation::Cores::content_by))]
 fn read_content(
@@ -288,8 +288,8 @@ pub(super) fn read_text_item(
     Ok((DataItem::TextString(unstated(content)?), rest))
 }
 
-/// The chunks of an indefinite string after its opening, up to its closing byte; those of a text
-/// string if `texts`.
+/// The chunks of an indefinite string after its opening, up to its closing byte: of a text string
+/// if `texts` is set, and of a byte string otherwise.
 #[cycle(diag)]
 fn read_chunk_list(
     alloc: Global,
