@@ -31,6 +31,7 @@ left_column width line =
 abbrev pub row : ℕ → DumpLine → List ℕ
 row width line = left_column width line ++ codes " # " ++ blanks (2 * line.depth) ++ line.comment
 
+-- the same with its line feed
 abbrev pub line_text : ℕ → DumpLine → List ℕ
 line_text width line = row width line ++ codes "\n"
 
