@@ -5,8 +5,9 @@ use Rattle.cbor_diag.specs.declared.error.Error.{Error}
 use Rattle.cbor_diag.specs.declared.error.Error.TheVariants as refusal
 use Rattle.cbor_diag.specs.declared.syntax.DataItem.{DataItem}
 use Rattle.cbor_diag.specs.Item as spec
-use Rattle.cbor_diag.specs.Item.{Atom, byte_chunks, text_chunks, Item, atom, array, tagged, Items, no_items, item}
+use Rattle.cbor_diag.specs.Item.{Atom, chunked_string, Item, atom, array, tagged, Items, no_items, item}
 use Rattle.cbor_diag.specs.Item.{Pairs, no_pairs, pair}
+use Rattle.cbor_diag.specs.StringKind.{bytes_kind, text_kind}
 use Rattle.cbor_diag.specs.View.{view}
 use Rattle.cbor_diag.specs.Bytes.{any, Spells}
 use Rattle.cbor_diag.specs.Refused.{Cut, Fault}
@@ -89,8 +90,7 @@ MayWantMemory (first ∷ b) =
 
 -- how many items there are in an item, itself and the chunks of strings counted
 abbrev pub atom_size : Atom → ℕ
-atom_size (byte_chunks cs) = 1 + length cs
-atom_size (text_chunks cs) = 1 + length cs
+atom_size (chunked_string kind cs) = 1 + length cs
 atom_size _ = 1
 
 abbrev mutual

@@ -5,7 +5,7 @@ use Rattle.cbor_diag.specs.declared.syntax.IntegerWidth.{IntegerWidth}
 use Rattle.cbor_diag.specs.declared.syntax.FloatWidth.{FloatWidth}
 use Rattle.cbor_diag.specs.declared.syntax.FloatWidth.TheVariants as float_width
 use Rattle.cbor_diag.specs.Item as spec
-use Rattle.cbor_diag.specs.Item.{Chunk, Atom, integer, negative, byte_string, text_string, byte_chunks, text_chunks}
+use Rattle.cbor_diag.specs.Item.{Chunk, Atom, integer, negative, string, chunked_string}
 use Rattle.cbor_diag.specs.Item.{float, simple, Item, atom, array, tagged, Items, no_items, item, Pairs, no_pairs}
 use Rattle.cbor_diag.specs.Item.{pair, item_count, pair_count}
 use Rattle.cbor_diag.specs.Head.{opening, break_byte, HeadThen}
@@ -51,10 +51,9 @@ OpenThen major b Rest = (rest : List ℕ) × (b ≡ opening major ∷ rest) × R
 abbrev pub SpellsAtom : Rule → List ℕ → Atom → Type 0
 SpellsAtom rule b (integer n w) = HeadThen 0 n w b (λ rest. rest ≡ [])
 SpellsAtom rule b (negative n w) = HeadThen 1 n w b (λ rest. rest ≡ [])
-SpellsAtom rule b (byte_string c) = ChunkThen bytes_kind c b (λ rest. rest ≡ [])
-SpellsAtom rule b (text_string c) = ChunkThen text_kind c b (λ rest. rest ≡ [])
-SpellsAtom rule b (byte_chunks cs) = OpenThen 2 b (λ rest. SpellsChunks bytes_kind rest cs (break_byte ∷ []))
-SpellsAtom rule b (text_chunks cs) = OpenThen 3 b (λ rest. SpellsChunks text_kind rest cs (break_byte ∷ []))
+SpellsAtom rule b (string kind c) = ChunkThen kind c b (λ rest. rest ≡ [])
+SpellsAtom rule b (chunked_string kind cs) =
+    OpenThen (major_of kind) b (λ rest. SpellsChunks kind rest cs (break_byte ∷ []))
 SpellsAtom rule b (float bits w) = SpellsFloat b bits w
 SpellsAtom rule b (simple n) = SpellsSimple rule b n
 

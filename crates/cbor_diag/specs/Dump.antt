@@ -12,7 +12,7 @@ use Rattle.cbor_diag.specs.declared.error.Error.TheVariants.{Remaining}
 use Rattle.cbor_diag.specs.declared.syntax.IntegerWidth.{IntegerWidth}
 use Rattle.cbor_diag.specs.Encoding.{Encoding}
 use Rattle.cbor_diag.specs.Item as spec
-use Rattle.cbor_diag.specs.Item.{Chunk, Atom, integer, negative, byte_string, text_string, byte_chunks, text_chunks}
+use Rattle.cbor_diag.specs.Item.{Chunk, Atom, integer, negative, string, chunked_string}
 use Rattle.cbor_diag.specs.Item.{float, simple, Item, atom, array, tagged, Items, no_items, item, Pairs, no_pairs, pair}
 use Rattle.cbor_diag.specs.Item.{item_count, pair_count}
 use Rattle.cbor_diag.specs.Head.{opening, break_byte}
@@ -123,10 +123,8 @@ chunks_lines kind p cs =
 abbrev pub atom_lines : Context → Atom → List DumpLine
 atom_lines p (integer n w) = head_line p.depth (encoded_head 0 n w) (unsigned_comment n) ∷ []
 atom_lines p (negative n w) = head_line p.depth (encoded_head 1 n w) (negative_comment n) ∷ []
-atom_lines p (byte_string c) = string_lines bytes_kind p c
-atom_lines p (text_string c) = string_lines text_kind p c
-atom_lines p (byte_chunks cs) = chunks_lines bytes_kind p cs
-atom_lines p (text_chunks cs) = chunks_lines text_kind p cs
+atom_lines p (string kind c) = string_lines kind p c
+atom_lines p (chunked_string kind cs) = chunks_lines kind p cs
 atom_lines p (float bits w) = head_line p.depth (encoded_float bits w) (float_comment (encoded_float bits w)) ∷ []
 atom_lines p (simple n) = head_line p.depth (encoded_simple n) (simple_comment n) ∷ []
 
@@ -187,7 +185,7 @@ failed_note what e = record { text = what; below = text_of e ∷ [] }
 
 -- the bytes of a byte string of definite length
 abbrev pub bytes_in : Item → Option (List ℕ)
-bytes_in (atom (byte_string c)) = Some c.bytes
+bytes_in (atom (string bytes_kind c)) = Some c.bytes
 bytes_in _ = None
 
 -- tag 24: the item that the bytes are, with the lines that `dump` gives it (RFC 7049 section 2.4.4.1)

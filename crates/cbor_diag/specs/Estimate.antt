@@ -5,7 +5,7 @@ use Rattle.cbor_diag.specs.declared.syntax.FloatWidth.{FloatWidth}
 use Rattle.cbor_diag.specs.declared.syntax.FloatWidth.TheVariants as float_width
 use Rattle.cbor_diag.specs.StringKind.{StringKind, bytes_kind, text_kind}
 use Rattle.cbor_diag.specs.Item as spec
-use Rattle.cbor_diag.specs.Item.{Chunk, Atom, integer, negative, byte_string, text_string, byte_chunks, text_chunks}
+use Rattle.cbor_diag.specs.Item.{Chunk, Atom, integer, negative, string, chunked_string}
 use Rattle.cbor_diag.specs.Item.{float, simple, Item, atom, array, tagged, Items, no_items, item, Pairs, no_pairs, pair}
 
 -- how many decimal digits a number has
@@ -29,10 +29,8 @@ estimated_float _ = 23
 abbrev pub estimated_atom : Atom → ℕ
 estimated_atom (integer n w) = digit_count n + 2
 estimated_atom (negative n w) = digit_count n + 3
-estimated_atom (byte_string c) = estimated_string bytes_kind c
-estimated_atom (text_string c) = estimated_string text_kind c
-estimated_atom (byte_chunks cs) = 4 + estimated_chunks bytes_kind cs
-estimated_atom (text_chunks cs) = 4 + estimated_chunks text_kind cs
+estimated_atom (string kind c) = estimated_string kind c
+estimated_atom (chunked_string kind cs) = 4 + estimated_chunks kind cs
 estimated_atom (float bits w) = estimated_float w
 estimated_atom (simple n) = digit_count n + 8
 

@@ -2,16 +2,17 @@
 use Rattle.std.specs.Prelude.{ℕ, zero, suc, List, [], ◌∷◌, codes, Some, None}
 use Rattle.cbor_diag.specs.declared.syntax.IntegerWidth.TheVariants.{Unknown, Zero, Eight}
 use Rattle.cbor_diag.specs.Item as spec
-use Rattle.cbor_diag.specs.Item.{Chunk, Item, Items, atom, array, tagged, integer, byte_string, text_string}
-use Rattle.cbor_diag.specs.Item.{byte_chunks, simple}
+use Rattle.cbor_diag.specs.Item.{Chunk, Item, Items, atom, array, tagged, integer, string}
+use Rattle.cbor_diag.specs.Item.{chunked_string, simple}
 use Rattle.cbor_diag.specs.Item.{no_items, item, no_pairs, pair}
+use Rattle.cbor_diag.specs.StringKind.{bytes_kind, text_kind}
 
 abbrev pub small : ℕ → Item
 small n = atom (integer n Zero)
 
 -- tag 32 over the text https://example.com
 abbrev pub uri : Item
-uri = tagged 32 Eight (atom (text_string (record { bytes = codes "https://example.com"; width = Zero })))
+uri = tagged 32 Eight (atom (string text_kind (record { bytes = codes "https://example.com"; width = Zero })))
 
 abbrev pub uri_bytes : List ℕ
 uri_bytes = 0xd8 ∷ 0x20 ∷ 0x73 ∷ codes "https://example.com"
@@ -32,7 +33,7 @@ resolved_count = array (item (small 0) no_items) (Some Zero)
 
 -- a byte string of these bytes, its length in the first byte
 abbrev pub bytes : List ℕ → Item
-bytes b = atom (byte_string (record { bytes = b; width = Zero }))
+bytes b = atom (string bytes_kind (record { bytes = b; width = Zero }))
 
 -- a tag of one byte over these bytes
 abbrev pub over_bytes : ℕ → List ℕ → Item
@@ -59,7 +60,8 @@ ones n = array (repeated n (small 1)) (Some Zero)
 
 -- an indefinite byte string of two chunks
 abbrev pub two_chunks : Item
-two_chunks = atom (byte_chunks (record { bytes = 1 ∷ []; width = Zero } ∷ record { bytes = 2 ∷ []; width = Zero } ∷ []))
+two_chunks = atom (chunked_string bytes_kind
+    (record { bytes = 1 ∷ []; width = Zero } ∷ record { bytes = 2 ∷ []; width = Zero } ∷ []))
 
 -- a chunk of these bytes, its length in the first byte
 abbrev pub zero_chunk : List ℕ → Chunk
@@ -84,7 +86,7 @@ abbrev pub chunk : List ℕ → Chunk
 chunk content = record { bytes = content; width = Unknown }
 
 abbrev pub open_bytes : List ℕ → Item
-open_bytes content = atom (byte_string (chunk content))
+open_bytes content = atom (string bytes_kind (chunk content))
 
 -- texts that are no item in diagnostic notation
 abbrev pub no_items_in_notation : List (List ℕ)

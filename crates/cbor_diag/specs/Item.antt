@@ -2,20 +2,20 @@
 use Rattle.std.specs.Prelude.{ℕ, suc, List, Option}
 use Rattle.cbor_diag.specs.declared.syntax.IntegerWidth.{IntegerWidth}
 use Rattle.cbor_diag.specs.declared.syntax.FloatWidth.{FloatWidth}
+use Rattle.cbor_diag.specs.StringKind.{StringKind}
 
 -- a string of definite length, or a chunk of an indefinite one: its bytes, and the width of its length
 pub record Chunk : Type 0 where
   pub bytes : List ℕ
   pub width : IntegerWidth
 
--- the items that hold no item (RFC 7049 sections 2.1 to 2.3)
+-- The items that hold no item (RFC 7049 sections 2.1 to 2.3). The number of a negative integer is the one that is
+-- encoded. A string of indefinite length is its chunks.
 pub data Atom : Type 0 where
   integer : ℕ → IntegerWidth → Atom
   negative : ℕ → IntegerWidth → Atom
-  byte_string : Chunk → Atom
-  text_string : Chunk → Atom
-  byte_chunks : List Chunk → Atom
-  text_chunks : List Chunk → Atom
+  string : StringKind → Chunk → Atom
+  chunked_string : StringKind → List Chunk → Atom
   float : ℕ → FloatWidth → Atom
   simple : ℕ → Atom
 

@@ -5,8 +5,9 @@ use Rattle.cbor_diag.specs.declared.syntax.IntegerWidth.{IntegerWidth}
 use Rattle.cbor_diag.specs.declared.syntax.IntegerWidth.TheVariants.{Unknown, Zero}
 use Rattle.cbor_diag.specs.WellFormed.{levels_left}
 use Rattle.cbor_diag.specs.Item as spec
-use Rattle.cbor_diag.specs.Item.{Chunk, Atom, integer, negative, byte_string, text_string, byte_chunks, text_chunks}
+use Rattle.cbor_diag.specs.Item.{Chunk, Atom, integer, negative, string, chunked_string}
 use Rattle.cbor_diag.specs.Item.{float, simple, Item, atom, array, tagged, Items, no_items, item, Pairs, no_pairs, pair}
+use Rattle.cbor_diag.specs.StringKind.{bytes_kind, text_kind}
 use Rattle.cbor_diag.specs.Written.{encoded, encoded_items, resolve_float}
 use Rattle.cbor_diag.specs.Embedded.{embedded_at, sequence_at}
 
@@ -55,11 +56,10 @@ normal_content left into (Some t) b =
 abbrev pub normal_atom : ℕ → (Option ℕ → Item → Item) → Option ℕ → Atom → Atom
 normal_atom left into tag (integer n w) = integer n (normal_width w n)
 normal_atom left into tag (negative n w) = negative n (normal_width w n)
-normal_atom left into tag (byte_string c) =
-    byte_string (record { bytes = normal_content left (into None) tag c.bytes; width = Unknown })
-normal_atom left into tag (text_string c) = text_string (normal_chunk c)
-normal_atom left into tag (byte_chunks cs) = byte_chunks (map normal_chunk cs)
-normal_atom left into tag (text_chunks cs) = text_chunks (map normal_chunk cs)
+normal_atom left into tag (string bytes_kind c) =
+    string bytes_kind (record { bytes = normal_content left (into None) tag c.bytes; width = Unknown })
+normal_atom left into tag (string text_kind c) = string text_kind (normal_chunk c)
+normal_atom left into tag (chunked_string kind cs) = chunked_string kind (map normal_chunk cs)
 normal_atom left into tag (float bits w) = float bits (resolve_float w)
 normal_atom left into tag (simple n) = simple n
 

@@ -14,7 +14,7 @@ use Rattle.cbor_diag.specs.declared.syntax.IntegerWidth.TheVariants.{SixtyFour}
 use Rattle.cbor_diag.specs.declared.syntax.FloatWidth.{FloatWidth}
 use Rattle.cbor_diag.specs.declared.syntax.FloatWidth.TheVariants as float_width
 use Rattle.cbor_diag.specs.Item as spec
-use Rattle.cbor_diag.specs.Item.{Chunk, Atom, integer, negative, byte_string, text_string, byte_chunks, text_chunks}
+use Rattle.cbor_diag.specs.Item.{Chunk, Atom, integer, negative, string, chunked_string}
 use Rattle.cbor_diag.specs.Item.{float, simple, Item, atom, array, tagged, Items, no_items, item, Pairs, no_pairs, pair}
 use Rattle.cbor_diag.specs.Head.{FitsWidth}
 use Rattle.cbor_diag.specs.WellFormed.{deepest}
@@ -188,10 +188,9 @@ FloatOf text bits w = Between (codes "float'") (codes "'")
 abbrev pub AtomCore : (List ℕ → Item → Type 0) → List ℕ → Atom → Type 0
 AtomCore Read text (integer n w) = NumberOf text n w
 AtomCore Read text (negative n w) = NegativeOf text n w
-AtomCore Read text (byte_string c) = StringOf bytes_kind Read text c
-AtomCore Read text (text_string c) = StringOf text_kind Read text c
-AtomCore Read text (byte_chunks cs) = ((cs ≡ []) × (text ≡ codes "''_")) ⊎ ChunksOf bytes_kind Read text cs
-AtomCore Read text (text_chunks cs) = ((cs ≡ []) × (text ≡ codes "\"\"_"))
+AtomCore Read text (string kind c) = StringOf kind Read text c
+AtomCore Read text (chunked_string bytes_kind cs) = ((cs ≡ []) × (text ≡ codes "''_")) ⊎ ChunksOf bytes_kind Read text cs
+AtomCore Read text (chunked_string text_kind cs) = ((cs ≡ []) × (text ≡ codes "\"\"_"))
     ⊎ ((0 < length cs) × ChunksOf text_kind Read text cs)
 AtomCore Read text (float bits w) = FloatOf text bits w
 AtomCore Read text (simple n) = SimpleOf text n

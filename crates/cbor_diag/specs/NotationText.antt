@@ -20,7 +20,7 @@ use Rattle.cbor_diag.specs.ContainerStyle as style
 use Rattle.cbor_diag.specs.ContainerStyle.{ContainerStyle, OneLine, MultiLine}
 use Rattle.cbor_diag.specs.StringKind.{StringKind, bytes_kind, text_kind}
 use Rattle.cbor_diag.specs.Item as spec
-use Rattle.cbor_diag.specs.Item.{Chunk, Atom, integer, negative, byte_string, text_string, byte_chunks, text_chunks}
+use Rattle.cbor_diag.specs.Item.{Chunk, Atom, integer, negative, string, chunked_string}
 use Rattle.cbor_diag.specs.Item.{float, simple, Item, atom, array, tagged, Items, no_items, item, Pairs, no_pairs, pair}
 use Rattle.cbor_diag.specs.Embedded.{embedded_at, sequence_at}
 use Rattle.cbor_diag.specs.WellFormed.{levels_left}
@@ -245,10 +245,10 @@ chunks_text kind e l cs = chunks_listed l (no_chunks kind) (map (λ c. string_te
 abbrev pub atom_text : ℕ → Writer → Context → Atom → List ℕ
 atom_text left write c (integer n w) = number n w
 atom_text left write c (negative n w) = codes "-" ++ number (n + 1) w
-atom_text left write c (byte_string s) = content_text left write c.content c s.bytes
-atom_text left write c (text_string s) = text s.bytes
-atom_text left write c (byte_chunks cs) = chunks_text bytes_kind c.encoding (item_style c (atom (byte_chunks cs))) cs
-atom_text left write c (text_chunks cs) = chunks_text text_kind c.encoding (item_style c (atom (text_chunks cs))) cs
+atom_text left write c (string bytes_kind s) = content_text left write c.content c s.bytes
+atom_text left write c (string text_kind s) = text s.bytes
+atom_text left write c (chunked_string kind cs) =
+    chunks_text kind c.encoding (item_style c (atom (chunked_string kind cs))) cs
 atom_text left write c (float n w) = float_text n w
 atom_text left write c (simple n) = simple_text n
 

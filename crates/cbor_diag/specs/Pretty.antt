@@ -5,9 +5,9 @@ use Rattle.cbor_diag.specs.declared.syntax.IntegerWidth.{IntegerWidth}
 use Rattle.cbor_diag.specs.Encoding.{Encoding}
 use Rattle.cbor_diag.specs.Layout.{Pretty}
 use Rattle.cbor_diag.specs.ContainerStyle.{ContainerStyle, OneLine, MultiLine}
-use Rattle.cbor_diag.specs.StringKind.{bytes_kind, text_kind}
+use Rattle.cbor_diag.specs.StringKind.{bytes_kind}
 use Rattle.cbor_diag.specs.Item as spec
-use Rattle.cbor_diag.specs.Item.{Chunk, Item, atom, array, tagged, byte_string, byte_chunks, text_chunks}
+use Rattle.cbor_diag.specs.Item.{Chunk, Item, atom, array, tagged, string, chunked_string}
 use Rattle.cbor_diag.specs.Embedded.{sequence}
 use Rattle.cbor_diag.specs.NotationText.{number, in_encoding, below, array_text, map_text, sequence_listed}
 use Rattle.cbor_diag.specs.NotationText.{chunks_text, text_at_level}
@@ -22,8 +22,7 @@ laid_out l e level indent (array is w) =
     array_text (text_at_level (level + 1)) (in_encoding (Pretty indent) e) l is w
 laid_out l e level indent (spec.map ps w) =
     map_text (text_at_level (level + 1)) (in_encoding (Pretty indent) e) l ps w
-laid_out l e level indent (atom (byte_chunks cs)) = chunks_text bytes_kind e l cs
-laid_out l e level indent (atom (text_chunks cs)) = chunks_text text_kind e l cs
+laid_out l e level indent (atom (chunked_string kind cs)) = chunks_text kind e l cs
 laid_out l e level indent i = pretty e level indent i
 
 -- on one line, and with a line for each member
@@ -35,7 +34,7 @@ in_lines e level indent i = laid_out (MultiLine indent) e level indent i
 
 -- tag 63 over a byte string (RFC 8742)
 abbrev pub encoded_sequence : IntegerWidth → Chunk → Item
-encoded_sequence w b = tagged 63 w (atom (byte_string b))
+encoded_sequence w b = tagged 63 w (atom (string bytes_kind b))
 
 -- its text at this level, the items in the bytes laid out so, however long they are
 abbrev pub sequence_laid_out : ContainerStyle → Encoding → ℕ → ℕ → IntegerWidth → List ℕ → List ℕ

@@ -15,7 +15,7 @@ use Rattle.cbor_diag.specs.declared.parse.binary.head.Info.TheVariants as info
 use Rattle.cbor_diag.specs.declared.parse.binary.head.ItemHead.{ItemHead}
 use Rattle.cbor_diag.specs.declared.parse.binary.head.ItemHead.TheVariants as item_head
 use Rattle.cbor_diag.specs.Item as spec
-use Rattle.cbor_diag.specs.Item.{Chunk, integer, negative, byte_string, text_string, byte_chunks, text_chunks, float}
+use Rattle.cbor_diag.specs.Item.{Chunk, integer, negative, string, chunked_string, float}
 use Rattle.cbor_diag.specs.Item.{simple, Item, atom, array, tagged, Items, no_items, item, Pairs, no_pairs, pair}
 use Rattle.cbor_diag.specs.Head.{FitsStated, break_byte}
 use Rattle.cbor_diag.specs.StringKind.{StringKind, bytes_kind, text_kind, major_of}
@@ -186,15 +186,15 @@ read_open_pairs read (suc n) b = unless_break (after_break b) no_pairs
 abbrev pub read_body : (List ℕ → Read Item) → ItemHead → List ℕ → Read Item
 read_body read (item_head.Integer n w) b = Ok (atom (integer n w), b)
 read_body read (item_head.Negative n w) b = Ok (atom (negative n w), b)
-read_body read (item_head.Bytes n w) b = read_content bytes_kind n w b >>= λ c. Ok (atom (byte_string c.0), c.1)
-read_body read (item_head.Text n w) b = read_content text_kind n w b >>= λ c. Ok (atom (text_string c.0), c.1)
+read_body read (item_head.Bytes n w) b = read_content bytes_kind n w b >>= λ c. Ok (atom (string bytes_kind c.0), c.1)
+read_body read (item_head.Text n w) b = read_content text_kind n w b >>= λ c. Ok (atom (string text_kind c.0), c.1)
 read_body read (item_head.Array n w) b = read_items read n b >>= λ is. Ok (array is.0 (Some w), is.1)
 read_body read (item_head.Map n w) b = read_pairs read n b >>= λ ps. Ok (spec.map ps.0 (Some w), ps.1)
 read_body read (item_head.Tag n w) b = read b >>= λ i. Ok (tagged n w i.0, i.1)
 read_body read (item_head.Float bits w) b = Ok (atom (float bits w), b)
 read_body read (item_head.Simple n) b = Ok (atom (simple n), b)
-read_body read item_head.OpenBytes b = read_chunks (length b) bytes_kind b >>= λ cs. Ok (atom (byte_chunks cs.0), cs.1)
-read_body read item_head.OpenText b = read_chunks (length b) text_kind b >>= λ cs. Ok (atom (text_chunks cs.0), cs.1)
+read_body read item_head.OpenBytes b = read_chunks (length b) bytes_kind b >>= λ cs. Ok (atom (chunked_string bytes_kind cs.0), cs.1)
+read_body read item_head.OpenText b = read_chunks (length b) text_kind b >>= λ cs. Ok (atom (chunked_string text_kind cs.0), cs.1)
 read_body read item_head.OpenArray b = read_open_items read (length b) b >>= λ is. Ok (array is.0 None, is.1)
 read_body read item_head.OpenMap b = read_open_pairs read (length b) b >>= λ ps. Ok (spec.map ps.0 None, ps.1)
 read_body read item_head.Break b = Err refusal.Head

@@ -7,9 +7,10 @@ use Rattle.cbor_diag.specs.declared.syntax.IntegerWidth.TheVariants.{SixtyFour}
 use Rattle.cbor_diag.specs.declared.syntax.FloatWidth.{FloatWidth}
 use Rattle.cbor_diag.specs.declared.syntax.FloatWidth.TheVariants as float_width
 use Rattle.cbor_diag.specs.Item as spec
-use Rattle.cbor_diag.specs.Item.{Chunk, Atom, integer, negative, byte_string, text_string, byte_chunks, text_chunks}
+use Rattle.cbor_diag.specs.Item.{Chunk, Atom, integer, negative, string, chunked_string}
 use Rattle.cbor_diag.specs.Item.{float, simple}
 use Rattle.cbor_diag.specs.Item.{Item, atom, array, tagged, Items, no_items, item, Pairs, no_pairs, pair}
+use Rattle.cbor_diag.specs.StringKind.{bytes_kind, text_kind}
 
 abbrev pub same_width : IntegerWidth → IntegerWidth → Bool
 same_width Unknown Unknown = true
@@ -39,10 +40,10 @@ same_chunk c d = pointwise nat_eq c.bytes d.bytes && same_width c.width d.width
 abbrev pub same_atom : Atom → Atom → Bool
 same_atom (integer n v) (integer m w) = nat_eq n m && same_width v w
 same_atom (negative n v) (negative m w) = nat_eq n m && same_width v w
-same_atom (byte_string c) (byte_string d) = same_chunk c d
-same_atom (text_string c) (text_string d) = same_chunk c d
-same_atom (byte_chunks cs) (byte_chunks ds) = pointwise same_chunk cs ds
-same_atom (text_chunks cs) (text_chunks ds) = pointwise same_chunk cs ds
+same_atom (string bytes_kind c) (string bytes_kind d) = same_chunk c d
+same_atom (string text_kind c) (string text_kind d) = same_chunk c d
+same_atom (chunked_string bytes_kind cs) (chunked_string bytes_kind ds) = pointwise same_chunk cs ds
+same_atom (chunked_string text_kind cs) (chunked_string text_kind ds) = pointwise same_chunk cs ds
 same_atom (float n v) (float m w) = nat_eq n m && same_float_width v w
 same_atom (simple n) (simple m) = nat_eq n m
 same_atom a b = false

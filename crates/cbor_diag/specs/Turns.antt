@@ -3,16 +3,16 @@
 use Rattle.std.specs.Prelude.{ℕ, zero, suc, ◌+◌, ◌*◌, List, length}
 use Rattle.cbor_diag.specs.declared.error.Error.{Error}
 use Rattle.cbor_diag.specs.Item as spec
-use Rattle.cbor_diag.specs.Item.{Atom, byte_chunks, text_chunks, Item, atom, array, tagged, Items, no_items, item}
+use Rattle.cbor_diag.specs.Item.{Atom, chunked_string, Item, atom, array, tagged, Items, no_items, item}
 use Rattle.cbor_diag.specs.Item.{Pairs, no_pairs, pair}
+use Rattle.cbor_diag.specs.StringKind.{bytes_kind, text_kind}
 use Rattle.cbor_diag.specs.Refused.{SpelledParts, Next, Inside, in_tag, in_array, in_map, in_open_array, at_open_key}
 use Rattle.cbor_diag.specs.Refused.{at_open_value, Cut, nothing, in_head, in_content, in_chunk, in_part}
 use Rattle.cbor_diag.specs.Refused.{Fault, too_deep, bad_head, bad_text, bad_chunk_head, bad_chunk_text, bad_part}
 
 -- one for what has no parts; one for each chunk, and two for the opening byte and the break round them
 abbrev pub atom_turns : Atom → ℕ
-atom_turns (byte_chunks cs) = 2 + length cs
-atom_turns (text_chunks cs) = 2 + length cs
+atom_turns (chunked_string kind cs) = 2 + length cs
 atom_turns _ = 1
 
 -- the turns of a whole item: two for a container or a tag, its head and its end, and those of all in it

@@ -2,6 +2,7 @@
 use Rattle.std.specs.Prelude.{List, [], ◌∷◌, map, string_bytes}
 use Rattle.cbor_diag.specs.Item as spec
 use Rattle.cbor_diag.specs.Item.{Chunk, Item, Items, Pairs, no_items, item, no_pairs, pair}
+use Rattle.cbor_diag.specs.StringKind.{bytes_kind, text_kind}
 use Rattle.cbor_diag.specs.declared.syntax.ByteString.{ByteString}
 use Rattle.cbor_diag.specs.declared.syntax.TextString.{TextString}
 use Rattle.cbor_diag.specs.declared.syntax.DataItem.{DataItem, fold-DataItem}
@@ -26,10 +27,10 @@ pairs_of (p ∷ ps) = pair p.0 p.1 (pairs_of ps)
 abbrev pub view_step : DataItem-F Item → Item
 view_step (DataItem-F.Integer n w) = spec.atom (spec.integer n w)
 view_step (DataItem-F.Negative n w) = spec.atom (spec.negative n w)
-view_step (DataItem-F.ByteString s) = spec.atom (spec.byte_string (byte_chunk s))
-view_step (DataItem-F.TextString s) = spec.atom (spec.text_string (text_chunk s))
-view_step (DataItem-F.IndefiniteByteString v) = spec.atom (spec.byte_chunks (map byte_chunk v.items))
-view_step (DataItem-F.IndefiniteTextString v) = spec.atom (spec.text_chunks (map text_chunk v.items))
+view_step (DataItem-F.ByteString s) = spec.atom (spec.string bytes_kind (byte_chunk s))
+view_step (DataItem-F.TextString s) = spec.atom (spec.string text_kind (text_chunk s))
+view_step (DataItem-F.IndefiniteByteString v) = spec.atom (spec.chunked_string bytes_kind (map byte_chunk v.items))
+view_step (DataItem-F.IndefiniteTextString v) = spec.atom (spec.chunked_string text_kind (map text_chunk v.items))
 view_step (DataItem-F.Array v w) = spec.array (items_of v.items) w
 view_step (DataItem-F.Map v w) = spec.map (pairs_of v.items) w
 view_step (DataItem-F.Tag t w v) = spec.tagged t.0 w v.value

@@ -5,7 +5,7 @@ use Rattle.cbor_diag.specs.declared.syntax.IntegerWidth.{IntegerWidth}
 use Rattle.cbor_diag.specs.declared.syntax.FloatWidth.{FloatWidth}
 use Rattle.cbor_diag.specs.declared.syntax.FloatWidth.TheVariants as float_width
 use Rattle.cbor_diag.specs.Item as spec
-use Rattle.cbor_diag.specs.Item.{Chunk, Atom, integer, negative, byte_string, text_string, byte_chunks, text_chunks}
+use Rattle.cbor_diag.specs.Item.{Chunk, Atom, integer, negative, string, chunked_string}
 use Rattle.cbor_diag.specs.Item.{float, simple, Item, atom, array, tagged, Items, no_items, item, Pairs, no_pairs}
 use Rattle.cbor_diag.specs.Item.{pair, item_count, pair_count}
 use Rattle.cbor_diag.specs.Head.{FitsWidth}
@@ -36,10 +36,8 @@ FitsFloat float_width.SixtyFour bits = bits < 2 ^ 64
 abbrev pub WellFormedAtom : Atom → Type 0
 WellFormedAtom (integer n w) = FitsWidth w n
 WellFormedAtom (negative n w) = FitsWidth w n
-WellFormedAtom (byte_string c) = IsChunk bytes_kind c
-WellFormedAtom (text_string c) = IsChunk text_kind c
-WellFormedAtom (byte_chunks cs) = AllByRecursion (IsChunk bytes_kind) cs
-WellFormedAtom (text_chunks cs) = AllByRecursion (IsChunk text_kind) cs
+WellFormedAtom (string kind c) = IsChunk kind c
+WellFormedAtom (chunked_string kind cs) = AllByRecursion (IsChunk kind) cs
 WellFormedAtom (float bits w) = FitsFloat w bits
 WellFormedAtom (simple n) = n < 256
 

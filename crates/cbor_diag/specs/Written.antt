@@ -6,9 +6,10 @@ use Rattle.cbor_diag.specs.declared.syntax.IntegerWidth.{IntegerWidth}
 use Rattle.cbor_diag.specs.declared.syntax.FloatWidth.{FloatWidth}
 use Rattle.cbor_diag.specs.declared.syntax.FloatWidth.TheVariants as float_width
 use Rattle.cbor_diag.specs.Item as spec
-use Rattle.cbor_diag.specs.Item.{Chunk, Atom, integer, negative, byte_string, text_string, byte_chunks, text_chunks}
+use Rattle.cbor_diag.specs.Item.{Chunk, Atom, integer, negative, string, chunked_string}
 use Rattle.cbor_diag.specs.Item.{float, simple, Item, atom, array, tagged, Items, no_items, item, Pairs, no_pairs}
 use Rattle.cbor_diag.specs.Item.{pair, item_count, pair_count}
+use Rattle.cbor_diag.specs.StringKind.{major_of}
 use Rattle.cbor_diag.specs.Head.{stated, head, opening, break_byte}
 
 -- a head, an unstated width being the shortest that fits
@@ -38,10 +39,8 @@ encoded_simple n = if nat_lt n 24 then (0xe0 + n) ∷ [] else 0xf8 ∷ n ∷ []
 abbrev pub encoded_atom : Atom → List ℕ
 encoded_atom (integer n w) = encoded_head 0 n w
 encoded_atom (negative n w) = encoded_head 1 n w
-encoded_atom (byte_string c) = encoded_chunk 2 c
-encoded_atom (text_string c) = encoded_chunk 3 c
-encoded_atom (byte_chunks cs) = encoded_chunks 2 cs
-encoded_atom (text_chunks cs) = encoded_chunks 3 cs
+encoded_atom (string kind c) = encoded_chunk (major_of kind) c
+encoded_atom (chunked_string kind cs) = encoded_chunks (major_of kind) cs
 encoded_atom (float bits w) = encoded_float bits w
 encoded_atom (simple n) = encoded_simple n
 
@@ -82,10 +81,8 @@ resolve_float w = w
 abbrev pub resolve_atom : Atom → Atom
 resolve_atom (integer n w) = integer n (stated w n)
 resolve_atom (negative n w) = negative n (stated w n)
-resolve_atom (byte_string c) = byte_string (resolve_chunk c)
-resolve_atom (text_string c) = text_string (resolve_chunk c)
-resolve_atom (byte_chunks cs) = byte_chunks (map resolve_chunk cs)
-resolve_atom (text_chunks cs) = text_chunks (map resolve_chunk cs)
+resolve_atom (string kind c) = string kind (resolve_chunk c)
+resolve_atom (chunked_string kind cs) = chunked_string kind (map resolve_chunk cs)
 resolve_atom (float bits w) = float bits (resolve_float w)
 resolve_atom (simple n) = simple n
 

@@ -6,8 +6,9 @@ ghost use Rattle.std.specs.List.{AllByRecursion};
 ghost use Rattle.cbor_diag.specs.declared.error.Error.TheVariants.{Head, Utf8, TooDeep};
 ghost use Rattle.cbor_diag.specs.declared.syntax.IntegerWidth.TheVariants.{Unknown, Zero, Eight};
 ghost use Rattle.cbor_diag.specs.declared.syntax.IntegerWidth.TheVariants.{Sixteen};
-ghost use Rattle.cbor_diag.specs.Item.{atom, array, simple, integer, byte_chunks, item, no_items};
-ghost use Rattle.cbor_diag.specs.Item.{Item, tagged, negative, float, text_chunks};
+ghost use Rattle.cbor_diag.specs.Item.{atom, array, simple, integer, chunked_string, item, no_items};
+ghost use Rattle.cbor_diag.specs.Item.{Item, tagged, negative, float};
+ghost use Rattle.cbor_diag.specs.StringKind.{bytes_kind, text_kind};
 ghost use Rattle.cbor_diag.specs.WellFormed.{WellFormed};
 ghost use Rattle.cbor_diag.specs.Written.{encoded, encoded_open, resolve};
 ghost use Rattle.cbor_diag.specs.Bytes.{any, strict, Spells};
@@ -139,13 +140,13 @@ pub(crate) fn pretty_text()
         ≡ codes
         "[\n    [\n        1,\n        1,\n        1,\n        1,\n        1,\n        1,\n        1,\n        1,\n        1,\n        1,\n        1,\n        1,\n    ],\n]" }
     ensures open { pretty Base16 1 0 open_map ≡ codes "{_ 1: 2}" }
-    ensures empty { pretty Base16 1 0 (atom (byte_chunks [])) ≡ codes "''_" }
+    ensures empty { pretty Base16 1 0 (atom (chunked_string bytes_kind [])) ≡ codes "''_" }
 {}
 
 /// Dumps: the one column of digits, a break, strings without content, the pieces of a text,
 /// elements, a sequence with a rest, and shared values, a key before its value.
 pub(crate) fn dumps()
-    ensures chunks { dump (atom (byte_chunks (zero_chunk (1 ∷ []) ∷ [])))
+    ensures chunks { dump (atom (chunked_string bytes_kind (zero_chunk (1 ∷ []) ∷ [])))
         ≡ codes
         "5f       # bytes(*)\n   41    #   bytes(1)\n      01 #     \"\\x01\"\n   ff    #   break\n" }
     ensures nothing { dump (bytes []) ≡ codes "40 # bytes(0)\n   #   \"\"\n" }
@@ -201,9 +202,9 @@ pub(crate) fn notation_strings()
     ensures base64 { ReadsUnder 1 (codes "b64'/x/0'") (open_bytes (255 ∷ 31 ∷ 244 ∷ [])) }
     ensures escaped { ReadsUnder 1 (codes "'it\\'s'") (open_bytes (codes "it's")) }
     ensures embedded { ReadsUnder 2 (codes "<<1, >>") (open_bytes (1 ∷ [])) }
-    ensures no_chunks { ReadsUnder 1 (codes "(_ )") (atom (byte_chunks [])) }
-    ensures no_bytes { ReadsUnder 1 (codes "''_") (atom (byte_chunks [])) }
-    ensures no_texts { ReadsUnder 1 (codes "\"\"_") (atom (text_chunks [])) }
+    ensures no_chunks { ReadsUnder 1 (codes "(_ )") (atom (chunked_string bytes_kind [])) }
+    ensures no_bytes { ReadsUnder 1 (codes "''_") (atom (chunked_string bytes_kind [])) }
+    ensures no_texts { ReadsUnder 1 (codes "\"\"_") (atom (chunked_string text_kind [])) }
 {}
 
 /// Texts that are no item: an indicator past 3, a value past its width, no whitespace after a last

@@ -9,7 +9,7 @@ use Rattle.cbor_diag.specs.declared.syntax.FloatWidth.TheVariants as float_width
 use Rattle.cbor_diag.specs.declared.parse.binary.head.ItemHead.{ItemHead}
 use Rattle.cbor_diag.specs.declared.parse.binary.head.ItemHead.TheVariants as item_head
 use Rattle.cbor_diag.specs.Item as spec
-use Rattle.cbor_diag.specs.Item.{Chunk, Atom, integer, negative, byte_string, text_string, byte_chunks, text_chunks}
+use Rattle.cbor_diag.specs.Item.{Chunk, Atom, integer, negative, string, chunked_string}
 use Rattle.cbor_diag.specs.Item.{float, simple, Item, atom, array, tagged, Items, no_items, item, Pairs, no_pairs, pair}
 use Rattle.cbor_diag.specs.Item.{item_count, pair_count}
 use Rattle.cbor_diag.specs.Head.{opening, break_byte, HeadThen}
@@ -213,14 +213,14 @@ body_takes level read finds (item_head.Negative n w) b r rest i le h fits e =
     given level b r rest (atom (negative n w)) i e
     (headed level b r 1 n w (atom (negative n w)) fits h (λ front f. (le, f)))
 body_takes level read finds (item_head.Bytes n w) b r rest i le h fits e =
-    let a = bind_ok (read_content bytes_kind n w r) (λ c. Ok (atom (byte_string c.0), c.1)) (i, rest) e in
+    let a = bind_ok (read_content bytes_kind n w r) (λ c. Ok (atom (string bytes_kind c.0), c.1)) (i, rest) e in
     let t = string_takes bytes_kind n w b r a.0.1 a.0.0 fits h a.1 in
-    given level b a.0.1 rest (atom (byte_string a.0.0)) i a.2
+    given level b a.0.1 rest (atom (string bytes_kind a.0.0)) i a.2
     (record { front = t.0; parts = t.1; spells = (le, t.2); rest_bytes = t.3 })
 body_takes level read finds (item_head.Text n w) b r rest i le h fits e =
-    let a = bind_ok (read_content text_kind n w r) (λ c. Ok (atom (text_string c.0), c.1)) (i, rest) e in
+    let a = bind_ok (read_content text_kind n w r) (λ c. Ok (atom (string text_kind c.0), c.1)) (i, rest) e in
     let t = string_takes text_kind n w b r a.0.1 a.0.0 fits h a.1 in
-    given level b a.0.1 rest (atom (text_string a.0.0)) i a.2
+    given level b a.0.1 rest (atom (string text_kind a.0.0)) i a.2
     (record { front = t.0; parts = t.1; spells = (le, t.2); rest_bytes = t.3 })
 body_takes level read finds (item_head.Array n w) b r rest i le h fits e =
     let a = bind_ok (read_items read n r) (λ is. Ok (array is.0 (Some w), is.1)) (i, rest) e in
@@ -257,14 +257,14 @@ body_takes level read finds (item_head.Simple n) b r rest i le h fits e =
     given level b r rest (atom (simple n)) i e
     (record { front = h.0; parts = h.1; spells = (le, h.2); rest_bytes = fits })
 body_takes level read finds item_head.OpenBytes b r rest i le h fits e =
-    let a = bind_ok (read_chunks (length r) bytes_kind r) (λ cs. Ok (atom (byte_chunks cs.0), cs.1)) (i, rest) e in
+    let a = bind_ok (read_chunks (length r) bytes_kind r) (λ cs. Ok (atom (chunked_string bytes_kind cs.0), cs.1)) (i, rest) e in
     let t = open_string_takes bytes_kind b r a.0.1 a.0.0 fits h a.1 in
-    given level b a.0.1 rest (atom (byte_chunks a.0.0)) i a.2
+    given level b a.0.1 rest (atom (chunked_string bytes_kind a.0.0)) i a.2
     (record { front = t.0; parts = t.1; spells = (le, t.2); rest_bytes = t.3 })
 body_takes level read finds item_head.OpenText b r rest i le h fits e =
-    let a = bind_ok (read_chunks (length r) text_kind r) (λ cs. Ok (atom (text_chunks cs.0), cs.1)) (i, rest) e in
+    let a = bind_ok (read_chunks (length r) text_kind r) (λ cs. Ok (atom (chunked_string text_kind cs.0), cs.1)) (i, rest) e in
     let t = open_string_takes text_kind b r a.0.1 a.0.0 fits h a.1 in
-    given level b a.0.1 rest (atom (text_chunks a.0.0)) i a.2
+    given level b a.0.1 rest (atom (chunked_string text_kind a.0.0)) i a.2
     (record { front = t.0; parts = t.1; spells = (le, t.2); rest_bytes = t.3 })
 body_takes level read finds item_head.OpenArray b r rest i le h fits e =
     let a = bind_ok (read_open_items read (length r) r) (λ is. Ok (array is.0 None, is.1)) (i, rest) e in

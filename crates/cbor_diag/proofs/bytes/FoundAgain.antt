@@ -9,7 +9,7 @@ use Rattle.cbor_diag.specs.declared.syntax.IntegerWidth.TheVariants.{Zero, Eight
 use Rattle.cbor_diag.specs.declared.syntax.FloatWidth.TheVariants as float_width
 use Rattle.cbor_diag.specs.declared.parse.binary.head.ItemHead.TheVariants as item_head
 use Rattle.cbor_diag.specs.Item as spec
-use Rattle.cbor_diag.specs.Item.{Chunk, Atom, integer, negative, byte_string, text_string, byte_chunks, text_chunks}
+use Rattle.cbor_diag.specs.Item.{Chunk, Atom, integer, negative, string, chunked_string}
 use Rattle.cbor_diag.specs.Item.{float, simple, Item, atom, array, tagged, Items, no_items, item, Pairs, no_pairs, pair}
 use Rattle.cbor_diag.specs.Item.{item_count, pair_count}
 use Rattle.cbor_diag.specs.Head.{head, break_byte, HeadThen}
@@ -49,10 +49,10 @@ byte_begins first tail x parts lt = record { first = first; tail = tail; parts =
 atom_begins : (x : List ℕ) (a : Atom) → SpellsAtom any x a → Begins x
 atom_begins x (integer n w) h = head_begins 0 n w x _ h
 atom_begins x (negative n w) h = head_begins 1 n w x _ h
-atom_begins x (byte_string c) h = head_begins 2 (length c.bytes) c.width x _ h.1
-atom_begins x (text_string c) h = head_begins 3 (length c.bytes) c.width x _ h.1
-atom_begins x (byte_chunks cs) h = byte_begins 95 h.0 x h.1 (omega arith)
-atom_begins x (text_chunks cs) h = byte_begins 127 h.0 x h.1 (omega arith)
+atom_begins x (string bytes_kind c) h = head_begins 2 (length c.bytes) c.width x _ h.1
+atom_begins x (string text_kind c) h = head_begins 3 (length c.bytes) c.width x _ h.1
+atom_begins x (chunked_string bytes_kind cs) h = byte_begins 95 h.0 x h.1 (omega arith)
+atom_begins x (chunked_string text_kind cs) h = byte_begins 127 h.0 x h.1 (omega arith)
 atom_begins x (float bits float_width.Unknown) h = absurd h
 atom_begins x (float bits float_width.Sixteen) h = byte_begins 249 (to_be_bytes w16 bits) x h.1 (omega arith)
 atom_begins x (float bits float_width.ThirtyTwo) h = byte_begins 250 (to_be_bytes w32 bits) x h.1 (omega arith)
@@ -200,19 +200,19 @@ module _ (level : ℕ) (read : List ℕ → Read Item) (again : FindsAgain (leve
       rw (head_again 0 n w (x ++ rest) rest (omega arith) (head_behind 0 n w x rest h.1)) refl
   body_again x (atom (negative n w)) rest h =
       rw (head_again 1 n w (x ++ rest) rest (omega arith) (head_behind 1 n w x rest h.1)) refl
-  body_again x (atom (byte_string c)) rest h =
+  body_again x (atom (string bytes_kind c)) rest h =
       rw (
         head_again 2 (length c.bytes) c.width (x ++ rest) (c.bytes ++ rest) (omega arith)
             (string_behind bytes_kind x rest c h.1),
         content_again bytes_kind c rest h.1.0,
       ) refl
-  body_again x (atom (text_string c)) rest h =
+  body_again x (atom (string text_kind c)) rest h =
       rw (
         head_again 3 (length c.bytes) c.width (x ++ rest) (c.bytes ++ rest) (omega arith)
             (string_behind text_kind x rest c h.1),
         content_again text_kind c rest h.1.0,
       ) refl
-  body_again x (atom (byte_chunks cs)) rest h =
+  body_again x (atom (chunked_string bytes_kind cs)) rest h =
       let r : List ℕ = h.1.0 ++ rest in
       ap (λ (y : List ℕ). read_whole read (y ++ rest)) h.1.1
       ∙ rw (
@@ -220,7 +220,7 @@ module _ (level : ℕ) (read : List ℕ → Read Item) (again : FindsAgain (leve
         chunks_again (length r) bytes_kind r rest cs (omega arith)
             (chunks_append bytes_kind cs h.1.0 (break_byte ∷ []) rest h.1.2),
       ) refl
-  body_again x (atom (text_chunks cs)) rest h =
+  body_again x (atom (chunked_string text_kind cs)) rest h =
       let r : List ℕ = h.1.0 ++ rest in
       ap (λ (y : List ℕ). read_whole read (y ++ rest)) h.1.1
       ∙ rw (

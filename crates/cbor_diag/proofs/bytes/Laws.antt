@@ -10,7 +10,7 @@ use Rattle.cbor_diag.specs.declared.syntax.IntegerWidth.TheVariants as width
 use Rattle.cbor_diag.specs.declared.syntax.FloatWidth.{FloatWidth}
 use Rattle.cbor_diag.specs.declared.syntax.FloatWidth.TheVariants as float_width
 use Rattle.cbor_diag.specs.Item as spec
-use Rattle.cbor_diag.specs.Item.{Chunk, Atom, integer, negative, byte_string, text_string, byte_chunks, text_chunks}
+use Rattle.cbor_diag.specs.Item.{Chunk, Atom, integer, negative, string, chunked_string}
 use Rattle.cbor_diag.specs.Item.{float, simple, Item, atom, array, tagged, Items, no_items, item, Pairs, no_pairs, pair}
 use Rattle.cbor_diag.specs.Item.{item_count, pair_count}
 use Rattle.cbor_diag.specs.Head.{head, stated, break_byte, FitsWidth, FitsStated}
@@ -118,14 +118,14 @@ break_bytes = (lit< tt, tt)
 atom_bytes : (a : Atom) → WellFormedAtom a → AllBytes (encoded_atom a)
 atom_bytes (integer n w) well = written_bytes 0 n w (omega arith) well
 atom_bytes (negative n w) well = written_bytes 1 n w (omega arith) well
-atom_bytes (byte_string c) well = chunk_bytes 2 c (omega arith) well.fits well.bytes
-atom_bytes (text_string c) well = chunk_bytes 3 c (omega arith) well.fits well.bytes
-atom_bytes (byte_chunks cs) well = (
+atom_bytes (string bytes_kind c) well = chunk_bytes 2 c (omega arith) well.fits well.bytes
+atom_bytes (string text_kind c) well = chunk_bytes 3 c (omega arith) well.fits well.bytes
+atom_bytes (chunked_string bytes_kind cs) well = (
   lit< tt,
   all_bytes-append (flat_map (encoded_chunk 2) cs) (break_byte ∷ [])
       (chunks_bytes bytes_kind cs (omega arith) well) break_bytes,
 )
-atom_bytes (text_chunks cs) well = (
+atom_bytes (chunked_string text_kind cs) well = (
   lit< tt,
   all_bytes-append (flat_map (encoded_chunk 3) cs) (break_byte ∷ [])
       (chunks_bytes text_kind cs (omega arith) well) break_bytes,

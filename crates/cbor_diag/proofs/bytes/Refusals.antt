@@ -7,7 +7,7 @@ use Rattle.cbor_diag.specs.declared.error.Error.TheVariants as refusal
 use Rattle.cbor_diag.specs.declared.parse.binary.head.ItemHead.{ItemHead}
 use Rattle.cbor_diag.specs.declared.parse.binary.head.ItemHead.TheVariants as item_head
 use Rattle.cbor_diag.specs.Item as spec
-use Rattle.cbor_diag.specs.Item.{Item, atom, byte_string, text_string, byte_chunks, text_chunks, array, tagged}
+use Rattle.cbor_diag.specs.Item.{Item, atom, string, chunked_string, array, tagged}
 use Rattle.cbor_diag.specs.Head.{opening, break_byte, HeadThen}
 use Rattle.cbor_diag.specs.WellFormed.{deepest}
 use Rattle.cbor_diag.specs.StringKind.{StringKind, bytes_kind, text_kind, major_of}
@@ -103,13 +103,13 @@ module _ (level : ℕ) (read : List ℕ → Read Item) (reads : Reads (level + 1
   body_refused (item_head.Integer n w) b rest e le is fits h = absurd cc
   body_refused (item_head.Negative n w) b rest e le is fits h = absurd cc
   body_refused (item_head.Bytes n w) b rest e le is fits h =
-      elim (bind_err (read_content bytes_kind n w rest) (λ c. Ok (atom (byte_string c.0), c.1)) e h) [
+      elim (bind_err (read_content bytes_kind n w rest) (λ c. Ok (atom (string bytes_kind c.0), c.1)) e h) [
         | inl refused ↦ content_refusal bytes_kind level n w b rest e le is
             (content_refused bytes_kind n w rest e refused)
         | inr made ↦ absurd cc
       ]
   body_refused (item_head.Text n w) b rest e le is fits h =
-      elim (bind_err (read_content text_kind n w rest) (λ c. Ok (atom (text_string c.0), c.1)) e h) [
+      elim (bind_err (read_content text_kind n w rest) (λ c. Ok (atom (string text_kind c.0), c.1)) e h) [
         | inl refused ↦ content_refusal text_kind level n w b rest e le is
             (content_refused text_kind n w rest e refused)
         | inr made ↦ absurd cc
@@ -138,13 +138,13 @@ module _ (level : ℕ) (read : List ℕ → Read Item) (reads : Reads (level + 1
   body_refused (item_head.Float bits w) b rest e le is fits h = absurd cc
   body_refused (item_head.Simple n) b rest e le is fits h = absurd cc
   body_refused item_head.OpenBytes b rest e le is fits h =
-      elim (bind_err (read_chunks (length rest) bytes_kind rest) (λ cs. Ok (atom (byte_chunks cs.0), cs.1)) e h) [
+      elim (bind_err (read_chunks (length rest) bytes_kind rest) (λ cs. Ok (atom (chunked_string bytes_kind cs.0), cs.1)) e h) [
         | inl refused ↦ chunks_refusal bytes_kind level b rest e le is
             (chunks_stop (length rest) bytes_kind rest e fits (omega arith) refused)
         | inr made ↦ absurd cc
       ]
   body_refused item_head.OpenText b rest e le is fits h =
-      elim (bind_err (read_chunks (length rest) text_kind rest) (λ cs. Ok (atom (text_chunks cs.0), cs.1)) e h) [
+      elim (bind_err (read_chunks (length rest) text_kind rest) (λ cs. Ok (atom (chunked_string text_kind cs.0), cs.1)) e h) [
         | inl refused ↦ chunks_refusal text_kind level b rest e le is
             (chunks_stop (length rest) text_kind rest e fits (omega arith) refused)
         | inr made ↦ absurd cc

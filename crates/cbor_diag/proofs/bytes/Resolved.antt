@@ -8,7 +8,7 @@ use Rattle.cbor_diag.specs.declared.syntax.IntegerWidth.{IntegerWidth}
 use Rattle.cbor_diag.specs.declared.syntax.FloatWidth.{FloatWidth}
 use Rattle.cbor_diag.specs.declared.syntax.FloatWidth.TheVariants as float_width
 use Rattle.cbor_diag.specs.Item as spec
-use Rattle.cbor_diag.specs.Item.{Chunk, Atom, integer, negative, byte_string, text_string, byte_chunks, text_chunks}
+use Rattle.cbor_diag.specs.Item.{Chunk, Atom, integer, negative, string, chunked_string}
 use Rattle.cbor_diag.specs.Item.{float, simple, Item, atom, array, tagged, Items, no_items, item, Pairs, no_pairs, pair}
 use Rattle.cbor_diag.specs.Item.{item_count, pair_count}
 use Rattle.cbor_diag.specs.Head.{stated, head, opening, break_byte}
@@ -94,10 +94,9 @@ float_resolved b bits w h = refl
 atom_resolved : (b : List ℕ) (a : Atom) → SpellsAtom any b a → resolve_atom a ≡ a
 atom_resolved b (integer n w) h = ap (integer n) (stated_is w n h.0)
 atom_resolved b (negative n w) h = ap (negative n) (stated_is w n h.0)
-atom_resolved b (byte_string c) h = ap byte_string (chunk_resolved bytes_kind c b _ h)
-atom_resolved b (text_string c) h = ap text_string (chunk_resolved text_kind c b _ h)
-atom_resolved b (byte_chunks cs) h = ap byte_chunks (chunks_resolved bytes_kind cs h.0 (break_byte ∷ []) h.2)
-atom_resolved b (text_chunks cs) h = ap text_chunks (chunks_resolved text_kind cs h.0 (break_byte ∷ []) h.2)
+atom_resolved b (string kind c) h = ap (string kind) (chunk_resolved kind c b _ h)
+atom_resolved b (chunked_string kind cs) h =
+    ap (chunked_string kind) (chunks_resolved kind cs h.0 (break_byte ∷ []) h.2)
 atom_resolved b (float bits w) h = ap (float bits) (float_resolved b bits w h)
 atom_resolved b (simple n) h = refl
 
@@ -178,10 +177,10 @@ float_well b bits w h = h.0
 atom_well : (b : List ℕ) (a : Atom) → IsBytes b → SpellsAtom any b a → WellFormedAtom a
 atom_well b (integer n w) bytes h = fits_stated w n h.0
 atom_well b (negative n w) bytes h = fits_stated w n h.0
-atom_well b (byte_string c) bytes h = string_well bytes_kind c b bytes h
-atom_well b (text_string c) bytes h = string_well text_kind c b bytes h
-atom_well b (byte_chunks cs) bytes h = open_well bytes_kind 2 cs b bytes h
-atom_well b (text_chunks cs) bytes h = open_well text_kind 3 cs b bytes h
+atom_well b (string bytes_kind c) bytes h = string_well bytes_kind c b bytes h
+atom_well b (string text_kind c) bytes h = string_well text_kind c b bytes h
+atom_well b (chunked_string bytes_kind cs) bytes h = open_well bytes_kind 2 cs b bytes h
+atom_well b (chunked_string text_kind cs) bytes h = open_well text_kind 3 cs b bytes h
 atom_well b (float bits w) bytes h = float_well b bits w h
 atom_well b (simple n) bytes (inl h) = omega (arith, h.0)
 atom_well b (simple n) bytes (inr h) = h.0

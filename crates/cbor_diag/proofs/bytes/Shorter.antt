@@ -13,7 +13,7 @@ use Rattle.cbor_diag.specs.declared.parse.binary.head.Info.TheVariants as info
 use Rattle.cbor_diag.specs.declared.parse.binary.head.ItemHead.{ItemHead}
 use Rattle.cbor_diag.specs.declared.parse.binary.head.ItemHead.TheVariants as item_head
 use Rattle.cbor_diag.specs.Item as spec
-use Rattle.cbor_diag.specs.Item.{Chunk, byte_string, text_string, byte_chunks, text_chunks, Item, atom, array, tagged}
+use Rattle.cbor_diag.specs.Item.{Chunk, string, chunked_string, Item, atom, array, tagged}
 use Rattle.cbor_diag.specs.Item.{Items, no_items, item, Pairs, no_pairs, pair}
 use Rattle.cbor_diag.specs.Head.{break_byte}
 use Rattle.cbor_diag.specs.StringKind.{StringKind, bytes_kind, text_kind, major_of}
@@ -180,9 +180,9 @@ module _ (read : List ℕ → Read Item) (leaves : (b : List ℕ) → Leaves (le
   body_leaves (item_head.Integer n w) b = omega arith
   body_leaves (item_head.Negative n w) b = omega arith
   body_leaves (item_head.Bytes n w) b = leaves_made (suc (length b)) (suc (length b)) (read_content bytes_kind n w b)
-      (λ c. atom (byte_string c)) (omega arith) (content_leaves bytes_kind n w b)
+      (λ c. atom (string bytes_kind c)) (omega arith) (content_leaves bytes_kind n w b)
   body_leaves (item_head.Text n w) b = leaves_made (suc (length b)) (suc (length b)) (read_content text_kind n w b)
-      (λ c. atom (text_string c)) (omega arith) (content_leaves text_kind n w b)
+      (λ c. atom (string text_kind c)) (omega arith) (content_leaves text_kind n w b)
   body_leaves (item_head.Array n w) b = leaves_made (suc (length b)) (suc (length b)) (read_items read n b)
       (λ is. array is (Some w)) (omega arith) (items_leave n b)
   body_leaves (item_head.Map n w) b = leaves_made (suc (length b)) (suc (length b)) (read_pairs read n b)
@@ -192,9 +192,9 @@ module _ (read : List ℕ → Read Item) (leaves : (b : List ℕ) → Leaves (le
   body_leaves (item_head.Float bits w) b = omega arith
   body_leaves (item_head.Simple n) b = omega arith
   body_leaves item_head.OpenBytes b = leaves_made (length b) (suc (length b)) (read_chunks (length b) bytes_kind b)
-      (λ cs. atom (byte_chunks cs)) (omega arith) (chunks_leaves (length b) bytes_kind b)
+      (λ cs. atom (chunked_string bytes_kind cs)) (omega arith) (chunks_leaves (length b) bytes_kind b)
   body_leaves item_head.OpenText b = leaves_made (length b) (suc (length b)) (read_chunks (length b) text_kind b)
-      (λ cs. atom (text_chunks cs)) (omega arith) (chunks_leaves (length b) text_kind b)
+      (λ cs. atom (chunked_string text_kind cs)) (omega arith) (chunks_leaves (length b) text_kind b)
   body_leaves item_head.OpenArray b = leaves_made (length b) (suc (length b)) (read_open_items read (length b) b)
       (λ is. array is None) (omega arith) (open_items_leave (length b) b)
   body_leaves item_head.OpenMap b = leaves_made (length b) (suc (length b)) (read_open_pairs read (length b) b)

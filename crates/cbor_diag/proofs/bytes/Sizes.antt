@@ -3,7 +3,7 @@ use Rattle.std.proofs.Common.{ℕ, ◌+◌, ◌≤◌, List, [], ◌∷◌, ◌+
 use Rattle.std.proofs.lemmas.List.{length-append}
 use Rattle.cbor_diag.specs.declared.syntax.IntegerWidth.{IntegerWidth}
 use Rattle.cbor_diag.specs.Item as spec
-use Rattle.cbor_diag.specs.Item.{Chunk, Atom, integer, negative, byte_string, text_string, byte_chunks, text_chunks}
+use Rattle.cbor_diag.specs.Item.{Chunk, Atom, integer, negative, string, chunked_string}
 use Rattle.cbor_diag.specs.Item.{float, simple, Item, atom, array, tagged, Items, no_items, item, Pairs, no_pairs, pair}
 use Rattle.cbor_diag.specs.Item.{item_count, pair_count}
 use Rattle.cbor_diag.specs.Head.{break_byte}
@@ -30,8 +30,8 @@ pub one_byte : (level : ℕ) (b : List ℕ) (i : Item) → Spells any level b i 
 one_byte level b i h = let s = spelled_begins level b i h in omega (arith, ap length s.parts)
 
 atom_bound : (level : ℕ) (b : List ℕ) (a : Atom) → Spells any level b (atom a) → atom_size a ≤ length b
-atom_bound level b (byte_chunks cs) h = open_bound bytes_kind 2 cs b h.1
-atom_bound level b (text_chunks cs) h = open_bound text_kind 3 cs b h.1
+atom_bound level b (chunked_string bytes_kind cs) h = open_bound bytes_kind 2 cs b h.1
+atom_bound level b (chunked_string text_kind cs) h = open_bound text_kind 3 cs b h.1
 atom_bound level b a h = one_byte level b (atom a) h
 
 -- members that are no more than the bytes after a container's first

@@ -16,7 +16,7 @@ use Rattle.cbor_notes.proofs.columns.OneLine.{Free, free_hex, from_test}
 use Rattle.cbor_diag.specs.declared.syntax.IntegerWidth.{IntegerWidth}
 use Rattle.cbor_diag.specs.Encoding.{Encoding}
 use Rattle.cbor_diag.specs.Item as spec
-use Rattle.cbor_diag.specs.Item.{Chunk, Atom, integer, negative, byte_string, text_string, byte_chunks, text_chunks}
+use Rattle.cbor_diag.specs.Item.{Chunk, Atom, integer, negative, string, chunked_string}
 use Rattle.cbor_diag.specs.Item.{float, simple, Item, atom, array, tagged, Items, no_items, item, Pairs, no_pairs, pair}
 use Rattle.cbor_diag.specs.Item.{item_count, pair_count}
 use Rattle.cbor_diag.specs.Head.{opening, break_byte}
@@ -196,10 +196,10 @@ close_are depth None = alone depth (break_byte ∷ []) (codes "break")
 atom_are : (p : Context) (a : Atom) → Are (atom_lines p a) (encoded_atom a)
 atom_are p (integer n w) = alone p.depth (encoded_head 0 n w) (unsigned_comment n)
 atom_are p (negative n w) = alone p.depth (encoded_head 1 n w) (negative_comment n)
-atom_are p (byte_string c) = string_are bytes_kind p c
-atom_are p (text_string c) = string_are text_kind p c
-atom_are p (byte_chunks cs) = all_chunks_are bytes_kind p cs
-atom_are p (text_chunks cs) = all_chunks_are text_kind p cs
+atom_are p (string bytes_kind c) = string_are bytes_kind p c
+atom_are p (string text_kind c) = string_are text_kind p c
+atom_are p (chunked_string bytes_kind cs) = all_chunks_are bytes_kind p cs
+atom_are p (chunked_string text_kind cs) = all_chunks_are text_kind p cs
 atom_are p (float bits w) = alone p.depth (encoded_float bits w) (float_comment (encoded_float bits w))
 atom_are p (simple n) = alone p.depth (encoded_simple n) (simple_comment n)
 

@@ -24,7 +24,7 @@ use Rattle.cbor_diag.specs.declared.syntax.IntegerWidth.TheVariants as width
 use Rattle.cbor_diag.specs.declared.syntax.FloatWidth.{FloatWidth}
 use Rattle.cbor_diag.specs.declared.syntax.FloatWidth.TheVariants as float_width
 use Rattle.cbor_diag.specs.Encoding.{Encoding}
-use Rattle.cbor_diag.specs.Item.{Chunk, Atom, integer, negative, byte_string, text_string, byte_chunks, text_chunks}
+use Rattle.cbor_diag.specs.Item.{Chunk, Atom, integer, negative, string, chunked_string}
 use Rattle.cbor_diag.specs.Item.{float, simple}
 use Rattle.cbor_diag.specs.Head.{head, stated, opening, break_byte}
 use Rattle.cbor_diag.specs.StringKind.{StringKind, bytes_kind, text_kind, major_of}
@@ -254,10 +254,10 @@ atom_fits p (negative n w) low = (
       (negative_line n),
   tt,
 )
-atom_fits p (byte_string c) low = string_fits bytes_kind p c (omega arith)
-atom_fits p (text_string c) low = string_fits text_kind p c (omega arith)
-atom_fits p (byte_chunks cs) low = all_chunks_fit bytes_kind p cs low
-atom_fits p (text_chunks cs) low = all_chunks_fit text_kind p cs low
+atom_fits p (string bytes_kind c) low = string_fits bytes_kind p c (omega arith)
+atom_fits p (string text_kind c) low = string_fits text_kind p c (omega arith)
+atom_fits p (chunked_string bytes_kind cs) low = all_chunks_fit bytes_kind p cs low
+atom_fits p (chunked_string text_kind cs) low = all_chunks_fit text_kind p cs low
 atom_fits p (float bits w) low = (
   fit_head p.depth (encoded_float bits w) _ (omega arith) (float_length bits w)
       (float_line (encoded_float bits w)),

@@ -6,7 +6,7 @@ use Rattle.cbor_notes.proofs.columns.OneLine.{from_test}
 use Rattle.cbor_diag.proofs.dump.CommentLines.{tag_line}
 use Rattle.cbor_notes.proofs.columns.Trees.{all_both}
 use Rattle.cbor_diag.specs.Item as spec
-use Rattle.cbor_diag.specs.Item.{Chunk, Atom, integer, negative, byte_string, text_string, byte_chunks, text_chunks}
+use Rattle.cbor_diag.specs.Item.{Chunk, Atom, integer, negative, string, chunked_string}
 use Rattle.cbor_diag.specs.Item.{float, simple, Item, atom, array, tagged, Items, no_items, item, Pairs, no_pairs, pair}
 use Rattle.cbor_diag.specs.Item.{item_count, pair_count}
 use Rattle.cbor_diag.specs.Head.{stated}

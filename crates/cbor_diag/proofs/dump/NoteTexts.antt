@@ -27,8 +27,9 @@ use Rattle.cbor_notes.proofs.columns.OneLine.{escaped_line}
 use Rattle.cbor_diag.proofs.dump.CommentLines.{brackets_line}
 use Rattle.cbor_diag.specs.declared.syntax.IntegerWidth.{IntegerWidth}
 use Rattle.cbor_diag.specs.Comments.{in_brackets}
-use Rattle.cbor_diag.specs.Item.{Chunk, Item, Items, atom, integer, negative, byte_string, text_string, float, simple}
+use Rattle.cbor_diag.specs.Item.{Chunk, Item, Items, atom, integer, negative, string, float, simple}
 use Rattle.cbor_diag.specs.Item.{array, item}
+use Rattle.cbor_diag.specs.StringKind.{bytes_kind, text_kind}
 use Rattle.cbor_diag.specs.Notes.{Note, plain_note, Family, ipv4, ipv6, Zone, no_zone, zone_text, not_zone, null_value}
 use Rattle.cbor_diag.specs.Notes.{word_or, datetime_note, epoch_datetime_note, epoch_date_note, date_note}
 use Rattle.cbor_diag.specs.Notes.{shareable_note, reference_note, url_words, url_note, base64_name, decoded_note}
@@ -40,7 +41,7 @@ use Rattle.cbor_diag.specs.Notes.{typed_array_note, value_note}
 -- ---- what the functions of a note meet
 
 -- sixteen bytes are those of a UUID
-pub uuid_is : (i : Item) (c : Chunk) (bytes octets : List ℕ) → i ≡ atom (byte_string c) → bytes ≡ c.bytes
+pub uuid_is : (i : Item) (c : Chunk) (bytes octets : List ℕ) → i ≡ atom (string bytes_kind c) → bytes ≡ c.bytes
     → IsWholeChunk bytes octets 16 → uuid_note i ≡ uuid_fields octets
 uuid_is i c bytes octets seen are whole =
     let long : (length c.bytes == 16) ≡ true = eq-eqb (length c.bytes) 16 (rw (sym are) whole.long) in
@@ -128,7 +129,7 @@ word_line word otherwise None h k l = k
 
 -- dates and times
 datetime_line : (i : Item) → Free 10 (datetime_note i)
-datetime_line (atom (text_string c)) =
+datetime_line (atom (string text_kind c)) =
     word_line (codes "epoch") (codes "error parsing datetime") (epoch_of_datetime c.bytes)
     (from_test 10 (codes "epoch") refl)
     (from_test 10 (codes "error parsing datetime") refl) (epoch_of_datetime_line c.bytes)
@@ -158,7 +159,7 @@ epoch_date_line (atom (negative n w)) = day_line (negsuc n)
 epoch_date_line _ = from_test 10 (codes "invalid type for epoch date") refl
 
 date_line : (i : Item) → Free 10 (date_note i)
-date_line (atom (text_string c)) =
+date_line (atom (string text_kind c)) =
     word_line (codes "epoch") (codes "error parsing date") (epoch_of_date c.bytes) (from_test 10 (codes "epoch") refl)
     (from_test 10 (codes "error parsing date") refl) (epoch_of_date_line c.bytes)
 date_line _ = from_test 10 (codes "invalid type for date") refl
@@ -184,7 +185,7 @@ words_line true = from_test 10 (url_words true) refl
 words_line false = from_test 10 (url_words false) refl
 
 url_line : (i : Item) → Free 10 (url_note i)
-url_line (atom (text_string c)) = words_line (is_url c.bytes)
+url_line (atom (string text_kind c)) = words_line (is_url c.bytes)
 url_line _ = from_test 10 (codes "invalid type for uri") refl
 
 base64_name_line : (url : Bool) → Free 10 (base64_name url)
@@ -201,7 +202,7 @@ decoded_line name None h k = (
 )
 
 base64_line : (url : Bool) (i : Item) → FreeNote (base64_note url i)
-base64_line url (atom (text_string c)) = decoded_line (base64_name url) (base64_lines url c.bytes)
+base64_line url (atom (string text_kind c)) = decoded_line (base64_name url) (base64_lines url c.bytes)
     (base64_name_line url) (base64_lines_line url c.bytes)
 base64_line url _ = (
   free_both 10 (codes "invalid type for ") (base64_name url)
@@ -210,7 +211,7 @@ base64_line url _ = (
 )
 
 uuid_line : (i : Item) → FreeNote (uuid_note i)
-uuid_line (atom (byte_string c)) =
+uuid_line (atom (string bytes_kind c)) =
     note_cond (length c.bytes == 16) (uuid_fields c.bytes) (plain_note (codes "invalid data length for uuid"))
     (uuid_lines_line c.bytes)
     (from_test 10 (codes "invalid data length for uuid") refl, tt)
@@ -270,7 +271,7 @@ FreeZone _ = Unit
 
 zone_line : (is : Items) → FreeZone (zone_at is)
 zone_line (item (atom (integer n w)) is) = decimal_line n
-zone_line (item (atom (text_string c)) is) = escaped_line c.bytes
+zone_line (item (atom (string text_kind c)) is) = escaped_line c.bytes
 zone_line _ = tt
 
 with_length_line : (f : Family) (bytes : List ℕ) (len : ℕ) (zone : Zone) → FreeZone zone
@@ -302,14 +303,14 @@ interface_line f bytes (item (atom (simple n)) is) =
 interface_line f bytes _ = invalid_line
 
 members_line : (f : Family) (is : Items) → Free 10 (members_note f is)
-members_line f (item (atom (integer len w)) (item (atom (byte_string c)) is)) = prefix_line f len c.bytes
-members_line f (item (atom (byte_string c)) is) =
+members_line f (item (atom (integer len w)) (item (atom (string bytes_kind c)) is)) = prefix_line f len c.bytes
+members_line f (item (atom (string bytes_kind c)) is) =
     free_cond 10 (length c.bytes == family_size f) (interface_note f c.bytes is) (invalid_length f)
     (interface_line f c.bytes is) (length_line f)
 members_line f _ = invalid_line
 
 address_line : (f : Family) (i : Item) → Free 10 (address_note f i)
-address_line f (atom (byte_string c)) = plain_line f c.bytes
+address_line f (atom (string bytes_kind c)) = plain_line f c.bytes
 address_line f (array is w) = members_line f is
 address_line f _ = invalid_line
 
@@ -327,13 +328,13 @@ network_bytes_line bytes =
     (from_test 10 (codes "invalid data length for network address") refl)))
 
 network_line : (i : Item) → Free 10 (network_note i)
-network_line (atom (byte_string c)) = network_bytes_line c.bytes
+network_line (atom (string bytes_kind c)) = network_bytes_line c.bytes
 network_line _ = invalid_line
 
 -- typed arrays
 typed_array_line : (size : Option ℕ) (i : Item) → IfSome (typed_array_note size i) FreeNote
 typed_array_line None _ = tt
-typed_array_line (Some size) (atom (byte_string c)) =
+typed_array_line (Some size) (atom (string bytes_kind c)) =
     some_cond (length c.bytes % size == 0) None (Some (plain_note (codes "invalid data length for typed array"))) tt
     (from_test 10 (codes "invalid data length for typed array") refl, tt)
 typed_array_line (Some size) _ = (from_test 10 (codes "invalid type for typed array") refl, tt)

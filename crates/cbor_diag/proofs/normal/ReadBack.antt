@@ -11,7 +11,7 @@ use Rattle.cbor_diag.specs.Layout.{Content, Layout, Compact, Pretty, Context}
 use Rattle.cbor_diag.specs.ContainerStyle.{ContainerStyle}
 use Rattle.cbor_diag.specs.ContainerStyle as style
 use Rattle.cbor_diag.specs.Item as spec
-use Rattle.cbor_diag.specs.Item.{Chunk, Atom, integer, negative, byte_string, text_string, byte_chunks, text_chunks}
+use Rattle.cbor_diag.specs.Item.{Chunk, Atom, integer, negative, string, chunked_string}
 use Rattle.cbor_diag.specs.Item.{float, simple, Item, atom, array, tagged, Items, no_items, item, Pairs, no_pairs, pair}
 use Rattle.cbor_diag.specs.WellFormed.{IsChunk, WellFormedAtom, WellFormed, WellFormedItems}
 use Rattle.cbor_diag.specs.WellFormed.{WellFormedPairs}
@@ -203,19 +203,19 @@ module _ (level left : ℕ) (levels : level + left ≡ 129) (reads : IsRead leve
       → AtomCore (Reads left) (atom_text left (text_at left) c a) (normal_atom left (normal_at left) tag a)
   atom_read c tag (integer n w) is h = number_read n w h
   atom_read c tag (negative n w) is h = negative_read n w h
-  atom_read c tag (byte_string s) is h =
+  atom_read c tag (string bytes_kind s) is h =
       let bytes = normal_content left (normal_at left None) tag s.bytes in
       let Shows = λ (x : Content). Joined (Notation (Reads left)) (content_text left (text_at left) x c s.bytes)
       bytes in
       (refl, tt, subst Shows (sym is) (content_read tag c s.bytes h.bytes), tt)
-  atom_read c tag (text_string s) is h = text_read (Reads left) s.bytes h.content
-  atom_read c tag (byte_chunks []) is h = inl (refl, refl)
-  atom_read c tag (byte_chunks (s ∷ cs)) is h =
-      inr (chunks_read bytes_kind (Reads left) c.encoding (item_style c (atom (byte_chunks (s ∷ cs)))) s cs h)
-  atom_read c tag (text_chunks []) is h = inl (refl, refl)
-  atom_read c tag (text_chunks (s ∷ cs)) is h = inr (
+  atom_read c tag (string text_kind s) is h = text_read (Reads left) s.bytes h.content
+  atom_read c tag (chunked_string bytes_kind []) is h = inl (refl, refl)
+  atom_read c tag (chunked_string bytes_kind (s ∷ cs)) is h =
+      inr (chunks_read bytes_kind (Reads left) c.encoding (item_style c (atom (chunked_string bytes_kind (s ∷ cs)))) s cs h)
+  atom_read c tag (chunked_string text_kind []) is h = inl (refl, refl)
+  atom_read c tag (chunked_string text_kind (s ∷ cs)) is h = inr (
     omega arith,
-    chunks_read text_kind (Reads left) c.encoding (item_style c (atom (text_chunks (s ∷ cs)))) s cs h,
+    chunks_read text_kind (Reads left) c.encoding (item_style c (atom (chunked_string text_kind (s ∷ cs)))) s cs h,
   )
   atom_read c tag (float n w) is h = float_read n w h
   atom_read c tag (simple n) is h = simple_read n h

@@ -11,7 +11,7 @@ use Rattle.cbor_diag.specs.Encoding.{Encoding}
 use Rattle.cbor_diag.specs.Layout.{Compact, Context}
 use Rattle.cbor_diag.specs.ContainerStyle as style
 use Rattle.cbor_diag.specs.Item as spec
-use Rattle.cbor_diag.specs.Item.{Chunk, Atom, integer, negative, byte_string, text_string, byte_chunks, text_chunks}
+use Rattle.cbor_diag.specs.Item.{Chunk, Atom, integer, negative, string, chunked_string}
 use Rattle.cbor_diag.specs.Item.{float, simple, Item, atom, array, tagged, Items, no_items, item, Pairs, no_pairs, pair}
 use Rattle.cbor_diag.specs.Head.{FitsStated}
 use Rattle.cbor_diag.specs.WellFormed.{WellFormed, WellFormedItems, WellFormedPairs}
@@ -113,10 +113,10 @@ module _ (left : ℕ) (into : Option ℕ → Item → Item)
   normal_atom_stated tag (integer n w) h = rw (width_kept n w h) h
   normal_atom_stated tag (negative n w) h = rw (width_kept n w h) h
   normal_atom_stated tag (float bits w) h = rw (float_kept w h) h
-  normal_atom_stated tag (byte_string c) h = tt
-  normal_atom_stated tag (text_string c) h = tt
-  normal_atom_stated tag (byte_chunks cs) h = tt
-  normal_atom_stated tag (text_chunks cs) h = tt
+  normal_atom_stated tag (string bytes_kind c) h = tt
+  normal_atom_stated tag (string text_kind c) h = tt
+  normal_atom_stated tag (chunked_string bytes_kind cs) h = tt
+  normal_atom_stated tag (chunked_string text_kind cs) h = tt
   normal_atom_stated tag (simple n) h = tt
 
   normal_with_stated : (tag : Option ℕ) (i : Item) → Stated i → Stated (normal_with left into tag i)
@@ -163,11 +163,11 @@ module _ (left : ℕ) (write : Writer)
         → atom_text left write (at e tag) (resolve_atom a) ≡ atom_text left write (at e tag) a
     atom_resolved e tag (integer n w) h = ap (number n) (stated_is w n h)
     atom_resolved e tag (negative n w) h = ap (λ v. codes "-" ++ number (n + 1) v) (stated_is w n h)
-    atom_resolved e tag (byte_string c) h = refl
-    atom_resolved e tag (text_string c) h = refl
-    atom_resolved e tag (byte_chunks cs) h =
+    atom_resolved e tag (string bytes_kind c) h = refl
+    atom_resolved e tag (string text_kind c) h = refl
+    atom_resolved e tag (chunked_string bytes_kind cs) h =
         ap (chunks_listed style.Compact (no_chunks bytes_kind)) (bytes_resolved (λ s. quoted e s.bytes) (λ c. refl) cs)
-    atom_resolved e tag (text_chunks cs) h =
+    atom_resolved e tag (chunked_string text_kind cs) h =
         ap (chunks_listed style.Compact (no_chunks text_kind)) (bytes_resolved (λ s. text s.bytes) (λ c. refl) cs)
     atom_resolved e tag (float bits w) h = ap (float_text bits) (float_kept w h)
     atom_resolved e tag (simple n) h = refl
@@ -214,10 +214,9 @@ normal_atom_resolved : (left : ℕ) (into : Option ℕ → Item → Item) (tag :
     → normal_atom left into tag (resolve_atom a) ≡ normal_atom left into tag a
 normal_atom_resolved left into tag (integer n w) h = ap (λ v. integer n (normal_width v n)) (stated_is w n h)
 normal_atom_resolved left into tag (negative n w) h = ap (λ v. negative n (normal_width v n)) (stated_is w n h)
-normal_atom_resolved left into tag (byte_string c) h = refl
-normal_atom_resolved left into tag (text_string c) h = refl
-normal_atom_resolved left into tag (byte_chunks cs) h = ap byte_chunks (chunks_kept cs)
-normal_atom_resolved left into tag (text_chunks cs) h = ap text_chunks (chunks_kept cs)
+normal_atom_resolved left into tag (string bytes_kind c) h = refl
+normal_atom_resolved left into tag (string text_kind c) h = refl
+normal_atom_resolved left into tag (chunked_string kind cs) h = ap (chunked_string kind) (chunks_kept cs)
 normal_atom_resolved left into tag (float bits w) h = ap (λ v. float bits (resolve_float v)) (float_kept w h)
 normal_atom_resolved left into tag (simple n) h = refl
 

@@ -13,7 +13,7 @@ use Rattle.cbor_diag.specs.Layout as content
 use Rattle.cbor_diag.specs.Layout.{Compact, Context}
 use Rattle.cbor_diag.specs.ContainerStyle as style
 use Rattle.cbor_diag.specs.Item as spec
-use Rattle.cbor_diag.specs.Item.{Chunk, Atom, integer, negative, byte_string, text_string, byte_chunks, text_chunks}
+use Rattle.cbor_diag.specs.Item.{Chunk, Atom, integer, negative, string, chunked_string}
 use Rattle.cbor_diag.specs.Item.{float, simple, Item, atom, array, tagged, Items, no_items, item, Pairs, no_pairs, pair}
 use Rattle.cbor_diag.specs.WellFormed.{WellFormedAtom, WellFormed, WellFormedItems, WellFormedPairs}
 use Rattle.cbor_diag.specs.Written.{encoded, encoded_items, resolve_float, resolve}
@@ -202,11 +202,11 @@ module _ (level left : ℕ) (levels : level + left ≡ 129)
       ≡ atom_text left (text_at left) (at e tag) a
   atom_normal_text e tag (integer n w) h = ap (λ t. decimal n ++ t) (indicator_kept n w)
   atom_normal_text e tag (negative n w) h = ap (λ t. codes "-" ++ (decimal (n + 1) ++ t)) (indicator_kept n w)
-  atom_normal_text e tag (byte_string c) h = content_normal_text e tag c.bytes h.bytes
-  atom_normal_text e tag (text_string c) h = refl
-  atom_normal_text e tag (byte_chunks cs) h =
+  atom_normal_text e tag (string bytes_kind c) h = content_normal_text e tag c.bytes h.bytes
+  atom_normal_text e tag (string text_kind c) h = refl
+  atom_normal_text e tag (chunked_string bytes_kind cs) h =
       ap (chunks_listed style.Compact (no_chunks bytes_kind)) (bytes_normal (λ s. quoted e s.bytes) (λ c. refl) cs)
-  atom_normal_text e tag (text_chunks cs) h =
+  atom_normal_text e tag (chunked_string text_kind cs) h =
       ap (chunks_listed style.Compact (no_chunks text_kind)) (bytes_normal (λ s. text s.bytes) (λ c. refl) cs)
   atom_normal_text e tag (float bits w) h = float_normal_text bits w
   atom_normal_text e tag (simple n) h = refl
@@ -320,11 +320,10 @@ module _ (level left : ℕ) (levels : level + left ≡ 129)
       ≡ normal_atom left (normal_at left) tag a
   atom_twice tag (integer n w) h = ap (integer n) (normal_width_twice n w)
   atom_twice tag (negative n w) h = ap (negative n) (normal_width_twice n w)
-  atom_twice tag (byte_string c) h =
-      ap (λ x. byte_string (record { bytes = x; width = Unknown })) (content_twice tag c.bytes h.bytes)
-  atom_twice tag (text_string c) h = refl
-  atom_twice tag (byte_chunks cs) h = ap byte_chunks (chunks_twice cs)
-  atom_twice tag (text_chunks cs) h = ap text_chunks (chunks_twice cs)
+  atom_twice tag (string bytes_kind c) h =
+      ap (λ x. string bytes_kind (record { bytes = x; width = Unknown })) (content_twice tag c.bytes h.bytes)
+  atom_twice tag (string text_kind c) h = refl
+  atom_twice tag (chunked_string kind cs) h = ap (chunked_string kind) (chunks_twice cs)
   atom_twice tag (float bits w) h = ap (float bits) (resolve_float_twice w)
   atom_twice tag (simple n) h = refl
 

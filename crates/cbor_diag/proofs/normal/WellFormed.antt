@@ -9,7 +9,7 @@ use Rattle.cbor_diag.specs.declared.syntax.IntegerWidth.TheVariants.{Unknown}
 use Rattle.cbor_diag.specs.declared.syntax.FloatWidth.{FloatWidth}
 use Rattle.cbor_diag.specs.declared.syntax.FloatWidth.TheVariants as float_width
 use Rattle.cbor_diag.specs.Item as spec
-use Rattle.cbor_diag.specs.Item.{Chunk, Atom, integer, negative, byte_string, text_string, byte_chunks, text_chunks}
+use Rattle.cbor_diag.specs.Item.{Chunk, Atom, integer, negative, string, chunked_string}
 use Rattle.cbor_diag.specs.Item.{float, simple, Item, atom, array, tagged, Items, no_items, item, Pairs, no_pairs, pair}
 use Rattle.cbor_diag.specs.Item.{item_count, pair_count}
 use Rattle.cbor_diag.specs.Head.{FitsWidth, head, break_byte, HeadThen}
@@ -86,15 +86,15 @@ simple_spelled b n (inr h) = omega (arith, simple_len n, ap length h.1)
 atom_spelled : (b : List ℕ) (a : Atom) → SpellsAtom any b a → length (encoded_atom a) ≤ length b
 atom_spelled b (integer n w) h = omega (arith, head_spelled 0 n w b _ h)
 atom_spelled b (negative n w) h = omega (arith, head_spelled 1 n w b _ h)
-atom_spelled b (byte_string c) h = omega (arith, chunk_spelled bytes_kind c b _ h)
-atom_spelled b (text_string c) h = omega (arith, chunk_spelled text_kind c b _ h)
-atom_spelled b (byte_chunks cs) h = omega (
+atom_spelled b (string bytes_kind c) h = omega (arith, chunk_spelled bytes_kind c b _ h)
+atom_spelled b (string text_kind c) h = omega (arith, chunk_spelled text_kind c b _ h)
+atom_spelled b (chunked_string bytes_kind cs) h = omega (
   arith,
   chunks_spelled bytes_kind cs h.0 (break_byte ∷ []) h.2,
   ap length h.1,
   length-append (flat_map (encoded_chunk 2) cs) (break_byte ∷ []),
 )
-atom_spelled b (text_chunks cs) h = omega (
+atom_spelled b (chunked_string text_kind cs) h = omega (
   arith,
   chunks_spelled text_kind cs h.0 (break_byte ∷ []) h.2,
   ap length h.1,
@@ -355,7 +355,7 @@ module _ (level left : ℕ) (levels : (level + 1) + left ≡ 129) (into : Option
       (normal_atom left into tag a) × (length (encoded_atom (normal_atom left into tag a)) ≤ length (encoded_atom a))
   atom_serves tag (integer n w) h = (normal_fits n w h, omega (arith, ap length (normal_head 0 n w)))
   atom_serves tag (negative n w) h = (normal_fits n w h, omega (arith, ap length (normal_head 1 n w)))
-  atom_serves tag (byte_string c) h =
+  atom_serves tag (string bytes_kind c) h =
       let x = normal_content left (into None) tag c.bytes in
       let s = content_serves (level + 1) left levels (into None) (serves None) tag c.bytes h.bytes in (
         record {
@@ -365,10 +365,10 @@ module _ (level left : ℕ) (levels : (level + 1) + left ≡ 129) (into : Option
         },
         string_no_longer 2 c x h.fits s.no_longer,
       )
-  atom_serves tag (text_string c) h =
+  atom_serves tag (string text_kind c) h =
       (chunk_serves text_kind c h, string_no_longer 3 c c.bytes h.fits (omega arith))
-  atom_serves tag (byte_chunks cs) h = let s = chunks_serve bytes_kind cs h in (s.0, omega (arith, s.1))
-  atom_serves tag (text_chunks cs) h = let s = chunks_serve text_kind cs h in (s.0, omega (arith, s.1))
+  atom_serves tag (chunked_string bytes_kind cs) h = let s = chunks_serve bytes_kind cs h in (s.0, omega (arith, s.1))
+  atom_serves tag (chunked_string text_kind cs) h = let s = chunks_serve text_kind cs h in (s.0, omega (arith, s.1))
   atom_serves tag (float bits w) h = (float_fits bits w h, omega (arith, ap length (normal_float bits w)))
   atom_serves tag (simple n) h = (h, omega arith)
 

@@ -4,7 +4,7 @@ use Rattle.std.proofs.Common.{subst, inl, inr}
 use Rattle.std.proofs.lemmas.List.{append-nil}
 use Rattle.cbor_notes.specs.Token.{nothing}
 use Rattle.cbor_diag.specs.Item as spec
-use Rattle.cbor_diag.specs.Item.{Chunk, Atom, integer, negative, byte_string, text_string, byte_chunks, text_chunks}
+use Rattle.cbor_diag.specs.Item.{Chunk, Atom, integer, negative, string, chunked_string}
 use Rattle.cbor_diag.specs.Item.{float, simple, Item, atom, array, tagged}
 use Rattle.cbor_diag.specs.StringKind.{StringKind, bytes_kind, text_kind}
 use Rattle.cbor_diag.specs.Reading.{Read}
@@ -26,13 +26,13 @@ use Rattle.cbor_diag.proofs.notation.Containers.{array_again, map_again}
 atom_starts : (Reads : List ℕ → Item → Type 0) (text : List ℕ) (a : Atom) → AtomCore Reads text a → Starts text
 atom_starts Reads text (integer n w) is = begins_more digits core_starts text refl (number_begins text n is.0 is.1)
 atom_starts Reads text (negative n w) is = subst Starts (sym is.2) refl
-atom_starts Reads text (byte_string c) is =
+atom_starts Reads text (string bytes_kind c) is =
     string_starts_core bytes_kind text (string_begins Reads bytes_kind text c is)
-atom_starts Reads text (text_string c) is = string_starts_core text_kind text (string_begins Reads text_kind text c is)
-atom_starts Reads text (byte_chunks cs) (inl is) = subst Starts (sym is.1) refl
-atom_starts Reads text (byte_chunks cs) (inr is) = subst Starts (sym is.1) refl
-atom_starts Reads text (text_chunks cs) (inl is) = subst Starts (sym is.1) refl
-atom_starts Reads text (text_chunks cs) (inr is) = subst Starts (sym is.1.1) refl
+atom_starts Reads text (string text_kind c) is = string_starts_core text_kind text (string_begins Reads text_kind text c is)
+atom_starts Reads text (chunked_string bytes_kind cs) (inl is) = subst Starts (sym is.1) refl
+atom_starts Reads text (chunked_string bytes_kind cs) (inr is) = subst Starts (sym is.1) refl
+atom_starts Reads text (chunked_string text_kind cs) (inl is) = subst Starts (sym is.1) refl
+atom_starts Reads text (chunked_string text_kind cs) (inr is) = subst Starts (sym is.1.1) refl
 atom_starts Reads text (float bits w) is = subst Starts (sym is.1) refl
 atom_starts Reads text (simple n) (inl (inl is)) = subst Starts (sym is.0) refl
 atom_starts Reads text (simple n) (inl (inr (inl is))) = subst Starts (sym is.0) refl
@@ -80,16 +80,16 @@ module _ (Reads : List ℕ → Item → Type 0) (read : List ℕ → Read Item) 
   unfolding read_core start_of
   chunks_core text = refl
 
-  no_byte_chunks : (rest : List ℕ) → read_core read (codes "''_" ++ rest) ≡ Ok (atom (byte_chunks []), rest)
+  no_byte_chunks : (rest : List ℕ) → read_core read (codes "''_" ++ rest) ≡ Ok (atom (chunked_string bytes_kind []), rest)
   unfolding read_core start_of
   no_byte_chunks rest = refl
 
-  no_text_chunks : (rest : List ℕ) → read_core read (codes "\"\"_" ++ rest) ≡ Ok (atom (text_chunks []), rest)
+  no_text_chunks : (rest : List ℕ) → read_core read (codes "\"\"_" ++ rest) ≡ Ok (atom (chunked_string text_kind []), rest)
   unfolding read_core start_of
   no_text_chunks rest = refl
 
   byte_string_again : (text after rest : List ℕ) (c : Chunk) → StringOf bytes_kind Reads text c → IsBlank after
-      → Follows rest → read_core read (text ++ (after ++ rest)) ≡ Ok (atom (byte_string c), rest)
+      → Follows rest → read_core read (text ++ (after ++ rest)) ≡ Ok (atom (string bytes_kind c), rest)
   byte_string_again text after rest c is is_blank follows =
       let tail : List ℕ = text ++ (after ++ rest) in
       bytes_core tail (begins_append (codes "'<bh") text (after ++ rest) (string_begins Reads bytes_kind text c is))
@@ -97,7 +97,7 @@ module _ (Reads : List ℕ → Item → Type 0) (read : List ℕ → Read Item) 
       ∙ rw (string_again Reads read it bytes_kind text after rest c is is_blank follows) refl)
 
   text_string_again : (text after rest : List ℕ) (c : Chunk) → StringOf text_kind Reads text c → IsBlank after
-      → Follows rest → read_core read (text ++ (after ++ rest)) ≡ Ok (atom (text_string c), rest)
+      → Follows rest → read_core read (text ++ (after ++ rest)) ≡ Ok (atom (string text_kind c), rest)
   text_string_again text after rest c is is_blank follows =
       let tail : List ℕ = text ++ (after ++ rest) in
       text_core tail (begins_append (codes "\"") text (after ++ rest) (string_begins Reads text_kind text c is))
@@ -122,20 +122,20 @@ module _ (Reads : List ℕ → Item → Type 0) (read : List ℕ → Read Item) 
     negative_again read text (after ++ rest) n w is (follows_blank after rest is_blank follows),
     follows_passed after rest is_blank follows,
   )
-  atom_again text after rest (byte_string c) is is_blank follows =
+  atom_again text after rest (string bytes_kind c) is is_blank follows =
       (rest, byte_string_again text after rest c is is_blank follows, follows_passed [] rest nothing follows)
-  atom_again text after rest (text_string c) is is_blank follows =
+  atom_again text after rest (string text_kind c) is is_blank follows =
       (rest, text_string_again text after rest c is is_blank follows, follows_passed [] rest nothing follows)
-  atom_again text after rest (byte_chunks cs) (inl is) is_blank follows =
+  atom_again text after rest (chunked_string bytes_kind cs) (inl is) is_blank follows =
       (after ++ rest, rw (is.0, is.1) (no_byte_chunks (after ++ rest)), follows_passed after rest is_blank follows)
-  atom_again text after rest (byte_chunks cs) (inr is) is_blank follows = (
+  atom_again text after rest (chunked_string bytes_kind cs) (inr is) is_blank follows = (
     after ++ rest,
     chunked_again bytes_kind text (after ++ rest) cs is tt,
     follows_passed after rest is_blank follows,
   )
-  atom_again text after rest (text_chunks cs) (inl is) is_blank follows =
+  atom_again text after rest (chunked_string text_kind cs) (inl is) is_blank follows =
       (after ++ rest, rw (is.0, is.1) (no_text_chunks (after ++ rest)), follows_passed after rest is_blank follows)
-  atom_again text after rest (text_chunks cs) (inr is) is_blank follows = (
+  atom_again text after rest (chunked_string text_kind cs) (inr is) is_blank follows = (
     after ++ rest,
     chunked_again text_kind text (after ++ rest) cs is.1 is.0,
     follows_passed after rest is_blank follows,

@@ -10,7 +10,7 @@ use Rattle.cbor_notes.specs.TokenReading.{unquoted, with_front}
 use Rattle.cbor_notes.proofs.tokens.Quoted.{unquoted-plain, closes}
 use Rattle.cbor_notes.proofs.tokens.TextPlaces.{first_at}
 use Rattle.cbor_diag.specs.declared.error.Error.{Error}
-use Rattle.cbor_diag.specs.Item.{Item, Atom, Chunk, atom, text_string}
+use Rattle.cbor_diag.specs.Item.{Item, Atom, Chunk, atom, string}
 use Rattle.cbor_diag.specs.StringKind.{bytes_kind, text_kind}
 use Rattle.cbor_diag.specs.Reading.{Read, ◌>>=◌}
 use Rattle.cbor_diag.specs.mirror.NotationReading.{after_word, or_refused, skip_blank, start_of, first_start}
@@ -93,7 +93,7 @@ unfolding read_string read_piece start_of
 plain_text read text inner content rest front is ends =
     let pieces = one_piece read true (length inner) (34 ∷ inner) content rest refl (ap or_refused is) ends in
     ap (read_text_string read) front ∙ rw (no_empty inner content rest is ends, pieces)
-    (one text_string rest (checked text_kind content))
+    (one (string text_kind) rest (checked text_kind content))
 
 -- Hex digits, and after them what ends a string: what the rules give.
 pub plain_hex : (read : List ℕ → Read Item) (text inner bytes rest : List ℕ) → text ≡ 104 ∷ 39 ∷ inner

@@ -11,6 +11,7 @@ use Rattle.cbor_diag.specs.declared.syntax.DataItem.{IndefiniteByteString, Indef
 use Rattle.cbor_diag.specs.declared.syntax.DataItem.{Simple, the_lemmas}
 use Rattle.cbor_diag.specs.Item as spec
 use Rattle.cbor_diag.specs.Item.{item_count, pair_count}
+use Rattle.cbor_diag.specs.StringKind.{bytes_kind, text_kind}
 use Rattle.cbor_diag.specs.View.{view, items_view, pairs_view, byte_chunk, text_chunk}
 
 pub view-Array : (v : Vec DataItem Global) (w : Option IntegerWidth)
@@ -39,18 +40,18 @@ view-Integer n w = search (rules, the_lemmas)
 pub view-Negative : (n : ℕ) (w : IntegerWidth) → view (Negative n w) ≡ spec.atom (spec.negative n w)
 view-Negative n w = search (rules, the_lemmas)
 
-pub view-ByteString : (s : byte_string.ByteString) → view (ByteString s) ≡ spec.atom (spec.byte_string (byte_chunk s))
+pub view-ByteString : (s : byte_string.ByteString) → view (ByteString s) ≡ spec.atom (spec.string bytes_kind (byte_chunk s))
 view-ByteString s = search (rules, the_lemmas)
 
-pub view-TextString : (s : text_string.TextString) → view (TextString s) ≡ spec.atom (spec.text_string (text_chunk s))
+pub view-TextString : (s : text_string.TextString) → view (TextString s) ≡ spec.atom (spec.string text_kind (text_chunk s))
 view-TextString s = search (rules, the_lemmas)
 
 pub view-IndefiniteByteString : (v : Vec byte_string.ByteString Global)
-    → view (IndefiniteByteString v) ≡ spec.atom (spec.byte_chunks (map byte_chunk v.items))
+    → view (IndefiniteByteString v) ≡ spec.atom (spec.chunked_string bytes_kind (map byte_chunk v.items))
 view-IndefiniteByteString v = search (rules, the_lemmas)
 
 pub view-IndefiniteTextString : (v : Vec text_string.TextString Global)
-    → view (IndefiniteTextString v) ≡ spec.atom (spec.text_chunks (map text_chunk v.items))
+    → view (IndefiniteTextString v) ≡ spec.atom (spec.chunked_string text_kind (map text_chunk v.items))
 view-IndefiniteTextString v = search (rules, the_lemmas)
 
 pub view-Float : (n : ℕ) (w : FloatWidth) → view (Float n w) ≡ spec.atom (spec.float n w)

@@ -13,7 +13,7 @@ use Rattle.cbor_diag.specs.declared.parse.binary.skip.to_come.Count.TheVariants.
 use Rattle.cbor_diag.specs.declared.parse.binary.skip.to_come.ToCome.{ToCome}
 use Rattle.cbor_diag.specs.declared.parse.binary.skip.to_come.ToCome.TheVariants.{Items, Pairs, Value}
 use Rattle.cbor_diag.specs.Item as spec
-use Rattle.cbor_diag.specs.Item.{Item, atom, byte_string, text_string, byte_chunks, text_chunks, array, tagged}
+use Rattle.cbor_diag.specs.Item.{Item, atom, string, chunked_string, array, tagged}
 use Rattle.cbor_diag.specs.Item.{no_items, item, no_pairs, pair}
 use Rattle.cbor_diag.specs.Head.{break_byte}
 use Rattle.cbor_diag.specs.WellFormed.{deepest}
@@ -223,17 +223,17 @@ module _ (left : ℕ) where
 
 pub bytes_same : (left n : ℕ) (w : IntegerWidth) (b : List ℕ)
     → skip_body left (item_head.Bytes n w) b ≡ skip_content bytes_kind n w b
-bytes_same left n w b = rest_made (read_content bytes_kind n w b) (λ c. atom (byte_string c))
+bytes_same left n w b = rest_made (read_content bytes_kind n w b) (λ c. atom (string bytes_kind c))
 
 pub text_same : (left n : ℕ) (w : IntegerWidth) (b : List ℕ)
     → skip_body left (item_head.Text n w) b ≡ skip_content text_kind n w b
-text_same left n w b = rest_made (read_content text_kind n w b) (λ c. atom (text_string c))
+text_same left n w b = rest_made (read_content text_kind n w b) (λ c. atom (string text_kind c))
 
 pub byte_chunks_same : (left : ℕ) (b : List ℕ) → skip_body left item_head.OpenBytes b ≡ skip_chunks bytes_kind b
-byte_chunks_same left b = rest_made (read_chunks (length b) bytes_kind b) (λ cs. atom (byte_chunks cs))
+byte_chunks_same left b = rest_made (read_chunks (length b) bytes_kind b) (λ cs. atom (chunked_string bytes_kind cs))
 
 pub text_chunks_same : (left : ℕ) (b : List ℕ) → skip_body left item_head.OpenText b ≡ skip_chunks text_kind b
-text_chunks_same left b = rest_made (read_chunks (length b) text_kind b) (λ cs. atom (text_chunks cs))
+text_chunks_same left b = rest_made (read_chunks (length b) text_kind b) (λ cs. atom (chunked_string text_kind cs))
 
 -- ---- containers in containers
 

@@ -6,7 +6,7 @@ use Rattle.cbor_diag.specs.declared.syntax.IntegerWidth.{IntegerWidth}
 use Rattle.cbor_diag.specs.declared.parse.binary.head.ItemHead.{ItemHead}
 use Rattle.cbor_diag.specs.declared.parse.binary.head.ItemHead.TheVariants as item_head
 use Rattle.cbor_diag.specs.Item as spec
-use Rattle.cbor_diag.specs.Item.{Chunk, Atom, byte_string, text_string, byte_chunks, text_chunks, Item, atom, array}
+use Rattle.cbor_diag.specs.Item.{Chunk, Atom, string, chunked_string, Item, atom, array}
 use Rattle.cbor_diag.specs.Item.{tagged, Items, no_items, item, Pairs, no_pairs, pair, item_count, pair_count}
 use Rattle.cbor_diag.specs.Bytes.{any, MembersThen, Spells, SpellsItems, SpellsPairs}
 use Rattle.cbor_diag.specs.StringKind.{StringKind, bytes_kind, text_kind}
@@ -147,15 +147,15 @@ module _ (read : List ℕ → Counted Item) (costs : ItemCosts read) where
       (read_part read (opened h) h b).1
   body_cost (item_head.Integer n w) b = refl
   body_cost (item_head.Negative n w) b = refl
-  body_cost (item_head.Bytes n w) b = string_cost (read_content bytes_kind n w b) byte_string (λ c. refl)
-  body_cost (item_head.Text n w) b = string_cost (read_content text_kind n w b) text_string (λ c. refl)
+  body_cost (item_head.Bytes n w) b = string_cost (read_content bytes_kind n w b) (string bytes_kind) (λ c. refl)
+  body_cost (item_head.Text n w) b = string_cost (read_content text_kind n w b) (string text_kind) (λ c. refl)
   body_cost (item_head.Array n w) b = parts_cost (suc (length b)) (items_in no_items (so_many n w)) b
   body_cost (item_head.Map n w) b = parts_cost (suc (length b)) (pairs_in no_pairs (so_many n w)) b
   body_cost (item_head.Tag n w) b = parts_cost (suc (length b)) (tag_of n w) b
   body_cost (item_head.Float bits w) b = refl
   body_cost (item_head.Simple n) b = refl
-  body_cost item_head.OpenBytes b = string_chunks_cost bytes_kind b byte_chunks (λ cs. refl)
-  body_cost item_head.OpenText b = string_chunks_cost text_kind b text_chunks (λ cs. refl)
+  body_cost item_head.OpenBytes b = string_chunks_cost bytes_kind b (chunked_string bytes_kind) (λ cs. refl)
+  body_cost item_head.OpenText b = string_chunks_cost text_kind b (chunked_string text_kind) (λ cs. refl)
   body_cost item_head.OpenArray b = parts_cost (suc (length b)) (items_in no_items to_break) b
   body_cost item_head.OpenMap b = parts_cost (suc (length b)) (pairs_in no_pairs to_break) b
   body_cost item_head.Break b = tt
@@ -189,8 +189,8 @@ members_few major n (Some w) b Members held h then = omega (arith, head_shorter 
 members_few major n None b Members held h then = omega (arith, ap length h.1, then h.0 (break_byte ∷ []) h.2)
 
 atom_few : (level : ℕ) (b : List ℕ) (a : Atom) → Spells any level b (atom a) → atom_turns a ≤ 2 * length b
-atom_few level b (byte_chunks cs) h = omega (arith, open_bound bytes_kind 2 cs b h.1)
-atom_few level b (text_chunks cs) h = omega (arith, open_bound text_kind 3 cs b h.1)
+atom_few level b (chunked_string bytes_kind cs) h = omega (arith, open_bound bytes_kind 2 cs b h.1)
+atom_few level b (chunked_string text_kind cs) h = omega (arith, open_bound text_kind 3 cs b h.1)
 atom_few level b a h = omega (arith, one_byte level b (atom a) h)
 
 mutual

@@ -6,7 +6,7 @@ use Rattle.cbor_diag.specs.declared.error.Error.TheVariants as refusal
 use Rattle.cbor_diag.specs.declared.parse.binary.head.ItemHead.{ItemHead}
 use Rattle.cbor_diag.specs.declared.parse.binary.head.ItemHead.TheVariants as item_head
 use Rattle.cbor_diag.specs.Item as spec
-use Rattle.cbor_diag.specs.Item.{Chunk, Item, byte_chunks, text_chunks, atom, array, tagged, Items, no_items, item}
+use Rattle.cbor_diag.specs.Item.{Chunk, Item, chunked_string, atom, array, tagged, Items, no_items, item}
 use Rattle.cbor_diag.specs.Item.{Pairs, no_pairs, pair}
 use Rattle.cbor_diag.specs.StringKind.{StringKind, bytes_kind, text_kind}
 use Rattle.cbor_diag.specs.Reading.{Read, ◌>>=◌, read_head, read_chunk, more_chunks, read_chunks, after_break}

@@ -9,7 +9,7 @@ use Rattle.cbor_diag.specs.declared.error.Error.TheVariants as refusal
 use Rattle.cbor_diag.specs.declared.parse.binary.head.ItemHead.{ItemHead}
 use Rattle.cbor_diag.specs.declared.parse.binary.head.ItemHead.TheVariants as item_head
 use Rattle.cbor_diag.specs.Item as spec
-use Rattle.cbor_diag.specs.Item.{Chunk, integer, negative, byte_string, text_string, byte_chunks, text_chunks, float}
+use Rattle.cbor_diag.specs.Item.{Chunk, integer, negative, string, chunked_string, float}
 use Rattle.cbor_diag.specs.Item.{simple, Item, atom, array, tagged, Items, no_items, item, Pairs, no_pairs, pair}
 use Rattle.cbor_diag.specs.StringKind.{StringKind, bytes_kind, text_kind}
 use Rattle.cbor_diag.specs.Reading.{Read, ◌>>=◌, read_head, read_content, read_chunk, after_break, no_level_left}
@@ -144,13 +144,13 @@ opened _ = None
 abbrev pub read_atom : ItemHead → List ℕ → Counted Item
 read_atom (item_head.Integer n w) b = (0, Ok (atom (integer n w), b))
 read_atom (item_head.Negative n w) b = (0, Ok (atom (negative n w), b))
-read_atom (item_head.Bytes n w) b = (0, read_content bytes_kind n w b >>= λ c. Ok (atom (byte_string c.0), c.1))
-read_atom (item_head.Text n w) b = (0, read_content text_kind n w b >>= λ c. Ok (atom (text_string c.0), c.1))
+read_atom (item_head.Bytes n w) b = (0, read_content bytes_kind n w b >>= λ c. Ok (atom (string bytes_kind c.0), c.1))
+read_atom (item_head.Text n w) b = (0, read_content text_kind n w b >>= λ c. Ok (atom (string text_kind c.0), c.1))
 read_atom (item_head.Float bits w) b = (0, Ok (atom (float bits w), b))
 read_atom (item_head.Simple n) b = (0, Ok (atom (simple n), b))
 read_atom item_head.OpenBytes b = counted_chunks (length b) bytes_kind b >>- λ cs.
-    (0, Ok (atom (byte_chunks cs.0), cs.1))
-read_atom item_head.OpenText b = counted_chunks (length b) text_kind b >>- λ cs. (0, Ok (atom (text_chunks cs.0), cs.1))
+    (0, Ok (atom (chunked_string bytes_kind cs.0), cs.1))
+read_atom item_head.OpenText b = counted_chunks (length b) text_kind b >>- λ cs. (0, Ok (atom (chunked_string text_kind cs.0), cs.1))
 read_atom _ b = (0, Err refusal.Head)
 
 abbrev pub read_part : (List ℕ → Counted Item) → Option Frame → ItemHead → List ℕ → Counted Item

@@ -23,7 +23,7 @@ use Rattle.cbor_diag.specs.declared.error.Error.TheVariants as refusal
 use Rattle.cbor_diag.specs.declared.parse.notation.start.Start.{Start}
 use Rattle.cbor_diag.specs.declared.parse.notation.start.Start.TheVariants as start
 use Rattle.cbor_diag.specs.Item as spec
-use Rattle.cbor_diag.specs.Item.{Chunk, Atom, integer, negative, byte_string, text_string, byte_chunks, text_chunks}
+use Rattle.cbor_diag.specs.Item.{Chunk, Atom, integer, negative, string, chunked_string}
 use Rattle.cbor_diag.specs.Item.{float, simple, Item, atom, array, tagged}
 use Rattle.cbor_diag.specs.View.{items_of, pairs_of}
 use Rattle.cbor_diag.specs.StringKind.{StringKind, bytes_kind, text_kind}
@@ -334,8 +334,7 @@ kind_with false = bytes_kind
 kind_with true = text_kind
 
 abbrev pub chunks_atom : StringKind → List Chunk → Atom
-chunks_atom bytes_kind cs = byte_chunks cs
-chunks_atom text_kind cs = text_chunks cs
+chunks_atom kind cs = chunked_string kind cs
 
 -- one chunk more, of this content
 abbrev pub with_chunk : StringKind → List Chunk → List ℕ → Result (List Chunk) Error
@@ -347,11 +346,11 @@ read_chunk read kind text = read_string read kind (skip_blank text)
 
 abbrev pub read_byte_chunks : (List ℕ → Read Item) → List ℕ → Read Item
 read_byte_chunks read text = read_members (read_chunk read bytes_kind) 41 text
-    >>= λ cs. Ok (atom (byte_chunks cs.0), cs.1)
+    >>= λ cs. Ok (atom (chunked_string bytes_kind cs.0), cs.1)
 
 abbrev pub read_text_chunks : (List ℕ → Read Item) → List ℕ → Read Item
 read_text_chunks read text = read_members (read_chunk read text_kind) 41 text
-    >>= λ cs. Ok (atom (text_chunks cs.0), cs.1)
+    >>= λ cs. Ok (atom (chunked_string text_kind cs.0), cs.1)
 
 -- the kind of an indefinite string, by the first byte of its first chunk
 abbrev pub chunks_of : (List ℕ → Read Item) → List ℕ → Start → Read Item
@@ -365,16 +364,15 @@ read_chunks read text = or_refused (after_byte 95 text) >>= λ opened. let first
 
 -- an indefinite byte string of no chunks, or a byte string
 abbrev pub byte_string_of : (List ℕ → Read Item) → List ℕ → Option (List ℕ) → Read Item
-byte_string_of read text (Some rest) = Ok (atom (byte_chunks []), rest)
-byte_string_of read text None = read_string read bytes_kind text >>= λ c. Ok (atom (byte_string c.0), c.1)
+byte_string_of read text (Some rest) = Ok (atom (chunked_string bytes_kind []), rest)
+byte_string_of read text None = read_string read bytes_kind text >>= λ c. Ok (atom (string bytes_kind c.0), c.1)
 
 abbrev pub read_byte_string : (List ℕ → Read Item) → List ℕ → Read Item
 read_byte_string read text = byte_string_of read text (after_word (codes "''_") text)
 
 -- a string of this kind and content, and what follows it
 abbrev pub one_string : StringKind → List ℕ → List ℕ → Read Item
-one_string bytes_kind content rest = checked bytes_kind content >>= λ c. Ok (atom (byte_string c), rest)
-one_string text_kind content rest = checked text_kind content >>= λ c. Ok (atom (text_string c), rest)
+one_string kind content rest = checked kind content >>= λ c. Ok (atom (string kind c), rest)
 
 -- whether a list goes on or closes here, so that a string before it ends
 abbrev pub ends_string : List ℕ → Bool
@@ -383,8 +381,8 @@ ends_string (b ∷ text) = (b == 44) || (b == 58) || (b == 93) || (b == 125)
 
 -- an indefinite text string of no chunks, or a text string
 abbrev pub text_string_of : (List ℕ → Read Item) → List ℕ → Option (List ℕ) → Read Item
-text_string_of read text (Some rest) = Ok (atom (text_chunks []), rest)
-text_string_of read text None = read_string read text_kind text >>= λ c. Ok (atom (text_string c.0), c.1)
+text_string_of read text (Some rest) = Ok (atom (chunked_string text_kind []), rest)
+text_string_of read text None = read_string read text_kind text >>= λ c. Ok (atom (string text_kind c.0), c.1)
 
 abbrev pub read_text_string : (List ℕ → Read Item) → List ℕ → Read Item
 read_text_string read text = text_string_of read text (after_word (codes "\"\"_") text)

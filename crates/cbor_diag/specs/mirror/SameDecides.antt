@@ -11,9 +11,10 @@ use Rattle.cbor_diag.specs.declared.syntax.IntegerWidth.TheVariants.{Unknown, Ze
 use Rattle.cbor_diag.specs.declared.syntax.IntegerWidth.TheVariants.{SixtyFour}
 use Rattle.cbor_diag.specs.declared.syntax.FloatWidth.TheVariants as float_width
 use Rattle.cbor_diag.specs.Item as spec
-use Rattle.cbor_diag.specs.Item.{Chunk, Atom, integer, negative, byte_string, text_string, byte_chunks, text_chunks}
+use Rattle.cbor_diag.specs.Item.{Chunk, Atom, integer, negative, string, chunked_string}
 use Rattle.cbor_diag.specs.Item.{float, simple}
 use Rattle.cbor_diag.specs.Item.{Item, atom, array, tagged, Items, no_items, item, Pairs, no_pairs, pair}
+use Rattle.cbor_diag.specs.StringKind.{bytes_kind, text_kind}
 use Rattle.cbor_diag.specs.Same.{same_width, same_float_width, same_count, same_chunk, same_atom, same_item}
 use Rattle.cbor_diag.specs.Same.{same_items, same_pairs}
 
@@ -91,10 +92,10 @@ atom_is (integer n v) (integer m w) h =
 atom_is (negative n v) (negative m w) h =
     let p = and_parts (nat_eq n m) (same_width v w) h in
     λ k. negative (number_is n m p.0 k) (width_is v w p.1 k)
-atom_is (byte_string c) (byte_string d) h = ap byte_string (chunk_is c d h)
-atom_is (text_string c) (text_string d) h = ap text_string (chunk_is c d h)
-atom_is (byte_chunks cs) (byte_chunks ds) h = ap byte_chunks ((pointwise_decides chunk_decides cs ds).0 h)
-atom_is (text_chunks cs) (text_chunks ds) h = ap text_chunks ((pointwise_decides chunk_decides cs ds).0 h)
+atom_is (string bytes_kind c) (string bytes_kind d) h = ap (string bytes_kind) (chunk_is c d h)
+atom_is (string text_kind c) (string text_kind d) h = ap (string text_kind) (chunk_is c d h)
+atom_is (chunked_string bytes_kind cs) (chunked_string bytes_kind ds) h = ap (chunked_string bytes_kind) ((pointwise_decides chunk_decides cs ds).0 h)
+atom_is (chunked_string text_kind cs) (chunked_string text_kind ds) h = ap (chunked_string text_kind) ((pointwise_decides chunk_decides cs ds).0 h)
 atom_is (float n v) (float m w) h =
     let p = and_parts (nat_eq n m) (same_float_width v w) h in
     λ k. float (number_is n m p.0 k) (float_width_is v w p.1 k)
@@ -134,10 +135,10 @@ mutual
 atom_itself : Holds same_atom
 atom_itself (integer n w) = and_from _ _ (number_itself n) (width_itself w)
 atom_itself (negative n w) = and_from _ _ (number_itself n) (width_itself w)
-atom_itself (byte_string c) = chunk_itself c
-atom_itself (text_string c) = chunk_itself c
-atom_itself (byte_chunks cs) = (pointwise_decides chunk_decides cs cs).1 refl
-atom_itself (text_chunks cs) = (pointwise_decides chunk_decides cs cs).1 refl
+atom_itself (string bytes_kind c) = chunk_itself c
+atom_itself (string text_kind c) = chunk_itself c
+atom_itself (chunked_string bytes_kind cs) = (pointwise_decides chunk_decides cs cs).1 refl
+atom_itself (chunked_string text_kind cs) = (pointwise_decides chunk_decides cs cs).1 refl
 atom_itself (float n w) = and_from _ _ (number_itself n) (float_width_itself w)
 atom_itself (simple n) = number_itself n
 

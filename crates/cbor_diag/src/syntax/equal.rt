@@ -2,8 +2,9 @@
 //! itself.
 ghost use Rattle.std.specs.Prelude.{◌≡◌, ◌↔◌, IsTrue, map};
 ghost use Rattle.cbor_diag.specs.Item as spec;
-ghost use Rattle.cbor_diag.specs.Item.{atom, integer, negative, float, byte_string, text_string};
-ghost use Rattle.cbor_diag.specs.Item.{byte_chunks, text_chunks, array, tagged};
+ghost use Rattle.cbor_diag.specs.Item.{atom, integer, negative, float};
+ghost use Rattle.cbor_diag.specs.Item.{chunked_string, array, tagged};
+ghost use Rattle.cbor_diag.specs.StringKind.{bytes_kind, text_kind};
 ghost use Rattle.std.specs.Cmp.{on_equiv, partial_equiv_from_equiv};
 ghost use Rattle.cbor_diag.specs.View.{view, items_view, pairs_view, byte_chunk, text_chunk};
 ghost use Rattle.cbor_diag.specs.Same.{same_item};
@@ -80,7 +81,7 @@ impl DataItem {
 
     /// Whether the item is this byte string.
     fn is_byte_string(&self, string: &ByteString) -> bool
-        ensures { IsTrue result ↔ (view self.now ≡ atom (byte_string (byte_chunk string.now))) }
+        ensures { IsTrue result ↔ (view self.now ≡ atom (spec.string bytes_kind (byte_chunk string.now))) }
     {
         match self {
             DataItem::ByteString(own) => own == string,
@@ -90,7 +91,7 @@ impl DataItem {
 
     /// Whether the item is this text string.
     fn is_text_string(&self, string: &TextString) -> bool
-        ensures { IsTrue result ↔ (view self.now ≡ atom (text_string (text_chunk string.now))) }
+        ensures { IsTrue result ↔ (view self.now ≡ atom (spec.string text_kind (text_chunk string.now))) }
     {
         match self {
             DataItem::TextString(own) => own == string,
@@ -100,7 +101,7 @@ impl DataItem {
 
     /// Whether the item is the byte string of these chunks.
     fn is_byte_chunks(&self, chunks: &[ByteString]) -> bool
-        ensures { IsTrue result ↔ (view self.now ≡ atom (byte_chunks (map byte_chunk chunks.now))) }
+        ensures { IsTrue result ↔ (view self.now ≡ atom (chunked_string bytes_kind (map byte_chunk chunks.now))) }
     {
         match self {
             DataItem::IndefiniteByteString(own) => chunks_equal(own, chunks),
@@ -110,7 +111,7 @@ impl DataItem {
 
     /// Whether the item is the text string of these chunks.
     fn is_text_chunks(&self, chunks: &[TextString]) -> bool
-        ensures { IsTrue result ↔ (view self.now ≡ atom (text_chunks (map text_chunk chunks.now))) }
+        ensures { IsTrue result ↔ (view self.now ≡ atom (chunked_string text_kind (map text_chunk chunks.now))) }
     {
         match self {
             DataItem::IndefiniteTextString(own) => chunks_equal(own, chunks),

@@ -7,7 +7,7 @@ use Rattle.cbor_diag.specs.declared.parse.notation.start.Start.{Start}
 use Rattle.cbor_diag.specs.declared.parse.notation.start.Start.TheVariants as start
 use Rattle.cbor_diag.specs.declared.syntax.IntegerWidth.TheVariants.{Unknown}
 use Rattle.cbor_diag.specs.Item as spec
-use Rattle.cbor_diag.specs.Item.{Chunk, byte_string, text_string, byte_chunks, text_chunks, Item, atom, array, no_items}
+use Rattle.cbor_diag.specs.Item.{Chunk, string, chunked_string, Item, atom, array, no_items}
 use Rattle.cbor_diag.specs.Item.{item, no_pairs, pair}
 use Rattle.cbor_diag.specs.View.{items_of, pairs_of}
 use Rattle.cbor_diag.specs.StringKind.{StringKind, bytes_kind, text_kind}
@@ -170,7 +170,7 @@ module _ (left : ℕ) (R : List ℕ → Item → Type 0) (read : List ℕ → Re
       → Sound (suc left) (λ g i. Core R (40 ∷ 95 ∷ (blank ++ g)) i) first (read_byte_chunks read first)
   byte_chunks_sound blank first is =
       sound_map (suc left) (Members (Chunks bytes_kind) (41 ∷ [])) (λ g i. Core R (40 ∷ 95 ∷ (blank ++ g)) i) first
-      (read_members (read_chunk read bytes_kind) 41 first) (λ cs. atom (byte_chunks cs))
+      (read_members (read_chunk read bytes_kind) 41 first) (λ cs. atom (chunked_string bytes_kind cs))
       (chunks_found bytes_kind first)
       (λ g cs h. inr (
         blank ++ g,
@@ -184,7 +184,7 @@ module _ (left : ℕ) (R : List ℕ → Item → Type 0) (read : List ℕ → Re
   text_chunks_sound blank first z is quote =
       sound_map (suc left) (λ g cs. (0 < length cs) × Members (Chunks text_kind) (41 ∷ []) g cs)
       (λ g i. Core R (40 ∷ 95 ∷ (blank ++ g)) i) first (read_members (read_chunk read text_kind) 41 first)
-      (λ cs. atom (text_chunks cs))
+      (λ cs. atom (chunked_string text_kind cs))
       (weaker_here (suc left) (Members (Chunks text_kind) (41 ∷ []))
       (λ g cs. (0 < length cs) × Members (Chunks text_kind) (41 ∷ []) g cs) first
       (read_members (read_chunk read text_kind) 41 first)
@@ -245,7 +245,7 @@ module _ (left : ℕ) (R : List ℕ → Item → Type 0) (read : List ℕ → Re
   )
   bytes_by text None e =
       sound_map (suc left) (λ g c. Trailed (λ core. StringOf bytes_kind R core c) g) CoreThen text
-      (read_string read bytes_kind text) (λ c. atom (byte_string c))
+      (read_string read bytes_kind text) (λ c. atom (string bytes_kind c))
       (string_sound left R read sound blank_more bytes_kind text) (λ g c h. h)
 
   texts_by : (text : List ℕ) (o : Option (List ℕ)) → after_word (codes "\"\"_") text ≡ o
@@ -257,7 +257,7 @@ module _ (left : ℕ) (R : List ℕ → Item → Type 0) (read : List ℕ → Re
   )
   texts_by text None e =
       sound_map (suc left) (λ g c. Trailed (λ core. StringOf text_kind R core c) g) CoreThen text
-      (read_string read text_kind text) (λ c. atom (text_string c))
+      (read_string read text_kind text) (λ c. atom (string text_kind c))
       (string_sound left R read sound blank_more text_kind text) (λ g c h. h)
 
   -- ---- cores

@@ -3,8 +3,8 @@ use Rattle.std.proofs.lemmas.List.{drop_all}
 use Rattle.std.specs.String.{string_bytes}
 use Rattle.cbor_diag.specs.mirror.Appends.{Appends}
 use Rattle.cbor_diag.specs.Item as spec
-use Rattle.cbor_diag.specs.Item.{Items, atom, array, integer, negative, byte_string, text_string, byte_chunks}
-use Rattle.cbor_diag.specs.Item.{text_chunks, float, simple}
+use Rattle.cbor_diag.specs.Item.{Items, atom, array, integer, negative, string, chunked_string}
+use Rattle.cbor_diag.specs.Item.{float, simple}
 use Rattle.cbor_diag.specs.View.{view, items_view, pairs_view, byte_chunk, text_chunk}
 use Rattle.cbor_diag.specs.declared.encode.notation.context.NotationContext.{NotationContext}
 use Rattle.cbor_diag.specs.Layout.{Context}
@@ -67,7 +67,7 @@ push_item-returns-in-ByteString t c =
     let new = string_bytes c.push_content.new.out in
     let context = c.args.context.now in
     shown c.push_content.result context.level (context_view context) (view c.args.item.now)
-    (atom (byte_string (byte_chunk c.in-ByteString.string))) old new c.requires.well_formed seen
+    (atom (string bytes_kind (byte_chunk c.in-ByteString.string))) old new c.requires.well_formed seen
     (subst
     (λ (b : List ℕ). Appends c.push_content.result old new (content_there context (context_view context).content b))
     c.deref.ensures.value c.push_content.ensures)
@@ -79,7 +79,7 @@ push_item-returns-in-TextString t c =
     let new = string_bytes c.push_text.new.out in
     let context = c.args.context.now in
     shown c.push_text.result context.level (context_view context) (view c.args.item.now)
-    (atom (text_string (text_chunk c.in-TextString.string))) old new c.requires.well_formed seen
+    (atom (string text_kind (text_chunk c.in-TextString.string))) old new c.requires.well_formed seen
     (subst (λ (b : List ℕ). Appends c.push_text.result old new (text b)) c.as_str.ensures.value c.push_text.ensures)
 
 pub push_item-returns-in-IndefiniteByteString : goal.push_item-returns-in-IndefiniteByteString
@@ -88,7 +88,7 @@ push_item-returns-in-IndefiniteByteString t c =
     let old = string_bytes c.args.out.now in
     let new = string_bytes c.push_chunks.new.out in
     shown c.push_chunks.result c.args.context.now.level (context_view c.args.context.now) (view c.args.item.now)
-    (atom (byte_chunks (map byte_chunk c.in-IndefiniteByteString.chunks.items))) old new c.requires.well_formed seen
+    (atom (chunked_string bytes_kind (map byte_chunk c.in-IndefiniteByteString.chunks.items))) old new c.requires.well_formed seen
     (subst (λ vs. Appends c.push_chunks.result old new (chunks_there c.args.context.now bytes_kind (map byte_chunk vs)))
     c.deref-in-IndefiniteByteString.ensures.value c.push_chunks.ensures)
 
@@ -99,7 +99,7 @@ push_item-returns-in-IndefiniteTextString t c =
     let new = string_bytes c.push_chunks-in-IndefiniteTextString.new.out in
     shown c.push_chunks-in-IndefiniteTextString.result c.args.context.now.level (context_view c.args.context.now)
     (view c.args.item.now)
-    (atom (text_chunks (map text_chunk c.in-IndefiniteTextString.chunks.items))) old new c.requires.well_formed seen
+    (atom (chunked_string text_kind (map text_chunk c.in-IndefiniteTextString.chunks.items))) old new c.requires.well_formed seen
     (subst (λ vs. Appends c.push_chunks-in-IndefiniteTextString.result old new
     (chunks_there c.args.context.now text_kind (map text_chunk vs)))
     c.deref-in-IndefiniteTextString.ensures.value c.push_chunks-in-IndefiniteTextString.ensures)

@@ -5,7 +5,7 @@ use Rattle.std.proofs.lemmas.Result.{err_from_is_err_and}
 use Rattle.cbor_diag.specs.declared.parse.notation.start.Start.TheVariants as start
 use Rattle.cbor_diag.specs.declared.syntax.DataItem.{DataItem}
 use Rattle.cbor_diag.specs.Item as spec
-use Rattle.cbor_diag.specs.Item.{Item, atom, negative, array, byte_chunks, text_chunks}
+use Rattle.cbor_diag.specs.Item.{Item, atom, negative, array, chunked_string}
 use Rattle.cbor_diag.specs.View.{view, items_of, pairs_of, items_view, pairs_view}
 use Rattle.cbor_diag.specs.Reading.{◌>>=◌, Fails}
 use Rattle.cbor_diag.specs.mirror.NotationReading.{skip_blank, read_negative_number, read_length, read_pair}
