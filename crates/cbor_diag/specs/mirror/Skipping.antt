@@ -10,8 +10,6 @@ use Rattle.cbor_diag.specs.declared.parse.binary.head.ItemHead.{ItemHead}
 use Rattle.cbor_diag.specs.declared.parse.binary.head.ItemHead.TheVariants as item_head
 use Rattle.cbor_diag.specs.declared.parse.binary.skip.Stop.{Stop}
 use Rattle.cbor_diag.specs.declared.parse.binary.skip.Stop.TheVariants as stops
-use Rattle.cbor_diag.specs.declared.parse.binary.skip.Kind.{Kind}
-use Rattle.cbor_diag.specs.declared.parse.binary.skip.Kind.TheVariants as kinds
 use Rattle.cbor_diag.specs.declared.parse.binary.skip.Chunk.{Chunk}
 use Rattle.cbor_diag.specs.declared.parse.binary.skip.Chunk.TheVariants as chunks
 use Rattle.cbor_diag.specs.declared.parse.binary.skip.to_come.Count.{Count}
@@ -19,7 +17,7 @@ use Rattle.cbor_diag.specs.declared.parse.binary.skip.to_come.Count.TheVariants.
 use Rattle.cbor_diag.specs.declared.parse.binary.skip.to_come.ToCome.{ToCome}
 use Rattle.cbor_diag.specs.declared.parse.binary.skip.to_come.ToCome.TheVariants.{Items, Pairs, Value}
 use Rattle.cbor_diag.specs.WellFormed.{deepest}
-use Rattle.cbor_diag.specs.StringKind.{StringKind, bytes_kind, text_kind}
+use Rattle.cbor_diag.specs.StringKind.{StringKind}
 use Rattle.cbor_diag.specs.Reading.{Read, ◌>>=◌, read_content, read_chunks, read_items, read_pairs, after_break}
 use Rattle.cbor_diag.specs.Reading.{read_open_items}
 use Rattle.cbor_diag.specs.Reading.{read_open_pairs, read_body, read_item}
@@ -79,10 +77,6 @@ StopsSo from b (stops.Fault error after) = Shows from b error after
 abbrev pub stop_of : Error → ℕ → Stop
 stop_of CutShort after = stops.Cut
 stop_of error after = stops.Fault error after
-
-abbrev pub kind_of : Kind → StringKind
-kind_of kinds.Bytes = bytes_kind
-kind_of kinds.Text = text_kind
 
 abbrev pub after_chunk : StringKind → Chunk → List ℕ → Skip
 after_chunk kind chunks.Content b = skip_chunks kind b

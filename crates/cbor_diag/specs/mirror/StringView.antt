@@ -1,13 +1,19 @@
--- What the content of a string, and the chunks of one that is read, are as the readers and printers hand
--- them on.
+-- What the kind and the content of a string, and the chunks of one that is read, are as the readers and printers
+-- hand them on.
 use Rattle.std.specs.Prelude.{ℕ, List, map}
 use Rattle.cbor_diag.specs.declared.parse.notation.strings.Chunks.{Chunks}
 use Rattle.cbor_diag.specs.declared.parse.notation.strings.Chunks.TheVariants as chunks
+use Rattle.cbor_diag.specs.declared.syntax.strings.StringKind as code
+use Rattle.cbor_diag.specs.declared.syntax.strings.StringKind.TheVariants as code_kind
 use Rattle.cbor_diag.specs.declared.syntax.strings.StringContent.{StringContent}
 use Rattle.cbor_diag.specs.declared.syntax.strings.StringContent.TheVariants as content
 use Rattle.cbor_diag.specs.Item.{Chunk}
 use Rattle.cbor_diag.specs.StringKind.{StringKind, bytes_kind, text_kind}
 use Rattle.cbor_diag.specs.View.{byte_chunk, text_chunk}
+
+abbrev pub kind_view : code.StringKind → StringKind
+kind_view code_kind.Bytes = bytes_kind
+kind_view code_kind.Text = text_kind
 
 abbrev pub kind_of : StringContent → StringKind
 kind_of (content.Bytes bytes) = bytes_kind

@@ -51,9 +51,9 @@ fn push_chunks<S: DefiniteString>(out: &mut Vec<u8>, chunks: &[S]) -> Result<(),
     ensures { Appends result out.old.items out.new.items
         (encoded_chunks (major_of S.kind) (map S.chunk chunks.now)) }
 {
-    push_open(out, S::major(), chunks.len(), None)?;
+    push_open(out, S::kind().major(), chunks.len(), None)?;
     'chunks: for chunk in chunks {
-        push_string(out, S::major(), chunk.content().as_bytes(), chunk.width())?;
+        push_string(out, S::kind().major(), chunk.content().as_bytes(), chunk.width())?;
     }
     push_close(out, None)
 }

@@ -9,12 +9,45 @@ ghost use Rattle.cbor_diag.specs.StringKind.{major_of, IsContent};
 ghost use Rattle.cbor_diag.specs.View.{byte_chunk, text_chunk};
 ghost use Rattle.cbor_diag.specs.WellFormed.{IsChunk};
 ghost use Rattle.cbor_diag.specs.mirror.MajorNumber.{major_number};
-ghost use Rattle.cbor_diag.specs.mirror.StringView.{bytes_of, kind_of};
+ghost use Rattle.cbor_diag.specs.mirror.StringView.{bytes_of, kind_of, kind_view};
 
 use super::major::Major;
 use super::{ByteString, IntegerWidth, TextString};
 use crate::error::{Error, Result};
 use std::alloc::Global;
+
+/// The two kinds of strings (RFC 7049 section 2.1, major types 2 and 3).
+#[derive(Clone, Copy)]
+pub(crate) enum StringKind {
+    Bytes,
+    Text,
+}
+
+/// Texts of fewer bytes are tested faster byte by byte than in blocks.
+const SHORT_TEXT: usize = 16;
+
+impl StringKind {
+    /// The major type of the heads of such strings.
+    pub(crate) fn major(self) -> Major
+        ensures { major_number result ≡ major_of (kind_view self) }
+    {
+        match self {
+            StringKind::Bytes => Major::Bytes,
+            StringKind::Text => Major::Text,
+        }
+    }
+
+    /// Whether a string of this kind may have this content: a text has to be UTF-8.
+    pub(crate) fn may_hold(self, content: &[u8]) -> bool
+        ensures { IsTrue result ↔ IsContent (kind_view self) content.now }
+    {
+        match self {
+            StringKind::Bytes => true,
+            StringKind::Text if content.len() < SHORT_TEXT => std::str::from_utf8(content).is_ok(),
+            StringKind::Text => simdutf8::is_utf8(content),
+        }
+    }
+}
 
 /// The content of a string of definite length.
 #[derive(Clone, Copy)]
@@ -44,9 +77,9 @@ pub(crate) trait DefiniteString: PartialEq + Drop {
 
     ghost kind: { StringKind };
 
-    /// The major type of its head.
-    fn major() -> Major
-        ensures { major_number result ≡ major_of kind };
+    /// The kind of the string.
+    fn kind() -> StringKind
+        ensures { kind_view result ≡ kind };
 
     /// The string of this content; a text string if that is UTF-8.
     fn new(content: Vec<u8>, bitwidth: IntegerWidth) -> Result<Self>
@@ -78,8 +111,8 @@ impl DefiniteString for ByteString {
 
     ghost compared = { λ a b. Prim.search rules };
 
-    fn major() -> Major {
-        Major::Bytes
+    fn kind() -> StringKind {
+        StringKind::Bytes
     }
 
     fn new(content: Vec<u8>, bitwidth: IntegerWidth) -> Result<ByteString> {
@@ -106,8 +139,8 @@ impl DefiniteString for TextString {
 
     ghost compared = { λ a b. Prim.search rules };
 
-    fn major() -> Major {
-        Major::Text
+    fn kind() -> StringKind {
+        StringKind::Text
     }
 
     #[tactic(auto, using(crate::proofs::shared::Utf8::utf8_fails, crate::proofs::shared::Utf8::utf8_passes))]

@@ -299,7 +299,7 @@ impl Lines {
     {
         let content = string.content();
         let length = content.as_bytes().len() as u64;
-        self.number(context.depth, Head::new(S::major(), length, string.width()))?;
+        self.number(context.depth, Head::new(S::kind().major(), length, string.width()))?;
         self.string_content(context, content)
     }
 
@@ -317,7 +317,7 @@ impl Lines {
         ensures { OnOk result (Took self.old.pass self.new.pass
             (spec.chunks_lines S.kind (context_view context.now) (map S.chunk chunks.now))) }
     {
-        self.open(context.depth, S::major())?;
+        self.open(context.depth, S::kind().major())?;
         let inner = context.inside();
         'chunks: for chunk in chunks {
             self.string(&inner, chunk)?;

@@ -140,7 +140,7 @@ pub(crate) fn push_chunks<S: DefiniteString>(
         (chunks_there context.now S.kind (map S.chunk chunks.now)) }
 {
     if chunks.is_empty() {
-        return push_no_chunks(out, S::major());
+        return push_no_chunks(out, S::kind().major());
     }
     let style = context.layout.chunks_style(chunks);
     push_opening(out, '(', None, style)?;

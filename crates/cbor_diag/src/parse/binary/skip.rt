@@ -13,25 +13,21 @@ ghost use Rattle.cbor_diag.specs.declared.error.Error.{Error};
 ghost use Rattle.cbor_diag.specs.declared.syntax.IntegerWidth.{IntegerWidth};
 ghost use Rattle.cbor_diag.specs.Item.{Item};
 ghost use Rattle.cbor_diag.specs.WellFormed.{deepest};
-ghost use Rattle.cbor_diag.specs.StringKind.{IsContent, major_of};
-ghost use Rattle.cbor_diag.specs.mirror.MajorNumber.{major_number};
 ghost use Rattle.cbor_diag.specs.Facts.{BeginsWithItem, IsCut, HasFault};
 ghost use Rattle.cbor_diag.specs.Extent.{IfItem, IfFault, FaultEnds, IsExtent};
 ghost use Rattle.cbor_diag.specs.mirror.HeadErrors.{head_error};
-ghost use Rattle.cbor_diag.specs.mirror.Skipping.{here, Goes, StopsSo, stop_of, kind_of};
+ghost use Rattle.cbor_diag.specs.mirror.Skipping.{here, Goes, StopsSo, stop_of};
+ghost use Rattle.cbor_diag.specs.mirror.StringView.{kind_view};
 ghost use Rattle.cbor_diag.specs.mirror.Skipping.{skip_content, skip_chunks, after_chunk};
 ghost use Rattle.cbor_diag.specs.mirror.Skipping.{skip_item, skip_body, opened, begun};
 
 use super::head::{HeadError, Info, ItemHead, read_head, read_info};
 use crate::error::Error;
 use crate::syntax::DEEPEST;
-use crate::syntax::major::Major;
+use crate::syntax::strings::StringKind;
 pub use answer::Extent;
 use outer::Outer;
 use to_come::{Count, ToCome};
-
-/// Texts of fewer bytes are tested faster byte by byte than in blocks.
-const SHORT_TEXT: usize = 16;
 
 /// Why there is no complete item.
 #[derive(Clone, Copy)]
@@ -57,36 +53,6 @@ impl Stop {
     }
 }
 
-/// The two kinds of strings.
-#[derive(Clone, Copy)]
-enum Kind {
-    Bytes,
-    Text,
-}
-
-impl Kind {
-    /// The major type of its strings.
-    fn major(self) -> Major
-        ensures { major_number result ≡ major_of (kind_of self) }
-    {
-        match self {
-            Kind::Bytes => Major::Bytes,
-            Kind::Text => Major::Text,
-        }
-    }
-
-    /// Whether a string of this kind may have this content.
-    fn may_hold(self, content: &[u8]) -> bool
-        ensures { IsTrue result ↔ IsContent (kind_of self) content.now }
-    {
-        match self {
-            Kind::Bytes => true,
-            Kind::Text if content.len() < SHORT_TEXT => std::str::from_utf8(content).is_ok(),
-            Kind::Text => simdutf8::is_utf8(content),
-        }
-    }
-}
-
 /// What the next chunk of an indefinite string is.
 #[derive(Clone, Copy)]
 enum Chunk {
@@ -97,11 +63,11 @@ enum Chunk {
 }
 
 /// The bytes after a string of that length; its head is read already.
-fn after_content(kind: Kind, count: u64, bytes: &[u8]) -> Result<&[u8], Stop>
+fn after_content(kind: StringKind, count: u64, bytes: &[u8]) -> Result<&[u8], Stop>
     ensures goes { (w : IntegerWidth) → IfOk result (λ rest.
-        Goes (skip_content (kind_of kind) count w) here bytes.now rest.now) }
+        Goes (skip_content (kind_view kind) count w) here bytes.now rest.now) }
     ensures stops { (w : IntegerWidth) → IfErr result (λ stop.
-        StopsSo (skip_content (kind_of kind) count w) bytes.now stop) }
+        StopsSo (skip_content (kind_view kind) count w) bytes.now stop) }
     ensures shorter { IfOk result (λ rest. length rest.now ≤ length bytes.now) }
 {
     if (bytes.len() as u64) < count {
@@ -117,10 +83,10 @@ fn after_content(kind: Kind, count: u64, bytes: &[u8]) -> Result<&[u8], Stop>
 }
 
 /// The next chunk of an indefinite string, or its break, and the bytes after it.
-fn read_chunk(kind: Kind, bytes: &[u8]) -> Result<(Chunk, &[u8]), Stop>
+fn read_chunk(kind: StringKind, bytes: &[u8]) -> Result<(Chunk, &[u8]), Stop>
     ensures goes { IfOk result (λ x.
-        Goes (skip_chunks (kind_of kind)) (after_chunk (kind_of kind) x.0) bytes.now x.1.now) }
-    ensures stops { IfErr result (λ stop. StopsSo (skip_chunks (kind_of kind)) bytes.now stop) }
+        Goes (skip_chunks (kind_view kind)) (after_chunk (kind_view kind) x.0) bytes.now x.1.now) }
+    ensures stops { IfErr result (λ stop. StopsSo (skip_chunks (kind_view kind)) bytes.now stop) }
     ensures shorter { IfOk result (λ x. length x.1.now < length bytes.now) }
 {
     match bytes {
@@ -145,9 +111,9 @@ fn read_chunk(kind: Kind, bytes: &[u8]) -> Result<(Chunk, &[u8]), Stop>
 }
 
 /// The bytes after the break of an indefinite string; its opening byte is read already.
-fn after_chunks(kind: Kind, bytes: &[u8]) -> Result<&[u8], Stop>
-    ensures goes { IfOk result (λ rest. Goes (skip_chunks (kind_of kind)) here bytes.now rest.now) }
-    ensures stops { IfErr result (λ stop. StopsSo (skip_chunks (kind_of kind)) bytes.now stop) }
+fn after_chunks(kind: StringKind, bytes: &[u8]) -> Result<&[u8], Stop>
+    ensures goes { IfOk result (λ rest. Goes (skip_chunks (kind_view kind)) here bytes.now rest.now) }
+    ensures stops { IfErr result (λ stop. StopsSo (skip_chunks (kind_view kind)) bytes.now stop) }
     ensures shorter { IfOk result (λ rest. length rest.now ≤ length bytes.now) }
 {
     let mut rest = bytes;
@@ -201,10 +167,10 @@ fn after_atom(head: ItemHead, bytes: &[u8]) -> Result<&[u8], Stop>
     ensures shorter { IfOk result (λ rest. length rest.now ≤ length bytes.now) }
 {
     match head {
-        ItemHead::Bytes(count, _) => after_content(Kind::Bytes, count, bytes),
-        ItemHead::Text(count, _) => after_content(Kind::Text, count, bytes),
-        ItemHead::OpenBytes => after_chunks(Kind::Bytes, bytes),
-        ItemHead::OpenText => after_chunks(Kind::Text, bytes),
+        ItemHead::Bytes(count, _) => after_content(StringKind::Bytes, count, bytes),
+        ItemHead::Text(count, _) => after_content(StringKind::Text, count, bytes),
+        ItemHead::OpenBytes => after_chunks(StringKind::Bytes, bytes),
+        ItemHead::OpenText => after_chunks(StringKind::Text, bytes),
         _ => Ok(bytes),
     }
 }

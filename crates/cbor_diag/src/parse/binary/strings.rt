@@ -71,7 +71,7 @@ fn read_chunk<S: DefiniteString>(alloc: Global, bytes: &[u8]) -> Result<(Option<
         (read_chunk S.kind bytes.now) }
     ensures shorter { IfOk result (λ x. length x.1.now < length bytes.now) }
 {
-    let (length, rest) = read_chunk_length(S::major(), bytes)?;
+    let (length, rest) = read_chunk_length(S::kind().major(), bytes)?;
     let Some((length, bitwidth)) = length else {
         return Ok((None, rest));
     };

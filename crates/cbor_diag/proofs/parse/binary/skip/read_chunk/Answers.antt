@@ -7,7 +7,8 @@ use Rattle.cbor_diag.specs.Head.{break_byte}
 use Rattle.cbor_diag.specs.StringKind.{StringKind, major_of}
 use Rattle.cbor_diag.specs.Reading.{◌>>=◌, read_info}
 use Rattle.cbor_diag.specs.mirror.HeadErrors.{head_error}
-use Rattle.cbor_diag.specs.mirror.Skipping.{here, Goes, Shows, StopsSo, stop_of, kind_of, skip_content, skip_chunks}
+use Rattle.cbor_diag.specs.mirror.Skipping.{here, Goes, Shows, StopsSo, stop_of, skip_content, skip_chunks}
+use Rattle.cbor_diag.specs.mirror.StringView.{kind_view}
 use Rattle.cbor_diag.proofs.bytes.Heads.{IsBytes, IsBytes-rest}
 use Rattle.cbor_diag.proofs.skipping.Skips.{goes_then, goes_within, stops_then, stops_within, break_goes, chunk_goes}
 use Rattle.cbor_diag.proofs.skipping.Skips.{kind_shows, indefinite_shows, info_stops, no_chunks}
@@ -17,21 +18,21 @@ use Rattle.cbor_diag.proofs.parse.binary.skip.read_chunk.Goals as goal
 
 pub returns-in-empty-clause-stops : goal.returns-in-empty-clause-stops
 returns-in-empty-clause-stops c =
-    ap (skip_chunks (kind_of c.args.kind)) (empty_is c.args.bytes.now c.in-empty.len_below)
-    ∙ no_chunks (kind_of c.args.kind)
+    ap (skip_chunks (kind_view c.args.kind)) (empty_is c.args.bytes.now c.in-empty.len_below)
+    ∙ no_chunks (kind_view c.args.kind)
 
 pub returns-in-255-clause-goes : goal.returns-in-255-clause-goes
 returns-in-255-clause-goes c =
     let b = c.args.bytes.now in
     let first : get_or b 0 0 ≡ break_byte = omega arith in
     let parts = first_is b c.in-255.len_at_least ∙ ap (λ (x : ℕ). x ∷ behind_first b) first in
-    subst (λ (x : List ℕ). Goes (skip_chunks (kind_of c.args.kind)) here x (behind_first b)) (sym parts)
-    (break_goes (kind_of c.args.kind) (behind_first b))
+    subst (λ (x : List ℕ). Goes (skip_chunks (kind_view c.args.kind)) here x (behind_first b)) (sym parts)
+    (break_goes (kind_view c.args.kind) (behind_first b))
 
 pub returns-then-first-number-clause-stops : goal.returns-then-first-number-clause-stops
 returns-then-first-number-clause-stops c =
     let b = c.args.bytes.now in
-    let kind = kind_of c.args.kind in
+    let kind = kind_view c.args.kind in
     let no_break : get_or b 0 0 ≢ break_byte = λ is. omega arith in
     let other : get_or b 0 0 / 32 ≢ major_of kind = λ is. omega arith in
     at_first (λ (x : List ℕ). Shows (skip_chunks kind) x Head (length (behind_first b))) b c.in-len1-up.len_at_least
@@ -50,7 +51,7 @@ head_goes kind n w b rest some fits no_break major read =
 pub returns-in_err-rest-in-Ok-Number-default-clause-stops : goal.returns-in_err-rest-in-Ok-Number-default-clause-stops
 returns-in_err-rest-in-Ok-Number-default-clause-stops c =
     let b = c.args.bytes.now in
-    let kind = kind_of c.args.kind in
+    let kind = kind_view c.args.kind in
     let i = c.in-Ok-Number-default in
     let width = i.field-0-0-1 in
     let fits : IsBytes b = λ i. omega (arith, c.type_inv.bytes i) in
@@ -65,7 +66,7 @@ returns-in_err-rest-in-Ok-Number-default-clause-stops c =
 pub returns-in_ok-rest-in-Ok-Number-default-clause-goes : goal.returns-in_ok-rest-in-Ok-Number-default-clause-goes
 returns-in_ok-rest-in-Ok-Number-default-clause-goes c =
     let b = c.args.bytes.now in
-    let kind = kind_of c.args.kind in
+    let kind = kind_view c.args.kind in
     let i = c.in-Ok-Number-default in
     let width = i.field-0-0-1 in
     let fits : IsBytes b = λ i. omega (arith, c.type_inv.bytes i) in
@@ -77,7 +78,7 @@ returns-in_ok-rest-in-Ok-Number-default-clause-goes c =
 pub returns-in-Ok-Indefinite-default-clause-stops : goal.returns-in-Ok-Indefinite-default-clause-stops
 returns-in-Ok-Indefinite-default-clause-stops c =
     let b = c.args.bytes.now in
-    let kind = kind_of c.args.kind in
+    let kind = kind_view c.args.kind in
     let some = c.in-len1-up.len_at_least in
     let fits : IsBytes (behind_first b) = IsBytes-rest (get_or b 0 0) (behind_first b)
     (fits_first b some (λ i. omega (arith, c.type_inv.bytes i))) in
@@ -91,7 +92,7 @@ returns-in-Ok-Indefinite-default-clause-stops c =
 pub returns-in-Err-clause-stops : goal.returns-in-Err-clause-stops
 returns-in-Err-clause-stops c =
     let b = c.args.bytes.now in
-    let kind = kind_of c.args.kind in
+    let kind = kind_view c.args.kind in
     let no_break : get_or b 0 0 ≢ break_byte = λ is. omega arith in
     let major : get_or b 0 0 / 32 ≡ major_of kind = omega arith in
     let error = head_error c.in-Err.error in
