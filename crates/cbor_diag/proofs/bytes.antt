@@ -1,12 +1,14 @@
 pub mod Heads
 pub mod Chunks
 pub mod Shorter
+pub mod Steps
+pub mod Frames
 pub mod Found
 pub mod FoundAgain
 pub mod HeadRefusals
 pub mod StringRefusals
-pub mod MemberRefusals
 pub mod Refusals
+pub mod RefusedAgain
 pub mod CutShort
 pub mod Faults
 pub mod ExactlyOne

@@ -3,7 +3,5 @@ pub mod TopFrames
 pub mod Turning
 pub mod Counting
 pub mod ChunkLoops
-pub mod Uncounted
 pub mod ItemTurns
-pub mod TurnsSpent
 pub mod FrontTurns

@@ -1,7 +1,7 @@
--- Reading from left to right, as the code of `parse/binary.rt` does: a function from bytes to a value and
--- the rest, or the first refusal, `CutShort` where the bytes end. Public clauses name it only for what is
--- embedded in other bytes; proofs/ shows, and laws.rt says, that it agrees with `Spells`, `Cut` and `Fault`.
-use Rattle.std.specs.Prelude.{◌≡◌, ℕ, zero, suc, ◌/◌, ◌%◌, List, [], ◌∷◌, length, take, drop, Option, Some, None}
+-- Reading from left to right, as the code of `parse/binary.rt` does: a function from bytes to a value and the rest, or
+-- the first error, `CutShort` where the bytes end. Reading an item also counts its turns. Public clauses name it only
+-- for what is embedded in other bytes; proofs/ shows, and laws.rt says, that it agrees with `Spells`, `Cut` and `Fault`.
+use Rattle.std.specs.Prelude.{◌≡◌, ℕ, zero, suc, ◌+◌, ◌/◌, ◌%◌, List, [], ◌∷◌, length, take, drop, Option, Some, None}
 use Rattle.std.specs.Prelude.{Result, Ok, Err, nat_lt, ◌==◌, if◌then◌else◌}
 use Rattle.std.specs.Str.{is_utf8}
 use Rattle.std.specs.Int.{Width, w8, w16, w32, w64, byte_len, from_be_bytes}
@@ -10,13 +10,11 @@ use Rattle.cbor_diag.specs.declared.syntax.IntegerWidth.TheVariants.{Zero, Eight
 use Rattle.cbor_diag.specs.declared.syntax.FloatWidth.TheVariants as float_width
 use Rattle.cbor_diag.specs.declared.error.Error.{Error}
 use Rattle.cbor_diag.specs.declared.error.Error.TheVariants as refusal
-use Rattle.cbor_diag.specs.declared.parse.binary.head.Info.{Info}
-use Rattle.cbor_diag.specs.declared.parse.binary.head.Info.TheVariants as info
-use Rattle.cbor_diag.specs.declared.parse.binary.head.ItemHead.{ItemHead}
-use Rattle.cbor_diag.specs.declared.parse.binary.head.ItemHead.TheVariants as item_head
+use Rattle.cbor_diag.specs.Argument.{Argument, number, indefinite}
 use Rattle.cbor_diag.specs.Item as spec
-use Rattle.cbor_diag.specs.Item.{Chunk, integer, negative, string, chunked_string, float}
-use Rattle.cbor_diag.specs.Item.{simple, Item, atom, array, tagged, Items, no_items, item, Pairs, no_pairs, pair}
+use Rattle.cbor_diag.specs.Item.{Chunk, Item, atom, array, tagged, Items, no_items, item, Pairs, no_pairs, pair}
+use Rattle.cbor_diag.specs.ItemHead as item_head
+use Rattle.cbor_diag.specs.ItemHead.{ItemHead}
 use Rattle.cbor_diag.specs.Head.{FitsStated, break_byte}
 use Rattle.cbor_diag.specs.StringKind.{StringKind, bytes_kind, text_kind, major_of}
 
@@ -44,60 +42,57 @@ read_number w b =
     if nat_lt (length b) (byte_len w) then Err refusal.CutShort
     else Ok (from_be_bytes w (take (byte_len w) b), drop (byte_len w) b)
 
--- the number after info 24 to 27
-unfoldable pub read_wide : Width → IntegerWidth → List ℕ → Read Info
-read_wide w width b = read_number w b >>= λ n. Ok (info.Number n.0 width, n.1)
+-- ---- heads
 
--- what five bits of info say, with the bytes that they ask for
-unfoldable pub read_info : ℕ → List ℕ → Read Info
-read_info bits b =
-    if nat_lt bits 24 then Ok (info.Number bits Zero, b)
-    else if bits == 24 then read_wide w8 Eight b
-    else if bits == 25 then read_wide w16 Sixteen b
-    else if bits == 26 then read_wide w32 ThirtyTwo b
-    else if bits == 27 then read_wide w64 SixtyFour b
-    else if bits == 31 then Ok (info.Indefinite, b)
+-- the number after info 24 to 27
+unfoldable pub read_wide : Width → IntegerWidth → List ℕ → Read Argument
+read_wide w width b = read_number w b >>= λ n. Ok (number n.0 width, n.1)
+
+-- what the five bits of info say, with the bytes that they ask for
+unfoldable pub read_argument : ℕ → List ℕ → Read Argument
+read_argument info b =
+    if nat_lt info 24 then Ok (number info Zero, b)
+    else if info == 24 then read_wide w8 Eight b
+    else if info == 25 then read_wide w16 Sixteen b
+    else if info == 26 then read_wide w32 ThirtyTwo b
+    else if info == 27 then read_wide w64 SixtyFour b
+    else if info == 31 then Ok (indefinite, b)
     else Err refusal.Head
 
 -- a number that was read fits the width that it was read in
-abbrev pub FitsInfo : Info → Type 0
-FitsInfo (info.Number n w) = FitsStated w n
-FitsInfo info.Indefinite = Unit {0}
+abbrev pub FitsArgument : Argument → Type 0
+FitsArgument (number n w) = FitsStated w n
+FitsArgument indefinite = Unit {0}
 
 -- in major type 7 a number of one byte is a simple value, and a wider one the bits of a float
 abbrev pub simple_or_float : ℕ → IntegerWidth → ItemHead
-simple_or_float n Sixteen = item_head.Float n float_width.Sixteen
-simple_or_float n ThirtyTwo = item_head.Float n float_width.ThirtyTwo
-simple_or_float n SixtyFour = item_head.Float n float_width.SixtyFour
-simple_or_float n w = item_head.Simple n
+simple_or_float n Sixteen = item_head.float n float_width.Sixteen
+simple_or_float n ThirtyTwo = item_head.float n float_width.ThirtyTwo
+simple_or_float n SixtyFour = item_head.float n float_width.SixtyFour
+simple_or_float n w = item_head.simple n
 
-unfoldable pub numbered : ℕ → ℕ → IntegerWidth → ItemHead
-numbered major n w =
-    if major == 0 then item_head.Integer n w
-    else if major == 1 then item_head.Negative n w
-    else if major == 2 then item_head.Bytes n w
-    else if major == 3 then item_head.Text n w
-    else if major == 4 then item_head.Array n w
-    else if major == 5 then item_head.Map n w
-    else if major == 6 then item_head.Tag n w
-    else simple_or_float n w
+-- The major types 0, 1, 6 and 7 have a number. Without one, 7 is the break, with which no item begins.
+abbrev pub numbered : ℕ → Argument → Result ItemHead Error
+numbered major (number n w) =
+    if major == 0 then Ok (item_head.integer n w)
+    else if major == 1 then Ok (item_head.negative n w)
+    else if major == 6 then Ok (item_head.tag n w)
+    else Ok (simple_or_float n w)
+numbered major indefinite = Err refusal.Head
 
-unfoldable pub unnumbered : ℕ → Result ItemHead Error
-unnumbered major =
-    if major == 2 then Ok item_head.OpenBytes
-    else if major == 3 then Ok item_head.OpenText
-    else if major == 4 then Ok item_head.OpenArray
-    else if major == 5 then Ok item_head.OpenMap
-    else if major == 7 then Ok item_head.Break
-    else Err refusal.Head
-
-abbrev pub head_of : ℕ → Info → Result ItemHead Error
-head_of major (info.Number n w) = Ok (numbered major n w)
-head_of major info.Indefinite = unnumbered major
+unfoldable pub head_of : ℕ → Argument → Result ItemHead Error
+head_of major a =
+    if major == 2 then Ok (item_head.string bytes_kind a)
+    else if major == 3 then Ok (item_head.string text_kind a)
+    else if major == 4 then Ok (item_head.array a)
+    else if major == 5 then Ok (item_head.map a)
+    else numbered major a
 
 unfoldable pub read_head : List ℕ → Read ItemHead
 read_head [] = Err refusal.CutShort
-read_head (first ∷ b) = read_info (first % 32) b >>= λ i. head_of (first / 32) i.0 >>= λ h. Ok (h, i.1)
+read_head (first ∷ b) = read_argument (first % 32) b >>= λ a. head_of (first / 32) a.0 >>= λ h. Ok (h, a.1)
+
+-- ---- strings
 
 -- a number of bytes
 abbrev pub split_at : ℕ → List ℕ → Read (List ℕ)
@@ -114,106 +109,171 @@ unfoldable pub read_content : StringKind → ℕ → IntegerWidth → List ℕ �
 read_content kind n w b = split_at n b >>= λ s. checked_chunk kind w s.0 >>= λ c. Ok (c, s.1)
 
 -- the length in a chunk's head
-abbrev pub length_of : Info → List ℕ → Read (Option (ℕ × IntegerWidth))
-length_of (info.Number n w) b = Ok (Some (n, w), b)
-length_of info.Indefinite b = Err refusal.Head
+abbrev pub length_of : Argument → List ℕ → Read (Option (ℕ × IntegerWidth))
+length_of (number n w) b = Ok (Some (n, w), b)
+length_of indefinite b = Err refusal.Head
 
 -- the length in the head of the next chunk of an indefinite string of that major type, or none at its break
 unfoldable pub read_chunk_length : ℕ → List ℕ → Read (Option (ℕ × IntegerWidth))
 read_chunk_length major [] = Err refusal.CutShort
 read_chunk_length major (first ∷ b) =
     if first == break_byte then Ok (None, b)
-    else if first / 32 == major then (read_info (first % 32) b >>= λ i. length_of i.0 i.1)
+    else if first / 32 == major then (read_argument (first % 32) b >>= λ a. length_of a.0 a.1)
     else Err refusal.Head
 
--- a chunk after its info
-abbrev pub chunk_of : StringKind → Info → List ℕ → Read (Option Chunk)
-chunk_of kind (info.Number n w) b = read_content kind n w b >>= λ c. Ok (Some c.0, c.1)
-chunk_of kind info.Indefinite b = Err refusal.Head
+-- a chunk after its head
+abbrev pub chunk_of : StringKind → Argument → List ℕ → Read (Option Chunk)
+chunk_of kind (number n w) b = read_content kind n w b >>= λ c. Ok (Some c.0, c.1)
+chunk_of kind indefinite b = Err refusal.Head
 
 -- the next chunk of an indefinite string, or none at its break
 unfoldable pub read_chunk : StringKind → List ℕ → Read (Option Chunk)
 read_chunk kind [] = Err refusal.CutShort
 read_chunk kind (first ∷ b) =
     if first == break_byte then Ok (None, b)
-    else if first / 32 == major_of kind then (read_info (first % 32) b >>= λ i. chunk_of kind i.0 i.1)
+    else if first / 32 == major_of kind then (read_argument (first % 32) b >>= λ a. chunk_of kind a.0 a.1)
     else Err refusal.Head
 
-abbrev pub more_chunks : (List ℕ → Read (List Chunk)) → Option Chunk → List ℕ → Read (List Chunk)
-more_chunks read None b = Ok ([], b)
-more_chunks read (Some c) b = read b >>= λ cs. Ok (c ∷ cs.0, cs.1)
+-- ---- turns
 
--- The chunks up to the break. The first number bounds how many are looked for; no input has more than
+-- how many turns were taken, and what was read
+abbrev pub Counted : Type 0 → Type 0
+Counted X = ℕ × Read X
+
+-- a number of turns before
+abbrev pub later : {X : Type 0} → ℕ → Counted X → Counted X
+later k c = (k + c.0, c.1)
+
+abbrev pub go_on : {A B : Type 0} → ℕ → Read A → (A × List ℕ → Counted B) → Counted B
+go_on n (Ok x) f = later n (f x)
+go_on n (Err e) f = (n, Err e)
+
+infixl 10 ◌>>-◌
+abbrev pub ◌>>-◌ : {A B : Type 0} → Counted A → (A × List ℕ → Counted B) → Counted B
+c >>- f = go_on c.0 c.1 f
+
+abbrev pub more_chunks : (List ℕ → Counted (List Chunk)) → Option Chunk → List ℕ → Counted (List Chunk)
+more_chunks read None b = (0, Ok ([], b))
+more_chunks read (Some c) b = read b >>- λ cs. (0, Ok (c ∷ cs.0, cs.1))
+
+-- The chunks up to the break, each in a turn. The first number bounds how many are looked for; no input has more than
 -- it has bytes.
-unfoldable pub read_chunks : ℕ → StringKind → List ℕ → Read (List Chunk)
-read_chunks zero kind b = Err refusal.CutShort
-read_chunks (suc n) kind b = read_chunk kind b >>= λ c. more_chunks (read_chunks n kind) c.0 c.1
+unfoldable pub read_chunks : ℕ → StringKind → List ℕ → Counted (List Chunk)
+read_chunks zero kind b = (1, Err refusal.CutShort)
+read_chunks (suc n) kind b = (1, read_chunk kind b) >>- λ c. more_chunks (read_chunks n kind) c.0 c.1
 
--- a number of items, each read by `read`
-unfoldable pub read_items : (List ℕ → Read Item) → ℕ → List ℕ → Read Items
-read_items read zero b = Ok (no_items, b)
-read_items read (suc n) b = read b >>= λ i. read_items read n i.1 >>= λ is. Ok (item i.0 is.0, is.1)
+-- an item that holds no item, after its head
+abbrev pub read_atom : ItemHead → List ℕ → Counted Item
+read_atom (item_head.integer n w) b = (0, Ok (atom (spec.integer n w), b))
+read_atom (item_head.negative n w) b = (0, Ok (atom (spec.negative n w), b))
+read_atom (item_head.string kind (number n w)) b =
+    (0, read_content kind n w b >>= λ c. Ok (atom (spec.string kind c.0), c.1))
+read_atom (item_head.string kind indefinite) b =
+    read_chunks (length b) kind b >>- λ cs. (0, Ok (atom (spec.chunked_string kind cs.0), cs.1))
+read_atom (item_head.float bits w) b = (0, Ok (atom (spec.float bits w), b))
+read_atom (item_head.simple n) b = (0, Ok (atom (spec.simple n), b))
+read_atom _ b = (0, Err refusal.Head)
 
--- a key and its value
-abbrev pub read_pair : (List ℕ → Read Item) → List ℕ → Read (Item × Item)
-read_pair read b = read b >>= λ k. read k.1 >>= λ v. Ok ((k.0, v.0), v.1)
+-- ---- containers
 
-unfoldable pub read_pairs : (List ℕ → Read Item) → ℕ → List ℕ → Read Pairs
-read_pairs read zero b = Ok (no_pairs, b)
-read_pairs read (suc n) b = read_pair read b >>= λ p. read_pairs read n p.1 >>= λ ps. Ok (pair p.0.0 p.0.1 ps.0, ps.1)
+abbrev pub joined : Items → Items → Items
+joined no_items js = js
+joined (item i is) js = item i (joined is js)
 
--- whether a break is here, and if so the bytes after it
+abbrev pub joined_pairs : Pairs → Pairs → Pairs
+joined_pairs no_pairs qs = qs
+joined_pairs (pair k v ps) qs = pair k v (joined_pairs ps qs)
+
+-- A container that is open: what was read of it, and how many members or pairs are still to come, or all up to a break.
+pub data Frame : Type 0 where
+  items_in : Items → Argument → Frame
+  pairs_in : Pairs → Argument → Frame
+  -- a key was read, its value is to come, and then this number of pairs
+  value_of : Pairs → Item → Argument → Frame
+  tag_of : ℕ → IntegerWidth → Frame
+  tagged_with : ℕ → IntegerWidth → Item → Frame
+
+-- the container that a head opens, if it opens one
+abbrev pub opened : ItemHead → Option Frame
+opened (item_head.array a) = Some (items_in no_items a)
+opened (item_head.map a) = Some (pairs_in no_pairs a)
+opened (item_head.tag n w) = Some (tag_of n w)
+opened _ = None
+
+abbrev pub one_less : Argument → Argument
+one_less (number (suc n) w) = number n w
+one_less a = a
+
+abbrev pub count_width : Argument → Option IntegerWidth
+count_width (number n w) = Some w
+count_width indefinite = None
+
+-- the container with one more part
+abbrev pub put : Frame → Item → Frame
+put (items_in is left) i = items_in (joined is (item i no_items)) (one_less left)
+put (pairs_in ps left) k = value_of ps k (one_less left)
+put (value_of ps k left) v = pairs_in (joined_pairs ps (pair k v no_pairs)) left
+put (tag_of t w) i = tagged_with t w i
+put (tagged_with t w j) i = tagged_with t w i
+
+-- the bytes after the break, if one is here
 abbrev pub after_break : List ℕ → Option (List ℕ)
 after_break [] = None
 after_break (first ∷ b) = if first == break_byte then Some b else None
 
-abbrev pub unless_break : {X : Type 0} → Option (List ℕ) → X → Read X → Read X
-unless_break None none read = read
-unless_break (Some b) none read = Ok (none, b)
+-- the bytes after the members or pairs, if none is to come
+abbrev pub after_members : Argument → List ℕ → Option (List ℕ)
+after_members (number zero w) b = Some b
+after_members (number (suc n) w) b = None
+after_members indefinite b = after_break b
 
--- the items up to the break, bounded as `read_chunks` is
-unfoldable pub read_open_items : (List ℕ → Read Item) → ℕ → List ℕ → Read Items
-read_open_items read zero b = Err refusal.CutShort
-read_open_items read (suc n) b = unless_break (after_break b) no_items
-    (read b >>= λ i. read_open_items read n i.1 >>= λ is. Ok (item i.0 is.0, is.1))
+-- the bytes after the container, if it ends here
+abbrev pub after_end : Frame → List ℕ → Option (List ℕ)
+after_end (items_in is left) b = after_members left b
+after_end (pairs_in ps left) b = after_members left b
+after_end (value_of ps k left) b = None
+after_end (tag_of t w) b = None
+after_end (tagged_with t w i) b = Some b
 
-unfoldable pub read_open_pairs : (List ℕ → Read Item) → ℕ → List ℕ → Read Pairs
-read_open_pairs read zero b = Err refusal.CutShort
-read_open_pairs read (suc n) b = unless_break (after_break b) no_pairs
-    (read_pair read b >>= λ p. read_open_pairs read n p.1 >>= λ ps. Ok (pair p.0.0 p.0.1 ps.0, ps.1))
+-- the item that the container is where it ends
+abbrev pub closed : Frame → Option Item
+closed (items_in is left) = Some (array is (count_width left))
+closed (pairs_in ps left) = Some (spec.map ps (count_width left))
+closed (value_of ps k left) = None
+closed (tag_of t w) = None
+closed (tagged_with t w i) = Some (tagged t w i)
 
--- an item after its head, the items in it read by `read`
-abbrev pub read_body : (List ℕ → Read Item) → ItemHead → List ℕ → Read Item
-read_body read (item_head.Integer n w) b = Ok (atom (integer n w), b)
-read_body read (item_head.Negative n w) b = Ok (atom (negative n w), b)
-read_body read (item_head.Bytes n w) b = read_content bytes_kind n w b >>= λ c. Ok (atom (string bytes_kind c.0), c.1)
-read_body read (item_head.Text n w) b = read_content text_kind n w b >>= λ c. Ok (atom (string text_kind c.0), c.1)
-read_body read (item_head.Array n w) b = read_items read n b >>= λ is. Ok (array is.0 (Some w), is.1)
-read_body read (item_head.Map n w) b = read_pairs read n b >>= λ ps. Ok (spec.map ps.0 (Some w), ps.1)
-read_body read (item_head.Tag n w) b = read b >>= λ i. Ok (tagged n w i.0, i.1)
-read_body read (item_head.Float bits w) b = Ok (atom (float bits w), b)
-read_body read (item_head.Simple n) b = Ok (atom (simple n), b)
-read_body read item_head.OpenBytes b = read_chunks (length b) bytes_kind b >>= λ cs. Ok (atom (chunked_string bytes_kind cs.0), cs.1)
-read_body read item_head.OpenText b = read_chunks (length b) text_kind b >>= λ cs. Ok (atom (chunked_string text_kind cs.0), cs.1)
-read_body read item_head.OpenArray b = read_open_items read (length b) b >>= λ is. Ok (array is.0 None, is.1)
-read_body read item_head.OpenMap b = read_open_pairs read (length b) b >>= λ ps. Ok (spec.map ps.0 None, ps.1)
-read_body read item_head.Break b = Err refusal.Head
+abbrev pub close_or : Option Item → Option (List ℕ) → Counted Item → Counted Item
+close_or (Some i) (Some after) more = (1, Ok (i, after))
+close_or _ _ more = more
 
--- what needs memory: a string, a container or a tag
-abbrev pub HoldsContent : ItemHead → Type 0
-HoldsContent (item_head.Integer n w) = ⊥
-HoldsContent (item_head.Negative n w) = ⊥
-HoldsContent (item_head.Float bits w) = ⊥
-HoldsContent (item_head.Simple n) = ⊥
-HoldsContent item_head.Break = ⊥
-HoldsContent _ = Unit {0}
+-- What becomes of an open container: closed where it ends, and else with one part more, each read by `read`. The first
+-- number bounds how many are looked for.
+unfoldable pub parts_from : ℕ → (List ℕ → Counted Item) → Frame → List ℕ → Counted Item
+parts_from zero read f b = (1, Err refusal.CutShort)
+parts_from (suc n) read f b = close_or (closed f) (after_end f b) (read b >>- λ i. parts_from n read (put f i.0) i.1)
 
--- no more levels are left, and an item has to follow
-abbrev pub no_level_left : List ℕ → Read Item
-no_level_left [] = Err refusal.CutShort
-no_level_left (first ∷ b) = Err refusal.TooDeep
+-- no input has more parts than it has bytes
+abbrev pub read_parts : (List ℕ → Counted Item) → Frame → List ℕ → Counted Item
+read_parts read f b = parts_from (suc (length b)) read f b
 
--- an item, with `left` levels left for it and the items in it
-unfoldable pub read_item : ℕ → List ℕ → Read Item
-read_item zero b = no_level_left b
-read_item (suc left) b = read_head b >>= λ h. read_body (read_item left) h.0 h.1
+-- ---- items
+
+-- an item after its head: a container, if one is opened, or an item that holds none
+abbrev pub read_body : (List ℕ → Counted Item) → Option Frame → ItemHead → List ℕ → Counted Item
+read_body read (Some f) h b = read_parts read f b
+read_body read None h b = read_atom h b
+
+-- why there is no item where no more levels are left for it
+abbrev pub no_level_left : List ℕ → Error
+no_level_left [] = refusal.CutShort
+no_level_left (first ∷ b) = refusal.TooDeep
+
+-- an item, with `left` levels left for it and the items in it, in its turns
+unfoldable pub counted_item : ℕ → List ℕ → Counted Item
+counted_item zero b = (1, Err (no_level_left b))
+counted_item (suc left) b = (1, read_head b) >>- λ h. read_body (counted_item left) (opened h.0) h.0 h.1
+
+-- the same without its turns
+abbrev pub read_item : ℕ → List ℕ → Read Item
+read_item left b = (counted_item left b).1

@@ -7,6 +7,7 @@ pub mod Appends
 pub mod Passes
 pub mod ShownLines
 pub mod HeadErrors
+pub mod HeadView
 pub mod EncodingView
 pub mod LayoutView
 pub mod MajorNumber

@@ -8,17 +8,16 @@ use Rattle.std.proofs.lemmas.List.{take_at, drop_at, take-append-drop, length-ap
 use Rattle.std.proofs.lemmas.Str.{IsUtf8-from_is_utf8, is_utf8-from_IsUtf8}
 use Rattle.cbor_diag.specs.declared.syntax.IntegerWidth.{IntegerWidth}
 use Rattle.cbor_diag.specs.declared.error.Error.TheVariants as refusal
-use Rattle.cbor_diag.specs.declared.parse.binary.head.Info.{Info}
-use Rattle.cbor_diag.specs.declared.parse.binary.head.Info.TheVariants as info
+use Rattle.cbor_diag.specs.Argument.{Argument, number, indefinite}
 use Rattle.cbor_diag.specs.Item.{Chunk}
 use Rattle.cbor_diag.specs.Head.{break_byte}
 use Rattle.cbor_diag.specs.Bytes.{ChunkThen, SpellsChunks}
 use Rattle.cbor_diag.specs.StringKind.{StringKind, bytes_kind, text_kind, major_of, IsContent}
-use Rattle.cbor_diag.specs.Reading.{checked_chunk, Read, ◌>>=◌, read_info, split_at}
-use Rattle.cbor_diag.specs.Reading.{read_content, chunk_of, read_chunk, more_chunks}
-use Rattle.cbor_diag.specs.Reading.{read_chunks}
-use Rattle.cbor_diag.proofs.bytes.Heads.{IsBytes, IsBytes-drop, IsBytes-rest, bind_ok, guard_ok, guard_held, ok_is}
-use Rattle.cbor_diag.proofs.bytes.Heads.{head_append, head_front, head_shorter, InfoIs, info_takes, head_then, opened}
+use Rattle.cbor_diag.specs.Reading.{checked_chunk, Read, ◌>>=◌, read_argument, split_at}
+use Rattle.cbor_diag.specs.Reading.{read_content, chunk_of, read_chunk, Counted, ◌>>-◌, more_chunks, read_chunks}
+use Rattle.cbor_diag.proofs.bytes.Heads.{IsBytes, IsBytes-drop, IsBytes-rest, bind_ok, then_ok, guard_ok, guard_held}
+use Rattle.cbor_diag.proofs.bytes.Heads.{ok_is}
+use Rattle.cbor_diag.proofs.bytes.Heads.{head_append, head_front, head_shorter, ArgumentIs, info_takes, head_then, opened}
 
 -- ---- content
 
@@ -72,7 +71,7 @@ none_left b = Ok (None, b)
 pub chunk_ways : (kind : StringKind) (first : ℕ) (b : List ℕ)
     → ((first ≡ break_byte) × (read_chunk kind (first ∷ b) ≡ none_left b))
     ⊎ (((first ≢ break_byte) × (first / 32 ≡ major_of kind)
-    × (read_chunk kind (first ∷ b) ≡ (read_info (first % 32) b >>= λ i. chunk_of kind i.0 i.1)))
+    × (read_chunk kind (first ∷ b) ≡ (read_argument (first % 32) b >>= λ i. chunk_of kind i.0 i.1)))
     ⊎ ((first ≢ break_byte) × (first / 32 ≢ major_of kind) × (read_chunk kind (first ∷ b) ≡ Err refusal.Head)))
 unfolding read_chunk
 chunk_ways kind first b =
@@ -93,10 +92,10 @@ chunk_ways kind first b =
       ]
     ]
 
-chunk_of_takes : (kind : StringKind) (bits : ℕ) (i : Info) (tail b rest : List ℕ) (o : Option Chunk)
-    → InfoIs bits i tail b → chunk_of kind i b ≡ Ok (o, rest)
+chunk_of_takes : (kind : StringKind) (bits : ℕ) (i : Argument) (tail b rest : List ℕ) (o : Option Chunk)
+    → ArgumentIs bits i tail b → chunk_of kind i b ≡ Ok (o, rest)
     → (c : Chunk) × (o ≡ Some c) × ChunkThen kind c ((32 * major_of kind + bits) ∷ tail) (λ r. r ≡ rest) × IsBytes rest
-chunk_of_takes kind bits (info.Number n w) tail b rest o is e =
+chunk_of_takes kind bits (number n w) tail b rest o is e =
     let a = bind_ok (read_content kind n w b) (λ c. Ok (Some c.0, c.1)) (o, rest) e in
     let c : Chunk = a.0.0 in
     let t = content_takes kind n w b a.0.1 c is.3 a.1 in
@@ -117,7 +116,7 @@ chunk_of_takes kind bits (info.Number n w) tail b rest o is e =
       ),
       subst IsBytes rest-is t.4,
     )
-chunk_of_takes kind bits info.Indefinite tail b rest o is e = absurd cc
+chunk_of_takes kind bits indefinite tail b rest o is e = absurd cc
 
 -- a break and none, or a chunk
 abbrev pub ChunkIs : (kind : StringKind) (b rest : List ℕ) → Option Chunk → Type 0
@@ -134,7 +133,7 @@ one_takes kind (first ∷ b) rest o fits e =
           (ok_is (None, b) (o, rest) (sym w.1 ∙ e)) (rw w.0 refl)
       | inr v ↦ elim v [
         | inl w ↦
-            let a = bind_ok (read_info (first % 32) b) (λ i. chunk_of kind i.0 i.1) (o, rest) (sym w.2 ∙ e) in
+            let a = bind_ok (read_argument (first % 32) b) (λ i. chunk_of kind i.0 i.1) (o, rest) (sym w.2 ∙ e) in
             let is = info_takes (first % 32) b a.0.1 a.0.0 (IsBytes-rest first b fits) a.1 in
             let t = chunk_of_takes kind (first % 32) a.0.0 b a.0.1 rest o is a.2 in
             let whole : 32 * major_of kind + first % 32 ≡ first = rw (← w.1) (omega arith) in
@@ -212,17 +211,17 @@ chunk_front kind b more c Rest Front h then =
 
 -- ---- chunks
 
-more_takes : (kind : StringKind) (read : List ℕ → Read (List Chunk)) (b r rest : List ℕ) (o : Option Chunk)
+more_takes : (kind : StringKind) (read : List ℕ → Counted (List Chunk)) (b r rest : List ℕ) (o : Option Chunk)
     (cs : List Chunk) → IsBytes b → ChunkIs kind b r o
-    → ((cs : List Chunk) → IsBytes r → read r ≡ Ok (cs, rest) → SpellsChunks kind r cs (break_byte ∷ rest)
+    → ((cs : List Chunk) → IsBytes r → (read r).1 ≡ Ok (cs, rest) → SpellsChunks kind r cs (break_byte ∷ rest)
     × IsBytes rest)
-    → more_chunks read o r ≡ Ok (cs, rest) → SpellsChunks kind b cs (break_byte ∷ rest) × IsBytes rest
+    → (more_chunks read o r).1 ≡ Ok (cs, rest) → SpellsChunks kind b cs (break_byte ∷ rest) × IsBytes rest
 more_takes kind read b r rest None cs fits is others e =
     let made = ok_is ([], r) (cs, rest) e in
     let r-fits : IsBytes r = IsBytes-rest break_byte r (subst IsBytes is fits) in
     subst (λ (x : List Chunk × List ℕ). SpellsChunks kind b x.0 (break_byte ∷ x.1) × IsBytes x.1) made (is, r-fits)
 more_takes kind read b r rest (Some c) cs fits is others e =
-    let a = bind_ok (read r) (λ x. Ok (c ∷ x.0, x.1)) (cs, rest) e in
+    let a = then_ok (read r) (λ x. (0, Ok (c ∷ x.0, x.1))) (cs, rest) e in
     let made = ok_is (c ∷ a.0.0, a.0.1) (cs, rest) a.2 in
     let rest-is : a.0.1 ≡ rest = ap (λ (x : List Chunk × List ℕ). x.1) made in
     let cs-is : (c ∷ a.0.0) ≡ cs = ap (λ (x : List Chunk × List ℕ). x.0) made in
@@ -230,11 +229,11 @@ more_takes kind read b r rest (Some c) cs fits is others e =
     rw (← cs-is) (chunk_with kind b r c (λ x. SpellsChunks kind x a.0.0 (break_byte ∷ rest)) is.0 t.0, t.1)
 
 pub chunks_takes : (n : ℕ) (kind : StringKind) (b rest : List ℕ) (cs : List Chunk) → IsBytes b
-    → read_chunks n kind b ≡ Ok (cs, rest) → SpellsChunks kind b cs (break_byte ∷ rest) × IsBytes rest
+    → (read_chunks n kind b).1 ≡ Ok (cs, rest) → SpellsChunks kind b cs (break_byte ∷ rest) × IsBytes rest
 unfolding read_chunks
 chunks_takes zero kind b rest cs fits e = absurd cc
 chunks_takes (suc n) kind b rest cs fits e =
-    let a = bind_ok (read_chunk kind b) (λ c. more_chunks (read_chunks n kind) c.0 c.1) (cs, rest) e in
+    let a = then_ok (1, read_chunk kind b) (λ c. more_chunks (read_chunks n kind) c.0 c.1) (cs, rest) e in
     more_takes kind (read_chunks n kind) b a.0.1 rest a.0.0 cs fits (one_takes kind b a.0.1 a.0.0 fits a.1)
     (chunks_takes n kind a.0.1 rest) a.2
 
@@ -242,8 +241,9 @@ chunk_at_break : (kind : StringKind) (rest : List ℕ) → read_chunk kind (brea
 unfolding read_chunk
 chunk_at_break kind rest = refl
 
+-- a turn for each chunk, and one for the break
 pub chunks_again : (n : ℕ) (kind : StringKind) (b rest : List ℕ) (cs : List Chunk) → length b ≤ n
-    → SpellsChunks kind b cs (break_byte ∷ rest) → read_chunks n kind b ≡ Ok (cs, rest)
+    → SpellsChunks kind b cs (break_byte ∷ rest) → read_chunks n kind b ≡ (length cs + 1, Ok (cs, rest))
 unfolding read_chunks
 chunks_again zero kind b rest [] le h = absurd (omega (arith, ap length h))
 chunks_again (suc n) kind b rest [] le h = rw (h, chunk_at_break kind rest) refl
@@ -251,7 +251,9 @@ chunks_again zero kind b rest (c ∷ cs) le h = absurd (omega (arith, (chunk_par
 chunks_again (suc n) kind b rest (c ∷ cs) le h =
     let p = chunk_parts kind b c (λ x. SpellsChunks kind x cs (break_byte ∷ rest)) h in
     let shorter = p.shorter in
-    rw (chunk_again kind b p.rest c p.is, chunks_again n kind p.rest rest cs (omega arith) p.holds) refl
+    let sum : 1 + (length cs + 1 + 0) ≡ suc (length cs) + 1 = omega arith in
+    rw (chunk_again kind b p.rest c p.is, chunks_again n kind p.rest rest cs (omega arith) p.holds)
+    (ap (λ k. (k, Ok (c ∷ cs, rest))) sum)
 
 -- chunks with more bytes after their end
 pub chunks_append : (kind : StringKind) (cs : List Chunk) (b end more : List ℕ) → SpellsChunks kind b cs end

@@ -9,14 +9,14 @@ use Rattle.cbor_diag.specs.Refused.{BadHead, no_info, no_length, BadText, Next, 
 use Rattle.cbor_diag.specs.Refused.{in_array, in_map, in_open_array, at_open_key, at_open_value, InsideString, NoChunk}
 use Rattle.cbor_diag.specs.Refused.{no_chunk, NoBreakAt, Fault, too_deep, bad_head, bad_text, bad_chunk_head}
 use Rattle.cbor_diag.specs.Refused.{bad_chunk_text, bad_part}
-use Rattle.cbor_diag.specs.Reading.{read_item}
+use Rattle.cbor_diag.specs.Item.{Item}
+use Rattle.cbor_diag.specs.Reading.{Counted, read_item}
 use Rattle.cbor_diag.proofs.bytes.Heads.{IsBytes, cons_is, head_append}
 use Rattle.cbor_diag.proofs.bytes.Chunks.{chunks_append}
-use Rattle.cbor_diag.proofs.bytes.HeadRefusals.{err_is, head_bad}
-use Rattle.cbor_diag.proofs.bytes.StringRefusals as strings
+use Rattle.cbor_diag.proofs.bytes.HeadRefusals.{err_is}
 use Rattle.cbor_diag.proofs.bytes.CutShort.{fault_no_cut}
-use Rattle.cbor_diag.proofs.bytes.Refusals.{Refusal, is_cut, is_fault, refused, item_nothing, inside_refuses}
-use Rattle.cbor_diag.proofs.bytes.Refusals.{content_refuses_item, chunk_refuses_item}
+use Rattle.cbor_diag.proofs.bytes.Refusals.{Refusal, is_cut, is_fault, refused, item_nothing}
+use Rattle.cbor_diag.proofs.bytes.RefusedAgain.{fault_turns}
 
 -- ---- a fault that reading found
 
@@ -30,35 +30,9 @@ fault_takes level left b e levels fits other h = fault_from (refused left level 
 
 -- ---- a fault is found
 
-pub bad_head_refuses : (left : ℕ) (b : List ℕ) → BadHead b → read_item (suc left) b ≡ Err refusal.Head
-unfolding read_item
-bad_head_refuses left b h =
-    elim (head_bad b h) [
-      | inl head ↦ rw head refl
-      | inr at_break ↦ rw at_break.1 refl
-    ]
-
 pub fault_refuses : (level left : ℕ) (b : List ℕ) (e : Error) → level + left ≡ 129 → Fault level b e
     → read_item left b ≡ Err e
-unfolding read_item
-fault_refuses level zero b e levels (too_deep deep) = refl
-fault_refuses level (suc left) b e levels (too_deep deep) = absurd (omega arith)
-fault_refuses level zero b e levels (bad_head le h) = absurd (omega arith)
-fault_refuses level (suc left) b e levels (bad_head le h) = bad_head_refuses left b h
-fault_refuses level zero b e levels (bad_text le h) = absurd (omega arith)
-fault_refuses level (suc left) b e levels (bad_text le h) =
-    content_refuses_item text_kind left h.0 h.1 b h.2.1 refusal.Utf8 (h.2.0, h.2.1, h.2.2, refl)
-    (strings.bad_content h.2.3.0 h.2.3.1 h.2.3.2 h.2.3.3 h.2.3.4)
-fault_refuses level zero b e levels (bad_chunk_head kind rest le inside h) = absurd (omega arith)
-fault_refuses level (suc left) b e levels (bad_chunk_head kind rest le inside h) =
-    chunk_refuses_item kind left b rest refusal.Head inside (strings.bad_chunk h)
-fault_refuses level zero b e levels (bad_chunk_text rest le inside h) = absurd (omega arith)
-fault_refuses level (suc left) b e levels (bad_chunk_text rest le inside h) =
-    chunk_refuses_item text_kind left b rest refusal.Utf8 inside (strings.bad_text h)
-fault_refuses level zero b e levels (bad_part next rest le inside no_break f) = absurd (omega arith)
-fault_refuses level (suc left) b e levels (bad_part next rest le inside no_break f) =
-    inside_refuses level left next b rest e levels inside no_break
-    (fault_refuses (level + 1) left rest e (omega arith) f)
+fault_refuses level left b e levels f = ap (λ (x : Counted Item). x.1) (fault_turns level left b e levels f)
 
 -- ---- bytes that follow
 

@@ -1,28 +1,41 @@
--- An item that bytes spell is read again, whatever follows them.
-use Rattle.std.proofs.Common.{◌≡◌, ◌≢◌, ℕ, zero, suc, ◌+◌, ◌%◌, ◌<◌, ◌≤◌, List, [], ◌∷◌, ◌++◌, length, Some, None, Ok}
-use Rattle.std.proofs.Common.{inl, inr, refl, sym, ap, subst, ◌∙◌, append_assoc, arith}
+-- An item that bytes spell is read again, in its turns, whatever follows them.
+use Rattle.std.proofs.Common.{◌≡◌, ◌≢◌, ℕ, zero, suc, ◌+◌, ◌*◌, ◌%◌, ◌<◌, ◌≤◌, List, [], ◌∷◌, ◌++◌, length, Option, Some}
+use Rattle.std.proofs.Common.{None, Ok, inl, inr, refl, sym, ap, subst, ◌∙◌, append_assoc, arith}
 use Rattle.std.specs.Int.{w16, w32, w64, to_be_bytes}
 use Rattle.std.proofs.lemmas.Bool.{ne_eqb}
 use Rattle.std.proofs.lemmas.List.{length-append}
 use Rattle.cbor_diag.specs.declared.syntax.IntegerWidth.{IntegerWidth}
 use Rattle.cbor_diag.specs.declared.syntax.IntegerWidth.TheVariants.{Zero, Eight, Sixteen, ThirtyTwo, SixtyFour}
 use Rattle.cbor_diag.specs.declared.syntax.FloatWidth.TheVariants as float_width
-use Rattle.cbor_diag.specs.declared.parse.binary.head.ItemHead.TheVariants as item_head
+use Rattle.cbor_diag.specs.Argument.{Argument, number, indefinite}
 use Rattle.cbor_diag.specs.Item as spec
-use Rattle.cbor_diag.specs.Item.{Chunk, Atom, integer, negative, string, chunked_string}
-use Rattle.cbor_diag.specs.Item.{float, simple, Item, atom, array, tagged, Items, no_items, item, Pairs, no_pairs, pair}
-use Rattle.cbor_diag.specs.Item.{item_count, pair_count}
-use Rattle.cbor_diag.specs.Head.{head, break_byte, HeadThen}
+use Rattle.cbor_diag.specs.Item.{Chunk, Atom, integer, negative, string, chunked_string, float, simple, Item, atom, array}
+use Rattle.cbor_diag.specs.Item.{tagged, Items, no_items, item, Pairs, no_pairs, pair, item_count, pair_count}
+use Rattle.cbor_diag.specs.ItemHead as item_head
+use Rattle.cbor_diag.specs.ItemHead.{ItemHead}
+use Rattle.cbor_diag.specs.Head.{head, opening, break_byte, HeadThen}
 use Rattle.cbor_diag.specs.WellFormed.{deepest}
-use Rattle.cbor_diag.specs.Bytes.{any, SpellsSimple, SpellsAtom}
 use Rattle.cbor_diag.specs.StringKind.{StringKind, bytes_kind, text_kind, major_of}
-use Rattle.cbor_diag.specs.Bytes.{ChunkThen, Spells, SpellsItems, SpellsPairs}
-use Rattle.cbor_diag.specs.Reading.{Read, ◌>>=◌, numbered, unnumbered, read_head, read_items}
-use Rattle.cbor_diag.specs.Reading.{read_pair, read_pairs, after_break, read_open_items, read_open_pairs, read_body}
-use Rattle.cbor_diag.specs.Reading.{read_item}
-use Rattle.cbor_diag.proofs.bytes.Heads.{head_append}
-use Rattle.cbor_diag.proofs.bytes.Heads.{opened, head_again, open_again, byte_of}
+use Rattle.cbor_diag.specs.Bytes.{any, SpellsSimple, SpellsAtom, ChunkThen, MembersThen, Spells, SpellsItems, SpellsPairs}
+use Rattle.cbor_diag.specs.Turns.{item_turns, items_turns, pairs_turns}
+use Rattle.cbor_diag.specs.Reading.{◌>>=◌, Counted, later, go_on, ◌>>-◌, head_of, read_head, joined, joined_pairs, Frame}
+use Rattle.cbor_diag.specs.Reading.{items_in, pairs_in, value_of, tag_of, tagged_with, opened, one_less, count_width, put}
+use Rattle.cbor_diag.specs.Reading.{after_break, after_members, after_end, read_parts, read_body, counted_item, read_item}
+use Rattle.cbor_diag.proofs.bytes.Heads as heads
+use Rattle.cbor_diag.proofs.bytes.Heads.{head_append, head_again, byte_of, ArgumentThen}
 use Rattle.cbor_diag.proofs.bytes.Chunks.{content_again, chunks_again, chunks_append}
+use Rattle.cbor_diag.proofs.bytes.Steps.{later_later, later_none, Shortens, parts_end, parts_more, item_shortens}
+use Rattle.cbor_diag.proofs.bytes.Frames.{and_more, and_none}
+use Rattle.cbor_diag.proofs.bytes.Found.{items_append, pairs_append}
+
+pub kind_major : (kind : StringKind) → major_of kind ≤ 3
+kind_major bytes_kind = omega arith
+kind_major text_kind = omega arith
+
+pub string_head : (kind : StringKind) (a : Argument) → head_of (major_of kind) a ≡ Ok (item_head.string kind a)
+unfolding head_of
+string_head bytes_kind a = refl
+string_head text_kind a = refl
 
 -- an item's first byte is no break
 pub record Begins (x : List ℕ) : Type 0 where
@@ -34,7 +47,7 @@ pub record Begins (x : List ℕ) : Type 0 where
 head_begins : (major n : ℕ) (w : IntegerWidth) (x : List ℕ) (Rest : List ℕ → Type 0) → HeadThen major n w x Rest
     → Begins x
 head_begins major n w x Rest h =
-    let o = opened major n w x h.1 (h.0, h.1, h.2, refl) in
+    let o = heads.opened major n w x h.1 (h.0, h.1, h.2, refl) in
     record {
       first = o.first;
       tail = o.tail;
@@ -49,10 +62,9 @@ byte_begins first tail x parts lt = record { first = first; tail = tail; parts =
 atom_begins : (x : List ℕ) (a : Atom) → SpellsAtom any x a → Begins x
 atom_begins x (integer n w) h = head_begins 0 n w x _ h
 atom_begins x (negative n w) h = head_begins 1 n w x _ h
-atom_begins x (string bytes_kind c) h = head_begins 2 (length c.bytes) c.width x _ h.1
-atom_begins x (string text_kind c) h = head_begins 3 (length c.bytes) c.width x _ h.1
-atom_begins x (chunked_string bytes_kind cs) h = byte_begins 95 h.0 x h.1 (omega arith)
-atom_begins x (chunked_string text_kind cs) h = byte_begins 127 h.0 x h.1 (omega arith)
+atom_begins x (string kind c) h = head_begins (major_of kind) (length c.bytes) c.width x _ h.1
+atom_begins x (chunked_string kind cs) h = byte_begins (opening (major_of kind)) h.0 x h.1
+    (omega (arith, kind_major kind))
 atom_begins x (float bits float_width.Unknown) h = absurd h
 atom_begins x (float bits float_width.Sixteen) h = byte_begins 249 (to_be_bytes w16 bits) x h.1 (omega arith)
 atom_begins x (float bits float_width.ThirtyTwo) h = byte_begins 250 (to_be_bytes w32 bits) x h.1 (omega arith)
@@ -81,88 +93,128 @@ no_break_at x rest s = ap (λ (y : List ℕ). after_break (y ++ rest)) s.parts
 pub begins_longer : (x rest : List ℕ) → Begins x → length rest < length (x ++ rest)
 begins_longer x rest s = omega (arith, length-append x rest, ap length s.parts)
 
--- members with more bytes after their end
-pub items_append : (level : ℕ) (is : Items) (b end more : List ℕ) → SpellsItems any level b is end
-    → SpellsItems any level (b ++ more) is (end ++ more)
-items_append level no_items b end more h = ap (λ (x : List ℕ). x ++ more) h
-items_append level (item i is) b end more h = (
-  h.0,
-  h.1 ++ more,
-  ap (λ (x : List ℕ). x ++ more) h.2 ∙ append_assoc h.0 h.1 more,
-  h.3,
-  items_append level is h.1 end more h.4,
-)
+-- ---- the parts of an open container
 
-pub pairs_append : (level : ℕ) (ps : Pairs) (b end more : List ℕ) → SpellsPairs any level b ps end
-    → SpellsPairs any level (b ++ more) ps (end ++ more)
-pairs_append level no_pairs b end more h = ap (λ (x : List ℕ). x ++ more) h
-pairs_append level (pair k v ps) b end more h = (
-  h.0,
-  h.1,
-  h.2 ++ more,
-  ap (λ (x : List ℕ). x ++ more) h.3 ∙ simp append_assoc,
-  h.4,
-  h.5,
-  pairs_append level ps h.2 end more h.6,
-)
+-- each spelled item is read again, in its turns
+abbrev pub FindsAgain : ℕ → (List ℕ → Counted Item) → Type 0
+FindsAgain level read = (x : List ℕ) (i : Item) (rest : List ℕ) → Spells any level x i
+    → read (x ++ rest) ≡ (item_turns i, Ok (i, rest))
 
--- each spelled item is read again
-abbrev pub FindsAgain : ℕ → (List ℕ → Read Item) → Type 0
-FindsAgain level read = (x : List ℕ) (i : Item) (rest : List ℕ) → Spells any level x i → read (x ++ rest) ≡ Ok (i, rest)
+abbrev one_more : Argument → Argument
+one_more (number n w) = number (suc n) w
+one_more indefinite = indefinite
 
-module _ (level : ℕ) (read : List ℕ → Read Item) (again : FindsAgain level read) where
-  pub items_again : (is : Items) (b rest : List ℕ) → SpellsItems any level b is rest
-      → read_items read (item_count is) b ≡ Ok (is, rest)
-  unfolding read_items
-  items_again no_items b rest h = ap (λ (x : List ℕ). Ok (no_items, x)) h
-  items_again (item i is) b rest h =
-      ap (read_items read (suc (item_count is))) h.2 ∙ rw (again h.0 i h.1 h.3, items_again is h.1 rest h.4) refl
+and_one_more : (k : ℕ) (a : Argument) → and_more (suc k) a ≡ one_more (and_more k a)
+and_one_more k (number n w) = let e : suc k + n ≡ suc (k + n) = omega arith in ap (λ m. number m w) e
+and_one_more k indefinite = refl
 
-  pub pair_again : (x y : List ℕ) (k v : Item) (rest : List ℕ) → Spells any level x k → Spells any level y v
-      → read_pair read (x ++ (y ++ rest)) ≡ Ok ((k, v), rest)
-  pair_again x y k v rest key value = rw (again x k (y ++ rest) key, again y v rest value) refl
+less_more : (a : Argument) → one_less (one_more a) ≡ a
+less_more (number n w) = refl
+less_more indefinite = refl
 
-  pub pairs_again : (ps : Pairs) (b rest : List ℕ) → SpellsPairs any level b ps rest
-      → read_pairs read (pair_count ps) b ≡ Ok (ps, rest)
-  unfolding read_pairs
-  pairs_again no_pairs b rest h = ap (λ (x : List ℕ). Ok (no_pairs, x)) h
-  pairs_again (pair k v ps) b rest h =
-      ap (read_pairs read (suc (pair_count ps))) h.3
-      ∙ rw (pair_again h.0 h.1 k v h.2 h.4 h.5, pairs_again ps h.2 rest h.6) refl
+-- where one more is to come, a container does not end before it
+more_open : (a : Argument) (x rest : List ℕ) → Begins x → after_members (one_more a) (x ++ rest) ≡ None
+more_open (number n w) x rest s = refl
+more_open indefinite x rest s = no_break_at x rest s
 
-  pub open_items_again : (n : ℕ) (is : Items) (b rest : List ℕ) → length b ≤ n
-      → SpellsItems any level b is (break_byte ∷ rest) → read_open_items read n b ≡ Ok (is, rest)
-  unfolding read_open_items
-  open_items_again zero no_items b rest le h = absurd (omega (arith, ap length h))
-  open_items_again (suc n) no_items b rest le h = rw h refl
-  open_items_again zero (item i is) b rest le h =
-      absurd (omega (arith, ap length h.2, begins_longer h.0 h.1 (spelled_begins level h.0 i h.3)))
-  open_items_again (suc n) (item i is) b rest le h =
-      let s = spelled_begins level h.0 i h.3 in
-      let shorter : length h.1 ≤ n = omega (arith, ap length h.2, begins_longer h.0 h.1 s) in
-      ap (read_open_items read (suc n)) h.2 ∙ rw
-      (no_break_at h.0 h.1 s, again h.0 i h.1 h.3, open_items_again n is h.1 rest shorter h.4) refl
+pub joined-none : (is : Items) → joined is no_items ≡ is
+joined-none no_items = refl
+joined-none (item i is) = ap (item i) (joined-none is)
 
-  pub open_pairs_again : (n : ℕ) (ps : Pairs) (b rest : List ℕ) → length b ≤ n
-      → SpellsPairs any level b ps (break_byte ∷ rest) → read_open_pairs read n b ≡ Ok (ps, rest)
-  unfolding read_open_pairs
-  open_pairs_again zero no_pairs b rest le h = absurd (omega (arith, ap length h))
-  open_pairs_again (suc n) no_pairs b rest le h = rw h refl
-  open_pairs_again zero (pair k v ps) b rest le h =
-      absurd (omega (arith, ap length h.3, begins_longer h.0 (h.1 ++ h.2) (spelled_begins level h.0 k h.4)))
-  open_pairs_again (suc n) (pair k v ps) b rest le h =
-      let s = spelled_begins level h.0 k h.4 in
-      let shorter : length h.2 ≤ n = omega (
-        arith,
-        ap length h.3,
-        begins_longer h.0 (h.1 ++ h.2) s,
-        length-append h.1 h.2,
-      ) in
-      ap (read_open_pairs read (suc n)) h.3 ∙ rw (
-        no_break_at h.0 (h.1 ++ h.2) s,
-        pair_again h.0 h.1 k v h.2 h.4 h.5,
-        open_pairs_again n ps h.2 rest shorter h.6,
-      ) refl
+pub joined_pairs-none : (ps : Pairs) → joined_pairs ps no_pairs ≡ ps
+joined_pairs-none no_pairs = refl
+joined_pairs-none (pair k v ps) = ap (pair k v) (joined_pairs-none ps)
+
+joined_one : (is : Items) (i : Item) (js : Items) → joined (joined is (item i no_items)) js ≡ joined is (item i js)
+joined_one no_items i js = refl
+joined_one (item j is) i js = ap (item j) (joined_one is i js)
+
+joined_pair : (ps : Pairs) (k v : Item) (qs : Pairs)
+    → joined_pairs (joined_pairs ps (pair k v no_pairs)) qs ≡ joined_pairs ps (pair k v qs)
+joined_pair no_pairs k v qs = refl
+joined_pair (pair j u ps) k v qs = ap (pair j u) (joined_pair ps k v qs)
+
+-- the argument of a container's head
+abbrev pub argument_of : Option IntegerWidth → ℕ → Argument
+argument_of (Some w) n = number n w
+argument_of None n = indefinite
+
+module _ (level : ℕ) (read : List ℕ → Counted Item) (again : FindsAgain level read) (short : Shortens read) where
+  -- one part
+  pub part_again : (f : Frame) (x rest : List ℕ) (i : Item) → Spells any level x i → after_end f (x ++ rest) ≡ None
+      → read_parts read f (x ++ rest) ≡ later (item_turns i) (read_parts read (put f i) rest)
+  part_again f x rest i s none = parts_more read short f (x ++ rest) none
+      ∙ ap (λ c. c >>- λ j. read_parts read (put f j.0) j.1) (again x i rest s)
+
+  items_again : (held is : Items) (a : Argument) (b end : List ℕ) → SpellsItems any level b is end
+      → read_parts read (items_in held (and_more (item_count is) a)) b
+      ≡ later (items_turns is) (read_parts read (items_in (joined held is) a) end)
+  items_again held no_items a b end h =
+      let same : items_in held (and_more 0 a) ≡ items_in (joined held no_items) a =
+      ap (λ c. items_in held c) (sym (and_none a)) ∙ ap (λ is. items_in is a) (sym (joined-none held)) in
+      ap (read_parts read (items_in held (and_more 0 a))) h ∙ ap (λ f. read_parts read f end) same
+      ∙ sym (later_none (read_parts read (items_in (joined held no_items) a) end))
+  items_again held (item i is) a b end h =
+      let c : Argument = and_more (item_count is) a in
+      let more : Items = joined held (item i no_items) in
+      ap (λ d. read_parts read (items_in held d) b) (and_one_more (item_count is) a)
+      ∙ ap (read_parts read (items_in held (one_more c))) h.2
+      ∙ part_again (items_in held (one_more c)) h.0 h.1 i h.3 (more_open c h.0 h.1 (spelled_begins level h.0 i h.3))
+      ∙ ap (λ d. later (item_turns i) (read_parts read (items_in more d) h.1)) (less_more c)
+      ∙ ap (later (item_turns i)) (items_again more is a h.1 end h.4)
+      ∙ later_later (item_turns i) (items_turns is) (read_parts read (items_in (joined more is) a) end)
+      ∙ ap (λ js. later (items_turns (item i is)) (read_parts read (items_in js a) end)) (joined_one held i is)
+
+  pairs_again : (held ps : Pairs) (a : Argument) (b end : List ℕ) → SpellsPairs any level b ps end
+      → read_parts read (pairs_in held (and_more (pair_count ps) a)) b
+      ≡ later (pairs_turns ps) (read_parts read (pairs_in (joined_pairs held ps) a) end)
+  pairs_again held no_pairs a b end h =
+      let same : pairs_in held (and_more 0 a) ≡ pairs_in (joined_pairs held no_pairs) a =
+      ap (λ c. pairs_in held c) (sym (and_none a)) ∙ ap (λ ps. pairs_in ps a) (sym (joined_pairs-none held)) in
+      ap (read_parts read (pairs_in held (and_more 0 a))) h ∙ ap (λ f. read_parts read f end) same
+      ∙ sym (later_none (read_parts read (pairs_in (joined_pairs held no_pairs) a) end))
+  pairs_again held (pair k v ps) a b end h =
+      let c : Argument = and_more (pair_count ps) a in
+      let more : Pairs = joined_pairs held (pair k v no_pairs) in
+      let others : Counted Item = read_parts read (pairs_in (joined_pairs more ps) a) end in
+      ap (λ d. read_parts read (pairs_in held d) b) (and_one_more (pair_count ps) a)
+      ∙ ap (read_parts read (pairs_in held (one_more c))) h.3
+      ∙ part_again (pairs_in held (one_more c)) h.0 (h.1 ++ h.2) k h.4
+      (more_open c h.0 (h.1 ++ h.2) (spelled_begins level h.0 k h.4))
+      ∙ ap (λ d. later (item_turns k) (read_parts read (value_of held k d) (h.1 ++ h.2))) (less_more c)
+      ∙ ap (later (item_turns k)) (part_again (value_of held k c) h.1 h.2 v h.5 refl
+      ∙ ap (later (item_turns v)) (pairs_again more ps a h.2 end h.6) ∙ later_later (item_turns v) (pairs_turns ps) others)
+      ∙ later_later (item_turns k) (item_turns v + pairs_turns ps) others
+      ∙ ap (λ qs. later (pairs_turns (pair k v ps)) (read_parts read (pairs_in qs a) end)) (joined_pair held k v ps)
+
+  -- an array or a map, from after its head
+  members_again : (major n turns : ℕ) (w : Option IntegerWidth) (x rest : List ℕ) (Members : List ℕ → List ℕ → Type 0)
+      (before after : Argument → Frame) (made : Option IntegerWidth → Item) → MembersThen major n w x Members
+      → ((b end more : List ℕ) → Members b end → Members (b ++ more) (end ++ more))
+      → ((a : Argument) (b end : List ℕ) → Members b end
+      → read_parts read (before (and_more n a)) b ≡ later turns (read_parts read (after a) end))
+      → ((a : Argument) (end over : List ℕ) → after_members a end ≡ Some over
+      → read_parts read (after a) end ≡ (1, Ok (made (count_width a), over)))
+      → (r : List ℕ) × ArgumentThen major (argument_of w n) (x ++ rest) r
+      × (read_parts read (before (argument_of w n)) r ≡ (turns + 1, Ok (made w, rest)))
+  members_again major n turns (Some w) x rest Members before after made h append many ends =
+      let g = head_append major n w x rest _ (λ r. Members r rest) h (λ r s. append r [] rest s) in
+      let all : number n w ≡ and_more n (number 0 w) =
+      (let e : n ≡ n + 0 = omega arith in ap (λ m. number m w) e) in (
+        g.1,
+        (g.0, g.1, g.2, refl),
+        ap (λ a. read_parts read (before a) g.1) all ∙ many (number 0 w) g.1 rest g.3
+            ∙ ap (later turns) (ends (number 0 w) rest rest refl),
+      )
+  members_again major n turns None x rest Members before after made h append many ends =
+      let r : List ℕ = h.0 ++ rest in (
+        r,
+        ap (λ (y : List ℕ). y ++ rest) h.1,
+        many indefinite r (break_byte ∷ rest) (append h.0 (break_byte ∷ []) rest h.2)
+            ∙ ap (later turns) (ends indefinite (break_byte ∷ rest) rest refl),
+      )
+
+-- ---- items
 
 -- a head with the bytes after the item
 head_behind : (major n : ℕ) (w : IntegerWidth) (x rest : List ℕ) → HeadThen major n w x (λ r. r ≡ [])
@@ -178,105 +230,111 @@ string_behind kind x rest c h =
     (λ r s. ap (λ (y : List ℕ). y ++ rest) s.1 ∙ append_assoc c.bytes s.0 rest
     ∙ ap (λ (y : List ℕ). c.bytes ++ (y ++ rest)) s.2)
 
--- a head of major type 7 that holds a simple value or a float
-simple_again : (x rest : List ℕ) (n : ℕ) → SpellsSimple any x n → read_head (x ++ rest) ≡ Ok (item_head.Simple n, rest)
-unfolding numbered
-simple_again x rest n (inl h) = head_again 7 n Zero (x ++ rest) rest (omega arith)
-    (h.0, rest, ap (λ (y : List ℕ). y ++ rest) h.1, refl)
-simple_again x rest n (inr h) =
-    let is : x ++ rest ≡ head 7 n Eight ++ rest =
-    ap (λ (y : List ℕ). y ++ rest) (h.1 ∙ ap (λ (y : List ℕ). 248 ∷ y) (sym (byte_of n h.0))) in
-    head_again 7 n Eight (x ++ rest) rest (omega arith) (h.0, rest, is, refl)
-
 -- an item by its head and what is after it
-abbrev pub read_whole : (List ℕ → Read Item) → List ℕ → Read Item
-read_whole read b = read_head b >>= λ h. read_body read h.0 h.1
+abbrev read_whole : (List ℕ → Counted Item) → List ℕ → Counted Item
+read_whole read b = (1, read_head b) >>- λ h. read_body read (opened h.0) h.0 h.1
 
-module _ (level : ℕ) (read : List ℕ → Read Item) (again : FindsAgain (level + 1) read) where
+module _ (level : ℕ) (read : List ℕ → Counted Item) (again : FindsAgain (level + 1) read) (short : Shortens read) where
+  -- what is read after a head
+  after_head : (b r rest : List ℕ) (h : ItemHead) (t : ℕ) (i : Item) → read_head b ≡ Ok (h, r)
+      → read_body read (opened h) h r ≡ (t, Ok (i, rest)) → 1 + t ≡ item_turns i
+      → read_whole read b ≡ (item_turns i, Ok (i, rest))
+  after_head b r rest h t i head body turns =
+      ap (λ q. go_on 1 q (λ h. read_body read (opened h.0) h.0 h.1)) head ∙ ap (later 1) body
+      ∙ ap (λ n. (n, Ok (i, rest))) turns
+
+  -- a number alone
+  number_again : (major n : ℕ) (w : IntegerWidth) (x rest : List ℕ) (h : ItemHead) (i : Item) → major ≤ 7
+      → head_of major (number n w) ≡ Ok h → read_body read (opened h) h rest ≡ (0, Ok (i, rest)) → item_turns i ≡ 1
+      → HeadThen major n w (x ++ rest) (λ r. r ≡ rest) → read_whole read (x ++ rest) ≡ (item_turns i, Ok (i, rest))
+  number_again major n w x rest h i le is body turns spelled =
+      after_head (x ++ rest) rest rest h 0 i (head_again major (number n w) h (x ++ rest) rest le spelled is) body
+      (sym turns)
+
   pub body_again : (x : List ℕ) (i : Item) (rest : List ℕ) → Spells any level x i
-      → read_whole read (x ++ rest) ≡ Ok (i, rest)
-  unfolding numbered unnumbered
+      → read_whole read (x ++ rest) ≡ (item_turns i, Ok (i, rest))
+  unfolding head_of
   body_again x (atom (integer n w)) rest h =
-      rw (head_again 0 n w (x ++ rest) rest (omega arith) (head_behind 0 n w x rest h.1)) refl
+      number_again 0 n w x rest (item_head.integer n w) (atom (integer n w)) (omega arith) refl refl refl
+      (head_behind 0 n w x rest h.1)
   body_again x (atom (negative n w)) rest h =
-      rw (head_again 1 n w (x ++ rest) rest (omega arith) (head_behind 1 n w x rest h.1)) refl
-  body_again x (atom (string bytes_kind c)) rest h =
-      rw (
-        head_again 2 (length c.bytes) c.width (x ++ rest) (c.bytes ++ rest) (omega arith)
-            (string_behind bytes_kind x rest c h.1),
-        content_again bytes_kind c rest h.1.0,
-      ) refl
-  body_again x (atom (string text_kind c)) rest h =
-      rw (
-        head_again 3 (length c.bytes) c.width (x ++ rest) (c.bytes ++ rest) (omega arith)
-            (string_behind text_kind x rest c h.1),
-        content_again text_kind c rest h.1.0,
-      ) refl
-  body_again x (atom (chunked_string bytes_kind cs)) rest h =
+      number_again 1 n w x rest (item_head.negative n w) (atom (negative n w)) (omega arith) refl refl refl
+      (head_behind 1 n w x rest h.1)
+  body_again x (atom (string kind c)) rest h =
+      let a : Argument = number (length c.bytes) c.width in
+      after_head (x ++ rest) (c.bytes ++ rest) rest (item_head.string kind a) 0 (atom (string kind c))
+      (head_again (major_of kind) a (item_head.string kind a) (x ++ rest) (c.bytes ++ rest)
+      (omega (arith, kind_major kind)) (string_behind kind x rest c h.1) (string_head kind a))
+      (ap (λ r. (0, r >>= λ c. Ok (atom (string kind c.0), c.1))) (content_again kind c rest h.1.0)) refl
+  body_again x (atom (chunked_string kind cs)) rest h =
       let r : List ℕ = h.1.0 ++ rest in
-      ap (λ (y : List ℕ). read_whole read (y ++ rest)) h.1.1
-      ∙ rw (
-        open_again 2 item_head.OpenBytes r (omega arith) refl,
-        chunks_again (length r) bytes_kind r rest cs (omega arith)
-            (chunks_append bytes_kind cs h.1.0 (break_byte ∷ []) rest h.1.2),
-      ) refl
-  body_again x (atom (chunked_string text_kind cs)) rest h =
-      let r : List ℕ = h.1.0 ++ rest in
-      ap (λ (y : List ℕ). read_whole read (y ++ rest)) h.1.1
-      ∙ rw (
-        open_again 3 item_head.OpenText r (omega arith) refl,
-        chunks_again (length r) text_kind r rest cs (omega arith)
-            (chunks_append text_kind cs h.1.0 (break_byte ∷ []) rest h.1.2),
-      ) refl
+      let sum : 1 + (length cs + 1) ≡ 2 + length cs = omega arith in
+      let chunks = chunks_again (length r) kind r rest cs (omega arith)
+      (chunks_append kind cs h.1.0 (break_byte ∷ []) rest h.1.2) in
+      after_head (x ++ rest) r rest (item_head.string kind indefinite) (length cs + 1) (atom (chunked_string kind cs))
+      (head_again (major_of kind) indefinite (item_head.string kind indefinite) (x ++ rest) r
+      (omega (arith, kind_major kind)) (ap (λ (y : List ℕ). y ++ rest) h.1.1) (string_head kind indefinite))
+      (ap (λ c. c >>- λ cs. (0, Ok (atom (chunked_string kind cs.0), cs.1))) chunks
+      ∙ ap (λ n. (n, Ok (atom (chunked_string kind cs), rest))) (let e : length cs + 1 + 0 ≡ length cs + 1 = omega arith in e))
+      sum
   body_again x (atom (float bits float_width.Unknown)) rest h = absurd h.1
   body_again x (atom (float bits float_width.Sixteen)) rest h =
-      rw (head_again 7 bits Sixteen (x ++ rest) rest (omega arith)
-      (h.1.0, rest, ap (λ (y : List ℕ). y ++ rest) h.1.1, refl)) refl
+      number_again 7 bits Sixteen x rest (item_head.float bits float_width.Sixteen)
+      (atom (float bits float_width.Sixteen)) (omega arith) refl refl refl
+      (h.1.0, rest, ap (λ (y : List ℕ). y ++ rest) h.1.1, refl)
   body_again x (atom (float bits float_width.ThirtyTwo)) rest h =
-      rw (head_again 7 bits ThirtyTwo (x ++ rest) rest (omega arith)
-      (h.1.0, rest, ap (λ (y : List ℕ). y ++ rest) h.1.1, refl)) refl
+      number_again 7 bits ThirtyTwo x rest (item_head.float bits float_width.ThirtyTwo)
+      (atom (float bits float_width.ThirtyTwo)) (omega arith) refl refl refl
+      (h.1.0, rest, ap (λ (y : List ℕ). y ++ rest) h.1.1, refl)
   body_again x (atom (float bits float_width.SixtyFour)) rest h =
-      rw (head_again 7 bits SixtyFour (x ++ rest) rest (omega arith)
-      (h.1.0, rest, ap (λ (y : List ℕ). y ++ rest) h.1.1, refl)) refl
-  body_again x (atom (simple n)) rest h = rw (simple_again x rest n h.1) refl
-  body_again x (array is (Some w)) rest h =
-      let g = head_append 4 (item_count is) w x rest _ (λ r. SpellsItems any (level + 1) r is rest) h.1
-      (λ r s. items_append (level + 1) is r [] rest s) in
-      rw (
-        head_again 4 (item_count is) w (x ++ rest) g.1 (omega arith) (g.0, g.1, g.2, refl),
-        items_again (level + 1) read again is g.1 rest g.3,
-      ) refl
-  body_again x (array is None) rest h =
-      let r : List ℕ = h.1.0 ++ rest in
-      ap (λ (y : List ℕ). read_whole read (y ++ rest)) h.1.1
-      ∙ rw (
-        open_again 4 item_head.OpenArray r (omega arith) refl,
-        open_items_again (level + 1) read again (length r) is
-            r rest (omega arith) (items_append (level + 1) is h.1.0 (break_byte ∷ []) rest h.1.2),
-      ) refl
-  body_again x (spec.map ps (Some w)) rest h =
-      let g = head_append 5 (pair_count ps) w x rest _ (λ r. SpellsPairs any (level + 1) r ps rest) h.1
-      (λ r s. pairs_append (level + 1) ps r [] rest s) in
-      rw (
-        head_again 5 (pair_count ps) w (x ++ rest) g.1 (omega arith) (g.0, g.1, g.2, refl),
-        pairs_again (level + 1) read again ps g.1 rest g.3,
-      ) refl
-  body_again x (spec.map ps None) rest h =
-      let r : List ℕ = h.1.0 ++ rest in
-      ap (λ (y : List ℕ). read_whole read (y ++ rest)) h.1.1
-      ∙ rw (
-        open_again 5 item_head.OpenMap r (omega arith) refl,
-        open_pairs_again (level + 1) read again (length r) ps r
-            rest (omega arith) (pairs_append (level + 1) ps h.1.0 (break_byte ∷ []) rest h.1.2),
-      ) refl
+      number_again 7 bits SixtyFour x rest (item_head.float bits float_width.SixtyFour)
+      (atom (float bits float_width.SixtyFour)) (omega arith) refl refl refl
+      (h.1.0, rest, ap (λ (y : List ℕ). y ++ rest) h.1.1, refl)
+  body_again x (atom (simple n)) rest (le, inl h) =
+      number_again 7 n Zero x rest (item_head.simple n) (atom (simple n)) (omega arith) refl refl refl
+      (h.0, rest, ap (λ (y : List ℕ). y ++ rest) h.1, refl)
+  body_again x (atom (simple n)) rest (le, inr h) =
+      let is : x ++ rest ≡ head 7 n Eight ++ rest =
+      ap (λ (y : List ℕ). y ++ rest) (h.1 ∙ ap (λ (y : List ℕ). 248 ∷ y) (sym (byte_of n h.0))) in
+      number_again 7 n Eight x rest (item_head.simple n) (atom (simple n)) (omega arith) refl refl refl
+      (h.0, rest, is, refl)
+  body_again x (array is w) rest h =
+      let n : ℕ = item_count is in
+      let g = members_again (level + 1) read again short 4 n (items_turns is) w x rest
+      (λ b end. SpellsItems any (level + 1) b is end) (items_in no_items) (items_in is) (array is) h.1
+      (λ b end more s. items_append (level + 1) is b end more s)
+      (λ a b end s. items_again (level + 1) read again short no_items is a b end s)
+      (λ a end over e. parts_end read short (items_in is a) end over (array is (count_width a)) refl e) in
+      let sum : 1 + (items_turns is + 1) ≡ 2 + items_turns is = omega arith in
+      after_head (x ++ rest) g.0 rest (item_head.array (argument_of w n)) (items_turns is + 1) (array is w)
+      (head_again 4 (argument_of w n) (item_head.array (argument_of w n)) (x ++ rest) g.0 (omega arith) g.1 refl) g.2 sum
+  body_again x (spec.map ps w) rest h =
+      let n : ℕ = pair_count ps in
+      let g = members_again (level + 1) read again short 5 n (pairs_turns ps) w x rest
+      (λ b end. SpellsPairs any (level + 1) b ps end) (pairs_in no_pairs) (pairs_in ps) (spec.map ps) h.1
+      (λ b end more s. pairs_append (level + 1) ps b end more s)
+      (λ a b end s. pairs_again (level + 1) read again short no_pairs ps a b end s)
+      (λ a end over e. parts_end read short (pairs_in ps a) end over (spec.map ps (count_width a)) refl e) in
+      let sum : 1 + (pairs_turns ps + 1) ≡ 2 + pairs_turns ps = omega arith in
+      after_head (x ++ rest) g.0 rest (item_head.map (argument_of w n)) (pairs_turns ps + 1) (spec.map ps w)
+      (head_again 5 (argument_of w n) (item_head.map (argument_of w n)) (x ++ rest) g.0 (omega arith) g.1 refl) g.2 sum
   body_again x (tagged t w i) rest h =
       let g = head_append 6 t w x rest (λ r. r ≡ h.1.1) (λ r. r ≡ h.1.1 ++ rest) (h.1.0, h.1.1, h.1.2, refl)
       (λ r e. ap (λ (y : List ℕ). y ++ rest) e) in
-      rw (head_again 6 t w (x ++ rest) (h.1.1 ++ rest) (omega arith) g, again h.1.1 i rest h.1.3) refl
+      let sum : 1 + (item_turns i + 1) ≡ 2 + item_turns i = omega arith in
+      after_head (x ++ rest) (h.1.1 ++ rest) rest (item_head.tag t w) (item_turns i + 1) (tagged t w i)
+      (head_again 6 (number t w) (item_head.tag t w) (x ++ rest) (h.1.1 ++ rest) (omega arith) g refl)
+      (part_again (level + 1) read again short (tag_of t w) h.1.1 rest i h.1.3 refl
+      ∙ ap (later (item_turns i)) (parts_end read short (tagged_with t w i) rest rest (tagged t w i) refl refl)) sum
+
+pub counted_again : (level left : ℕ) (x : List ℕ) (i : Item) (rest : List ℕ) → level + left ≡ 129 → Spells any level x i
+    → counted_item left (x ++ rest) ≡ (item_turns i, Ok (i, rest))
+unfolding counted_item
+counted_again level zero x i rest sum h = absurd (omega (arith, spelled_level level x i h))
+counted_again level (suc left) x i rest sum h =
+    body_again level (counted_item left) (λ y j r s. counted_again (level + 1) left y j r (omega arith) s)
+    (item_shortens left) x i rest h
 
 pub item_again : (level left : ℕ) (x : List ℕ) (i : Item) (rest : List ℕ) → level + left ≡ 129 → Spells any level x i
     → read_item left (x ++ rest) ≡ Ok (i, rest)
-unfolding read_item
-item_again level zero x i rest sum h = absurd (omega (arith, spelled_level level x i h))
-item_again level (suc left) x i rest sum h =
-    body_again level (read_item left) (λ y j r s. item_again (level + 1) left y j r (omega arith) s) x i rest h
+item_again level left x i rest sum h = ap (λ (c : Counted Item). c.1) (counted_again level left x i rest sum h)

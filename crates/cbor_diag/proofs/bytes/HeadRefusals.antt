@@ -1,6 +1,6 @@
 -- Where a head is refused: its bytes are cut short, or no item can have it.
 use Rattle.std.proofs.Common.{◌≡◌, ℕ, zero, suc, ◌+◌, ◌/◌, ◌%◌, ◌^◌, ◌<◌, ◌≤◌, ltb, eqb, List, [], ◌∷◌, length, Result}
-use Rattle.std.proofs.Common.{Ok, Err, ◌⊎◌, inl, inr, refl, subst, arith}
+use Rattle.std.proofs.Common.{Ok, Err, ◌⊎◌, inl, inr, refl, ap, subst, ◌∙◌, arith}
 use Rattle.std.specs.Int.{Width, w8, w16, w32, w64, byte_len, from_be_bytes}
 use Rattle.std.specs.Prelude.{take, drop}
 use Rattle.std.proofs.lemmas.Bool.{cases_eq, ltb-true, ltb-false, lt-ltb, le-ltb, eqb-true, eqb-false, ne_eqb}
@@ -8,11 +8,9 @@ use Rattle.cbor_diag.specs.declared.syntax.IntegerWidth.{IntegerWidth}
 use Rattle.cbor_diag.specs.declared.syntax.IntegerWidth.TheVariants.{Eight, Sixteen, ThirtyTwo, SixtyFour}
 use Rattle.cbor_diag.specs.declared.error.Error.{Error}
 use Rattle.cbor_diag.specs.declared.error.Error.TheVariants as refusal
-use Rattle.cbor_diag.specs.declared.parse.binary.head.Info.{Info}
-use Rattle.cbor_diag.specs.declared.parse.binary.head.Info.TheVariants as info
-use Rattle.cbor_diag.specs.declared.parse.binary.head.ItemHead.TheVariants as item_head
+use Rattle.cbor_diag.specs.Argument.{Argument, number, indefinite}
 use Rattle.cbor_diag.specs.Refused.{CutHead, cut_head, BadHead, no_info, no_length}
-use Rattle.cbor_diag.specs.Reading.{◌>>=◌, read_number, read_wide, read_info, unnumbered, head_of, read_head}
+use Rattle.cbor_diag.specs.Reading.{◌>>=◌, read_number, read_wide, read_argument, numbered, head_of, read_head}
 use Rattle.cbor_diag.proofs.bytes.Heads.{IsBytes, IsBytes-rest, bind_err, branch, info_takes}
 
 -- a step's refusal is the refusal
@@ -31,7 +29,7 @@ wide_refused : (w : Width) (width : IntegerWidth) (b : List ℕ) (e : Error) →
     → (length b < byte_len w) × (refusal.CutShort ≡ e)
 unfolding read_wide
 wide_refused w width b e h =
-    elim (bind_err (read_number w b) (λ n. Ok (info.Number n.0 width, n.1)) e h) [
+    elim (bind_err (read_number w b) (λ n. Ok (number n.0 width, n.1)) e h) [
       | inl short ↦ elim (branch (ltb (length b) (byte_len w)) (Err refusal.CutShort)
           (Ok (from_be_bytes w (take (byte_len w) b), drop (byte_len w) b)) (Err e) short) [
             | inl t ↦ (ltb-true _ _ t.0, cc)
@@ -51,8 +49,8 @@ cut_width w width bits k b e small is len h =
     let c = wide_refused w width b e h in
     subst (λ (d : Error). InfoRefusal bits b d) c.1 (cut_info k small is (rw (← len) c.0))
 
-pub info_refused : (bits : ℕ) (b : List ℕ) (e : Error) → bits < 32 → read_info bits b ≡ Err e → InfoRefusal bits b e
-unfolding read_info
+pub info_refused : (bits : ℕ) (b : List ℕ) (e : Error) → bits < 32 → read_argument bits b ≡ Err e → InfoRefusal bits b e
+unfolding read_argument
 info_refused bits b e small h =
     elim (branch (ltb bits 24) _ _ (Err e) h) [
       | inl t ↦ absurd cc
@@ -82,8 +80,8 @@ info_refused bits b e small h =
       ]
     ]
 
-pub info_refuses : (bits : ℕ) (b : List ℕ) (e : Error) → InfoRefusal bits b e → read_info bits b ≡ Err e
-unfolding read_info
+pub info_refuses : (bits : ℕ) (b : List ℕ) (e : Error) → InfoRefusal bits b e → read_argument bits b ≡ Err e
+unfolding read_argument
 info_refuses bits b e (cut_info zero small is short) = rw is (wide_cut w8 Eight b short)
 info_refuses bits b e (cut_info (suc zero) small is short) = rw is (wide_cut w16 Sixteen b short)
 info_refuses bits b e (cut_info (suc (suc zero)) small is short) = rw is (wide_cut w32 ThirtyTwo b short)
@@ -100,8 +98,8 @@ info_refuses bits b e (bad_info least most) =
     ) refl
 
 -- info 31 asks for no bytes
-pub info_opens : (bits : ℕ) (b : List ℕ) → bits ≡ 31 → read_info bits b ≡ Ok (info.Indefinite, b)
-unfolding read_info
+pub info_opens : (bits : ℕ) (b : List ℕ) → bits ≡ 31 → read_argument bits b ≡ Ok (indefinite, b)
+unfolding read_argument
 info_opens bits b is = rw is refl
 
 -- ---- a head
@@ -112,10 +110,26 @@ pub data HeadRefusal : List ℕ → Error → Type 0 where
   short_head : {b : List ℕ} → CutHead b → HeadRefusal b refusal.CutShort
   bad_head : {b : List ℕ} → BadHead b → HeadRefusal b refusal.Head
 
-unnumbered_refused : (major : ℕ) (e : Error) → unnumbered major ≡ Err e
-    → ((major ≤ 1) ⊎ (6 ≤ major)) × (refusal.Head ≡ e)
-unfolding unnumbered
-unnumbered_refused major e h =
+-- where a major type has no head with this argument
+numbered_refused : (major : ℕ) (a : Argument) (e : Error) → numbered major a ≡ Err e
+    → (a ≡ indefinite) × (refusal.Head ≡ e)
+numbered_refused major (number n w) e h =
+    elim (branch (eqb major 0) _ _ (Err e) h) [
+      | inl t ↦ absurd cc
+      | inr t0 ↦ elim (branch (eqb major 1) _ _ (Err e) t0.1) [
+        | inl t ↦ absurd cc
+        | inr t1 ↦ elim (branch (eqb major 6) _ _ (Err e) t1.1) [
+          | inl t ↦ absurd cc
+          | inr t2 ↦ absurd cc
+        ]
+      ]
+    ]
+numbered_refused major indefinite e h = (refl, cc)
+
+head_of_refused : (major : ℕ) (a : Argument) (e : Error) → head_of major a ≡ Err e
+    → (a ≡ indefinite) × ((major ≤ 1) ⊎ (6 ≤ major)) × (refusal.Head ≡ e)
+unfolding head_of
+head_of_refused major a e h =
     elim (branch (eqb major 2) _ _ (Err e) h) [
       | inl t ↦ absurd cc
       | inr t0 ↦ elim (branch (eqb major 3) _ _ (Err e) t0.1) [
@@ -124,56 +138,45 @@ unnumbered_refused major e h =
           | inl t ↦ absurd cc
           | inr t2 ↦ elim (branch (eqb major 5) _ _ (Err e) t2.1) [
             | inl t ↦ absurd cc
-            | inr t3 ↦ elim (branch (eqb major 7) _ _ (Err e) t3.1) [
-              | inl t ↦ absurd cc
-              | inr t4 ↦
-                  let not2 : major ≡ 2 → ⊥ = eqb-false _ _ t0.0 in
-                  let not3 : major ≡ 3 → ⊥ = eqb-false _ _ t1.0 in
-                  let not4 : major ≡ 4 → ⊥ = eqb-false _ _ t2.0 in
-                  let not5 : major ≡ 5 → ⊥ = eqb-false _ _ t3.0 in
-                  (grind arith, cc)
-            ]
+            | inr t3 ↦
+                let not2 : major ≡ 2 → ⊥ = eqb-false _ _ t0.0 in
+                let not3 : major ≡ 3 → ⊥ = eqb-false _ _ t1.0 in
+                let not4 : major ≡ 4 → ⊥ = eqb-false _ _ t2.0 in
+                let not5 : major ≡ 5 → ⊥ = eqb-false _ _ t3.0 in
+                let only = numbered_refused major a e t3.1 in
+                (only.0, grind arith, only.1)
           ]
         ]
       ]
     ]
 
-unnumbered_refuses : (major : ℕ) → (major ≤ 1) ⊎ (6 ≤ major) → (major ≡ 7 → ⊥) → unnumbered major ≡ Err refusal.Head
-unfolding unnumbered
-unnumbered_refuses major (inl small) other =
-    rw (
-      ne_eqb major 2 (omega arith),
-      ne_eqb major 3 (omega arith),
-      ne_eqb major 4 (omega arith),
-      ne_eqb major 5 (omega arith),
-      ne_eqb major 7 other,
-    ) refl
-unnumbered_refuses major (inr large) other =
-    rw (
-      ne_eqb major 2 (omega arith),
-      ne_eqb major 3 (omega arith),
-      ne_eqb major 4 (omega arith),
-      ne_eqb major 5 (omega arith),
-      ne_eqb major 7 other,
-    ) refl
+head_of_refuses : (major : ℕ) → (major ≤ 1) ⊎ (6 ≤ major) → head_of major indefinite ≡ Err refusal.Head
+unfolding head_of
+head_of_refuses major outside =
+    let not2 : major ≡ 2 → ⊥ = λ is. grind arith in
+    let not3 : major ≡ 3 → ⊥ = λ is. grind arith in
+    let not4 : major ≡ 4 → ⊥ = λ is. grind arith in
+    let not5 : major ≡ 5 → ⊥ = λ is. grind arith in
+    rw (ne_eqb major 2 not2, ne_eqb major 3 not3, ne_eqb major 4 not4, ne_eqb major 5 not5) refl
 
 info_head : (first : ℕ) (b : List ℕ) (e : Error) → InfoRefusal (first % 32) b e → HeadRefusal (first ∷ b) e
 info_head first b e (cut_info k small is short) = short_head (cut_head k small is short)
 info_head first b e (bad_info least most) = bad_head (no_info least most)
 
-unread : (first : ℕ) (b rest : List ℕ) (i : Info) (e : Error) → IsBytes b → read_info (first % 32) b ≡ Ok (i, rest)
-    → head_of (first / 32) i ≡ Err e → HeadRefusal (first ∷ b) e
-unread first b rest (info.Number n w) e fits read h = absurd cc
-unread first b rest info.Indefinite e fits read h =
-    let u = unnumbered_refused (first / 32) e h in
-    let t = info_takes (first % 32) b rest info.Indefinite fits read in
-    subst (λ (d : Error). HeadRefusal (first ∷ b) d) u.1 (bad_head (no_length t.0 u.0))
+unread : (first : ℕ) (b rest : List ℕ) (a : Argument) (e : Error) → IsBytes b → read_argument (first % 32) b ≡ Ok (a, rest)
+    → head_of (first / 32) a ≡ Err e → HeadRefusal (first ∷ b) e
+unread first b rest a e fits read h =
+    let u = head_of_refused (first / 32) a e h in
+    let none : read_argument (first % 32) b ≡ Ok (indefinite, rest) =
+    read ∙ ap (λ (x : Argument). Ok (x, rest)) u.0 in
+    let t = info_takes (first % 32) b rest indefinite fits none in
+    subst (λ (d : Error). HeadRefusal (first ∷ b) d) u.2 (bad_head (no_length t.0 u.1))
 
 pub head_refused : (b : List ℕ) (e : Error) → IsBytes b → read_head b ≡ Err e → HeadRefusal b e
 unfolding read_head
 head_refused [] e fits h = let is : refusal.CutShort ≡ e = cc in subst (λ (d : Error). HeadRefusal [] d) is no_head
 head_refused (first ∷ b) e fits h =
-    elim (bind_err (read_info (first % 32) b) (λ i. head_of (first / 32) i.0 >>= λ h. Ok (h, i.1)) e h) [
+    elim (bind_err (read_argument (first % 32) b) (λ i. head_of (first / 32) i.0 >>= λ h. Ok (h, i.1)) e h) [
       | inl refused ↦ info_head first b e (info_refused (first % 32) b e (omega arith) refused)
       | inr read ↦ elim (bind_err (head_of (first / 32) read.0.0) (λ h. Ok (h, read.0.1)) e read.2) [
         | inl refused ↦ unread first b read.0.1 read.0.0 e (IsBytes-rest first b fits) read.1 refused
@@ -186,14 +189,9 @@ unfolding read_head
 head_cut b (cut_head {first = first} {rest = rest} k small is short) =
     rw (info_refuses (first % 32) rest refusal.CutShort (cut_info k small is short)) refl
 
--- the head is refused, or it is a break, which is refused after it
-pub head_bad : (b : List ℕ) → BadHead b → (read_head b ≡ Err refusal.Head)
-    ⊎ ((rest : List ℕ) × (read_head b ≡ Ok (item_head.Break, rest)))
-unfolding read_head unnumbered
+pub head_bad : (b : List ℕ) → BadHead b → read_head b ≡ Err refusal.Head
+unfolding read_head
 head_bad b (no_info {first = first} {rest = rest} least most) =
-    inl (rw (info_refuses (first % 32) rest refusal.Head (bad_info least most)) refl)
+    rw (info_refuses (first % 32) rest refusal.Head (bad_info least most)) refl
 head_bad b (no_length {first = first} {rest = rest} is major) =
-    elim (cases_eq (first / 32) 7) [
-      | inl seven ↦ inr (rest, rw (info_opens (first % 32) rest is, seven) refl)
-      | inr other ↦ inl (rw (info_opens (first % 32) rest is, unnumbered_refuses (first / 32) major other) refl)
-    ]
+    rw (info_opens (first % 32) rest is, head_of_refuses (first / 32) major) refl

@@ -14,14 +14,14 @@ use Rattle.cbor_diag.specs.declared.syntax.IntegerWidth.TheVariants.{SixtyFour}
 use Rattle.cbor_diag.specs.declared.syntax.FloatWidth.TheVariants as float_width
 use Rattle.cbor_diag.specs.declared.error.Error.{Error}
 use Rattle.cbor_diag.specs.declared.error.Error.TheVariants as refusal
-use Rattle.cbor_diag.specs.declared.parse.binary.head.Info.{Info}
-use Rattle.cbor_diag.specs.declared.parse.binary.head.Info.TheVariants as info
-use Rattle.cbor_diag.specs.declared.parse.binary.head.ItemHead.{ItemHead}
-use Rattle.cbor_diag.specs.declared.parse.binary.head.ItemHead.TheVariants as item_head
+use Rattle.cbor_diag.specs.Argument.{Argument, number, indefinite}
+use Rattle.cbor_diag.specs.ItemHead as item_head
+use Rattle.cbor_diag.specs.ItemHead.{ItemHead}
+use Rattle.cbor_diag.specs.StringKind.{bytes_kind, text_kind, major_of}
 use Rattle.cbor_diag.specs.Head.{FitsStated, head, opening, break_byte, HeadThen}
 use Rattle.cbor_diag.specs.Bytes.{any, SpellsSimple}
-use Rattle.cbor_diag.specs.Reading.{◌>>=◌, read_number, read_wide, read_info, simple_or_float, numbered, unnumbered}
-use Rattle.cbor_diag.specs.Reading.{head_of, read_head}
+use Rattle.cbor_diag.specs.Reading.{Read, ◌>>=◌, Counted, go_on, ◌>>-◌, read_number, read_wide, read_argument}
+use Rattle.cbor_diag.specs.Reading.{simple_or_float, head_of, read_head}
 
 -- ---- bytes
 
@@ -54,6 +54,23 @@ pub bind_err : {A B : Type 0} (r : Result A Error) (f : A → Result B Error) (e
     → (r ≡ Err e) ⊎ ((x : A) × (r ≡ Ok x) × (f x ≡ Err e))
 bind_err (Ok x) f e h = inr (x, refl, h)
 bind_err (Err d) f e h = inl cc
+
+-- the same of counted steps
+pub then_ok : {A B : Type 0} (c : Counted A) (f : A × List ℕ → Counted B) (y : B × List ℕ) → (c >>- f).1 ≡ Ok y
+    → (x : A × List ℕ) × (c.1 ≡ Ok x) × ((f x).1 ≡ Ok y)
+then_ok {A = A} {B = B} c f y e = go c.0 c.1 e
+  where
+    go : (n : ℕ) (r : Read A) → (go_on n r f).1 ≡ Ok y → (x : A × List ℕ) × (r ≡ Ok x) × ((f x).1 ≡ Ok y)
+    go n (Ok x) e = (x, refl, e)
+    go n (Err d) e = absurd cc
+
+pub then_err : {A B : Type 0} (c : Counted A) (f : A × List ℕ → Counted B) (e : Error) → (c >>- f).1 ≡ Err e
+    → (c.1 ≡ Err e) ⊎ ((x : A × List ℕ) × (c.1 ≡ Ok x) × ((f x).1 ≡ Err e))
+then_err {A = A} {B = B} c f e h = go c.0 c.1 h
+  where
+    go : (n : ℕ) (r : Read A) → (go_on n r f).1 ≡ Err e → (r ≡ Err e) ⊎ ((x : A × List ℕ) × (r ≡ Ok x) × ((f x).1 ≡ Err e))
+    go n (Ok x) h = inr (x, refl, h)
+    go n (Err d) h = inl cc
 
 -- the branch that a test took
 pub branch : {A : Type 0} (t : Bool) (x y z : A) → cond t x y ≡ z → ((t ≡ true) × (x ≡ z)) ⊎ ((t ≡ false) × (y ≡ z))
@@ -188,49 +205,49 @@ head_parts major n ThirtyTwo fits = (refl, omega arith)
 head_parts major n SixtyFour fits = (refl, omega arith)
 
 -- what follows five bits of info
-abbrev pub InfoIs : ℕ → Info → List ℕ → List ℕ → Type 0
-InfoIs bits (info.Number n w) b rest = FitsStated w n × (bits ≡ bits_of w n) × (b ≡ number_bytes w n ++ rest)
+abbrev pub ArgumentIs : ℕ → Argument → List ℕ → List ℕ → Type 0
+ArgumentIs bits (number n w) b rest = FitsStated w n × (bits ≡ bits_of w n) × (b ≡ number_bytes w n ++ rest)
     × IsBytes rest
-InfoIs bits info.Indefinite b rest = (bits ≡ 31) × (b ≡ rest) × IsBytes rest
+ArgumentIs bits indefinite b rest = (bits ≡ 31) × (b ≡ rest) × IsBytes rest
 
-wide_takes : (wide_w : Width) (limit : ℕ) (wide : IsWide wide_w limit) (w : IntegerWidth) (b rest : List ℕ) (i : Info)
-    → IsBytes b → read_wide wide_w w b ≡ Ok (i, rest) → (n : ℕ) × (info.Number n w ≡ i) × (n < limit)
+wide_takes : (wide_w : Width) (limit : ℕ) (wide : IsWide wide_w limit) (w : IntegerWidth) (b rest : List ℕ) (i : Argument)
+    → IsBytes b → read_wide wide_w w b ≡ Ok (i, rest) → (n : ℕ) × (number n w ≡ i) × (n < limit)
     × (b ≡ to_be_bytes wide_w n ++ rest) × IsBytes rest
 unfolding read_wide
 wide_takes wide_w limit wide w b rest i fits e =
-    let a = bind_ok (read_number wide_w b) (λ n. Ok (info.Number n.0 w, n.1)) (i, rest) e in
+    let a = bind_ok (read_number wide_w b) (λ n. Ok (number n.0 w, n.1)) (i, rest) e in
     let n : ℕ = a.0.0 in
-    let made : (info.Number n w, a.0.1) ≡ (i, rest) = ok_is (info.Number n w, a.0.1) (i, rest) a.2 in
-    let rest-is : a.0.1 ≡ rest = ap (λ (p : Info × List ℕ). p.1) made in
+    let made : (number n w, a.0.1) ≡ (i, rest) = ok_is (number n w, a.0.1) (i, rest) a.2 in
+    let rest-is : a.0.1 ≡ rest = ap (λ (p : Argument × List ℕ). p.1) made in
     let t = number_takes wide_w limit wide b n a.0.1 fits a.1 in (
       n,
-      ap (λ (p : Info × List ℕ). p.0) made,
+      ap (λ (p : Argument × List ℕ). p.0) made,
       t.1,
       subst (λ (r : List ℕ). b ≡ to_be_bytes wide_w n ++ r) rest-is t.0,
       subst IsBytes rest-is t.2,
     )
 
 wide_again : (wide_w : Width) (limit : ℕ) (wide : IsWide wide_w limit) (w : IntegerWidth) (n : ℕ) (rest : List ℕ)
-    → n < limit → read_wide wide_w w (to_be_bytes wide_w n ++ rest) ≡ Ok (info.Number n w, rest)
+    → n < limit → read_wide wide_w w (to_be_bytes wide_w n ++ rest) ≡ Ok (number n w, rest)
 unfolding read_wide
 wide_again wide_w limit wide w n rest lt = rw (number_again wide_w limit wide n rest lt) refl
 
 wide_is : (bits : ℕ) (wide_w : Width) (limit : ℕ) (wide : IsWide wide_w limit) (w : IntegerWidth) (b rest : List ℕ)
-    (i : Info) → IsBytes b → read_wide wide_w w b ≡ Ok (i, rest)
-    → ((n : ℕ) → n < limit → b ≡ to_be_bytes wide_w n ++ rest → IsBytes rest → InfoIs bits (info.Number n w) b rest)
-    → InfoIs bits i b rest
+    (i : Argument) → IsBytes b → read_wide wide_w w b ≡ Ok (i, rest)
+    → ((n : ℕ) → n < limit → b ≡ to_be_bytes wide_w n ++ rest → IsBytes rest → ArgumentIs bits (number n w) b rest)
+    → ArgumentIs bits i b rest
 wide_is bits wide_w limit wide w b rest i fits e found =
     let t = wide_takes wide_w limit wide w b rest i fits e in
-    subst (λ (x : Info). InfoIs bits x b rest) t.1 (found t.0 t.2 t.3 t.4)
+    subst (λ (x : Argument). ArgumentIs bits x b rest) t.1 (found t.0 t.2 t.3 t.4)
 
-pub info_takes : (bits : ℕ) (b rest : List ℕ) (i : Info) → IsBytes b → read_info bits b ≡ Ok (i, rest)
-    → InfoIs bits i b rest
-unfolding read_info
+pub info_takes : (bits : ℕ) (b rest : List ℕ) (i : Argument) → IsBytes b → read_argument bits b ≡ Ok (i, rest)
+    → ArgumentIs bits i b rest
+unfolding read_argument
 info_takes bits b rest i fits e =
     elim (cases_lt bits 24) [
       | inl lt ↦
-          let read : done (info.Number bits Zero, b) ≡ Ok (i, rest) = rw (lt-ltb bits 24 lt) at e in
-          subst (λ (p : Info × List ℕ). InfoIs bits p.0 b p.1) (ok_is (info.Number bits Zero, b) (i, rest) read)
+          let read : done (number bits Zero, b) ≡ Ok (i, rest) = rw (lt-ltb bits 24 lt) at e in
+          subst (λ (p : Argument × List ℕ). ArgumentIs bits p.0 b p.1) (ok_is (number bits Zero, b) (i, rest) read)
           (lt, refl, refl, fits)
       | inr le ↦ elim (cases_eq bits 24) [
         | inl is ↦ wide_is bits w8 (2 ^ 8) wide8 Eight b rest i fits (rw is at e)
@@ -246,11 +263,11 @@ info_takes bits b rest i fits e =
                   (λ n lt parts others. (lt, is, parts, others))
               | inr no27 ↦ elim (cases_eq bits 31) [
                 | inl is ↦
-                    let read : done (info.Indefinite, b) ≡ Ok (i, rest) = rw is at e in
-                    subst (λ (p : Info × List ℕ). InfoIs bits p.0 b p.1) (ok_is (info.Indefinite, b) (i, rest) read)
+                    let read : done (indefinite, b) ≡ Ok (i, rest) = rw is at e in
+                    subst (λ (p : Argument × List ℕ). ArgumentIs bits p.0 b p.1) (ok_is (indefinite, b) (i, rest) read)
                     (is, refl, fits)
                 | inr no31 ↦
-                    let wrong : refused {A = Info × List ℕ} refusal.Head ≡ Ok (i, rest) =
+                    let wrong : refused {A = Argument × List ℕ} refusal.Head ≡ Ok (i, rest) =
                     rw (
                       le-ltb bits 24 le,
                       ne_eqb bits 24 no24,
@@ -268,8 +285,8 @@ info_takes bits b rest i fits e =
     ]
 
 pub info_again : (w : IntegerWidth) (n : ℕ) (rest : List ℕ) → FitsStated w n
-    → read_info (bits_of w n) (number_bytes w n ++ rest) ≡ Ok (info.Number n w, rest)
-unfolding read_info
+    → read_argument (bits_of w n) (number_bytes w n ++ rest) ≡ Ok (number n w, rest)
+unfolding read_argument
 info_again Unknown n rest fits = absurd fits
 info_again Zero n rest fits = rw (lt-ltb n 24 fits) refl
 info_again Eight n rest fits = wide_again w8 (2 ^ 8) wide8 Eight n rest fits
@@ -279,27 +296,26 @@ info_again SixtyFour n rest fits = wide_again w64 (2 ^ 64) wide64 SixtyFour n re
 
 -- ---- heads
 
+-- a head with that argument, and then the rest
+abbrev pub ArgumentThen : ℕ → Argument → List ℕ → List ℕ → Type 0
+ArgumentThen major (number n w) b rest = HeadThen major n w b (λ r. r ≡ rest)
+ArgumentThen major indefinite b rest = b ≡ opening major ∷ rest
+
 -- what a head is in bytes, with the bytes after it
 abbrev pub HeadIs : ItemHead → List ℕ → List ℕ → Type 0
-HeadIs (item_head.Integer n w) b rest = HeadThen 0 n w b (λ r. r ≡ rest)
-HeadIs (item_head.Negative n w) b rest = HeadThen 1 n w b (λ r. r ≡ rest)
-HeadIs (item_head.Bytes n w) b rest = HeadThen 2 n w b (λ r. r ≡ rest)
-HeadIs (item_head.Text n w) b rest = HeadThen 3 n w b (λ r. r ≡ rest)
-HeadIs (item_head.Array n w) b rest = HeadThen 4 n w b (λ r. r ≡ rest)
-HeadIs (item_head.Map n w) b rest = HeadThen 5 n w b (λ r. r ≡ rest)
-HeadIs (item_head.Tag n w) b rest = HeadThen 6 n w b (λ r. r ≡ rest)
-HeadIs (item_head.Float bits float_width.Unknown) b rest = ⊥
-HeadIs (item_head.Float bits float_width.Sixteen) b rest = (bits < 2 ^ 16) × (b ≡ (249 ∷ to_be_bytes w16 bits) ++ rest)
-HeadIs (item_head.Float bits float_width.ThirtyTwo) b rest = (bits < 2 ^ 32)
+HeadIs (item_head.integer n w) b rest = HeadThen 0 n w b (λ r. r ≡ rest)
+HeadIs (item_head.negative n w) b rest = HeadThen 1 n w b (λ r. r ≡ rest)
+HeadIs (item_head.string kind a) b rest = ArgumentThen (major_of kind) a b rest
+HeadIs (item_head.array a) b rest = ArgumentThen 4 a b rest
+HeadIs (item_head.map a) b rest = ArgumentThen 5 a b rest
+HeadIs (item_head.tag n w) b rest = HeadThen 6 n w b (λ r. r ≡ rest)
+HeadIs (item_head.float bits float_width.Unknown) b rest = ⊥
+HeadIs (item_head.float bits float_width.Sixteen) b rest = (bits < 2 ^ 16) × (b ≡ (249 ∷ to_be_bytes w16 bits) ++ rest)
+HeadIs (item_head.float bits float_width.ThirtyTwo) b rest = (bits < 2 ^ 32)
     × (b ≡ (250 ∷ to_be_bytes w32 bits) ++ rest)
-HeadIs (item_head.Float bits float_width.SixtyFour) b rest = (bits < 2 ^ 64)
+HeadIs (item_head.float bits float_width.SixtyFour) b rest = (bits < 2 ^ 64)
     × (b ≡ (251 ∷ to_be_bytes w64 bits) ++ rest)
-HeadIs (item_head.Simple n) b rest = (x : List ℕ) × (b ≡ x ++ rest) × SpellsSimple any x n
-HeadIs item_head.OpenBytes b rest = b ≡ opening 2 ∷ rest
-HeadIs item_head.OpenText b rest = b ≡ opening 3 ∷ rest
-HeadIs item_head.OpenArray b rest = b ≡ opening 4 ∷ rest
-HeadIs item_head.OpenMap b rest = b ≡ opening 5 ∷ rest
-HeadIs item_head.Break b rest = b ≡ break_byte ∷ rest
+HeadIs (item_head.simple n) b rest = (x : List ℕ) × (b ≡ x ++ rest) × SpellsSimple any x n
 
 -- a head with more bytes after it
 pub head_append : (major n : ℕ) (w : IntegerWidth) (b more : List ℕ) (Rest More : List ℕ → Type 0)
@@ -333,7 +349,7 @@ pub record Opened (major n : ℕ) (w : IntegerWidth) (b rest : List ℕ) : Type 
   pub parts : b ≡ first ∷ tail
   pub major_is : first / 32 ≡ major
   pub bits_are : first % 32 < 28
-  pub info_is : read_info (first % 32) tail ≡ Ok (info.Number n w, rest)
+  pub info_is : read_argument (first % 32) tail ≡ Ok (number n w, rest)
 
 pub opened : (major n : ℕ) (w : IntegerWidth) (b rest : List ℕ) → HeadThen major n w b (λ r. r ≡ rest)
     → Opened major n w b rest
@@ -351,23 +367,19 @@ opened major n w b rest h =
       info_is = rw bits-is (info_again w n rest h.0);
     }
 
-pub head_again : (major n : ℕ) (w : IntegerWidth) (b rest : List ℕ) → major ≤ 7 → HeadThen major n w b (λ r. r ≡ rest)
-    → read_head b ≡ Ok (numbered major n w, rest)
-unfolding read_head
-head_again major n w b rest le h =
-    let o = opened major n w b rest h in
-    ap read_head o.parts ∙ rw (o.info_is, o.major_is) refl
-
-pub open_again : (major : ℕ) (h : ItemHead) (rest : List ℕ) → major ≤ 7 → unnumbered major ≡ Ok h
-    → read_head (opening major ∷ rest) ≡ Ok (h, rest)
-unfolding read_head read_info
-open_again major h rest le e =
+pub head_again : (major : ℕ) (a : Argument) (h : ItemHead) (b rest : List ℕ) → major ≤ 7 → ArgumentThen major a b rest
+    → head_of major a ≡ Ok h → read_head b ≡ Ok (h, rest)
+unfolding read_head read_argument
+head_again major (number n w) h b rest le is e =
+    let o = opened major n w b rest is in
+    ap read_head o.parts ∙ rw (o.info_is, o.major_is, e) refl
+head_again major indefinite h b rest le is e =
     let bits-are : (32 * major + 31) % 32 ≡ 31 = omega arith in
     let major-is : (32 * major + 31) / 32 ≡ major = omega arith in
-    rw (bits-are, major-is, e) refl
+    ap read_head is ∙ rw (bits-are, major-is, e) refl
 
 -- a number after the first byte is a head
-pub head_then : (major bits n : ℕ) (w : IntegerWidth) (b rest : List ℕ) → InfoIs bits (info.Number n w) b rest
+pub head_then : (major bits n : ℕ) (w : IntegerWidth) (b rest : List ℕ) → ArgumentIs bits (number n w) b rest
     → HeadThen major n w ((32 * major + bits) ∷ b) (λ r. r ≡ rest)
 head_then major bits n w b rest i =
     let p = head_parts major n w i.0 in
@@ -375,7 +387,7 @@ head_then major bits n w b rest i =
     (i.0, rest, is, refl)
 
 -- simple values and floats
-simple_takes : (bits n : ℕ) (w : IntegerWidth) (b rest : List ℕ) → InfoIs bits (info.Number n w) b rest
+simple_takes : (bits n : ℕ) (w : IntegerWidth) (b rest : List ℕ) → ArgumentIs bits (number n w) b rest
     → HeadIs (simple_or_float n w) ((224 + bits) ∷ b) rest
 simple_takes bits n Unknown b rest i = absurd i.0
 simple_takes bits n Zero b rest i = ((224 + n) ∷ [], rw (i.1, i.2) refl, inl (i.0, refl))
@@ -400,50 +412,45 @@ at_majors P a b c d e f g h (suc (suc (suc (suc (suc (suc zero)))))) le = g
 at_majors P a b c d e f g h (suc (suc (suc (suc (suc (suc (suc zero))))))) le = h
 at_majors P a b c d e f g h (suc (suc (suc (suc (suc (suc (suc (suc m)))))))) le = absurd (omega arith)
 
-numbered_takes : (bits n : ℕ) (w : IntegerWidth) (b rest : List ℕ) → InfoIs bits (info.Number n w) b rest → (major : ℕ)
-    → major ≤ 7 → HeadIs (numbered major n w) ((32 * major + bits) ∷ b) rest
-unfolding numbered
-numbered_takes bits n w b rest i =
-    at_majors (λ m. HeadIs (numbered m n w) ((32 * m + bits) ∷ b) rest) (head_then 0 bits n w b rest i)
-    (head_then 1 bits n w b rest i) (head_then 2 bits n w b rest i) (head_then 3 bits n w b rest i)
-    (head_then 4 bits n w b rest i) (head_then 5 bits n w b rest i) (head_then 6 bits n w b rest i)
-    (simple_takes bits n w b rest i)
+-- what a head of each major type and with this argument is
+head_of_takes : (bits : ℕ) (a : Argument) (b rest : List ℕ) (h : ItemHead) → ArgumentIs bits a b rest → (major : ℕ)
+    → major ≤ 7 → head_of major a ≡ Ok h → HeadIs h ((32 * major + bits) ∷ b) rest
+unfolding head_of
+head_of_takes bits (number n w) b rest h is =
+    let found = λ (o : ItemHead) (first : ℕ) (this : HeadIs o (first ∷ b) rest) (e : done o ≡ Ok h).
+    subst (λ (x : ItemHead). HeadIs x (first ∷ b) rest) (ok_is o h e) this in
+    let then = λ (major : ℕ). head_then major bits n w b rest is in
+    at_majors (λ m. head_of m (number n w) ≡ Ok h → HeadIs h ((32 * m + bits) ∷ b) rest)
+    (found (item_head.integer n w) (32 * 0 + bits) (then 0)) (found (item_head.negative n w) (32 * 1 + bits) (then 1))
+    (found (item_head.string bytes_kind (number n w)) (32 * 2 + bits) (then 2))
+    (found (item_head.string text_kind (number n w)) (32 * 3 + bits) (then 3))
+    (found (item_head.array (number n w)) (32 * 4 + bits) (then 4))
+    (found (item_head.map (number n w)) (32 * 5 + bits) (then 5)) (found (item_head.tag n w) (32 * 6 + bits) (then 6))
+    (found (simple_or_float n w) (32 * 7 + bits) (simple_takes bits n w b rest is))
+head_of_takes bits indefinite b rest h is =
+    let found = λ (o : ItemHead) (first : ℕ) (this : HeadIs o (first ∷ b) rest) (e : done o ≡ Ok h).
+    subst (λ (x : ItemHead). HeadIs x (first ∷ b) rest) (ok_is o h e) this in
+    let behind : (first : ℕ) → (first ∷ b) ≡ first ∷ rest = λ first. ap (λ (r : List ℕ). first ∷ r) is.1 in
+    rw is.0 (at_majors (λ m. head_of m indefinite ≡ Ok h → HeadIs h ((32 * m + 31) ∷ b) rest) (λ e. absurd cc)
+    (λ e. absurd cc) (found (item_head.string bytes_kind indefinite) 95 (behind 95))
+    (found (item_head.string text_kind indefinite) 127 (behind 127))
+    (found (item_head.array indefinite) 159 (behind 159)) (found (item_head.map indefinite) 191 (behind 191))
+    (λ e. absurd cc) (λ e. absurd cc))
 
-unnumbered_takes : (b rest : List ℕ) (h : ItemHead) → b ≡ rest → (major : ℕ) → major ≤ 7 → unnumbered major ≡ Ok h
-    → HeadIs h ((32 * major + 31) ∷ b) rest
-unfolding unnumbered
-unnumbered_takes b rest h is =
-    let found : (o : ItemHead) (first : ℕ) → HeadIs o (first ∷ b) rest → done o ≡ Ok h
-    → HeadIs h (first ∷ b) rest = λ o first this e. subst (λ (x : ItemHead). HeadIs x (first ∷ b) rest)
-    (ok_is o h e) this in
-    let behind : (first : ℕ) → (first ∷ b) ≡ first ∷ rest = λ first. ap (λ (r : List ℕ). first ∷ r) is in
-    at_majors (λ m. unnumbered m ≡ Ok h → HeadIs h ((32 * m + 31) ∷ b) rest) (λ e. absurd cc) (λ e. absurd cc)
-    (found item_head.OpenBytes 95 (behind 95)) (found item_head.OpenText 127 (behind 127))
-    (found item_head.OpenArray 159 (behind 159)) (found item_head.OpenMap 191 (behind 191)) (λ e. absurd cc)
-    (found item_head.Break 255 (behind 255))
-
-info_head_takes : (major bits : ℕ) (i : Info) (b rest : List ℕ) (h : ItemHead) → major ≤ 7 → InfoIs bits i b rest
-    → head_of major i ≡ Ok h → HeadIs h ((32 * major + bits) ∷ b) rest
-info_head_takes major bits (info.Number n w) b rest h le is e =
-    subst (λ (x : ItemHead). HeadIs x ((32 * major + bits) ∷ b) rest) (ok_is (numbered major n w) h e)
-    (numbered_takes bits n w b rest is major le)
-info_head_takes major bits info.Indefinite b rest h le is e =
-    rw is.0 (unnumbered_takes b rest h is.1 major le e)
-
-pub info_rest : (bits : ℕ) (i : Info) (b rest : List ℕ) → InfoIs bits i b rest → IsBytes rest
-info_rest bits (info.Number n w) b rest is = is.3
-info_rest bits info.Indefinite b rest is = is.2
+pub argument_rest : (bits : ℕ) (a : Argument) (b rest : List ℕ) → ArgumentIs bits a b rest → IsBytes rest
+argument_rest bits (number n w) b rest is = is.3
+argument_rest bits indefinite b rest is = is.2
 
 pub head_takes : (b rest : List ℕ) (h : ItemHead) → IsBytes b → read_head b ≡ Ok (h, rest)
     → HeadIs h b rest × IsBytes rest
 unfolding read_head
 head_takes [] rest h fits e = absurd cc
 head_takes (first ∷ b) rest h fits e =
-    let a = bind_ok (read_info (first % 32) b) (λ i. head_of (first / 32) i.0 >>= λ h. Ok (h, i.1)) (h, rest) e in
+    let a = bind_ok (read_argument (first % 32) b) (λ a. head_of (first / 32) a.0 >>= λ h. Ok (h, a.1)) (h, rest) e in
     let c = bind_ok (head_of (first / 32) a.0.0) (λ h. Ok (h, a.0.1)) (h, rest) a.2 in
     let is = info_takes (first % 32) b a.0.1 a.0.0 (IsBytes-rest first b fits) a.1 in
     let byte : first < 256 = fits 0 in
     let whole : 32 * (first / 32) + first % 32 ≡ first = omega arith in
-    let found = info_head_takes (first / 32) (first % 32) a.0.0 b a.0.1 c.0 (omega arith) is c.1 in
+    let found = head_of_takes (first % 32) a.0.0 b a.0.1 c.0 is (first / 32) (omega arith) c.1 in
     subst (λ (x : ItemHead × List ℕ). HeadIs x.0 (first ∷ b) x.1 × IsBytes x.1) (ok_is (c.0, a.0.1) (h, rest) c.2)
-    (rw whole at found, info_rest (first % 32) a.0.0 b a.0.1 is)
+    (rw whole at found, argument_rest (first % 32) a.0.0 b a.0.1 is)

@@ -1,5 +1,5 @@
 -- From what reading gives to what an input is.
-use Rattle.std.proofs.Common.{◌≡◌, ◌≢◌, ℕ, ◌+◌, ◌-◌, ◌<◌, ◌≤◌, List, length, take, Ok, Err, refl, ap, ◌∙◌, arith, inl}
+use Rattle.std.proofs.Common.{◌≡◌, ◌≢◌, ℕ, ◌+◌, ◌-◌, ◌*◌, ◌/◌, ◌%◌, ◌<◌, ◌≤◌, List, length, take, Ok, Err, refl, ap, ◌∙◌, arith, inl}
 use Rattle.std.proofs.Common.{inr}
 use Rattle.std.proofs.lemmas.List.{length-append, take_at}
 use Rattle.cbor_diag.specs.declared.error.Error.{Error}
@@ -7,14 +7,17 @@ use Rattle.cbor_diag.specs.declared.error.Error.TheVariants as refusal
 use Rattle.cbor_diag.specs.declared.syntax.IntegerWidth.{IntegerWidth}
 use Rattle.cbor_diag.specs.declared.syntax.IntegerWidth.TheVariants.{Unknown, Zero, Eight, Sixteen, ThirtyTwo}
 use Rattle.cbor_diag.specs.declared.syntax.IntegerWidth.TheVariants.{SixtyFour}
-use Rattle.cbor_diag.specs.declared.parse.binary.head.ItemHead.{ItemHead}
-use Rattle.cbor_diag.specs.declared.parse.binary.head.ItemHead.TheVariants as item_head
+use Rattle.cbor_diag.specs.Argument.{Argument, number, indefinite}
+use Rattle.cbor_diag.specs.ItemHead as item_head
+use Rattle.cbor_diag.specs.ItemHead.{ItemHead}
+use Rattle.cbor_diag.specs.StringKind.{bytes_kind, text_kind}
 use Rattle.cbor_diag.specs.Item.{Item}
 use Rattle.cbor_diag.specs.Head.{HeadThen}
 use Rattle.cbor_diag.specs.Refused.{Fault, too_deep, bad_head, bad_text, bad_chunk_head, bad_chunk_text, bad_part}
 use Rattle.cbor_diag.specs.Answer.{spelled, IsOutcome, HasOutcome, HasAnswer, MayWantMemory}
-use Rattle.cbor_diag.specs.Reading.{Fails, HoldsContent, read_head, read_item}
-use Rattle.cbor_diag.proofs.bytes.Heads.{IsBytes, HeadIs, head_takes}
+use Rattle.cbor_diag.specs.Reading.{Fails, read_head, read_item}
+use Rattle.cbor_diag.specs.mirror.Counting.{HoldsContent}
+use Rattle.cbor_diag.proofs.bytes.Heads.{IsBytes, ArgumentThen, HeadIs, head_takes}
 use Rattle.cbor_diag.proofs.bytes.Found.{item_takes}
 use Rattle.cbor_diag.proofs.bytes.Faults.{fault_takes}
 
@@ -31,21 +34,21 @@ number_opens major n Sixteen b rest low high h = rw h.2 (omega arith, omega arit
 number_opens major n ThirtyTwo b rest low high h = rw h.2 (omega arith, omega arith, inl (omega arith))
 number_opens major n SixtyFour b rest low high h = rw h.2 (omega arith, omega arith, inl (omega arith))
 
+argument_opens : (major : ℕ) (a : Argument) (b rest : List ℕ) → 2 ≤ major → major ≤ 5 → ArgumentThen major a b rest
+    → MayWantMemory b
+argument_opens major (number n w) b rest low high h = number_opens major n w b rest low (omega arith) h
+argument_opens major indefinite b rest low high h =
+    let info : (32 * major + 31) % 32 ≡ 31 = omega arith in
+    let high_bits : (32 * major + 31) / 32 ≡ major = omega arith in
+    rw h (omega (arith, high_bits), omega (arith, high_bits), inr (info, omega (arith, high_bits)))
+
 head_opens : (b rest : List ℕ) (h : ItemHead) → HeadIs h b rest → HoldsContent h → MayWantMemory b
-head_opens b rest (item_head.Integer n w) is holds = absurd holds
-head_opens b rest (item_head.Negative n w) is holds = absurd holds
-head_opens b rest (item_head.Bytes n w) is holds = number_opens 2 n w b rest (omega arith) (omega arith) is
-head_opens b rest (item_head.Text n w) is holds = number_opens 3 n w b rest (omega arith) (omega arith) is
-head_opens b rest (item_head.Array n w) is holds = number_opens 4 n w b rest (omega arith) (omega arith) is
-head_opens b rest (item_head.Map n w) is holds = number_opens 5 n w b rest (omega arith) (omega arith) is
-head_opens b rest (item_head.Tag n w) is holds = number_opens 6 n w b rest (omega arith) (omega arith) is
-head_opens b rest (item_head.Float bits w) is holds = absurd holds
-head_opens b rest (item_head.Simple n) is holds = absurd holds
-head_opens b rest item_head.OpenBytes is holds = rw is (omega arith, omega arith, inr (refl, omega arith))
-head_opens b rest item_head.OpenText is holds = rw is (omega arith, omega arith, inr (refl, omega arith))
-head_opens b rest item_head.OpenArray is holds = rw is (omega arith, omega arith, inr (refl, omega arith))
-head_opens b rest item_head.OpenMap is holds = rw is (omega arith, omega arith, inr (refl, omega arith))
-head_opens b rest item_head.Break is holds = absurd holds
+head_opens b rest (item_head.string bytes_kind a) is holds = argument_opens 2 a b rest (omega arith) (omega arith) is
+head_opens b rest (item_head.string text_kind a) is holds = argument_opens 3 a b rest (omega arith) (omega arith) is
+head_opens b rest (item_head.array a) is holds = argument_opens 4 a b rest (omega arith) (omega arith) is
+head_opens b rest (item_head.map a) is holds = argument_opens 5 a b rest (omega arith) (omega arith) is
+head_opens b rest (item_head.tag n w) is holds = number_opens 6 n w b rest (omega arith) (omega arith) is
+head_opens b rest h is holds = absurd holds
 
 -- memory is needed only after a head that holds content
 pub memory_opens : (b rest : List ℕ) (h : ItemHead) → IsBytes b → read_head b ≡ Ok (h, rest) → HoldsContent h

@@ -11,16 +11,16 @@ use Rattle.std.proofs.lemmas.Str.{IsUtf8-from_is_utf8, is_utf8-from_IsUtf8}
 use Rattle.cbor_diag.specs.declared.syntax.IntegerWidth.{IntegerWidth}
 use Rattle.cbor_diag.specs.declared.error.Error.{Error}
 use Rattle.cbor_diag.specs.declared.error.Error.TheVariants as refusal
-use Rattle.cbor_diag.specs.declared.parse.binary.head.Info.{Info}
-use Rattle.cbor_diag.specs.declared.parse.binary.head.Info.TheVariants as info
+use Rattle.cbor_diag.specs.Argument.{Argument, number, indefinite}
 use Rattle.cbor_diag.specs.Item.{Chunk}
 use Rattle.cbor_diag.specs.Head.{break_byte, HeadThen}
 use Rattle.cbor_diag.specs.Bytes.{SpellsChunks}
 use Rattle.cbor_diag.specs.StringKind.{StringKind, bytes_kind, text_kind, major_of}
 use Rattle.cbor_diag.specs.Refused.{CutHead, cut_head, BadText, CutChunk, NoChunk, no_chunk}
-use Rattle.cbor_diag.specs.Reading.{◌>>=◌, checked_chunk, read_info, split_at, read_content}
+use Rattle.cbor_diag.specs.Reading.{◌>>=◌, checked_chunk, read_argument, split_at, read_content}
 use Rattle.cbor_diag.specs.Reading.{chunk_of, read_chunk, more_chunks, read_chunks}
-use Rattle.cbor_diag.proofs.bytes.Heads.{IsBytes, IsBytes-rest, bind_err, branch, info_takes, head_then, opened}
+use Rattle.cbor_diag.proofs.bytes.Heads.{IsBytes, IsBytes-rest, bind_err, then_err, branch, info_takes, head_then}
+use Rattle.cbor_diag.proofs.bytes.Heads.{opened}
 use Rattle.cbor_diag.proofs.bytes.Chunks.{chunk_ways, chunk_takes, chunk_again, chunk_with, chunk_parts}
 use Rattle.cbor_diag.proofs.bytes.HeadRefusals.{err_is, InfoRefusal, cut_info, bad_info, info_refused, info_refuses}
 use Rattle.cbor_diag.proofs.bytes.HeadRefusals.{info_opens}
@@ -107,20 +107,20 @@ content_chunk kind n w first b rest e h (short_content short) = cut_chunk (inr (
 content_chunk text_kind n w first b rest e h (bad_content text after parts len no_text) =
     bad_text (n, w, (h.0, h.1, h.2, (text, after, h.3 ∙ parts, len, no_text)))
 
-behind_chunk : (kind : StringKind) (first : ℕ) (b rest : List ℕ) (i : Info) (e : Error) → IsBytes b → first ≢ break_byte
-    → first / 32 ≡ major_of kind → read_info (first % 32) b ≡ Ok (i, rest) → chunk_of kind i rest ≡ Err e
+behind_chunk : (kind : StringKind) (first : ℕ) (b rest : List ℕ) (i : Argument) (e : Error) → IsBytes b → first ≢ break_byte
+    → first / 32 ≡ major_of kind → read_argument (first % 32) b ≡ Ok (i, rest) → chunk_of kind i rest ≡ Err e
     → ChunkRefusal kind (first ∷ b) e
-behind_chunk kind first b rest (info.Number n w) e fits no_break major read h =
+behind_chunk kind first b rest (number n w) e fits no_break major read h =
     elim (bind_err (read_content kind n w rest) (λ c. Ok (Some c.0, c.1)) e h) [
       | inl refused ↦
           let whole : 32 * major_of kind + first % 32 ≡ first = rw (← major) (omega arith) in
           let begins = head_then (major_of kind) (first % 32) n w b rest
-          (info_takes (first % 32) b rest (info.Number n w) fits read) in
+          (info_takes (first % 32) b rest (number n w) fits read) in
           content_chunk kind n w first b rest e (rw whole at begins) (content_refused kind n w rest e refused)
       | inr made ↦ absurd cc
     ]
-behind_chunk kind first b rest info.Indefinite e fits no_break major read h =
-    let t = info_takes (first % 32) b rest info.Indefinite fits read in
+behind_chunk kind first b rest indefinite e fits no_break major read h =
+    let t = info_takes (first % 32) b rest indefinite fits read in
     let is : refusal.Head ≡ e = cc in
     subst (λ (d : Error). ChunkRefusal kind (first ∷ b) d) is
     (bad_chunk (no_chunk no_break (λ h. omega (arith, h.1, t.0))))
@@ -134,7 +134,7 @@ chunk_refused kind (first ∷ b) e fits h =
     elim (chunk_ways kind first b) [
       | inl way ↦ absurd (let wrong = sym way.1 ∙ h in cc)
       | inr ways ↦ elim ways [
-        | inl way ↦ elim (bind_err (read_info (first % 32) b) (λ i. chunk_of kind i.0 i.1) e (sym way.2 ∙ h)) [
+        | inl way ↦ elim (bind_err (read_argument (first % 32) b) (λ i. chunk_of kind i.0 i.1) e (sym way.2 ∙ h)) [
           | inl refused ↦ info_chunk kind first b e way.0 way.1 (info_refused (first % 32) b e (omega arith) refused)
           | inr i ↦ behind_chunk kind first b i.0.1 i.0.0 e (IsBytes-rest first b fits) way.0 way.1 i.1 i.2
         ]
@@ -221,12 +221,12 @@ stop_empty kind [] e bound is = subst (λ (d : Error). ChunksStop kind [] d) is
 stop_empty kind (first ∷ b) e bound is = absurd (omega arith)
 
 stop_later : (n : ℕ) (kind : StringKind) (b rest : List ℕ) (o : Option Chunk) (e : Error) → IsBytes b
-    → read_chunk kind b ≡ Ok (o, rest) → more_chunks (read_chunks n kind) o rest ≡ Err e
-    → (IsBytes rest → length rest < length b → read_chunks n kind rest ≡ Err e → ChunksStop kind rest e)
+    → read_chunk kind b ≡ Ok (o, rest) → (more_chunks (read_chunks n kind) o rest).1 ≡ Err e
+    → (IsBytes rest → length rest < length b → (read_chunks n kind rest).1 ≡ Err e → ChunksStop kind rest e)
     → ChunksStop kind b e
 stop_later n kind b rest None e fits read h later = absurd cc
 stop_later n kind b rest (Some c) e fits read h later =
-    elim (bind_err (read_chunks n kind rest) (λ cs. Ok (c ∷ cs.0, cs.1)) e h) [
+    elim (then_err (read_chunks n kind rest) (λ cs. (0, Ok (c ∷ cs.0, cs.1))) e h) [
       | inl more ↦
           let t = chunk_takes kind b rest c fits read in
           let parts = chunk_parts kind b c (λ r. r ≡ rest) t.0 in
@@ -242,11 +242,11 @@ stop_later n kind b rest (Some c) e fits read h later =
     ]
 
 pub chunks_stop : (n : ℕ) (kind : StringKind) (b : List ℕ) (e : Error) → IsBytes b → length b ≤ n
-    → read_chunks n kind b ≡ Err e → ChunksStop kind b e
+    → (read_chunks n kind b).1 ≡ Err e → ChunksStop kind b e
 unfolding read_chunks
 chunks_stop zero kind b e fits bound h = stop_empty kind b e bound cc
 chunks_stop (suc n) kind b e fits bound h =
-    elim (bind_err (read_chunk kind b) (λ c. more_chunks (read_chunks n kind) c.0 c.1) e h) [
+    elim (then_err (1, read_chunk kind b) (λ c. more_chunks (read_chunks n kind) c.0 c.1) e h) [
       | inl refused ↦ stop_here kind b e (chunk_refused kind b e fits refused)
       | inr c ↦ stop_later n kind b c.0.1 c.0.0 e fits c.1 c.2
           (λ left_fits less more. chunks_stop n kind c.0.1 e left_fits (omega arith) more)
@@ -258,11 +258,13 @@ unfolding read_chunk
 empty_refused kind [] e bound h = cc
 empty_refused kind (first ∷ b) e bound h = absurd (omega arith)
 
+-- a turn for each chunk, and one for what is refused
 pub chunks_refuse : (n : ℕ) (kind : StringKind) (cs : List Chunk) (b rest : List ℕ) (e : Error)
-    → SpellsChunks kind b cs rest → length b ≤ n → ChunkRefusal kind rest e → read_chunks n kind b ≡ Err e
+    → SpellsChunks kind b cs rest → length b ≤ n → ChunkRefusal kind rest e
+    → read_chunks n kind b ≡ (length cs + 1, Err e)
 unfolding read_chunks
 chunks_refuse zero kind [] b rest e spelled bound refused =
-    ap Err (empty_refused kind b e bound (rw spelled (chunk_refuses kind rest e refused)))
+    ap (λ d. (1, Err d)) (empty_refused kind b e bound (rw spelled (chunk_refuses kind rest e refused)))
 chunks_refuse (suc n) kind [] b rest e spelled bound refused = rw (spelled, chunk_refuses kind rest e refused) refl
 chunks_refuse zero kind (c ∷ cs) b rest e spelled bound refused =
     let parts = chunk_parts kind b c (λ r. SpellsChunks kind r cs rest) spelled in
@@ -271,8 +273,9 @@ chunks_refuse zero kind (c ∷ cs) b rest e spelled bound refused =
 chunks_refuse (suc n) kind (c ∷ cs) b rest e spelled bound refused =
     let parts = chunk_parts kind b c (λ r. SpellsChunks kind r cs rest) spelled in
     let shorter = parts.shorter in
+    let sum : 1 + (length cs + 1) ≡ suc (length cs) + 1 = omega arith in
     rw (
       chunk_again kind b parts.rest c parts.is,
       chunks_refuse n kind cs parts.rest rest e parts.holds (omega arith)
           refused,
-    ) refl
+    ) (ap (λ k. (k, Err e)) sum)

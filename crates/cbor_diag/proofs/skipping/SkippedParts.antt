@@ -1,239 +1,163 @@
 -- What is still to come in containers, one part after the other.
-use Rattle.std.proofs.Common.{◌≡◌, ℕ, zero, suc, ◌-◌, ◌<◌, ◌≤◌, List, [], ◌∷◌, ◌++◌, length, Some, None, Result, Ok}
-use Rattle.std.proofs.Common.{Err, refl, sym, ap, subst, ◌∙◌, append_assoc, inl, inr, arith}
+use Rattle.std.proofs.Common.{◌≡◌, ℕ, zero, suc, ◌-◌, ◌<◌, ◌≤◌, List, [], ◌∷◌, ◌++◌, length, Option, Some, None, Ok, Err}
+use Rattle.std.proofs.Common.{refl, sym, ap, subst, ◌∙◌, append_assoc, ◌⊎◌, inl, inr, arith}
+use Rattle.std.specs.Prelude.{option_map}
 use Rattle.std.proofs.lemmas.List.{length-append}
+use Rattle.cbor_diag.specs.declared.syntax.IntegerWidth.{IntegerWidth}
+use Rattle.cbor_diag.specs.declared.syntax.IntegerWidth.TheVariants.{Zero}
 use Rattle.cbor_diag.specs.declared.error.Error.{Error}
 use Rattle.cbor_diag.specs.declared.error.Error.TheVariants as refusal
-use Rattle.cbor_diag.specs.declared.parse.binary.head.ItemHead.{ItemHead}
-use Rattle.cbor_diag.specs.declared.parse.binary.head.ItemHead.TheVariants as item_head
 use Rattle.cbor_diag.specs.declared.parse.binary.skip.Stop.{Stop}
 use Rattle.cbor_diag.specs.declared.parse.binary.skip.Stop.TheVariants as stops
-use Rattle.cbor_diag.specs.declared.parse.binary.skip.to_come.Count.{Count}
-use Rattle.cbor_diag.specs.declared.parse.binary.skip.to_come.Count.TheVariants.{Definite, ToBreak}
 use Rattle.cbor_diag.specs.declared.parse.binary.skip.to_come.ToCome.{ToCome}
-use Rattle.cbor_diag.specs.declared.parse.binary.skip.to_come.ToCome.TheVariants.{Items, Pairs, Value}
-use Rattle.cbor_diag.specs.Item as spec
-use Rattle.cbor_diag.specs.Item.{Item, atom, string, chunked_string, array, tagged}
-use Rattle.cbor_diag.specs.Item.{no_items, item, no_pairs, pair}
+use Rattle.cbor_diag.specs.declared.parse.binary.skip.to_come.ToCome.TheVariants as to_come
+use Rattle.cbor_diag.specs.Argument.{Argument, number, indefinite}
+use Rattle.cbor_diag.specs.Item.{Item, atom, string, chunked_string, no_items, no_pairs}
+use Rattle.cbor_diag.specs.ItemHead as item_head
+use Rattle.cbor_diag.specs.ItemHead.{ItemHead}
 use Rattle.cbor_diag.specs.Head.{break_byte}
+use Rattle.cbor_diag.specs.StringKind.{StringKind}
 use Rattle.cbor_diag.specs.WellFormed.{deepest}
-use Rattle.cbor_diag.specs.StringKind.{bytes_kind, text_kind}
-use Rattle.cbor_diag.specs.Reading.{Read, ◌>>=◌, read_content, read_chunks, read_items, read_pair, read_pairs}
-use Rattle.cbor_diag.specs.Reading.{after_break, unless_break, read_open_items, read_open_pairs, read_item}
-use Rattle.cbor_diag.specs.declared.syntax.IntegerWidth.{IntegerWidth}
+use Rattle.cbor_diag.specs.Reading.{Read, ◌>>=◌, Counted, ◌>>-◌, read_content, read_chunks, read_atom, Frame, items_in}
+use Rattle.cbor_diag.specs.Reading.{pairs_in, value_of, tag_of, tagged_with, opened, put, after_break, after_members}
+use Rattle.cbor_diag.specs.Reading.{after_end, closed, close_or, parts_from, read_parts, counted_item, read_item}
 use Rattle.cbor_diag.specs.mirror.Skipping.{Skip, rest_of, here, Goes, StopsSo, skip_content, skip_chunks, skip_item}
-use Rattle.cbor_diag.specs.mirror.Skipping.{skip_body, one_less, count_end, end_of, after_part, opened, skip_items}
-use Rattle.cbor_diag.specs.mirror.Skipping.{skip_pairs, skip_parts, begun, closing, skip_open}
-use Rattle.cbor_diag.proofs.bytes.Heads.{bind_ok, ok_is, cons_is}
-use Rattle.cbor_diag.proofs.bytes.Shorter.{item_shorter}
-use Rattle.cbor_diag.proofs.bytes.Found.{break_ways}
-use Rattle.cbor_diag.proofs.bytes.Refusals.{item_nothing}
-use Rattle.cbor_diag.proofs.turns.Uncounted.{bind_same}
-use Rattle.cbor_diag.proofs.skipping.Skips.{goes_here, goes_then, goes_within, rest_made, rest_then}
+use Rattle.cbor_diag.specs.mirror.Skipping.{skip_body, some_item, emptied, frame_of, skip_frame, skip_parts, begun}
+use Rattle.cbor_diag.specs.mirror.Skipping.{closing, skip_open}
+use Rattle.cbor_diag.proofs.bytes.Heads.{cons_is}
+use Rattle.cbor_diag.proofs.bytes.Steps.{parts_more, parts_end, item_shortens}
+use Rattle.cbor_diag.proofs.bytes.Frames.{end_ways, close_ended}
+use Rattle.cbor_diag.proofs.bytes.Steps.{open_or}
+use Rattle.cbor_diag.proofs.bytes.Found.{break_ways, after_break_is}
+use Rattle.cbor_diag.proofs.skipping.Skips.{goes_here, goes_then, goes_within, bind_here, rest_made, rest_then}
 
--- ---- steps
+-- ---- what was read makes no difference
 
-bind_assoc : {A B C : Type 0} (r : Result A Error) (f : A → Result B Error) (g : B → Result C Error)
-    → ((r >>= f) >>= g) ≡ (r >>= λ x. f x >>= g)
-bind_assoc (Ok x) f g = refl
-bind_assoc (Err e) f g = refl
+-- a container ends where it ends with nothing read
+emptied_ends : (f : Frame) (b : List ℕ) → after_end (emptied f) b ≡ after_end f b
+emptied_ends (items_in is left) b = refl
+emptied_ends (pairs_in ps left) b = refl
+emptied_ends (value_of ps k left) b = refl
+emptied_ends (tag_of t w) b = refl
+emptied_ends (tagged_with t w i) b = refl
 
-bind_here : (r : Skip) → (r >>= here) ≡ r
-bind_here (Ok b) = refl
-bind_here (Err e) = refl
+emptied_twice : (f : Frame) → emptied (emptied f) ≡ emptied f
+emptied_twice (items_in is left) = refl
+emptied_twice (pairs_in ps left) = refl
+emptied_twice (value_of ps k left) = refl
+emptied_twice (tag_of t w) = refl
+emptied_twice (tagged_with t w i) = refl
 
--- whether a break is here, by the first byte alone
-break_front : (first : ℕ) (x y : List ℕ) → after_break (first ∷ y) ≡ None → after_break (first ∷ x) ≡ None
-break_front first x y none =
-    elim (break_ways (first ∷ x)) [
-      | inl at ↦
-          let is : first ≡ break_byte = (cons_is first break_byte x at.0 at.1).0 in
-          let wrong : after_break (break_byte ∷ y) ≡ None = subst (λ (k : ℕ). after_break (k ∷ y) ≡ None) is none in
-          absurd cc
-      | inr none ↦ none
+-- where a part has to follow, it makes no difference which one does
+emptied_put : (f : Frame) (b : List ℕ) (i : Item) → after_end f b ≡ None
+    → emptied (put f i) ≡ emptied (put (emptied f) some_item)
+emptied_put (items_in is left) b i none = refl
+emptied_put (pairs_in ps left) b i none = refl
+emptied_put (value_of ps k left) b i none = refl
+emptied_put (tag_of t w) b i none = refl
+emptied_put (tagged_with t w j) b i none = absurd cc
+
+alike_put : (f g : Frame) (b : List ℕ) (i : Item) → emptied f ≡ emptied g → after_end f b ≡ None → after_end g b ≡ None
+    → emptied (put f i) ≡ emptied (put g i)
+alike_put f g b i same none also = emptied_put f b i none ∙ ap (λ h. emptied (put h some_item)) same
+    ∙ sym (emptied_put g b i also)
+
+-- where two containers have as much to come, as much is left after them
+parts_alike : (read : List ℕ → Counted Item) (n : ℕ) (f g : Frame) (b : List ℕ) → emptied f ≡ emptied g
+    → rest_of (parts_from n read f b).1 ≡ rest_of (parts_from n read g b).1
+unfolding parts_from
+parts_alike read zero f g b same = refl
+parts_alike read (suc n) f g b same =
+    let ends : after_end f b ≡ after_end g b =
+    sym (emptied_ends f b) ∙ ap (λ h. after_end h b) same ∙ emptied_ends g b in
+    let more : Frame → Counted Item = λ h. read b >>- λ i. parts_from n read (put h i.0) i.1 in
+    elim (end_ways f b) [
+      | inl over ↦ elim (end_ways g b) [
+        | inl also ↦
+            let after : Some over.1 ≡ Some also.1 = sym over.3 ∙ ends ∙ also.3 in
+            let left : over.1 ≡ also.1 = cc in
+            ap (λ c. rest_of c.1) (close_ended (closed f) over.0 (after_end f b) over.1 (more f) over.2 over.3)
+            ∙ ap (λ x. Ok x) left
+            ∙ sym (ap (λ c. rest_of c.1) (close_ended (closed g) also.0 (after_end g b) also.1 (more g) also.2 also.3))
+        | inr none ↦ absurd (let wrong : Some over.1 ≡ None = sym over.3 ∙ ends ∙ none in cc)
+      ]
+      | inr none ↦
+          let also : after_end g b ≡ None = sym ends ∙ none in
+          ap (λ c. rest_of c.1) (open_or (closed f) (after_end f b) (more f) none)
+          ∙ rest_then (read b) _ (λ r. rest_of (parts_from n read (put g some_item) r).1) (λ i e.
+          parts_alike read n (put f i.0) (put g some_item) i.1
+          (alike_put f g b i.0 same none also ∙ emptied_put g b i.0 also ∙ sym (emptied_put g b some_item also)))
+          ∙ sym (rest_then (read b) _ (λ r. rest_of (parts_from n read (put g some_item) r).1) (λ i e.
+          parts_alike read n (put g i.0) (put g some_item) i.1
+          (emptied_put g b i.0 also ∙ sym (emptied_put g b some_item also))))
+          ∙ sym (ap (λ c. rest_of c.1) (open_or (closed g) (after_end g b) (more g) also))
     ]
+
+frame_alike : (left : ℕ) (f g : Frame) (b : List ℕ) → emptied f ≡ emptied g → skip_frame left f b ≡ skip_frame left g b
+frame_alike left f g b same = parts_alike (counted_item left) (suc (length b)) f g b same
 
 -- ---- parts, each read with `left` levels left for it
 
-module _ (left : ℕ) where
-  -- how many parts are looked for at most makes no difference
-  open_items_same : (n m : ℕ) (b : List ℕ) → length b ≤ n → length b ≤ m
-      → read_open_items (read_item left) n b ≡ read_open_items (read_item left) m b
-  unfolding read_open_items
-  open_items_same zero zero b le_n le_m = refl
-  open_items_same zero (suc m) [] le_n le_m = rw (item_nothing left) refl
-  open_items_same zero (suc m) (first ∷ b) le_n le_m = absurd (omega arith)
-  open_items_same (suc n) zero [] le_n le_m = rw (item_nothing left) refl
-  open_items_same (suc n) zero (first ∷ b) le_n le_m = absurd (omega arith)
-  open_items_same (suc n) (suc m) b le_n le_m =
-      ap (unless_break (after_break b) no_items) (bind_same (read_item left b) _ _ (λ i e.
-      let lt : length i.1 < length b = item_shorter left b i.0 i.1 e in
-      ap (λ r. r >>= λ is. Ok (item i.0 is.0, is.1)) (open_items_same n m i.1 (omega arith) (omega arith))))
+-- a part that has to follow
+frame_next : (left : ℕ) (f : Frame) (b : List ℕ) → after_end f b ≡ None
+    → skip_frame left f b ≡ (skip_item left b >>= skip_frame left (put f some_item))
+frame_next left f b none =
+    ap (λ c. rest_of c.1) (parts_more (counted_item left) (item_shortens left) f b none)
+    ∙ rest_then (counted_item left b) _ (skip_frame left (put f some_item)) (λ i e.
+    frame_alike left (put f i.0) (put f some_item) i.1
+    (emptied_put f b i.0 none ∙ sym (emptied_put f b some_item none)))
 
-  pair_shorter : (b : List ℕ) (p : (Item × Item) × List ℕ) → read_pair (read_item left) b ≡ Ok p → length p.1 < length b
-  pair_shorter b p h =
-      let key = bind_ok (read_item left b) (λ k. read_item left k.1 >>= λ v. Ok ((k.0, v.0), v.1)) p h in
-      let value = bind_ok (read_item left key.0.1) (λ v. Ok ((key.0.0, v.0), v.1)) p key.2 in
-      let made = ok_is ((key.0.0, value.0.0), value.0.1) p value.2 in
-      let rest : value.0.1 ≡ p.1 = ap (λ (x : (Item × Item) × List ℕ). x.1) made in
-      omega (
-        arith,
-        item_shorter left b key.0.0 key.0.1 key.1,
-        item_shorter left key.0.1 value.0.0 value.0.1 value.1,
-        ap length rest,
-      )
+-- no part has to follow
+frame_end : (left : ℕ) (f : Frame) (b after : List ℕ) → after_end f b ≡ Some after → skip_frame left f b ≡ Ok after
+frame_end left f b after ends =
+    elim (end_ways f b) [
+      | inl over ↦ ap (λ c. rest_of c.1)
+          (parts_end (counted_item left) (item_shortens left) f b after over.0 over.2 ends)
+      | inr none ↦ absurd (let wrong : Some after ≡ None = sym ends ∙ none in cc)
+    ]
 
-  open_pairs_same : (n m : ℕ) (b : List ℕ) → length b ≤ n → length b ≤ m
-      → read_open_pairs (read_item left) n b ≡ read_open_pairs (read_item left) m b
-  unfolding read_open_pairs
-  open_pairs_same zero zero b le_n le_m = refl
-  open_pairs_same zero (suc m) [] le_n le_m = rw (item_nothing left) refl
-  open_pairs_same zero (suc m) (first ∷ b) le_n le_m = absurd (omega arith)
-  open_pairs_same (suc n) zero [] le_n le_m = rw (item_nothing left) refl
-  open_pairs_same (suc n) zero (first ∷ b) le_n le_m = absurd (omega arith)
-  open_pairs_same (suc n) (suc m) b le_n le_m =
-      ap (unless_break (after_break b) no_pairs) (bind_same (read_pair (read_item left) b) _ _ (λ p e.
-      let lt : length p.1 < length b = pair_shorter b p e in
-      ap (λ r. r >>= λ ps. Ok (pair p.0.0 p.0.1 ps.0, ps.1)) (open_pairs_same n m p.1 (omega arith) (omega arith))))
+-- over what a container ends with, whatever follows it
+end_over : (f : Frame) (b after : List ℕ) → after_end f b ≡ Some after
+    → (x : List ℕ) × (b ≡ x ++ after) × ((c : List ℕ) → after_end f (x ++ c) ≡ Some c)
+end_over f b after ends = over f ends
+  where
+    members : (a : Argument) → after_members a b ≡ Some after
+        → (x : List ℕ) × (b ≡ x ++ after) × ((c : List ℕ) → after_members a (x ++ c) ≡ Some c)
+    members (number zero w) is = ([], cc, λ c. refl)
+    members (number (suc n) w) is = absurd cc
+    members indefinite is = (break_byte ∷ [], after_break_is b after is, λ c. refl)
+    over : (f : Frame) → after_end f b ≡ Some after
+        → (x : List ℕ) × (b ≡ x ++ after) × ((c : List ℕ) → after_end f (x ++ c) ≡ Some c)
+    over (items_in is left) e = members left e
+    over (pairs_in ps left) e = members left e
+    over (value_of ps k left) e = absurd cc
+    over (tag_of t w) e = absurd cc
+    over (tagged_with t w i) e = ([], cc, λ c. refl)
 
-  -- a key, its value, and then what else
-  pair_then : {Y Z : Type 0} (b : List ℕ) (g : List ℕ → Read Y) (f : Item × Item → Y → Z)
-      → rest_of (read_pair (read_item left) b >>= λ p. g p.1 >>= λ y. Ok (f p.0 y.0, y.1))
-      ≡ (skip_item left b >>= λ r. skip_item left r >>= λ s. rest_of (g s))
-  pair_then b g f =
-      rest_then (read_pair (read_item left) b) g f
-      ∙ ap (λ r. r >>= λ s. rest_of (g s)) (rest_then (read_item left b) (read_item left) (λ k v. (k, v)))
-      ∙ bind_assoc (skip_item left b) (skip_item left) (λ s. rest_of (g s))
+frame_ends : (left : ℕ) (f : Frame) (b after : List ℕ) → after_end f b ≡ Some after
+    → Goes (skip_frame left f) here b after
+frame_ends left f b after ends =
+    let o = end_over f b after ends in
+    record { over = o.0; parts = o.1; along = λ c. frame_end left f (o.0 ++ c) c (o.2 c) }
 
-  items_next : (c : Count) (b : List ℕ) → count_end c b ≡ None
-      → skip_items left c b ≡ (skip_item left b >>= skip_items left (one_less c))
-  unfolding read_items read_open_items
-  items_next (Definite zero) b none = absurd cc
-  items_next (Definite (suc n)) b none =
-      let same : n ≡ suc n - 1 = omega arith in
-      rest_then (read_item left b) (read_items (read_item left) n) item
-      ∙ ap (λ k. skip_item left b >>= λ r. rest_of (read_items (read_item left) k r)) same
-  items_next ToBreak [] none = rw (item_nothing left) refl
-  items_next ToBreak (first ∷ b) none =
-      ap (λ o. rest_of (unless_break o no_items
-      (read_item left (first ∷ b) >>= λ i. read_open_items (read_item left) (length b) i.1
-      >>= λ is. Ok (item i.0 is.0, is.1)))) none
-      ∙ ap rest_of (bind_same (read_item left (first ∷ b)) _
-      (λ i. read_open_items (read_item left) (length i.1) i.1 >>= λ is. Ok (item i.0 is.0, is.1)) (λ i e.
-      let lt : length i.1 < suc (length b) = item_shorter left (first ∷ b) i.0 i.1 e in
-      ap (λ r. r >>= λ is. Ok (item i.0 is.0, is.1))
-      (open_items_same (length b) (length i.1) i.1 (omega arith) (omega arith))))
-      ∙ rest_then (read_item left (first ∷ b)) (λ r. read_open_items (read_item left) (length r) r) item
+-- ---- an item after its head
 
-  pairs_next : (c : Count) (b : List ℕ) → count_end c b ≡ None
-      → skip_pairs left c b ≡ (skip_item left b >>= λ r. skip_item left r >>= skip_pairs left (one_less c))
-  unfolding read_pairs read_open_pairs
-  pairs_next (Definite zero) b none = absurd cc
-  pairs_next (Definite (suc n)) b none =
-      let same : n ≡ suc n - 1 = omega arith in
-      pair_then b (read_pairs (read_item left) n) (λ p ps. pair p.0 p.1 ps)
-      ∙ ap (λ k. skip_item left b >>= λ r. skip_item left r >>= λ s. rest_of (read_pairs (read_item left) k s)) same
-  pairs_next ToBreak [] none = rw (item_nothing left) refl
-  pairs_next ToBreak (first ∷ b) none =
-      ap (λ o. rest_of (unless_break o no_pairs
-      (read_pair (read_item left) (first ∷ b) >>= λ p. read_open_pairs (read_item left) (length b) p.1
-      >>= λ ps. Ok (pair p.0.0 p.0.1 ps.0, ps.1)))) none
-      ∙ ap rest_of (bind_same (read_pair (read_item left) (first ∷ b)) _
-      (λ p. read_open_pairs (read_item left) (length p.1) p.1 >>= λ ps. Ok (pair p.0.0 p.0.1 ps.0, ps.1)) (λ p e.
-      let lt : length p.1 < suc (length b) = pair_shorter (first ∷ b) p e in
-      ap (λ r. r >>= λ ps. Ok (pair p.0.0 p.0.1 ps.0, ps.1))
-      (open_pairs_same (length b) (length p.1) p.1 (omega arith) (omega arith))))
-      ∙ pair_then (first ∷ b) (λ r. read_open_pairs (read_item left) (length r) r) (λ p ps. pair p.0 p.1 ps)
+pub opened_goes : (left : ℕ) (h : ItemHead) (t : ToCome) (b : List ℕ)
+    → Some (frame_of t) ≡ option_map emptied (opened h) → Goes (skip_body left h) (begun left (Some t)) b b
+opened_goes left h t b is = goes_here b (λ c. same h c is)
+  where
+    alike : (f : Frame) (c : List ℕ) → frame_of t ≡ emptied f → skip_frame left f c ≡ skip_parts left t c
+    alike f c same = frame_alike left f (frame_of t) c (sym (emptied_twice f) ∙ ap emptied (sym same))
+    same : (h : ItemHead) (c : List ℕ) → Some (frame_of t) ≡ option_map emptied (opened h)
+        → skip_body left h c ≡ begun left (Some t) c
+    same (item_head.array a) c is = alike (items_in no_items a) c cc
+    same (item_head.map a) c is = alike (pairs_in no_pairs a) c cc
+    same (item_head.tag n w) c is = alike (tag_of n w) c cc
+    same h c is = absurd cc
 
-  -- a part that has to follow
-  pub part_next : (t : ToCome) (b : List ℕ) → end_of t b ≡ None
-      → skip_parts left t b ≡ (skip_item left b >>= skip_parts left (after_part t))
-  part_next (Items c) b none = items_next c b none
-  part_next (Pairs c) b none = pairs_next c b none
-  part_next (Value c) b none = refl
-
-  -- no part has to follow
-  items_end : (c : Count) (b after : List ℕ) → count_end c b ≡ Some after → Goes (skip_items left c) here b after
-  unfolding read_items read_open_items
-  items_end (Definite zero) b after some = let is : b ≡ after =
-      cc in subst (Goes (skip_items left (Definite zero)) here b) is (goes_here b (λ c. refl))
-  items_end (Definite (suc n)) b after some = absurd cc
-  items_end ToBreak b after some =
-      elim (break_ways b) [
-        | inl at ↦ let is : Some at.0 ≡ Some after = sym at.2 ∙ some in let same : at.0 ≡ after =
-            cc in record {
-              over = break_byte ∷ [];
-              parts = at.1 ∙ ap (λ (z : List ℕ). break_byte ∷ z) same;
-              along =
-                  λ c. refl;
-            }
-        | inr none ↦ absurd (let wrong = sym none ∙ some in cc)
-      ]
-
-  pairs_end : (c : Count) (b after : List ℕ) → count_end c b ≡ Some after → Goes (skip_pairs left c) here b after
-  unfolding read_pairs read_open_pairs
-  pairs_end (Definite zero) b after some = let is : b ≡ after =
-      cc in subst (Goes (skip_pairs left (Definite zero)) here b) is (goes_here b (λ c. refl))
-  pairs_end (Definite (suc n)) b after some = absurd cc
-  pairs_end ToBreak b after some =
-      elim (break_ways b) [
-        | inl at ↦ let is : Some at.0 ≡ Some after = sym at.2 ∙ some in let same : at.0 ≡ after =
-            cc in record {
-              over = break_byte ∷ [];
-              parts = at.1 ∙ ap (λ (z : List ℕ). break_byte ∷ z) same;
-              along =
-                  λ c. refl;
-            }
-        | inr none ↦ absurd (let wrong = sym none ∙ some in cc)
-      ]
-
-  part_end : (t : ToCome) (b after : List ℕ) → end_of t b ≡ Some after → Goes (skip_parts left t) here b after
-  part_end (Items c) b after some = items_end c b after some
-  part_end (Pairs c) b after some = pairs_end c b after some
-  part_end (Value c) b after some = absurd cc
-
-  -- ---- an item after its head
-
-  one_part : (b : List ℕ) → skip_item left b ≡ skip_items left (Definite 1) b
-  unfolding read_items
-  one_part b = sym (items_next (Definite 1) b refl ∙ bind_here (skip_item left b))
-
-  same_parts : (u t : ToCome) → Some u ≡ Some t → (b : List ℕ) → skip_parts left u b ≡ skip_parts left t b
-  same_parts u t is b = let same : u ≡ t = cc in ap (λ x. skip_parts left x b) same
-
-  opened_same : (h : ItemHead) (t : ToCome) → opened h ≡ Some t → (b : List ℕ)
-      → skip_body left h b ≡ skip_parts left t b
-  opened_same (item_head.Array n w) t is b = rest_made (read_items (read_item left) n b) (λ is. array is (Some w))
-      ∙ same_parts (Items (Definite n)) t is b
-  opened_same (item_head.Map n w) t is b = rest_made (read_pairs (read_item left) n b) (λ ps. spec.map ps (Some w))
-      ∙ same_parts (Pairs (Definite n)) t is b
-  opened_same (item_head.Tag n w) t is b = rest_made (read_item left b) (λ i. tagged n w i) ∙ one_part b
-      ∙ same_parts (Items (Definite 1)) t is b
-  opened_same item_head.OpenArray t is b = rest_made (read_open_items (read_item left) (length b) b)
-      (λ is. array is None) ∙ same_parts (Items ToBreak) t is b
-  opened_same item_head.OpenMap t is b = rest_made (read_open_pairs (read_item left) (length b) b)
-      (λ ps. spec.map ps None) ∙ same_parts (Pairs ToBreak) t is b
-  opened_same h t is b = absurd cc
-
-  pub opened_goes : (h : ItemHead) (t : ToCome) (b : List ℕ) → opened h ≡ Some t
-      → Goes (skip_body left h) (begun left (Some t)) b b
-  opened_goes h t b is = goes_here b (opened_same h t is)
-
--- ---- items without parts
-
-pub bytes_same : (left n : ℕ) (w : IntegerWidth) (b : List ℕ)
-    → skip_body left (item_head.Bytes n w) b ≡ skip_content bytes_kind n w b
-bytes_same left n w b = rest_made (read_content bytes_kind n w b) (λ c. atom (string bytes_kind c))
-
-pub text_same : (left n : ℕ) (w : IntegerWidth) (b : List ℕ)
-    → skip_body left (item_head.Text n w) b ≡ skip_content text_kind n w b
-text_same left n w b = rest_made (read_content text_kind n w b) (λ c. atom (string text_kind c))
-
-pub byte_chunks_same : (left : ℕ) (b : List ℕ) → skip_body left item_head.OpenBytes b ≡ skip_chunks bytes_kind b
-byte_chunks_same left b = rest_made (read_chunks (length b) bytes_kind b) (λ cs. atom (chunked_string bytes_kind cs))
-
-pub text_chunks_same : (left : ℕ) (b : List ℕ) → skip_body left item_head.OpenText b ≡ skip_chunks text_kind b
-text_chunks_same left b = rest_made (read_chunks (length b) text_kind b) (λ cs. atom (chunked_string text_kind cs))
+pub string_same : (left n : ℕ) (w : IntegerWidth) (kind : StringKind) (b : List ℕ)
+    → skip_body left (item_head.string kind (number n w)) b ≡ skip_content kind n w b
+string_same left n w kind b = rest_made (read_content kind n w b) (λ c. atom (string kind c))
 
 -- ---- containers in containers
 
@@ -252,112 +176,154 @@ closing_err left (t ∷ ts) e = ap (λ q. q >>= skip_parts left t) (closing_err 
 
 -- an error of a part is one of all that is open
 abbrev wanted : List ToCome → ToCome → Skip → Skip
-wanted outer top r = closing deepest outer (r >>= skip_parts (deepest - length outer) (after_part top))
+wanted outer top r = closing deepest outer (r >>= skip_frame (deepest - length outer) (put (frame_of top) some_item))
 
 wanted_err : (outer : List ToCome) (top : ToCome) (e : Error) → wanted outer top (Err e) ≡ Err e
 wanted_err outer top e = closing_err deepest outer e
 
-wanted_same : (outer : List ToCome) (top : ToCome) (b : List ℕ) → end_of top b ≡ None
+wanted_same : (outer : List ToCome) (top : ToCome) (b : List ℕ) → after_end (frame_of top) b ≡ None
     → skip_open outer top b ≡ wanted outer top (skip_item (deepest - length outer) b)
-wanted_same outer top b none = ap (closing deepest outer) (part_next (deepest - length outer) top b none)
+wanted_same outer top b none = ap (closing deepest outer) (frame_next (deepest - length outer) (frame_of top) b none)
 
 -- the innermost container ends, and nothing is open round it
-pub last_ends : (top : ToCome) (b after : List ℕ) → Some after ≡ end_of top b → Goes (skip_open [] top) here b after
-last_ends top b after some = part_end (deepest - 0) top b after (sym some)
+pub last_ends : (top : ToCome) (b after : List ℕ) → Some after ≡ after_end (frame_of top) b
+    → Goes (skip_open [] top) here b after
+last_ends top b after some = frame_ends (deepest - 0) (frame_of top) b after (sym some)
 
 -- the innermost container ends in another one
-pub open_ends : (outer : List ToCome) (t top : ToCome) (b after : List ℕ) → Some after ≡ end_of top b
+pub open_ends : (outer : List ToCome) (t top : ToCome) (b after : List ℕ) → Some after ≡ after_end (frame_of top) b
     → Goes (skip_open (outer ++ t ∷ []) top) (skip_open outer t) b after
 open_ends outer t top b after some =
     let ends = goes_within (closing deepest (outer ++ t ∷ []))
-    (part_end (deepest - length (outer ++ t ∷ [])) top b after (sym some)) in
+    (frame_ends (deepest - length (outer ++ t ∷ [])) (frame_of top) b after (sym some)) in
     goes_then ends (goes_here after (λ c. closing_append deepest outer t (Ok c)))
 
 -- ---- the next part
 
+-- whether a break is here, by the first byte alone
+break_front : (first : ℕ) (x y : List ℕ) → after_break (first ∷ y) ≡ None → after_break (first ∷ x) ≡ None
+break_front first x y none =
+    elim (break_ways (first ∷ x)) [
+      | inl at ↦
+          let is : first ≡ break_byte = (cons_is first break_byte x at.0 at.1).0 in
+          let wrong : after_break (break_byte ∷ y) ≡ None = subst (λ (k : ℕ). after_break (k ∷ y) ≡ None) is none in
+          absurd cc
+      | inr none ↦ none
+    ]
+
 -- what does not end here does not end before more bytes, nor where the bytes are cut
-count_front : (c : Count) (x y : List ℕ) → count_end c (x ++ y) ≡ None → count_end c x ≡ None
-count_front (Definite zero) x y none = absurd cc
-count_front (Definite (suc n)) x y none = refl
-count_front ToBreak [] y none = refl
-count_front ToBreak (first ∷ x) y none = break_front first x (x ++ y) none
+members_front : (a : Argument) (x y : List ℕ) → after_members a (x ++ y) ≡ None → after_members a x ≡ None
+members_front (number zero w) x y none = absurd cc
+members_front (number (suc n) w) x y none = refl
+members_front indefinite [] y none = refl
+members_front indefinite (first ∷ x) y none = break_front first x (x ++ y) none
 
-end_front : (t : ToCome) (x y : List ℕ) → end_of t (x ++ y) ≡ None → end_of t x ≡ None
-end_front (Items c) x y none = count_front c x y none
-end_front (Pairs c) x y none = count_front c x y none
-end_front (Value c) x y none = refl
+end_front : (f : Frame) (x y : List ℕ) → after_end f (x ++ y) ≡ None → after_end f x ≡ None
+end_front (items_in is left) x y none = members_front left x y none
+end_front (pairs_in ps left) x y none = members_front left x y none
+end_front (value_of ps k left) x y none = refl
+end_front (tag_of t w) x y none = refl
+end_front (tagged_with t w i) x y none = absurd cc
 
-count_more : (c : Count) (first : ℕ) (x y : List ℕ) → count_end c (first ∷ x) ≡ None → count_end c (first ∷ y) ≡ None
-count_more (Definite zero) first x y none = absurd cc
-count_more (Definite (suc n)) first x y none = refl
-count_more ToBreak first x y none = break_front first y x none
+members_more : (a : Argument) (first : ℕ) (x y : List ℕ) → after_members a (first ∷ x) ≡ None
+    → after_members a (first ∷ y) ≡ None
+members_more (number zero w) first x y none = absurd cc
+members_more (number (suc n) w) first x y none = refl
+members_more indefinite first x y none = break_front first y x none
 
-end_more : (t : ToCome) (first : ℕ) (x y : List ℕ) → end_of t (first ∷ x) ≡ None → end_of t (first ∷ y) ≡ None
-end_more (Items c) first x y none = count_more c first x y none
-end_more (Pairs c) first x y none = count_more c first x y none
-end_more (Value c) first x y none = refl
-
-end_longer : (t : ToCome) (x rest c : List ℕ) → length rest < length (x ++ rest) → end_of t (x ++ rest) ≡ None
-    → end_of t (x ++ c) ≡ None
-end_longer t [] rest c lt none = absurd (omega arith)
-end_longer t (first ∷ x) rest c lt none = end_more t first (x ++ rest) (x ++ c) none
+end_longer : (f : Frame) (x rest c : List ℕ) → length rest < length (x ++ rest) → after_end f (x ++ rest) ≡ None
+    → after_end f (x ++ c) ≡ None
+end_longer f [] rest c lt none = absurd (omega arith)
+end_longer (items_in is left) (first ∷ x) rest c lt none = members_more left first (x ++ rest) (x ++ c) none
+end_longer (pairs_in ps left) (first ∷ x) rest c lt none = members_more left first (x ++ rest) (x ++ c) none
+end_longer (value_of ps k left) (first ∷ x) rest c lt none = refl
+end_longer (tag_of t w) (first ∷ x) rest c lt none = refl
+end_longer (tagged_with t w i) (first ∷ x) rest c lt none = absurd cc
 
 -- a part that was skipped goes on with what is open
-pub part_goes : (outer : List ToCome) (top : ToCome) (to : List ℕ → Skip) (b rest : List ℕ) → None ≡ end_of top b
-    → length rest < length b → Goes (skip_item (deepest - length outer)) to b rest
+pub part_goes : (outer : List ToCome) (top : ToCome) (to : List ℕ → Skip) (b rest : List ℕ)
+    → None ≡ after_end (frame_of top) b → length rest < length b → Goes (skip_item (deepest - length outer)) to b rest
     → Goes (skip_open outer top) (λ c. wanted outer top (to c)) b rest
 part_goes outer top to b rest none lt goes =
-    let here_none : end_of top (goes.over ++ rest) ≡ None =
-    subst (λ (x : List ℕ). end_of top x ≡ None) goes.parts (sym none) in
+    let here_none : after_end (frame_of top) (goes.over ++ rest) ≡ None =
+    subst (λ (x : List ℕ). after_end (frame_of top) x ≡ None) goes.parts (sym none) in
     let longer : length rest < length (goes.over ++ rest) =
     subst (λ (x : List ℕ). length rest < length x) goes.parts lt in
     record {
       over = goes.over;
       parts = goes.parts;
-      along = λ c. wanted_same outer top (goes.over ++ c) (end_longer top goes.over rest c longer here_none)
+      along = λ c. wanted_same outer top (goes.over ++ c) (end_longer (frame_of top) goes.over rest c longer here_none)
           ∙ ap (wanted outer top) (goes.along c);
     }
 
-pub part_stops : (outer : List ToCome) (top : ToCome) (b : List ℕ) (stop : Stop) → None ≡ end_of top b
+pub part_stops : (outer : List ToCome) (top : ToCome) (b : List ℕ) (stop : Stop) → None ≡ after_end (frame_of top) b
     → StopsSo (skip_item (deepest - length outer)) b stop → StopsSo (skip_open outer top) b stop
 part_stops outer top b stops.Cut none s = wanted_same outer top b (sym none) ∙ ap (wanted outer top) s
     ∙ wanted_err outer top refusal.CutShort
 part_stops outer top b (stops.Fault e after) none s =
     let whole : b ≡ (s.before ++ s.last ∷ []) ++ s.behind = s.parts
     ∙ sym (append_assoc s.before (s.last ∷ []) s.behind) in
-    let all : end_of top (s.before ++ s.last ∷ []) ≡ None =
-    end_front top (s.before ++ s.last ∷ []) s.behind
-    (subst (λ (x : List ℕ). end_of top x ≡ None) whole (sym none)) in
+    let all : after_end (frame_of top) (s.before ++ s.last ∷ []) ≡ None =
+    end_front (frame_of top) (s.before ++ s.last ∷ []) s.behind
+    (subst (λ (x : List ℕ). after_end (frame_of top) x ≡ None) whole (sym none)) in
     record {
       before = s.before;
       last = s.last;
       behind = s.behind;
       parts = s.parts;
       count = s.count;
-      cut = wanted_same outer top s.before (end_front top s.before (s.last ∷ []) all) ∙ ap (wanted outer top) s.cut
-          ∙ wanted_err outer top refusal.CutShort;
+      cut = wanted_same outer top s.before (end_front (frame_of top) s.before (s.last ∷ []) all)
+          ∙ ap (wanted outer top) s.cut ∙ wanted_err outer top refusal.CutShort;
       fails = wanted_same outer top (s.before ++ s.last ∷ []) all ∙ ap (wanted outer top) s.fails
           ∙ wanted_err outer top e;
       other = s.other;
     }
 
--- a part without parts, and one that opens a container
-pub whole_goes : (outer : List ToCome) (top : ToCome) (b rest : List ℕ) → None ≡ end_of top b → length rest < length b
-    → Goes (skip_item (deepest - length outer)) here b rest
-    → Goes (skip_open outer top) (skip_open outer (after_part top)) b rest
-whole_goes outer top b rest none lt goes = part_goes outer top here b rest none lt goes
+-- what is to come after one part more
+abbrev pub Next : ToCome → ToCome → Type 0
+Next top next = frame_of next ≡ emptied (put (frame_of top) some_item)
 
-pub opens_goes : (outer : List ToCome) (top t : ToCome) (b rest : List ℕ) → None ≡ end_of top b → length rest < length b
+next_same : (left : ℕ) (top next : ToCome) (c : List ℕ) → Next top next
+    → skip_frame left (put (frame_of top) some_item) c ≡ skip_parts left next c
+next_same left top next c is = frame_alike left (put (frame_of top) some_item) (frame_of next) c
+    (sym (emptied_twice (put (frame_of top) some_item)) ∙ ap emptied (sym is))
+
+-- a part without parts, and one that opens a container
+pub whole_goes : (outer : List ToCome) (top next : ToCome) (b rest : List ℕ) → None ≡ after_end (frame_of top) b
+    → Next top next → length rest < length b → Goes (skip_item (deepest - length outer)) here b rest
+    → Goes (skip_open outer top) (skip_open outer next) b rest
+whole_goes outer top next b rest none is lt goes =
+    goes_then (part_goes outer top here b rest none lt goes)
+    (goes_here rest (λ c. ap (closing deepest outer) (next_same (deepest - length outer) top next c is)))
+
+pub opens_goes : (outer : List ToCome) (top next t : ToCome) (b rest : List ℕ) → None ≡ after_end (frame_of top) b
+    → Next top next → length rest < length b
     → Goes (skip_item (deepest - length outer)) (skip_parts (deepest - length outer - 1) t) b rest
-    → Goes (skip_open outer top) (skip_open (outer ++ after_part top ∷ []) t) b rest
-opens_goes outer top t b rest none lt goes =
-    let next : List ToCome = outer ++ after_part top ∷ [] in
-    let levels : deepest - length outer - 1 ≡ deepest - length next =
-    omega (arith, length-append outer (after_part top ∷ [])) in
+    → Goes (skip_open outer top) (skip_open (outer ++ next ∷ []) t) b rest
+opens_goes outer top next t b rest none is lt goes =
+    let inner : List ToCome = outer ++ next ∷ [] in
+    let levels : deepest - length outer - 1 ≡ deepest - length inner = omega (arith, length-append outer (next ∷ [])) in
+    let on : (r : Skip) → (r >>= skip_frame (deepest - length outer) (put (frame_of top) some_item))
+    ≡ (r >>= skip_parts (deepest - length outer) next) = λ r. on_same r in
     goes_then (part_goes outer top (skip_parts (deepest - length outer - 1) t) b rest none lt goes)
-    (goes_here rest (λ c. sym (closing_append deepest outer (after_part top)
-    (skip_parts (deepest - length outer - 1) t c)) ∙ ap (λ l. closing deepest next (skip_parts l t c)) levels))
+    (goes_here rest (λ c. ap (closing deepest outer) (on (skip_parts (deepest - length outer - 1) t c))
+    ∙ sym (closing_append deepest outer next (skip_parts (deepest - length outer - 1) t c))
+    ∙ ap (λ l. closing deepest inner (skip_parts l t c)) levels))
+  where
+    on_same : (r : Skip) → (r >>= skip_frame (deepest - length outer) (put (frame_of top) some_item))
+        ≡ (r >>= skip_parts (deepest - length outer) next)
+    on_same (Ok c) = next_same (deepest - length outer) top next c is
+    on_same (Err e) = refl
 
 -- nothing is open, and one item is to come
-pub first_goes : (b : List ℕ) → Goes (skip_item deepest) (skip_open [] (Items (Definite 1))) b b
-first_goes b = goes_here b (one_part deepest)
+pub first_goes : (b : List ℕ) (t : ToCome) → frame_of t ≡ emptied (tag_of 0 Zero)
+    → Goes (skip_item deepest) (skip_open [] t) b b
+first_goes b t is = goes_here b (λ c. first c ∙ frame_alike deepest (tag_of 0 Zero) (frame_of t) c
+    (sym (emptied_twice (tag_of 0 Zero)) ∙ ap emptied (sym is)))
+  where
+    first : (c : List ℕ) → skip_item deepest c ≡ skip_frame deepest (tag_of 0 Zero) c
+    first c = sym (frame_next deepest (tag_of 0 Zero) c refl ∙ after (skip_item deepest c))
+      where
+        after : (r : Skip) → (r >>= skip_frame deepest (tagged_with 0 Zero some_item)) ≡ r
+        after (Ok c) = frame_end deepest (tagged_with 0 Zero some_item) c c refl
+        after (Err e) = refl

@@ -8,30 +8,28 @@ use Rattle.std.proofs.lemmas.Str.{IsUtf8-nil}
 use Rattle.cbor_diag.specs.declared.syntax.IntegerWidth.{IntegerWidth}
 use Rattle.cbor_diag.specs.declared.error.Error.{Error}
 use Rattle.cbor_diag.specs.declared.error.Error.TheVariants as refusal
-use Rattle.cbor_diag.specs.declared.parse.binary.head.Info.{Info}
-use Rattle.cbor_diag.specs.declared.parse.binary.head.Info.TheVariants as info
-use Rattle.cbor_diag.specs.declared.parse.binary.head.ItemHead.{ItemHead}
-use Rattle.cbor_diag.specs.declared.parse.binary.head.ItemHead.TheVariants as item_head
+use Rattle.cbor_diag.specs.Argument.{Argument, number, indefinite}
+use Rattle.cbor_diag.specs.ItemHead.{ItemHead}
 use Rattle.cbor_diag.specs.declared.parse.binary.skip.Stop.{Stop}
 use Rattle.cbor_diag.specs.declared.parse.binary.skip.Stop.TheVariants as stops
 use Rattle.cbor_diag.specs.Item.{Chunk}
 use Rattle.cbor_diag.specs.Head.{break_byte}
 use Rattle.cbor_diag.specs.StringKind.{StringKind, bytes_kind, text_kind, major_of, IsContent}
 use Rattle.cbor_diag.specs.Refused.{BadHead, no_info, no_length}
-use Rattle.cbor_diag.specs.Reading.{Read, ◌>>=◌, read_info, head_of, read_head, read_content, chunk_of, read_chunk}
-use Rattle.cbor_diag.specs.Reading.{more_chunks, read_chunks, read_body, read_item}
+use Rattle.cbor_diag.specs.Reading.{Read, ◌>>=◌, read_argument, head_of, read_head, read_content, chunk_of, read_chunk}
+use Rattle.cbor_diag.specs.Reading.{Counted, go_on, ◌>>-◌, more_chunks, read_chunks, opened, read_body, counted_item}
 use Rattle.cbor_diag.specs.mirror.Skipping.{Skip, rest_of, here, Goes, Shows, StopsSo, stop_of, skip_content}
 use Rattle.cbor_diag.specs.mirror.Skipping.{skip_chunks, skip_item, skip_body}
-use Rattle.cbor_diag.proofs.bytes.Heads.{IsBytes, IsBytes-rest, bind_ok, ok_is, cons_is, number_bytes, InfoIs}
+use Rattle.cbor_diag.proofs.bytes.Heads.{IsBytes, IsBytes-rest, bind_ok, ok_is, cons_is, number_bytes, ArgumentIs}
 use Rattle.cbor_diag.proofs.bytes.Heads.{info_takes, info_again, head_takes}
 use Rattle.cbor_diag.proofs.bytes.Shorter.{Leaves, chunk_leaves}
 use Rattle.cbor_diag.proofs.bytes.Chunks.{content_again, chunk_ways}
 use Rattle.cbor_diag.proofs.bytes.HeadRefusals.{InfoRefusal, cut_info, bad_info, info_refused, info_refuses, info_opens}
 use Rattle.cbor_diag.proofs.bytes.HeadRefusals.{HeadRefusal, no_head, short_head, bad_head, head_refused}
 use Rattle.cbor_diag.proofs.bytes.StringRefusals.{short_content, bad_content, content_refuses}
-use Rattle.cbor_diag.proofs.bytes.Faults.{bad_head_refuses}
+use Rattle.cbor_diag.proofs.bytes.HeadRefusals.{head_bad}
 use Rattle.cbor_diag.proofs.bytes.Refusals.{item_nothing}
-use Rattle.cbor_diag.proofs.turns.Uncounted.{bind_same}
+use Rattle.cbor_diag.proofs.bytes.Steps.{then_first, first_same}
 
 -- ---- steps
 
@@ -111,15 +109,23 @@ shows_first f first b e cut fails other = record {
 
 -- ---- what is forgotten
 
+pub bind_here : (r : Skip) → (r >>= here) ≡ r
+bind_here (Ok b) = refl
+bind_here (Err e) = refl
+
 pub rest_made : {X Y : Type 0} (r : Read X) (f : X → Y) → rest_of (r >>= λ x. Ok (f x.0, x.1)) ≡ rest_of r
 rest_made (Ok x) f = refl
 rest_made (Err e) f = refl
 
 -- one after the other
-pub rest_then : {X Y Z : Type 0} (r : Read X) (g : List ℕ → Read Y) (f : X → Y → Z)
-    → rest_of (r >>= λ x. g x.1 >>= λ y. Ok (f x.0 y.0, y.1)) ≡ (rest_of r >>= λ b. rest_of (g b))
-rest_then (Ok x) g f = rest_made (g x.1) (f x.0)
-rest_then (Err e) g f = refl
+pub rest_then : {X Y : Type 0} (c : Counted X) (f : X × List ℕ → Counted Y) (g : List ℕ → Skip)
+    → ((x : X × List ℕ) → c.1 ≡ Ok x → rest_of (f x).1 ≡ g x.1) → rest_of (c >>- f).1 ≡ (rest_of c.1 >>= g)
+rest_then {X = X} {Y = Y} c f g same = go c.0 c.1 same
+  where
+    go : (n : ℕ) (r : Read X) → ((x : X × List ℕ) → r ≡ Ok x → rest_of (f x).1 ≡ g x.1)
+        → rest_of (go_on n r f).1 ≡ (rest_of r >>= g)
+    go n (Ok x) same = same x refl
+    go n (Err e) same = refl
 
 -- ---- contents
 
@@ -178,7 +184,7 @@ content_shows text_kind n w b long bad = content_bad n w b long bad
 
 -- how many chunks are looked for at most makes no difference
 chunks_same : (n m : ℕ) (kind : StringKind) (b : List ℕ) → length b ≤ n → length b ≤ m
-    → read_chunks n kind b ≡ read_chunks m kind b
+    → (read_chunks n kind b).1 ≡ (read_chunks m kind b).1
 unfolding read_chunks read_chunk
 chunks_same zero zero kind b le_n le_m = refl
 chunks_same zero (suc m) kind [] le_n le_m = refl
@@ -186,14 +192,14 @@ chunks_same zero (suc m) kind (first ∷ b) le_n le_m = absurd (omega arith)
 chunks_same (suc n) zero kind [] le_n le_m = refl
 chunks_same (suc n) zero kind (first ∷ b) le_n le_m = absurd (omega arith)
 chunks_same (suc n) (suc m) kind b le_n le_m =
-    bind_same (read_chunk kind b) _ _ (λ c e.
+    first_same (1, read_chunk kind b) _ _ (λ c e.
     let lt : length c.1 < length b = subst (Leaves (length b)) e (chunk_leaves kind b) in
     more_same c.0 c.1 (chunks_same n m kind c.1 (omega arith) (omega arith)))
   where
-    more_same : (o : Option Chunk) (r : List ℕ) → read_chunks n kind r ≡ read_chunks m kind r
-        → more_chunks (read_chunks n kind) o r ≡ more_chunks (read_chunks m kind) o r
+    more_same : (o : Option Chunk) (r : List ℕ) → (read_chunks n kind r).1 ≡ (read_chunks m kind r).1
+        → (more_chunks (read_chunks n kind) o r).1 ≡ (more_chunks (read_chunks m kind) o r).1
     more_same None r same = refl
-    more_same (Some c) r same = ap (λ read. read >>= λ cs. Ok (c ∷ cs.0, cs.1)) same
+    more_same (Some c) r same = then_first (read_chunks n kind r) (read_chunks m kind r) _ same
 
 -- what becomes of chunks after the next one, if there is one
 abbrev chunk_then : StringKind → Option Chunk → List ℕ → Skip
@@ -205,13 +211,13 @@ chunks_after kind (Ok x) = chunk_then kind x.0 x.1
 chunks_after kind (Err e) = Err e
 
 one_then : (kind : StringKind) (n : ℕ) (o : Option Chunk) (r : List ℕ) → length r ≤ n
-    → rest_of (more_chunks (read_chunks n kind) o r) ≡ chunk_then kind o r
+    → rest_of (more_chunks (read_chunks n kind) o r).1 ≡ chunk_then kind o r
 one_then kind n None r le = refl
-one_then kind n (Some c) r le = rest_made (read_chunks n kind r) (λ cs. c ∷ cs)
-    ∙ ap rest_of (chunks_same n (length r) kind r le (omega arith))
+one_then kind n (Some c) r le = rest_then (read_chunks n kind r) _ here (λ cs e. refl)
+    ∙ bind_here (rest_of (read_chunks n kind r).1) ∙ ap rest_of (chunks_same n (length r) kind r le (omega arith))
 
 next_then : (kind : StringKind) (n : ℕ) (read : Read (Option Chunk)) → Leaves (suc n) read
-    → rest_of (read >>= λ c. more_chunks (read_chunks n kind) c.0 c.1) ≡ chunks_after kind read
+    → rest_of ((1, read) >>- λ c. more_chunks (read_chunks n kind) c.0 c.1).1 ≡ chunks_after kind read
 next_then kind n (Ok x) lt = one_then kind n x.0 x.1 (omega arith)
 next_then kind n (Err e) lt = refl
 
@@ -230,15 +236,15 @@ unfolding read_chunk
 break_goes kind b = record { over = break_byte ∷ []; parts = refl; along = λ c. chunks_next kind (break_byte ∷ c) }
 
 -- the number after five bits of info, whatever is after it
-info_over : (bits : ℕ) (i : Info) (b rest : List ℕ) → InfoIs bits i b rest
-    → (x : List ℕ) × (b ≡ x ++ rest) × ((c : List ℕ) → read_info bits (x ++ c) ≡ Ok (i, c))
-info_over bits (info.Number n w) b rest is =
-    (number_bytes w n, is.2, λ c. ap (λ k. read_info k (number_bytes w n ++ c)) is.1 ∙ info_again w n c is.0)
-info_over bits info.Indefinite b rest is = ([], is.1, λ c. info_opens bits c is.0)
+info_over : (bits : ℕ) (i : Argument) (b rest : List ℕ) → ArgumentIs bits i b rest
+    → (x : List ℕ) × (b ≡ x ++ rest) × ((c : List ℕ) → read_argument bits (x ++ c) ≡ Ok (i, c))
+info_over bits (number n w) b rest is =
+    (number_bytes w n, is.2, λ c. ap (λ k. read_argument k (number_bytes w n ++ c)) is.1 ∙ info_again w n c is.0)
+info_over bits indefinite b rest is = ([], is.1, λ c. info_opens bits c is.0)
 
 -- a chunk's head, with its content and more chunks after it
 content_then : (kind : StringKind) (n : ℕ) (w : IntegerWidth) (c : List ℕ)
-    → chunks_after kind (chunk_of kind (info.Number n w) c) ≡ (skip_content kind n w c >>= skip_chunks kind)
+    → chunks_after kind (chunk_of kind (number n w) c) ≡ (skip_content kind n w c >>= skip_chunks kind)
 content_then kind n w c = after (read_content kind n w c)
   where
     after : (read : Read Chunk) → chunks_after kind (read >>= λ c. Ok (Some c.0, c.1))
@@ -247,8 +253,8 @@ content_then kind n w c = after (read_content kind n w c)
     after (Err e) = refl
 
 -- what a chunk is where its info is read so
-chunk_reads : (kind : StringKind) (first : ℕ) (b : List ℕ) (read : Read Info) → first ≢ break_byte
-    → first / 32 ≡ major_of kind → read_info (first % 32) b ≡ read
+chunk_reads : (kind : StringKind) (first : ℕ) (b : List ℕ) (read : Read Argument) → first ≢ break_byte
+    → first / 32 ≡ major_of kind → read_argument (first % 32) b ≡ read
     → read_chunk kind (first ∷ b) ≡ (read >>= λ i. chunk_of kind i.0 i.1)
 chunk_reads kind first b read no_break major e =
     elim (chunk_ways kind first b) [
@@ -260,15 +266,15 @@ chunk_reads kind first b read no_break major e =
     ]
 
 pub chunk_goes : (kind : StringKind) (first n : ℕ) (w : IntegerWidth) (b rest : List ℕ) → IsBytes b → first ≢ break_byte
-    → first / 32 ≡ major_of kind → read_info (first % 32) b ≡ Ok (info.Number n w, rest)
+    → first / 32 ≡ major_of kind → read_argument (first % 32) b ≡ Ok (number n w, rest)
     → Goes (skip_chunks kind) (λ c. skip_content kind n w c >>= skip_chunks kind) (first ∷ b) rest
 chunk_goes kind first n w b rest fits no_break major e =
-    let f = info_over (first % 32) (info.Number n w) b rest (info_takes (first % 32) b rest (info.Number n w) fits e) in
+    let f = info_over (first % 32) (number n w) b rest (info_takes (first % 32) b rest (number n w) fits e) in
     record {
       over = first ∷ f.0;
       parts = ap (λ (z : List ℕ). first ∷ z) f.1;
       along = λ c. chunks_next kind (first ∷ (f.0 ++ c))
-          ∙ ap (chunks_after kind) (chunk_reads kind first (f.0 ++ c) (Ok (info.Number n w, c)) no_break major (f.2 c))
+          ∙ ap (chunks_after kind) (chunk_reads kind first (f.0 ++ c) (Ok (number n w, c)) no_break major (f.2 c))
           ∙ content_then kind n w c;
     }
 
@@ -303,7 +309,7 @@ bad_info_from (cut_info k small is short) other = absurd (other refl)
 bad_info_from (bad_info least most) other = (bad_info least most, refl)
 
 info_shows : (kind : StringKind) (first : ℕ) (b : List ℕ) (e : Error) → first ≢ break_byte → first / 32 ≡ major_of kind
-    → read_info (first % 32) b ≡ Err e → e ≢ refusal.CutShort → Shows (skip_chunks kind) (first ∷ b) e (length b)
+    → read_argument (first % 32) b ≡ Err e → e ≢ refusal.CutShort → Shows (skip_chunks kind) (first ∷ b) e (length b)
 info_shows kind first b e no_break major h other =
     let bad = bad_info_from (info_refused (first % 32) b e (omega arith) h) other in
     subst (λ d. Shows (skip_chunks kind) (first ∷ b) d (length b)) bad.1
@@ -311,20 +317,20 @@ info_shows kind first b e no_break major h other =
     (info_refuses (first % 32) [] refusal.Head bad.0)))
 
 pub indefinite_shows : (kind : StringKind) (first : ℕ) (b rest : List ℕ) → IsBytes b → first ≢ break_byte
-    → first / 32 ≡ major_of kind → read_info (first % 32) b ≡ Ok (info.Indefinite, rest)
+    → first / 32 ≡ major_of kind → read_argument (first % 32) b ≡ Ok (indefinite, rest)
     → Shows (skip_chunks kind) (first ∷ b) refusal.Head (length b)
 indefinite_shows kind first b rest fits no_break major e =
-    let is = info_takes (first % 32) b rest info.Indefinite fits e in
-    chunk_shows kind first b (chunk_reads kind first [] (Ok (info.Indefinite, [])) no_break major
+    let is = info_takes (first % 32) b rest indefinite fits e in
+    chunk_shows kind first b (chunk_reads kind first [] (Ok (indefinite, [])) no_break major
     (info_opens (first % 32) [] is.0))
 
 info_cut : (kind : StringKind) (first : ℕ) (b : List ℕ) → first ≢ break_byte → first / 32 ≡ major_of kind
-    → read_info (first % 32) b ≡ Err refusal.CutShort → skip_chunks kind (first ∷ b) ≡ Err refusal.CutShort
+    → read_argument (first % 32) b ≡ Err refusal.CutShort → skip_chunks kind (first ∷ b) ≡ Err refusal.CutShort
 info_cut kind first b no_break major e = chunks_next kind (first ∷ b)
     ∙ ap (chunks_after kind) (chunk_reads kind first b (Err refusal.CutShort) no_break major e)
 
 pub info_stops : (kind : StringKind) (first : ℕ) (b : List ℕ) (e : Error) → first ≢ break_byte
-    → first / 32 ≡ major_of kind → read_info (first % 32) b ≡ Err e
+    → first / 32 ≡ major_of kind → read_argument (first % 32) b ≡ Err e
     → StopsSo (skip_chunks kind) (first ∷ b) (stop_of e (length b))
 info_stops kind first b e no_break major is =
     stop_either (skip_chunks kind) (first ∷ b) e (length b)
@@ -342,8 +348,8 @@ more_keeps kind e = refl
 -- ---- heads
 
 -- a head whose info is read, whatever is after it
-head_reads : (h : ItemHead) (first : ℕ) (b c : List ℕ) (i : Info) → head_of (first / 32) i ≡ Ok h
-    → read_info (first % 32) b ≡ Ok (i, c) → read_head (first ∷ b) ≡ Ok (h, c)
+head_reads : (h : ItemHead) (first : ℕ) (b c : List ℕ) (i : Argument) → head_of (first / 32) i ≡ Ok h
+    → read_argument (first % 32) b ≡ Ok (i, c) → read_head (first ∷ b) ≡ Ok (h, c)
 unfolding read_head
 head_reads h first b c i named info = ap (λ r. r >>= λ i. head_of (first / 32) i.0 >>= λ h. Ok (h, i.1)) info
     ∙ ap (λ r. r >>= λ h. Ok (h, c)) named
@@ -353,11 +359,11 @@ head_over : (h : ItemHead) (first : ℕ) (b rest : List ℕ) → IsBytes (first 
     → (x : List ℕ) × (b ≡ x ++ rest) × ((c : List ℕ) → read_head (first ∷ (x ++ c)) ≡ Ok (h, c))
 unfolding read_head
 head_over h first b rest fits e =
-    let a = bind_ok (read_info (first % 32) b) (λ i. head_of (first / 32) i.0 >>= λ h. Ok (h, i.1)) (h, rest) e in
+    let a = bind_ok (read_argument (first % 32) b) (λ i. head_of (first / 32) i.0 >>= λ h. Ok (h, i.1)) (h, rest) e in
     let o = bind_ok (head_of (first / 32) a.0.0) (λ h. Ok (h, a.0.1)) (h, rest) a.2 in
     let made = ok_is (o.0, a.0.1) (h, rest) o.2 in
     let named : head_of (first / 32) a.0.0 ≡ Ok h = o.1 ∙ ap (λ (p : ItemHead × List ℕ). Ok p.0) made in
-    let info : read_info (first % 32) b ≡ Ok (a.0.0, rest) = a.1
+    let info : read_argument (first % 32) b ≡ Ok (a.0.0, rest) = a.1
     ∙ ap (λ (p : ItemHead × List ℕ). Ok (a.0.0, p.1)) made in
     let f = info_over (first % 32) a.0.0 b rest
     (info_takes (first % 32) b rest a.0.0 (IsBytes-rest first b fits) info) in
@@ -365,7 +371,7 @@ head_over h first b rest fits e =
 
 pub head_goes : (left : ℕ) (h : ItemHead) (first : ℕ) (b rest : List ℕ) → 0 < left → IsBytes (first ∷ b)
     → read_head (first ∷ b) ≡ Ok (h, rest) → Goes (skip_item left) (skip_body (left - 1) h) (first ∷ b) rest
-unfolding read_item
+unfolding counted_item
 head_goes zero h first b rest some fits e = absurd (omega arith)
 head_goes (suc left) h first b rest some fits e =
     let f = head_over h first b rest fits e in
@@ -373,7 +379,7 @@ head_goes (suc left) h first b rest some fits e =
     record {
       over = first ∷ f.0;
       parts = ap (λ (z : List ℕ). first ∷ z) f.1;
-      along = λ c. ap (λ r. rest_of (r >>= λ h. read_body (read_item left) h.0 h.1)) (f.2 c)
+      along = λ c. ap (λ r. rest_of (go_on 1 r (λ h. read_body (counted_item left) (opened h.0) h.0 h.1)).1) (f.2 c)
           ∙ ap (λ l. skip_body l h c) same;
     }
 
@@ -389,10 +395,11 @@ bad_alone (no_length is major) = no_length is major
 
 bad_shows : (left first : ℕ) (b : List ℕ) → 0 < left → BadHead (first ∷ b)
     → Shows (skip_item left) (first ∷ b) refusal.Head (length b)
+unfolding counted_item
 bad_shows zero first b some bad = absurd (omega arith)
 bad_shows (suc left) first b some bad = shows_first (skip_item (suc left)) first b refusal.Head
-    (ap rest_of (item_nothing (suc left))) (ap rest_of (bad_head_refuses left (first ∷ []) (bad_alone bad)))
-    (λ same. absurd cc)
+    (ap rest_of (item_nothing (suc left))) (ap (λ r. rest_of (go_on 1 r (λ h. read_body (counted_item left) (opened h.0) h.0 h.1)).1)
+    (head_bad (first ∷ []) (bad_alone bad))) (λ same. absurd cc)
 
 head_shows : (left first : ℕ) (b : List ℕ) (e : Error) → 0 < left → IsBytes (first ∷ b) → read_head (first ∷ b) ≡ Err e
     → e ≢ refusal.CutShort → Shows (skip_item left) (first ∷ b) e (length b)
@@ -400,18 +407,12 @@ head_shows left first b e some fits h other =
     let bad = bad_head_from (head_refused (first ∷ b) e fits h) other in
     subst (λ d. Shows (skip_item left) (first ∷ b) d (length b)) bad.1 (bad_shows left first b some bad.0)
 
-pub break_shows : (left first : ℕ) (b rest : List ℕ) → 0 < left → IsBytes (first ∷ b)
-    → read_head (first ∷ b) ≡ Ok (item_head.Break, rest) → Shows (skip_item left) (first ∷ b) refusal.Head (length b)
-break_shows left first b rest some fits e =
-    let is = (cons_is first break_byte b rest (head_takes (first ∷ b) rest item_head.Break fits e).0).0 in
-    let info : first % 32 ≡ 31 = rw is refl in
-    bad_shows left first b some (no_length info (inr (rw is (omega arith))))
-
 head_short : (left : ℕ) (b : List ℕ) → 0 < left → read_head b ≡ Err refusal.CutShort
     → skip_item left b ≡ Err refusal.CutShort
-unfolding read_item
+unfolding counted_item
 head_short zero b some e = absurd (omega arith)
-head_short (suc left) b some e = ap (λ r. rest_of (r >>= λ h. read_body (read_item left) h.0 h.1)) e
+head_short (suc left) b some e =
+    ap (λ r. rest_of (go_on 1 r (λ h. read_body (counted_item left) (opened h.0) h.0 h.1)).1) e
 
 pub head_stops : (left first : ℕ) (b : List ℕ) (e : Error) → 0 < left → IsBytes (first ∷ b)
     → read_head (first ∷ b) ≡ Err e → StopsSo (skip_item left) (first ∷ b) (stop_of e (length b))
@@ -424,7 +425,7 @@ no_item left = ap rest_of (item_nothing left)
 
 pub deep_shows : (left first : ℕ) (b : List ℕ) → left ≡ 0
     → Shows (skip_item left) (first ∷ b) refusal.TooDeep (length b)
-unfolding read_item
+unfolding counted_item
 deep_shows zero first b none = shows_first (skip_item 0) first b refusal.TooDeep refl refl (λ same. absurd cc)
 deep_shows (suc left) first b none = absurd (omega arith)
 

@@ -11,21 +11,23 @@ use Rattle.cbor_diag.specs.Bytes.{any, Spells}
 use Rattle.cbor_diag.specs.Refused.{Cut, Fault}
 use Rattle.cbor_diag.specs.Turns.{item_turns, cut_spent, fault_spent}
 use Rattle.cbor_diag.specs.Answer.{HasOutcome, HasTurns, RefusedSo}
-use Rattle.cbor_diag.specs.Reading.{Fails, read_item}
-use Rattle.cbor_diag.specs.mirror.Counting.{Counted, later, Stops, Runs, counted_item}
-use Rattle.cbor_diag.proofs.turns.Uncounted.{item_first}
-use Rattle.cbor_diag.proofs.turns.ItemTurns.{counted_is, counted_again, turns_few}
-use Rattle.cbor_diag.proofs.turns.TurnsSpent.{cut_turns, fault_turns}
+use Rattle.cbor_diag.specs.Reading.{Fails, Counted, later, counted_item, read_item}
+use Rattle.cbor_diag.specs.mirror.Counting.{Stops, Runs}
+use Rattle.cbor_diag.proofs.bytes.Heads.{IsBytes}
+use Rattle.cbor_diag.proofs.bytes.Found.{item_takes}
+use Rattle.cbor_diag.proofs.bytes.FoundAgain.{counted_again}
+use Rattle.cbor_diag.proofs.bytes.RefusedAgain.{cut_turns, fault_turns}
+use Rattle.cbor_diag.proofs.turns.ItemTurns.{turns_few}
 
 -- what reading gives
 pub first_ok : (left old new : ℕ) (b rest : List ℕ) (i : Item) → later old (counted_item left b) ≡ (new, Ok (i, rest))
     → read_item left b ≡ Ok (i, rest)
-first_ok left old new b rest i h = sym (item_first left b) ∙ ap (λ (c : Counted Item). c.1) h
+first_ok left old new b rest i h = ap (λ (c : Counted Item). c.1) h
 
 pub first_fails : (left old new : ℕ) (b : List ℕ) (e : Error) → Stops e new (later old (counted_item left b))
     → Fails e (read_item left b)
 first_fails left old new b refusal.Memory h = tt
-first_fails left old new b e h = sym (item_first left b) ∙ ap (λ (c : Counted Item). c.1) h
+first_fails left old new b e h = ap (λ (c : Counted Item). c.1) h
 
 -- its turns, and no more where memory ran out
 pub run_within : {X : Type 0} (f : X → Item × List ℕ) (old new : ℕ) (r : Result X Error) (c : Counted Item)
@@ -34,10 +36,11 @@ run_within f old new (Ok x) c h = omega (arith, ap (λ (d : Counted Item). d.0) 
 run_within f old new (Err refusal.Memory) c h = h
 run_within f old new (Err e) c h = omega (arith, ap (λ (d : Counted Item). d.0) h)
 
-pub ok_turns : (left old new : ℕ) (b rest : List ℕ) (i : Item) → later old (counted_item left b) ≡ (new, Ok (i, rest))
-    → new ≡ old + item_turns i
-ok_turns left old new b rest i h =
-    let is = counted_is left b rest i (first_ok left old new b rest i h) in
+pub ok_turns : (level left old new : ℕ) (b rest : List ℕ) (i : Item) → level + left ≡ 129 → IsBytes b
+    → later old (counted_item left b) ≡ (new, Ok (i, rest)) → new ≡ old + item_turns i
+ok_turns level left old new b rest i levels fits h =
+    let s = item_takes level left b i rest levels fits (first_ok left old new b rest i h) in
+    let is = ap (counted_item left) s.parts ∙ counted_again level left s.front i rest levels s.spells in
     sym (ap (λ (c : Counted Item). c.0) h) ∙ ap (λ (c : Counted Item). old + c.0) is
 
 pub cut_risen : (level left old new : ℕ) (b : List ℕ) → level + left ≡ 129

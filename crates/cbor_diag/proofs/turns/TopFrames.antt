@@ -5,7 +5,8 @@ use Rattle.std.specs.Prelude.{option_map, option_to_list, slice_get}
 use Rattle.std.proofs.lemmas.List.{length-append, length-map}
 use Rattle.std.proofs.Math.Seq.{set-append_seam}
 use Rattle.cbor_diag.specs.declared.parse.binary.frame.Frame as code
-use Rattle.cbor_diag.specs.mirror.Counting.{Frame, IsStack, depth_of, pushed}
+use Rattle.cbor_diag.specs.Reading.{Frame}
+use Rattle.cbor_diag.specs.mirror.Counting.{IsStack, depth_of, pushed}
 use Rattle.cbor_diag.specs.mirror.Stack.{frame, last_of, before_last}
 
 pub last_pushed : (xs : List code.Frame) (x : code.Frame) → last_of (xs ++ x ∷ []) ≡ Some x

@@ -1,24 +1,24 @@
 -- What one turn does: it closes a container, or reads a head.
 use Rattle.std.proofs.Common.{◌≡◌, ℕ, zero, suc, ◌+◌, ◌-◌, ◌<◌, ◌≤◌, List, [], ◌∷◌, ◌++◌, length, Option, Some, None}
-use Rattle.std.proofs.Common.{Ok, refl, sym, ap, subst, ◌∙◌, arith}
+use Rattle.std.proofs.Common.{Ok, Err, refl, sym, ap, subst, ◌∙◌, arith}
 use Rattle.std.specs.Prelude.{IsSome, option_and_then, option_to_list}
 use Rattle.std.proofs.lemmas.List.{length-append}
 use Rattle.cbor_diag.specs.declared.error.Error.{Error}
 use Rattle.cbor_diag.specs.declared.error.Error.TheVariants as refusal
-use Rattle.cbor_diag.specs.declared.parse.binary.head.ItemHead.{ItemHead}
-use Rattle.cbor_diag.specs.declared.parse.binary.head.ItemHead.TheVariants as item_head
 use Rattle.cbor_diag.specs.Item.{Item}
+use Rattle.cbor_diag.specs.ItemHead as item_head
+use Rattle.cbor_diag.specs.ItemHead.{ItemHead}
 use Rattle.cbor_diag.specs.Answer.{MayWantMemory}
-use Rattle.cbor_diag.specs.Reading.{Fails, HoldsContent, read_head}
-use Rattle.cbor_diag.specs.mirror.Counting.{Counted, later, go_on, ◌>>-◌, Stops, Frame, put, after_end, closed}
-use Rattle.cbor_diag.specs.mirror.Counting.{read_parts, opened, read_atom, read_part, read_item_head, counted_item}
-use Rattle.cbor_diag.specs.mirror.Counting.{closing, pushed, depth_of, resume, deliver, IsStack}
+use Rattle.cbor_diag.specs.Reading.{Fails, Counted, later, go_on, ◌>>-◌, Frame, put, after_end, closed, read_parts, opened}
+use Rattle.cbor_diag.specs.Reading.{read_head, read_atom, read_body, no_level_left, counted_item}
+use Rattle.cbor_diag.specs.mirror.Counting.{Stops, HoldsContent, read_item_head, closing, pushed, depth_of, resume}
+use Rattle.cbor_diag.specs.mirror.Counting.{deliver, IsStack}
 use Rattle.cbor_diag.proofs.bytes.Heads.{IsBytes}
 use Rattle.cbor_diag.proofs.bytes.Outcomes.{memory_opens}
-use Rattle.cbor_diag.proofs.turns.Counting.{later_later, later_none, parts_end, parts_more, closing_later}
-use Rattle.cbor_diag.proofs.turns.Counting.{closing_append, deliver_later, deliver_err, deliver_grows, resume_counts}
+use Rattle.cbor_diag.proofs.bytes.Steps.{later_later, later_none, parts_end, parts_more, item_shortens}
+use Rattle.cbor_diag.proofs.turns.Counting.{closing_later, closing_append, deliver_later, deliver_err, deliver_grows}
+use Rattle.cbor_diag.proofs.turns.Counting.{resume_counts}
 use Rattle.cbor_diag.proofs.turns.ChunkLoops.{stops_go, stops_with, stops_later}
-use Rattle.cbor_diag.proofs.turns.Uncounted.{item_shortens}
 
 -- ---- a container that ends
 
@@ -62,15 +62,12 @@ wants left outer (Some f) b none =
 too_deep : (e : Error) (b : List ℕ) → Fails e (read_item_head 0 b) → Stops e 1 (counted_item 0 b)
 unfolding counted_item
 too_deep refusal.Memory b h = omega arith
-too_deep refusal.CutShort [] h = refl
-too_deep e [] h = absurd cc
-too_deep refusal.TooDeep (first ∷ b) h = refl
-too_deep e (first ∷ b) h = absurd cc
+too_deep e b h = let same : no_level_left b ≡ e = cc in ap (λ d. (1, Err d)) same
 
 head_stops : (e : Error) (left : ℕ) (b : List ℕ) → Fails e (read_item_head left b) → Stops e 1 (counted_item left b)
 unfolding counted_item
 head_stops e zero b h = too_deep e b h
-head_stops e (suc left) b h = stops_go e 1 (read_head b) (λ x. read_part (counted_item left) (opened x.0) x.0 x.1) h
+head_stops e (suc left) b h = stops_go e 1 (read_head b) (λ x. read_body (counted_item left) (opened x.0) x.0 x.1) h
 
 -- a part that is read, with the turns before it
 pub later_deliver : (left : ℕ) (outer : List Frame) (top : Option Frame) (t : ℕ) (c : Counted Item)
@@ -92,15 +89,14 @@ wanted_stops e left t outer top b none h =
 -- the head was there, and so was a level for it
 pub head_opens : (left : ℕ) (b : List ℕ) (h : ItemHead) (rest : List ℕ) → read_item_head left b ≡ Ok (h, rest)
     → (l : ℕ) × (left ≡ suc l) × (read_head b ≡ Ok (h, rest))
-    × (counted_item left b ≡ later 1 (read_part (counted_item l) (opened h) h rest))
+    × (counted_item left b ≡ later 1 (read_body (counted_item l) (opened h) h rest))
 unfolding counted_item
-head_opens zero [] h rest e = absurd cc
-head_opens zero (first ∷ b) h rest e = absurd cc
+head_opens zero b h rest e = absurd cc
 head_opens (suc left) b h rest e = (
   left,
   refl,
   e,
-  ap (λ r. go_on 1 r (λ x. read_part (counted_item left) (opened x.0) x.0 x.1)) e,
+  ap (λ r. go_on 1 r (λ x. read_body (counted_item left) (opened x.0) x.0 x.1)) e,
 )
 
 pub wanted_opens : (left : ℕ) (b : List ℕ) (h : ItemHead) (rest : List ℕ) → IsBytes b
@@ -108,19 +104,15 @@ pub wanted_opens : (left : ℕ) (b : List ℕ) (h : ItemHead) (rest : List ℕ) 
 wanted_opens left b h rest fits e holds = memory_opens b rest h fits (head_opens left b h rest e).2 holds
 
 pub opened_holds : (h : ItemHead) (f : Frame) → opened h ≡ Some f → HoldsContent h
-opened_holds (item_head.Array n w) f e = tt
-opened_holds (item_head.Map n w) f e = tt
-opened_holds (item_head.Tag n w) f e = tt
-opened_holds item_head.OpenArray f e = tt
-opened_holds item_head.OpenMap f e = tt
+opened_holds (item_head.array a) f e = tt
+opened_holds (item_head.map a) f e = tt
+opened_holds (item_head.tag n w) f e = tt
 opened_holds h f e = absurd cc
 
 pub some_holds : (h : ItemHead) → IsSome (opened h) → HoldsContent h
-some_holds (item_head.Array n w) e = tt
-some_holds (item_head.Map n w) e = tt
-some_holds (item_head.Tag n w) e = tt
-some_holds item_head.OpenArray e = tt
-some_holds item_head.OpenMap e = tt
+some_holds (item_head.array a) e = tt
+some_holds (item_head.map a) e = tt
+some_holds (item_head.tag n w) e = tt
 some_holds h e = absurd cc
 
 -- ---- a container that is opened
@@ -151,7 +143,7 @@ pub opens : (left t : ℕ) (outer : List Frame) (top : Option Frame) (b : List �
 opens left t outer top b h g rest bottom none e is =
     let o = head_opens (left - depth_of outer top) b h rest e in
     let read : counted_item (left - depth_of outer top) b ≡ later 1 (read_parts (counted_item o.0) g rest) = o.3
-    ∙ ap (λ x. later 1 (read_part (counted_item o.0) x h rest)) is in
+    ∙ ap (λ x. later 1 (read_body (counted_item o.0) x h rest)) is in
     ap (later t) (wants left outer top b none ∙ ap (deliver left outer top) read ∙ deliver_later left outer top 1 _)
     ∙ later_later t 1 _ ∙ ap (later (t + 1)) (deliver_opened left o.0 outer top g rest bottom o.1)
 
@@ -164,7 +156,7 @@ atom_read : (left t : ℕ) (outer : List Frame) (top : Option Frame) (b : List �
 atom_read left t outer top b h rest none e is =
     let o = head_opens (left - depth_of outer top) b h rest e in
     let read : counted_item (left - depth_of outer top) b ≡ later 1 (read_atom h rest) = o.3
-    ∙ ap (λ x. later 1 (read_part (counted_item o.0) x h rest)) is in
+    ∙ ap (λ x. later 1 (read_body (counted_item o.0) x h rest)) is in
     ap (later t) (wants left outer top b none ∙ ap (deliver left outer top) read)
     ∙ later_deliver left outer top t (read_atom h rest)
 

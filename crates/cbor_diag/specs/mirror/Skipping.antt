@@ -4,23 +4,23 @@
 use Rattle.std.specs.Prelude.{◌≡◌, ◌≢◌, ℕ, zero, suc, ◌-◌, List, [], ◌∷◌, ◌++◌, length, Option, Some, None, Result, Ok}
 use Rattle.std.specs.Prelude.{Err}
 use Rattle.cbor_diag.specs.declared.syntax.IntegerWidth.{IntegerWidth}
+use Rattle.cbor_diag.specs.declared.syntax.IntegerWidth.TheVariants.{Zero}
 use Rattle.cbor_diag.specs.declared.error.Error.{Error}
 use Rattle.cbor_diag.specs.declared.error.Error.TheVariants.{CutShort}
-use Rattle.cbor_diag.specs.declared.parse.binary.head.ItemHead.{ItemHead}
-use Rattle.cbor_diag.specs.declared.parse.binary.head.ItemHead.TheVariants as item_head
 use Rattle.cbor_diag.specs.declared.parse.binary.skip.Stop.{Stop}
 use Rattle.cbor_diag.specs.declared.parse.binary.skip.Stop.TheVariants as stops
 use Rattle.cbor_diag.specs.declared.parse.binary.skip.Chunk.{Chunk}
 use Rattle.cbor_diag.specs.declared.parse.binary.skip.Chunk.TheVariants as chunks
-use Rattle.cbor_diag.specs.declared.parse.binary.skip.to_come.Count.{Count}
-use Rattle.cbor_diag.specs.declared.parse.binary.skip.to_come.Count.TheVariants.{Definite, ToBreak}
 use Rattle.cbor_diag.specs.declared.parse.binary.skip.to_come.ToCome.{ToCome}
-use Rattle.cbor_diag.specs.declared.parse.binary.skip.to_come.ToCome.TheVariants.{Items, Pairs, Value}
+use Rattle.cbor_diag.specs.declared.parse.binary.skip.to_come.ToCome.TheVariants as to_come
+use Rattle.cbor_diag.specs.Item.{Item, atom, simple, no_items, no_pairs}
+use Rattle.cbor_diag.specs.ItemHead.{ItemHead}
 use Rattle.cbor_diag.specs.WellFormed.{deepest}
 use Rattle.cbor_diag.specs.StringKind.{StringKind}
-use Rattle.cbor_diag.specs.Reading.{Read, ◌>>=◌, read_content, read_chunks, read_items, read_pairs, after_break}
-use Rattle.cbor_diag.specs.Reading.{read_open_items}
-use Rattle.cbor_diag.specs.Reading.{read_open_pairs, read_body, read_item}
+use Rattle.cbor_diag.specs.Argument.{number}
+use Rattle.cbor_diag.specs.Reading.{Read, ◌>>=◌, read_content, read_chunks, Frame, items_in, pairs_in, value_of, tag_of}
+use Rattle.cbor_diag.specs.Reading.{tagged_with, opened, read_parts, read_body, counted_item, read_item}
+use Rattle.cbor_diag.specs.mirror.HeadView.{argument_view}
 
 -- ---- skipping
 
@@ -41,14 +41,14 @@ abbrev pub skip_content : StringKind → ℕ → IntegerWidth → List ℕ → S
 skip_content kind n w b = rest_of (read_content kind n w b)
 
 abbrev pub skip_chunks : StringKind → List ℕ → Skip
-skip_chunks kind b = rest_of (read_chunks (length b) kind b)
+skip_chunks kind b = rest_of (read_chunks (length b) kind b).1
 
 -- an item with `left` levels left for it, and the same after its head
 abbrev pub skip_item : ℕ → List ℕ → Skip
 skip_item left b = rest_of (read_item left b)
 
 abbrev pub skip_body : ℕ → ItemHead → List ℕ → Skip
-skip_body left h b = rest_of (read_body (read_item left) h b)
+skip_body left h b = rest_of (read_body (counted_item left) (opened h) h b).1
 
 -- ---- steps of the code
 
@@ -84,48 +84,29 @@ after_chunk kind chunks.Break b = here b
 
 -- ---- what is still to come
 
-abbrev pub one_less : Count → Count
-one_less (Definite n) = Definite (n - 1)
-one_less ToBreak = ToBreak
+-- any item: which one was read makes no difference to what is still to come
+abbrev pub some_item : Item
+some_item = atom (simple 0)
 
--- the bytes after the parts, where none is to come
-abbrev pub count_end : Count → List ℕ → Option (List ℕ)
-count_end (Definite zero) b = Some b
-count_end (Definite (suc n)) b = None
-count_end ToBreak b = after_break b
+-- a container of which as much is to come, and in which nothing was read but a key
+abbrev pub emptied : Frame → Frame
+emptied (items_in is left) = items_in no_items left
+emptied (pairs_in ps left) = pairs_in no_pairs left
+emptied (value_of ps k left) = value_of no_pairs some_item left
+emptied (tag_of t w) = items_in no_items (number 1 Zero)
+emptied (tagged_with t w i) = items_in no_items (number 0 Zero)
 
-abbrev pub end_of : ToCome → List ℕ → Option (List ℕ)
-end_of (Items c) b = count_end c b
-end_of (Pairs c) b = count_end c b
-end_of (Value c) b = None
-
-abbrev pub after_part : ToCome → ToCome
-after_part (Items c) = Items (one_less c)
-after_part (Pairs c) = Value (one_less c)
-after_part (Value c) = Pairs c
-
--- all of a container that a head opens
-abbrev pub opened : ItemHead → Option ToCome
-opened (item_head.Array n w) = Some (Items (Definite n))
-opened (item_head.Map n w) = Some (Pairs (Definite n))
-opened (item_head.Tag n w) = Some (Items (Definite 1))
-opened item_head.OpenArray = Some (Items ToBreak)
-opened item_head.OpenMap = Some (Pairs ToBreak)
-opened _ = None
+abbrev pub frame_of : ToCome → Frame
+frame_of (to_come.Items left) = items_in no_items (argument_view left)
+frame_of (to_come.Pairs left) = pairs_in no_pairs (argument_view left)
+frame_of (to_come.Value left) = value_of no_pairs some_item (argument_view left)
 
 -- the parts, with `left` levels left for each
-abbrev pub skip_items : ℕ → Count → List ℕ → Skip
-skip_items left (Definite n) b = rest_of (read_items (read_item left) n b)
-skip_items left ToBreak b = rest_of (read_open_items (read_item left) (length b) b)
-
-abbrev pub skip_pairs : ℕ → Count → List ℕ → Skip
-skip_pairs left (Definite n) b = rest_of (read_pairs (read_item left) n b)
-skip_pairs left ToBreak b = rest_of (read_open_pairs (read_item left) (length b) b)
+abbrev pub skip_frame : ℕ → Frame → List ℕ → Skip
+skip_frame left f b = rest_of (read_parts (counted_item left) f b).1
 
 abbrev pub skip_parts : ℕ → ToCome → List ℕ → Skip
-skip_parts left (Items c) b = skip_items left c b
-skip_parts left (Pairs c) b = skip_pairs left c b
-skip_parts left (Value c) b = skip_item left b >>= skip_pairs left c
+skip_parts left t b = skip_frame left (frame_of t) b
 
 -- what an item has still to come, with `left` levels left for its parts
 abbrev pub begun : ℕ → Option ToCome → List ℕ → Skip

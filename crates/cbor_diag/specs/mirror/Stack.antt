@@ -1,27 +1,27 @@
--- The containers that a `Frame` and a `Stack` are, in the words of `specs/Counting.antt`.
+-- The containers that a `Frame` and a `Stack` are, in the words of `specs/Reading.antt`.
 use Rattle.std.specs.Prelude.{◌≡◌, ℕ, ◌+◌, ◌-◌, ◌*◌, ◌≤◌, vec_capacity, List, [], ◌∷◌, length, map, Option, Some, None}
 use Rattle.std.specs.Prelude.{option_map, Ok}
-use Rattle.cbor_diag.specs.declared.parse.binary.frame.Length.{Length}
-use Rattle.cbor_diag.specs.declared.parse.binary.frame.Length.TheVariants.{Definite, Indefinite}
+use Rattle.cbor_diag.specs.declared.parse.binary.argument.Argument as code_argument
+use Rattle.cbor_diag.specs.declared.parse.binary.argument.Argument.TheVariants.{Number, Indefinite}
 use Rattle.cbor_diag.specs.declared.parse.binary.frame.Frame as code
 use Rattle.cbor_diag.specs.declared.parse.binary.frame.Frame.TheVariants as code_frame
 use Rattle.cbor_diag.specs.declared.parse.binary.stack.Stack.{Stack}
+use Rattle.cbor_diag.specs.Argument.{Argument, number, indefinite}
 use Rattle.cbor_diag.specs.Item.{Item}
 use Rattle.cbor_diag.specs.View.{view, items_view, pairs_view}
-use Rattle.cbor_diag.specs.mirror.Counting.{Wanted, so_many, to_break, Frame, items_in, pairs_in, value_of, tag_of}
-use Rattle.cbor_diag.specs.mirror.Counting.{tagged_with, put, depth_of}
-use Rattle.cbor_diag.specs.mirror.Counting.{Counted, resume, deliver}
+use Rattle.cbor_diag.specs.Reading.{Counted, Frame, items_in, pairs_in, value_of, tag_of, tagged_with, put}
+use Rattle.cbor_diag.specs.mirror.Counting.{depth_of, resume, deliver}
 
--- what is still to come of such a length where `held` members are there
-abbrev pub wanted : Length → ℕ → Wanted
-wanted (Definite n w) held = so_many (n - held) w
-wanted Indefinite held = to_break
+-- how many members are still to come of such a length where `held` are there
+abbrev pub left_of : code_argument.Argument → ℕ → Argument
+left_of (Number n w) held = number (n - held) w
+left_of Indefinite held = indefinite
 
 abbrev pub frame : code.Frame → Frame
-frame (code_frame.Array content len) = items_in (items_view content.items) (wanted len (length content.items))
-frame (code_frame.Map content None len) = pairs_in (pairs_view content.items) (wanted len (length content.items))
+frame (code_frame.Array content len) = items_in (items_view content.items) (left_of len (length content.items))
+frame (code_frame.Map content None len) = pairs_in (pairs_view content.items) (left_of len (length content.items))
 frame (code_frame.Map content (Some key) len) =
-    value_of (pairs_view content.items) (view key) (wanted len (length content.items + 1))
+    value_of (pairs_view content.items) (view key) (left_of len (length content.items + 1))
 frame (code_frame.Tag tag width None) = tag_of tag.0 width
 frame (code_frame.Tag tag width (Some value)) = tagged_with tag.0 width (view value)
 

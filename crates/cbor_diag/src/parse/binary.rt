@@ -5,6 +5,7 @@
 //! the first error from the left, `CutShort` if the bytes end. No claimed length or count is
 //! trusted: memory is reserved for the bytes and members that are there, and for a few members at
 //! once.
+mod argument;
 mod frame;
 mod head;
 mod skip;
@@ -22,14 +23,16 @@ ghost use Rattle.cbor_diag.specs.Answer.{GaveRefusal, RefusedSo, MayWantMemory, 
 ghost use Rattle.cbor_diag.specs.Turns.{item_turns, cut_spent, fault_spent};
 ghost use Rattle.cbor_diag.specs.Facts.{IsItem, IsStrictItem, BeginsWithItem, IsCut, HasFault};
 ghost use Rattle.cbor_diag.specs.Facts.{IsNoItem, BeginsSo, BeginsInOneWay, IsWellFormed};
-ghost use Rattle.cbor_diag.specs.Reading.{Gives, HoldsContent, no_level_left};
-ghost use Rattle.cbor_diag.specs.mirror.Counting.{Runs, Stops, IsStack, later, read_item_head};
-ghost use Rattle.cbor_diag.specs.mirror.Counting.{read_atom, counted_item};
+ghost use Rattle.cbor_diag.specs.Reading.{Gives, later, no_level_left, read_atom, counted_item};
+ghost use Rattle.cbor_diag.specs.mirror.Counting.{HoldsContent, Runs, Stops, IsStack, read_item_head};
+ghost use Rattle.cbor_diag.specs.mirror.HeadView.{head_view};
 ghost use Rattle.cbor_diag.specs.mirror.Stack.{outer_of, top_of, depth, resumed, resumed_with};
 
 use crate::error::{Error, Result};
 use crate::parse::turns::Turns;
+use crate::syntax::strings::StringKind;
 use crate::syntax::{ByteString, DEEPEST, DataItem, Simple, TextString};
+use argument::Argument;
 use frame::Frame;
 use head::{ItemHead, read_head};
 pub use skip::{Extent, extent};
@@ -40,7 +43,7 @@ use strings::{read_chunks, read_string};
 /// The error below the deepest level: `TooDeep` if there are bytes for an item, otherwise
 /// `CutShort`.
 fn no_level_left(bytes: &[u8]) -> Error
-    ensures gives { no_level_left bytes.now ≡ Err result }
+    ensures gives { result ≡ no_level_left bytes.now }
     ensures memory { result ≢ Error.Memory }
 {
     if bytes.is_empty() {
@@ -53,7 +56,7 @@ fn no_level_left(bytes: &[u8]) -> Error
 /// The head of an item at `level`, from 1 to 129. No item is allowed at level 129.
 fn read_item_head(bytes: &[u8], level: usize) -> Result<(ItemHead, &[u8])>
     requires { level ≤ deepest + 1 }
-    ensures gives { Gives (λ x. (x.0, x.1.now)) result
+    ensures gives { Gives (λ x. (head_view x.0, x.1.now)) result
         (read_item_head (levels_left level) bytes.now) }
     ensures shorter { IfOk result (λ x. length x.1.now < length bytes.now) }
     ensures memory { result ≢ Err Error.Memory }
@@ -64,8 +67,8 @@ fn read_item_head(bytes: &[u8], level: usize) -> Result<(ItemHead, &[u8])>
     Ok(read_head(bytes)?)
 }
 
-/// The item without parts after its head. A break is not an item, and it ends nothing here. The
-/// heads of containers are handled by `Frame::new` before.
+/// The item without parts after its head. The heads of containers are handled by `Frame::new`
+/// before.
 fn read_atom<'a>(
     alloc: Global,
     head: ItemHead,
@@ -74,40 +77,35 @@ fn read_atom<'a>(
 ) -> Result<(DataItem, &'a [u8])>
     requires { turns.old + 2 * length bytes.now < 2 ^ 126 }
     ensures gives { Runs (λ x. (view x.0, x.1.now)) turns.old turns.new result
-        (read_atom head bytes.now) }
+        (read_atom (head_view head) bytes.now) }
     ensures falls { IfOk result (λ x.
         turns.new + 2 * length x.1.now ≤ turns.old + 2 * length bytes.now) }
     ensures few { turns.new ≤ turns.old + 2 * length bytes.now + 1 }
     ensures rises { turns.old ≤ turns.new }
-    ensures memory { result ≡ Err Error.Memory → HoldsContent head }
+    ensures memory { result ≡ Err Error.Memory → HoldsContent (head_view head) }
 {
     match head {
         ItemHead::Integer(value, bitwidth) => Ok((DataItem::Integer { value, bitwidth }, bytes)),
         ItemHead::Negative(value, bitwidth) => Ok((DataItem::Negative { value, bitwidth }, bytes)),
         ItemHead::Float(bits, bitwidth) => Ok((DataItem::Float { bits, bitwidth }, bytes)),
         ItemHead::Simple(value) => Ok((DataItem::Simple(Simple(value)), bytes)),
-        ItemHead::Bytes(count, bitwidth) => {
+        ItemHead::String(StringKind::Bytes, Argument::Number(count, bitwidth)) => {
             let (string, rest) = read_string(alloc, count, bitwidth, bytes)?;
             Ok((DataItem::ByteString(string), rest))
         }
-        ItemHead::Text(count, bitwidth) => {
+        ItemHead::String(StringKind::Text, Argument::Number(count, bitwidth)) => {
             let (string, rest) = read_string(alloc, count, bitwidth, bytes)?;
             Ok((DataItem::TextString(string), rest))
         }
-        ItemHead::OpenBytes => {
+        ItemHead::String(StringKind::Bytes, Argument::Indefinite) => {
             let (chunks, rest) = read_chunks(alloc, bytes, turns)?;
             Ok((DataItem::IndefiniteByteString(chunks), rest))
         }
-        ItemHead::OpenText => {
+        ItemHead::String(StringKind::Text, Argument::Indefinite) => {
             let (chunks, rest) = read_chunks(alloc, bytes, turns)?;
             Ok((DataItem::IndefiniteTextString(chunks), rest))
         }
-        ItemHead::Array(..)
-        | ItemHead::Map(..)
-        | ItemHead::Tag(..)
-        | ItemHead::OpenArray
-        | ItemHead::OpenMap
-        | ItemHead::Break => Err(Error::Head),
+        ItemHead::Array(_) | ItemHead::Map(_) | ItemHead::Tag(..) => Err(Error::Head),
     }
 }
 

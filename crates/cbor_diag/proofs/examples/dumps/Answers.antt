@@ -3,39 +3,39 @@ use Rattle.std.specs.Fmt.{digits}
 use Rattle.hex.specs.Hex.{encode_with}
 use Rattle.base64.specs.Rfc4648.{encode_symbols}
 use Rattle.cbor_notes.specs.Element.{element_text}
-use Rattle.cbor_diag.specs.Reading.{read_wide, read_info, numbered, unnumbered, read_head, read_content, read_items}
-use Rattle.cbor_diag.specs.Reading.{read_item}
+use Rattle.cbor_diag.specs.Reading.{read_wide, read_argument, head_of, read_head, read_content, parts_from}
+use Rattle.cbor_diag.specs.Reading.{counted_item}
 use Rattle.cbor_diag.specs.Embedded.{sequence_of}
 use Rattle.cbor_diag.specs.Notes.{value_note}
 use Rattle.cbor_diag.specs.Dump.{lines_at}
 use Rattle.cbor_diag.proofs.examples.dumps.Goals as goal
 
 pub returns-clause-chunks : goal.returns-clause-chunks
-unfolding digits encode_with encode_symbols read_wide read_info numbered unnumbered read_head read_content read_items
-    read_item sequence_of element_text value_note lines_at
+unfolding digits encode_with encode_symbols read_wide read_argument head_of read_head read_content parts_from
+    counted_item sequence_of element_text value_note lines_at
 returns-clause-chunks c = refl
 
 pub returns-clause-nothing : goal.returns-clause-nothing
-unfolding digits encode_with encode_symbols read_wide read_info numbered unnumbered read_head read_content read_items
-    read_item sequence_of element_text value_note lines_at
+unfolding digits encode_with encode_symbols read_wide read_argument head_of read_head read_content parts_from
+    counted_item sequence_of element_text value_note lines_at
 returns-clause-nothing c = refl
 
 pub returns-clause-pieces : goal.returns-clause-pieces
-unfolding digits encode_with encode_symbols read_wide read_info numbered unnumbered read_head read_content read_items
-    read_item sequence_of element_text value_note lines_at
+unfolding digits encode_with encode_symbols read_wide read_argument head_of read_head read_content parts_from
+    counted_item sequence_of element_text value_note lines_at
 returns-clause-pieces c = refl
 
 pub returns-clause-elements : goal.returns-clause-elements
-unfolding digits encode_with encode_symbols read_wide read_info numbered unnumbered read_head read_content read_items
-    read_item sequence_of element_text value_note lines_at
+unfolding digits encode_with encode_symbols read_wide read_argument head_of read_head read_content parts_from
+    counted_item sequence_of element_text value_note lines_at
 returns-clause-elements c = refl
 
 pub returns-clause-sequence : goal.returns-clause-sequence
-unfolding digits encode_with encode_symbols read_wide read_info numbered unnumbered read_head read_content read_items
-    read_item sequence_of element_text value_note lines_at
+unfolding digits encode_with encode_symbols read_wide read_argument head_of read_head read_content parts_from
+    counted_item sequence_of element_text value_note lines_at
 returns-clause-sequence c = refl
 
 pub returns-clause-shared : goal.returns-clause-shared
-unfolding digits encode_with encode_symbols read_wide read_info numbered unnumbered read_head read_content read_items
-    read_item sequence_of element_text value_note lines_at
+unfolding digits encode_with encode_symbols read_wide read_argument head_of read_head read_content parts_from
+    counted_item sequence_of element_text value_note lines_at
 returns-clause-shared c = refl

@@ -1,4 +1,4 @@
-use Rattle.cbor_diag.proofs.turns.TurnsSpent.{one_cut_spent, one_fault_spent}
+use Rattle.cbor_diag.proofs.turns.ItemTurns.{one_cut_spent, one_fault_spent}
 use Rattle.cbor_diag.proofs.laws.one_count_of_turns.Goals as goal
 
 pub returns-clause-cut : goal.returns-clause-cut

@@ -2,11 +2,13 @@
 ghost use Rattle.std.specs.Prelude.{◌≡◌, ◌≤◌, ℕ, Some, IsSome, IfSome, IfOk, IfErr, OnOk};
 ghost use Rattle.std.specs.Prelude.{option_map};
 ghost use Rattle.cbor_diag.specs.View.{view};
-ghost use Rattle.cbor_diag.specs.Reading.{after_break};
-ghost use Rattle.cbor_diag.specs.mirror.Counting.{put, after_end, wanted_end, width_of, closed};
-ghost use Rattle.cbor_diag.specs.mirror.Counting.{opened};
-ghost use Rattle.cbor_diag.specs.mirror.Stack.{wanted, frame, ReservesFew};
+ghost use Rattle.cbor_diag.specs.declared.syntax.IntegerWidth.{IntegerWidth};
+ghost use Rattle.cbor_diag.specs.Argument.{number};
+ghost use Rattle.cbor_diag.specs.Reading.{put, after_end, closed, opened};
+ghost use Rattle.cbor_diag.specs.mirror.HeadView.{argument_view, head_view};
+ghost use Rattle.cbor_diag.specs.mirror.Stack.{frame, ReservesFew};
 
+use super::argument::Argument;
 use super::head::ItemHead;
 use crate::error::{Error, Result};
 use crate::syntax::{DataItem, IntegerWidth, Tag};
@@ -15,27 +17,18 @@ use std::alloc::Global;
 /// The most members that memory is reserved for before they are read.
 const MOST_RESERVED: usize = 32;
 
-/// How a container ends.
-#[derive(Clone, Copy)]
-pub(super) enum Length {
-    /// After this many members or pairs; and the width of the count.
-    Definite(u64, IntegerWidth),
-    /// By a break.
-    Indefinite,
-}
-
 /// An array, a map or a tag that is not complete yet.
 #[derive(Drop)]
 pub(super) enum Frame {
     Array {
         content: Vec<DataItem>,
-        len: Length,
+        len: Argument,
     },
     /// A map, with a key whose value is not read yet.
     Map {
         content: Vec<(DataItem, DataItem)>,
         key: Option<DataItem>,
-        len: Length,
+        len: Argument,
     },
     /// A tag, with its item once that is read.
     Tag {
@@ -45,51 +38,20 @@ pub(super) enum Frame {
     },
 }
 
-/// How many members memory is reserved for: at most those claimed, those that can follow, and a
-/// few.
-fn reserved(count: u64, following: usize) -> usize
-    ensures claimed { result ≤ count }
-    ensures there { result ≤ following }
-    ensures few { result ≤ MOST_RESERVED }
-{
-    let most = MOST_RESERVED.min(following);
-    if count < most as u64 {
-        count as usize
-    } else {
-        most
-    }
-}
-
-/// The bytes after the break at the front, if there is one.
-fn after_break(bytes: &[u8]) -> Option<&[u8]>
-    ensures { option_map (λ x. x.now) result ≡ after_break bytes.now }
-{
-    match bytes {
-        [0xff, rest @ ..] => Some(rest),
-        _ => None,
-    }
-}
-
-impl Length {
-    /// The width of the count, where there is one.
-    fn width(self) -> Option<IntegerWidth>
-        ensures { (held : ℕ) → result ≡ width_of (wanted self held) }
+impl Argument {
+    /// How many members memory is reserved for: at most those claimed, those that can follow, and a
+    /// few.
+    fn reserved(self, following: usize) -> usize
+        ensures claimed { (count : ℕ) (width : IntegerWidth)
+            → argument_view self ≡ number count width → result ≤ count }
+        ensures there { result ≤ following }
+        ensures few { result ≤ MOST_RESERVED }
     {
+        let most = MOST_RESERVED.min(following);
         match self {
-            Length::Definite(_, width) => Some(width),
-            Length::Indefinite => None,
-        }
-    }
-
-    /// The bytes after a container with `held` members, if it ends here: the same bytes if it needs
-    /// no more members, or those after the break.
-    fn after_end(self, held: usize, bytes: &[u8]) -> Option<&[u8]>
-        ensures { option_map (λ x. x.now) result ≡ wanted_end (wanted self held) bytes.now }
-    {
-        match self {
-            Length::Definite(count, _) if (held as u64) < count => None,
-            Length::Definite(..) => Some(bytes),
-            Length::Indefinite => after_break(bytes),
+            Argument::Number(count, _) if count < most as u64 => count as usize,
+            Argument::Number(..) => most,
+            Argument::Indefinite => 0,
         }
     }
 }
@@ -98,30 +60,19 @@ impl Frame {
     /// The container that a head opens, still empty, with `following` bytes after the head; `None`
     /// if the head opens no container. Memory is reserved for few members.
     pub(super) fn new(alloc: Global, head: ItemHead, following: usize) -> Result<Option<Frame>>
-        ensures opens { IfOk result (λ o. option_map frame o ≡ opened head) }
+        ensures opens { IfOk result (λ o. option_map frame o ≡ opened (head_view head)) }
         ensures few { IfOk result (λ o. IfSome o (λ container. ReservesFew following container)) }
-        ensures memory { IfErr result (λ e. (e ≡ Error.Memory) × IsSome (opened head)) }
+        ensures memory { IfErr result
+            (λ e. (e ≡ Error.Memory) × IsSome (opened (head_view head))) }
     {
         let (key, value) = (None, None);
         let frame = match head {
-            ItemHead::Array(count, width) => {
-                let content = Vec::with_capacity(alloc, reserved(count, following))?;
-                let len = Length::Definite(count, width);
+            ItemHead::Array(len) => {
+                let content = Vec::with_capacity(alloc, len.reserved(following))?;
                 Frame::Array { content, len }
             }
-            ItemHead::Map(count, width) => {
-                let content = Vec::with_capacity(alloc, reserved(count, following / 2))?;
-                let len = Length::Definite(count, width);
-                Frame::Map { content, key, len }
-            }
-            ItemHead::OpenArray => {
-                let content = Vec::new(alloc);
-                let len = Length::Indefinite;
-                Frame::Array { content, len }
-            }
-            ItemHead::OpenMap => {
-                let content = Vec::new(alloc);
-                let len = Length::Indefinite;
+            ItemHead::Map(len) => {
+                let content = Vec::with_capacity(alloc, len.reserved(following / 2))?;
                 Frame::Map { content, key, len }
             }
             ItemHead::Tag(number, bitwidth) => {

@@ -4,11 +4,14 @@ ghost use Rattle.std.specs.Int.{w8, w16, w32, w64};
 ghost use Rattle.cbor_diag.specs.Head.{FitsStated};
 ghost use Rattle.cbor_diag.specs.mirror.MajorNumber.{major_number};
 ghost use Rattle.cbor_diag.specs.mirror.HeadErrors.{Finds, head_error};
-ghost use Rattle.cbor_diag.specs.Reading.{FitsInfo, read_number, read_info, numbered, unnumbered};
+ghost use Rattle.cbor_diag.specs.mirror.HeadView.{argument_view, head_view};
+ghost use Rattle.cbor_diag.specs.Reading.{FitsArgument, read_number, read_argument};
 ghost use Rattle.cbor_diag.specs.Reading.{simple_or_float, head_of, read_head};
 
+use super::argument::Argument;
 use crate::error::Error;
 use crate::syntax::major::Major;
+use crate::syntax::strings::StringKind;
 use crate::syntax::{FloatWidth, IntegerWidth};
 
 /// Why a head is not read.
@@ -33,36 +36,20 @@ impl From<HeadError> for Error {
     }
 }
 
-/// What the five bits of info in a head's first byte say.
-#[derive(Clone, Copy)]
-pub(super) enum Info {
-    /// A number, and the width that it was written in.
-    Number(u64, IntegerWidth),
-    /// No number: an indefinite length, or a break.
-    Indefinite,
-}
-
 /// What a head opens.
 #[derive(Clone, Copy)]
 pub(super) enum ItemHead {
     Integer(u64, IntegerWidth),
     Negative(u64, IntegerWidth),
-    /// A byte string of that length.
-    Bytes(u64, IntegerWidth),
-    /// A text string of that many bytes.
-    Text(u64, IntegerWidth),
-    /// An array of that many members.
-    Array(u64, IntegerWidth),
+    /// A string of that many bytes, or one in chunks.
+    String(StringKind, Argument),
+    /// An array of that many items.
+    Array(Argument),
     /// A map of that many pairs.
-    Map(u64, IntegerWidth),
+    Map(Argument),
     Tag(u64, IntegerWidth),
     Float(u64, FloatWidth),
     Simple(u8),
-    OpenBytes,
-    OpenText,
-    OpenArray,
-    OpenMap,
-    Break,
 }
 
 fn read_u8(bytes: &[u8]) -> Result<(u8, &[u8])>
@@ -108,64 +95,56 @@ fn read_u64(bytes: &[u8]) -> Result<(u64, &[u8])>
     Ok((number, rest))
 }
 
-/// What the info `bits` of a head says, with the bytes that it asks for; `bits` is below 32.
-#[tactic(auto, unfolding(crate::specs::Reading::read_info, crate::specs::Reading::read_wide))]
-pub(super) fn read_info(bits: u8, bytes: &[u8]) -> Result<(Info, &[u8])>
-    requires { bits < 32 }
-    ensures gives { Finds (λ x. (x.0, x.1.now)) result (read_info bits bytes.now) }
-    ensures fits { IfOk result (λ x. FitsInfo x.0) }
+/// What these five bits of info say, with the bytes that they ask for; `info` is below 32.
+#[tactic(auto, unfolding(crate::specs::Reading::read_argument, crate::specs::Reading::read_wide))]
+pub(super) fn read_argument(info: u8, bytes: &[u8]) -> Result<(Argument, &[u8])>
+    requires { info < 32 }
+    ensures gives { Finds (λ x. (argument_view x.0, x.1.now)) result
+        (read_argument info bytes.now) }
+    ensures fits { IfOk result (λ x. FitsArgument (argument_view x.0)) }
     ensures shorter { IfOk result (λ x. length x.1.now ≤ length bytes.now) }
 {
-    match bits {
-        0..=23 => Ok((Info::Number(u64::from(bits), IntegerWidth::Zero), bytes)),
+    match info {
+        0..=23 => Ok((
+            Argument::Number(u64::from(info), IntegerWidth::Zero),
+            bytes,
+        )),
         24 => {
             let (number, rest) = read_u8(bytes)?;
-            Ok((Info::Number(u64::from(number), IntegerWidth::Eight), rest))
+            Ok((
+                Argument::Number(u64::from(number), IntegerWidth::Eight),
+                rest,
+            ))
         }
         25 => {
             let (number, rest) = read_u16(bytes)?;
-            Ok((Info::Number(u64::from(number), IntegerWidth::Sixteen), rest))
+            Ok((
+                Argument::Number(u64::from(number), IntegerWidth::Sixteen),
+                rest,
+            ))
         }
         26 => {
             let (number, rest) = read_u32(bytes)?;
             Ok((
-                Info::Number(u64::from(number), IntegerWidth::ThirtyTwo),
+                Argument::Number(u64::from(number), IntegerWidth::ThirtyTwo),
                 rest,
             ))
         }
         27 => {
             let (number, rest) = read_u64(bytes)?;
-            Ok((Info::Number(number, IntegerWidth::SixtyFour), rest))
+            Ok((Argument::Number(number, IntegerWidth::SixtyFour), rest))
         }
         28..=30 => Err(HeadError::Head),
-        31 => Ok((Info::Indefinite, bytes)),
+        31 => Ok((Argument::Indefinite, bytes)),
         _ => unreachable!(),
     }
 }
 
 impl ItemHead {
-    /// What a head of that major type with that number opens.
-    #[tactic(auto, unfolding(crate::specs::Reading::numbered))]
-    fn numbered(major: Major, number: u64, width: IntegerWidth) -> ItemHead
-        requires { FitsStated width number }
-        ensures { result ≡ numbered (major_number major) number width }
-    {
-        match major {
-            Major::Unsigned => ItemHead::Integer(number, width),
-            Major::Negative => ItemHead::Negative(number, width),
-            Major::Bytes => ItemHead::Bytes(number, width),
-            Major::Text => ItemHead::Text(number, width),
-            Major::Array => ItemHead::Array(number, width),
-            Major::Map => ItemHead::Map(number, width),
-            Major::Tag => ItemHead::Tag(number, width),
-            Major::Special => ItemHead::simple_or_float(number, width),
-        }
-    }
-
     /// In major type 7 a number of up to 8 bits is a simple value; a wider one is a float.
     fn simple_or_float(number: u64, width: IntegerWidth) -> ItemHead
         requires { FitsStated width number }
-        ensures { result ≡ simple_or_float number width }
+        ensures { head_view result ≡ simple_or_float number width }
     {
         match width {
             IntegerWidth::Sixteen => ItemHead::Float(number, FloatWidth::Sixteen),
@@ -177,29 +156,24 @@ impl ItemHead {
         }
     }
 
-    /// What a head of that major type without a number opens.
-    #[tactic(auto, unfolding(crate::specs::Reading::unnumbered))]
-    fn unnumbered(major: Major) -> Result<ItemHead>
-        ensures { Finds (λ h. h) result (unnumbered (major_number major)) }
+    /// What a head of that major type and argument opens. No item begins with a break.
+    #[tactic(auto, unfolding(crate::specs::Reading::head_of))]
+    fn new(major: Major, argument: Argument) -> Result<ItemHead>
+        requires { FitsArgument (argument_view argument) }
+        ensures { Finds head_view result (head_of (major_number major) (argument_view argument)) }
     {
-        match major {
-            Major::Unsigned | Major::Negative | Major::Tag => Err(HeadError::Head),
-            Major::Bytes => Ok(ItemHead::OpenBytes),
-            Major::Text => Ok(ItemHead::OpenText),
-            Major::Array => Ok(ItemHead::OpenArray),
-            Major::Map => Ok(ItemHead::OpenMap),
-            Major::Special => Ok(ItemHead::Break),
-        }
-    }
-
-    /// What a head of that major type and info opens.
-    pub(super) fn new(major: Major, info: Info) -> Result<ItemHead>
-        requires { FitsInfo info }
-        ensures { Finds (λ h. h) result (head_of (major_number major) info) }
-    {
-        match info {
-            Info::Number(number, width) => Ok(ItemHead::numbered(major, number, width)),
-            Info::Indefinite => ItemHead::unnumbered(major),
+        match (major, argument) {
+            (Major::Bytes, length) => Ok(ItemHead::String(StringKind::Bytes, length)),
+            (Major::Text, length) => Ok(ItemHead::String(StringKind::Text, length)),
+            (Major::Array, count) => Ok(ItemHead::Array(count)),
+            (Major::Map, count) => Ok(ItemHead::Map(count)),
+            (Major::Unsigned, Argument::Number(value, width)) => Ok(ItemHead::Integer(value, width)),
+            (Major::Negative, Argument::Number(value, width)) => Ok(ItemHead::Negative(value, width)),
+            (Major::Tag, Argument::Number(tag, width)) => Ok(ItemHead::Tag(tag, width)),
+            (Major::Special, Argument::Number(number, width)) => {
+                Ok(ItemHead::simple_or_float(number, width))
+            }
+            (_, Argument::Indefinite) => Err(HeadError::Head),
         }
     }
 }
@@ -207,14 +181,14 @@ impl ItemHead {
 /// The head at the front.
 #[tactic(auto, unfolding(crate::specs::Reading::read_head))]
 pub(super) fn read_head(bytes: &[u8]) -> Result<(ItemHead, &[u8])>
-    ensures gives { Finds (λ x. (x.0, x.1.now)) result (read_head bytes.now) }
+    ensures gives { Finds (λ x. (head_view x.0, x.1.now)) result (read_head bytes.now) }
     ensures shorter { IfOk result (λ x. length x.1.now < length bytes.now) }
 {
     match bytes {
         [] => Err(HeadError::CutShort),
         [first, rest @ ..] => {
-            let (info, rest) = read_info(*first % 32, rest)?;
-            Ok((ItemHead::new(Major::of(*first), info)?, rest))
+            let (argument, rest) = read_argument(*first % 32, rest)?;
+            Ok((ItemHead::new(Major::of(*first), argument)?, rest))
         }
     }
 }

@@ -16,18 +16,22 @@ ghost use Rattle.cbor_diag.specs.WellFormed.{deepest};
 ghost use Rattle.cbor_diag.specs.Facts.{BeginsWithItem, IsCut, HasFault};
 ghost use Rattle.cbor_diag.specs.Extent.{IfItem, IfFault, FaultEnds, IsExtent};
 ghost use Rattle.cbor_diag.specs.mirror.HeadErrors.{head_error};
-ghost use Rattle.cbor_diag.specs.mirror.Skipping.{here, Goes, StopsSo, stop_of};
+ghost use Rattle.cbor_diag.specs.Reading.{opened};
+ghost use Rattle.cbor_diag.specs.ItemHead.{string};
+ghost use Rattle.cbor_diag.specs.mirror.HeadView.{argument_view, head_view};
 ghost use Rattle.cbor_diag.specs.mirror.StringView.{kind_view};
+ghost use Rattle.cbor_diag.specs.mirror.Skipping.{here, Goes, StopsSo, stop_of};
 ghost use Rattle.cbor_diag.specs.mirror.Skipping.{skip_content, skip_chunks, after_chunk};
-ghost use Rattle.cbor_diag.specs.mirror.Skipping.{skip_item, skip_body, opened, begun};
+ghost use Rattle.cbor_diag.specs.mirror.Skipping.{skip_item, skip_body, begun};
 
-use super::head::{HeadError, Info, ItemHead, read_head, read_info};
+use super::argument::Argument;
+use super::head::{HeadError, ItemHead, read_argument, read_head};
 use crate::error::Error;
 use crate::syntax::DEEPEST;
 use crate::syntax::strings::StringKind;
 pub use answer::Extent;
 use outer::Outer;
-use to_come::{Count, ToCome};
+use to_come::ToCome;
 
 /// Why there is no complete item.
 #[derive(Clone, Copy)]
@@ -98,12 +102,12 @@ fn read_chunk(kind: StringKind, bytes: &[u8]) -> Result<(Chunk, &[u8]), Stop>
             if *first / 32 != kind.major().number() {
                 return Err(Stop::Fault { error, after });
             }
-            match read_info(*first % 32, rest) {
-                Ok((Info::Number(count, _), rest)) => {
+            match read_argument(*first % 32, rest) {
+                Ok((Argument::Number(count, _), rest)) => {
                     let rest = after_content(kind, count, rest)?;
                     Ok((Chunk::Content, rest))
                 }
-                Ok((Info::Indefinite, _)) => Err(Stop::Fault { error, after }),
+                Ok((Argument::Indefinite, _)) => Err(Stop::Fault { error, after }),
                 Err(error) => Err(Stop::new(error, after)),
             }
         }
@@ -126,15 +130,13 @@ fn after_chunks(kind: StringKind, bytes: &[u8]) -> Result<&[u8], Stop>
     }
 }
 
-/// The head of an item with `levels` left for it, and the bytes after it. No item begins with a
-/// break.
+/// The head of an item with `levels` left for it, and the bytes after it.
 fn read_item_head(bytes: &[u8], levels: usize) -> Result<(ItemHead, &[u8]), Stop>
     ensures goes { IfOk result (λ x.
-        Goes (skip_item levels) (skip_body (levels - 1) x.0) bytes.now x.1.now) }
+        Goes (skip_item levels) (skip_body (levels - 1) (head_view x.0)) bytes.now x.1.now) }
     ensures stops { IfErr result (λ stop. StopsSo (skip_item levels) bytes.now stop) }
     ensures shorter { IfOk result (λ x. length x.1.now < length bytes.now) }
     ensures level { IfOk result (λ x. 0 < levels) }
-    ensures no_break { IfOk result (λ x. x.0 ≢ ItemHead.Break) }
 {
     let [_, after_first @ ..] = bytes else {
         return Err(Stop::Cut);
@@ -145,32 +147,36 @@ fn read_item_head(bytes: &[u8], levels: usize) -> Result<(ItemHead, &[u8]), Stop
         return Err(Stop::Fault { error, after });
     }
     match read_head(bytes) {
-        Ok((head, rest)) => match head {
-            ItemHead::Break => {
-                let error = Error::Head;
-                Err(Stop::Fault { error, after })
-            }
-            _ => Ok((head, rest)),
-        },
+        Ok(read) => Ok(read),
         Err(error) => Err(Stop::new(error, after)),
+    }
+}
+
+/// The bytes after a string of that length, or one in chunks; its head is read already.
+fn after_string(kind: StringKind, len: Argument, bytes: &[u8]) -> Result<&[u8], Stop>
+    ensures goes { (left : ℕ) → IfOk result (λ rest. Goes (skip_body left
+        (string (kind_view kind) (argument_view len))) here bytes.now rest.now) }
+    ensures stops { (left : ℕ) → IfErr result (λ stop. StopsSo (skip_body left
+        (string (kind_view kind) (argument_view len))) bytes.now stop) }
+    ensures shorter { IfOk result (λ rest. length rest.now ≤ length bytes.now) }
+{
+    match len {
+        Argument::Number(count, _) => after_content(kind, count, bytes),
+        Argument::Indefinite => after_chunks(kind, bytes),
     }
 }
 
 /// The bytes after an item without parts; its head is read already.
 fn after_atom(head: ItemHead, bytes: &[u8]) -> Result<&[u8], Stop>
-    requires parts { opened head ≡ None }
-    requires no_break { head ≢ ItemHead.Break }
+    requires { opened (head_view head) ≡ None }
     ensures goes { (left : ℕ) → IfOk result
-        (λ rest. Goes (skip_body left head) here bytes.now rest.now) }
+        (λ rest. Goes (skip_body left (head_view head)) here bytes.now rest.now) }
     ensures stops { (left : ℕ) → IfErr result
-        (λ stop. StopsSo (skip_body left head) bytes.now stop) }
+        (λ stop. StopsSo (skip_body left (head_view head)) bytes.now stop) }
     ensures shorter { IfOk result (λ rest. length rest.now ≤ length bytes.now) }
 {
     match head {
-        ItemHead::Bytes(count, _) => after_content(StringKind::Bytes, count, bytes),
-        ItemHead::Text(count, _) => after_content(StringKind::Text, count, bytes),
-        ItemHead::OpenBytes => after_chunks(StringKind::Bytes, bytes),
-        ItemHead::OpenText => after_chunks(StringKind::Text, bytes),
+        ItemHead::String(kind, len) => after_string(kind, len, bytes),
         _ => Ok(bytes),
     }
 }
@@ -199,7 +205,7 @@ fn after_item(bytes: &[u8]) -> Result<&[u8], Stop>
 {
     let mut outer = Outer::new();
     // Nothing is open yet, and one item is to come.
-    let mut top = ToCome::Items(Count::Definite(1));
+    let mut top = ToCome::one();
     let mut rest = bytes;
     'turns: loop {
         if let Some(after) = top.after_end(rest) {

@@ -2,7 +2,8 @@
 ghost use Rattle.std.specs.Prelude.{◌≡◌, ◌++◌, [], Some, None, IsSome, IfOk, IfErr, OnOk};
 ghost use Rattle.std.specs.Prelude.{option_map, option_and_then, option_to_list};
 ghost use Rattle.cbor_diag.specs.View.{view};
-ghost use Rattle.cbor_diag.specs.mirror.Counting.{after_end, closed, pushed, IsStack};
+ghost use Rattle.cbor_diag.specs.Reading.{after_end, closed};
+ghost use Rattle.cbor_diag.specs.mirror.Counting.{pushed, IsStack};
 ghost use Rattle.cbor_diag.specs.mirror.Stack.{frame, outer_of, top_of, depth, IsPutIn};
 
 use super::frame::Frame;

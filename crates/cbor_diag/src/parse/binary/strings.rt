@@ -2,10 +2,11 @@
 ghost use Rattle.std.specs.Prelude.{◌≡◌, ◌+◌, ◌*◌, ◌^◌, ◌<◌, ◌≤◌, length, IfOk, map, option_map};
 ghost use Rattle.cbor_diag.specs.mirror.MajorNumber.{major_number};
 ghost use Rattle.cbor_diag.specs.Reading.{Gives, split_at, read_content, read_chunk_length};
-ghost use Rattle.cbor_diag.specs.Reading.{read_chunk};
-ghost use Rattle.cbor_diag.specs.mirror.Counting.{Runs, counted_chunks};
+ghost use Rattle.cbor_diag.specs.Reading.{read_chunk, read_chunks};
+ghost use Rattle.cbor_diag.specs.mirror.Counting.{Runs};
 
-use super::head::{Info, read_info};
+use super::argument::Argument;
+use super::head::read_argument;
 use crate::error::{Error, Result};
 use crate::parse::turns::Turns;
 use crate::syntax::IntegerWidth;
@@ -56,9 +57,9 @@ fn read_chunk_length(major: Major, bytes: &[u8]) -> Result<(Option<(u64, Integer
             if *first / 32 != major.number() {
                 return Err(Error::Head);
             }
-            match read_info(*first % 32, rest)? {
-                (Info::Number(length, bitwidth), rest) => Ok((Some((length, bitwidth)), rest)),
-                (Info::Indefinite, _) => Err(Error::Head),
+            match read_argument(*first % 32, rest)? {
+                (Argument::Number(length, bitwidth), rest) => Ok((Some((length, bitwidth)), rest)),
+                (Argument::Indefinite, _) => Err(Error::Head),
             }
         }
     }
@@ -88,7 +89,7 @@ pub(super) fn read_chunks<'a, S: DefiniteString>(
 ) -> Result<(Vec<S>, &'a [u8])>
     requires { turns.old + 2 * length bytes.now < 2 ^ 126 }
     ensures gives { Runs (λ x. (map S.chunk x.0.items, x.1.now)) turns.old turns.new result
-        (counted_chunks (length bytes.now) S.kind bytes.now) }
+        (read_chunks (length bytes.now) S.kind bytes.now) }
     ensures falls { IfOk result (λ x.
         turns.new + 2 * length x.1.now ≤ turns.old + 2 * length bytes.now) }
     ensures few { turns.new ≤ turns.old + 2 * length bytes.now + 1 }

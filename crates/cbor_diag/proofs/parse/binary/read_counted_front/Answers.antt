@@ -1,7 +1,7 @@
 use Rattle.std.proofs.Common.{◌-◌, subst, arith}
 use Rattle.cbor_diag.specs.View.{view}
-use Rattle.cbor_diag.specs.Reading.{Fails, read_item}
-use Rattle.cbor_diag.specs.mirror.Counting.{Stops, later, counted_item}
+use Rattle.cbor_diag.specs.Reading.{Fails, later, counted_item, read_item}
+use Rattle.cbor_diag.specs.mirror.Counting.{Stops}
 use Rattle.cbor_diag.proofs.bytes.Shorter.{item_shorter}
 use Rattle.cbor_diag.proofs.bytes.CutShort.{cut_takes}
 use Rattle.cbor_diag.proofs.bytes.Outcomes.{found_outcome, refusal_outcome}
@@ -15,8 +15,9 @@ returns-in-Ok-clause-outcome c =
     (λ i. omega (arith, c.type_inv.bytes i)) (first_ok (129 - c.args.level) _ _ b _ _ c.in-Ok.ensures.gives)
 
 pub returns-in-Ok-clause-counted : goal.returns-in-Ok-clause-counted
-returns-in-Ok-clause-counted c = ok_turns (129 - c.args.level) c.args.turns.now _ c.args.bytes.now c.in-Ok.rest.now
-    (view c.in-Ok.item) c.in-Ok.ensures.gives
+returns-in-Ok-clause-counted c =
+    ok_turns c.args.level (129 - c.args.level) c.args.turns.now _ c.args.bytes.now c.in-Ok.rest.now (view c.in-Ok.item)
+    (omega arith) (λ i. omega (arith, c.type_inv.bytes i)) c.in-Ok.ensures.gives
 
 pub returns-in-CutShort-clause-outcome : goal.returns-in-CutShort-clause-outcome
 returns-in-CutShort-clause-outcome c =

@@ -1,7 +1,8 @@
 use Rattle.std.proofs.Common.{◌≡◌, ◌+◌, ◌-◌, ◌*◌, ◌≤◌, length, ◌⊎◌}
 use Rattle.cbor_diag.specs.WellFormed.{deepest}
 use Rattle.cbor_diag.specs.Answer.{MayWantMemory}
-use Rattle.cbor_diag.specs.mirror.Counting.{later, counted_item, IsStack}
+use Rattle.cbor_diag.specs.Reading.{later, counted_item}
+use Rattle.cbor_diag.specs.mirror.Counting.{IsStack}
 use Rattle.cbor_diag.specs.mirror.Stack.{outer_of, top_of, depth, resumed}
 use Rattle.cbor_diag.proofs.parse.binary.read_item.Given as goal
 

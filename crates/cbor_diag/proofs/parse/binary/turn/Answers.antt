@@ -2,14 +2,15 @@ use Rattle.std.proofs.Common.{◌≡◌, Err, ◌+◌, ◌-◌, ap, sym, subst, 
 use Rattle.std.specs.Prelude.{option_map}
 use Rattle.std.proofs.lemmas.Result.{err_from_is_err_and}
 use Rattle.cbor_diag.specs.View.{view}
-use Rattle.cbor_diag.specs.Reading.{Fails}
-use Rattle.cbor_diag.specs.mirror.Counting.{Stops, later, read_item_head, read_atom}
+use Rattle.cbor_diag.specs.Reading.{Fails, later, read_atom}
+use Rattle.cbor_diag.specs.mirror.Counting.{Stops, read_item_head}
+use Rattle.cbor_diag.specs.mirror.HeadView.{head_view}
 use Rattle.cbor_diag.specs.mirror.Stack.{frame, outer_of, top_of, depth}
 use Rattle.cbor_diag.specs.declared.error.Error.TheVariants as refusal
 use Rattle.cbor_diag.proofs.bytes.HeadRefusals.{err_is}
 use Rattle.cbor_diag.proofs.turns.Turning.{closes, turn_wants, wanted_stops, wanted_opens, opened_holds, some_holds}
 use Rattle.cbor_diag.proofs.turns.Turning.{opens, opened_level, opened_depth, atom_stops, atom_whole}
-use Rattle.cbor_diag.proofs.turns.Counting.{later_later}
+use Rattle.cbor_diag.proofs.bytes.Steps.{later_later}
 use Rattle.cbor_diag.proofs.parse.binary.turn.Goals as goal
 
 pub returns-in-Some-clause-gives : goal.returns-in-Some-clause-gives
@@ -54,14 +55,14 @@ returns-in_err-head-clause-stops c =
 
 pub returns-in_err-container-clause-memory : goal.returns-in_err-container-clause-memory
 returns-in_err-container-clause-memory c = λ e none.
-    wanted_opens _ c.args.bytes.now c.in_ok-head.head c.in_ok-head.rest.now (λ i. omega (arith, c.type_inv.bytes i))
-    c.in_ok-head.ensures.gives (some_holds c.in_ok-head.head c.in_err-container.ensures.memory.1)
+    wanted_opens _ c.args.bytes.now (head_view c.in_ok-head.head) c.in_ok-head.rest.now (λ i. omega (arith, c.type_inv.bytes i))
+    c.in_ok-head.ensures.gives (some_holds (head_view c.in_ok-head.head) c.in_err-container.ensures.memory.1)
 
 pub returns-in_err-open-in-Some-2-clause-memory : goal.returns-in_err-open-in-Some-2-clause-memory
 returns-in_err-open-in-Some-2-clause-memory c = λ e none.
     let is = sym c.in_ok-container.ensures.opens ∙ ap (option_map frame) c.in-Some-2.is in
-    wanted_opens _ c.args.bytes.now c.in_ok-head.head c.in_ok-head.rest.now (λ i. omega (arith, c.type_inv.bytes i))
-    c.in_ok-head.ensures.gives (opened_holds c.in_ok-head.head (frame c.in-Some-2.container) is)
+    wanted_opens _ c.args.bytes.now (head_view c.in_ok-head.head) c.in_ok-head.rest.now (λ i. omega (arith, c.type_inv.bytes i))
+    c.in_ok-head.ensures.gives (opened_holds (head_view c.in_ok-head.head) (frame c.in-Some-2.container) is)
 
 pub returns-in_err-item-in-None-clause-stops : goal.returns-in_err-item-in-None-clause-stops
 returns-in_err-item-in-None-clause-stops c =
@@ -72,10 +73,10 @@ returns-in_err-item-in-None-clause-stops c =
     let wanted = ap (λ n. read_item_head n c.args.bytes.now) (sym left) ∙ c.in_ok-head.ensures.gives in
     let is = sym c.in_ok-container.ensures.opens ∙ ap (option_map frame) c.in-None.is in
     let stops = subst (λ t. Stops c.in_err-item-in-None.field-0.0 c.read_atom.new.turns
-    (later t (read_atom c.in_ok-head.head c.in_ok-head.rest.now))) c.rise.ensures
+    (later t (read_atom (head_view c.in_ok-head.head) c.in_ok-head.rest.now))) c.rise.ensures
     c.in_err-item-in-None.ensures.gives in
     rw (p.1, p.2) (atom_stops c.in_err-item-in-None.field-0.0 (129 - c.args.level) c.args.turns.now
-    c.read_atom.new.turns (outer_of s) (top_of s) c.args.bytes.now c.in_ok-head.head c.in_ok-head.rest.now
+    c.read_atom.new.turns (outer_of s) (top_of s) c.args.bytes.now (head_view c.in_ok-head.head) c.in_ok-head.rest.now
     c.in_default.ensures wanted is stops)
 
 pub returns-in_err-item-in-None-clause-memory : goal.returns-in_err-item-in-None-clause-memory
@@ -83,7 +84,7 @@ returns-in_err-item-in-None-clause-memory c = λ e none.
     let p = err_from_is_err_and c.from_residual-in_err-item-in-None.result
     c.from_residual-in_err-item-in-None.ensures.1 in
     let wants = sym p.2 ∙ err_is c.from_residual-in_err-item-in-None.result p.0 refusal.Memory p.1 e in
-    wanted_opens _ c.args.bytes.now c.in_ok-head.head c.in_ok-head.rest.now (λ i. omega (arith, c.type_inv.bytes i))
+    wanted_opens _ c.args.bytes.now (head_view c.in_ok-head.head) c.in_ok-head.rest.now (λ i. omega (arith, c.type_inv.bytes i))
     c.in_ok-head.ensures.gives (c.in_err-item-in-None.ensures.memory (ap Err wants))
 
 pub returns-in_ok-open-in-Some-2-clause-gives : goal.returns-in_ok-open-in-Some-2-clause-gives
@@ -93,7 +94,7 @@ returns-in_ok-open-in-Some-2-clause-gives c =
     let wanted = ap (λ n. read_item_head n c.args.bytes.now) (sym left) ∙ c.in_ok-head.ensures.gives in
     let is = sym c.in_ok-container.ensures.opens ∙ ap (option_map frame) c.in-Some-2.is in
     rw (c.rise.ensures, c.in_ok-open-in-Some-2.ensures.outer, c.in_ok-open-in-Some-2.ensures.top)
-    (opens (129 - c.args.level) c.args.turns.now (outer_of s) (top_of s) c.args.bytes.now c.in_ok-head.head
+    (opens (129 - c.args.level) c.args.turns.now (outer_of s) (top_of s) c.args.bytes.now (head_view c.in_ok-head.head)
     (frame c.in-Some-2.container) c.in_ok-head.rest.now c.requires.bottom c.in_default.ensures wanted is)
 
 pub returns-in_ok-open-in-Some-2-clause-level : goal.returns-in_ok-open-in-Some-2-clause-level
@@ -104,7 +105,7 @@ returns-in_ok-open-in-Some-2-clause-level c =
     omega (
       arith,
       opened_level (129 - c.args.level) (outer_of s) (outer_of c.open.new.self) (top_of s)
-          (top_of c.open.new.self) c.args.bytes.now c.in_ok-head.head (frame c.in-Some-2.container)
+          (top_of c.open.new.self) c.args.bytes.now (head_view c.in_ok-head.head) (frame c.in-Some-2.container)
           c.in_ok-head.rest.now
           c.requires.bottom wanted c.in_ok-open-in-Some-2.ensures.outer c.in_ok-open-in-Some-2.ensures.top,
     )
@@ -112,8 +113,8 @@ returns-in_ok-open-in-Some-2-clause-level c =
 pub returns-in_ok-open-in-Some-2-clause-opens : goal.returns-in_ok-open-in-Some-2-clause-opens
 returns-in_ok-open-in-Some-2-clause-opens c = λ e none.
     let is = sym c.in_ok-container.ensures.opens ∙ ap (option_map frame) c.in-Some-2.is in
-    wanted_opens _ c.args.bytes.now c.in_ok-head.head c.in_ok-head.rest.now (λ i. omega (arith, c.type_inv.bytes i))
-    c.in_ok-head.ensures.gives (opened_holds c.in_ok-head.head (frame c.in-Some-2.container) is)
+    wanted_opens _ c.args.bytes.now (head_view c.in_ok-head.head) c.in_ok-head.rest.now (λ i. omega (arith, c.type_inv.bytes i))
+    c.in_ok-head.ensures.gives (opened_holds (head_view c.in_ok-head.head) (frame c.in-Some-2.container) is)
 
 pub returns-in_ok-item-in-None-clause-gives : goal.returns-in_ok-item-in-None-clause-gives
 returns-in_ok-item-in-None-clause-gives c =
@@ -121,10 +122,10 @@ returns-in_ok-item-in-None-clause-gives c =
     let left : 129 - (c.from.result + c.depth.result) ≡ (129 - c.args.level) - depth s = omega arith in
     let wanted = ap (λ n. read_item_head n c.args.bytes.now) (sym left) ∙ c.in_ok-head.ensures.gives in
     let is = sym c.in_ok-container.ensures.opens ∙ ap (option_map frame) c.in-None.is in
-    let whole = ap (λ t. later t (read_atom c.in_ok-head.head c.in_ok-head.rest.now)) (sym c.rise.ensures)
+    let whole = ap (λ t. later t (read_atom (head_view c.in_ok-head.head) c.in_ok-head.rest.now)) (sym c.rise.ensures)
     ∙ c.in_ok-item-in-None.ensures.gives in
     atom_whole (129 - c.args.level) c.args.turns.now c.read_atom.new.turns (outer_of s) (top_of s) c.args.bytes.now
-    c.in_ok-head.head c.in_ok-head.rest.now (view c.in_ok-item-in-None.item) c.in_ok-item-in-None.rest.now
+    (head_view c.in_ok-head.head) c.in_ok-head.rest.now (view c.in_ok-item-in-None.item) c.in_ok-item-in-None.rest.now
     c.in_default.ensures wanted is whole
 
 pub returns-in_ok-open-in-Some-2-clause-falls : goal.returns-in_ok-open-in-Some-2-clause-falls

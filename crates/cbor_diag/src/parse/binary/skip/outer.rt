@@ -2,7 +2,7 @@
 ghost use Rattle.std.specs.Prelude.{◌≡◌, ◌<◌, ◌≤◌, [], ◌∷◌, ◌++◌, length, IfSome, Some, None};
 ghost use Rattle.cbor_diag.specs.WellFormed.{deepest};
 
-use super::to_come::{Count, ToCome};
+use super::to_come::ToCome;
 use crate::syntax::DEEPEST;
 use std::marker::Model;
 
@@ -33,7 +33,7 @@ impl Outer {
         ensures { result ≡ [] }
     {
         Outer {
-            open: [ToCome::Items(Count::Definite(0)); CAPACITY],
+            open: [ToCome::one(); CAPACITY],
             len: 0,
         }
     }

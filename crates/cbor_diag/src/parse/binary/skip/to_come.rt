@@ -1,83 +1,59 @@
 //! What is still to come in an open container.
 ghost use Rattle.std.specs.Prelude.{◌≡◌, option_map};
-ghost use Rattle.cbor_diag.specs.mirror.Skipping.{one_less, count_end, end_of, after_part, opened};
+ghost use Rattle.cbor_diag.specs.Argument.{number};
+ghost use Rattle.cbor_diag.specs.Item.{no_items};
+ghost use Rattle.cbor_diag.specs.Reading.{items_in, put, after_end, opened};
+ghost use Rattle.cbor_diag.specs.mirror.HeadView.{head_view};
+ghost use Rattle.cbor_diag.specs.mirror.Skipping.{frame_of, emptied, some_item};
 
+use super::super::argument::Argument;
 use super::super::head::ItemHead;
+use crate::syntax::IntegerWidth;
 
-/// How many parts of a kind are still to come.
-#[derive(Clone, Copy)]
-pub(super) enum Count {
-    /// This many.
-    Definite(u64),
-    /// All up to a break.
-    ToBreak,
-}
-
-/// What is still to come in an open container.
+/// What is still to come in an open container: so many parts, or all up to a break.
 #[derive(Clone, Copy)]
 pub(super) enum ToCome {
     /// The members of an array, or the item of a tag.
-    Items(Count),
+    Items(Argument),
     /// The pairs of a map.
-    Pairs(Count),
+    Pairs(Argument),
     /// The value of a key that was read, and then pairs.
-    Value(Count),
-}
-
-impl Count {
-    /// The bytes after the parts, if none is to come: the same bytes, or those after the break.
-    fn after_end(self, bytes: &[u8]) -> Option<&[u8]>
-        ensures { option_map (λ x. x.now) result ≡ count_end self bytes.now }
-    {
-        match self {
-            Count::Definite(0) => Some(bytes),
-            Count::Definite(_) => None,
-            Count::ToBreak => match bytes {
-                [0xff, rest @ ..] => Some(rest),
-                _ => None,
-            },
-        }
-    }
-
-    /// One part less.
-    fn less(self) -> Count
-        ensures { result ≡ one_less self }
-    {
-        match self {
-            Count::Definite(count) => Count::Definite(count.saturating_sub(1)),
-            Count::ToBreak => Count::ToBreak,
-        }
-    }
+    Value(Argument),
 }
 
 impl ToCome {
+    /// One item.
+    pub(super) fn one() -> ToCome
+        ensures { frame_of result ≡ items_in no_items (number 1 IntegerWidth.Zero) }
+    {
+        ToCome::Items(Argument::Number(1, IntegerWidth::Zero))
+    }
+
     /// All of the container that a head opens, or `None` if it opens none.
     pub(super) fn new(head: ItemHead) -> Option<ToCome>
-        ensures { result ≡ opened head }
+        ensures { option_map frame_of result ≡ option_map emptied (opened (head_view head)) }
     {
         match head {
-            ItemHead::Array(count, _) => Some(ToCome::Items(Count::Definite(count))),
-            ItemHead::Map(count, _) => Some(ToCome::Pairs(Count::Definite(count))),
-            ItemHead::Tag(..) => Some(ToCome::Items(Count::Definite(1))),
-            ItemHead::OpenArray => Some(ToCome::Items(Count::ToBreak)),
-            ItemHead::OpenMap => Some(ToCome::Pairs(Count::ToBreak)),
+            ItemHead::Array(count) => Some(ToCome::Items(count)),
+            ItemHead::Map(count) => Some(ToCome::Pairs(count)),
+            ItemHead::Tag(..) => Some(ToCome::one()),
             _ => None,
         }
     }
 
     /// The bytes after the container, if it ends here.
     pub(super) fn after_end(self, bytes: &[u8]) -> Option<&[u8]>
-        ensures { option_map (λ x. x.now) result ≡ end_of self bytes.now }
+        ensures { option_map (λ x. x.now) result ≡ after_end (frame_of self) bytes.now }
     {
         match self {
-            ToCome::Items(count) | ToCome::Pairs(count) => count.after_end(bytes),
+            ToCome::Items(count) | ToCome::Pairs(count) => count.after_end(0, bytes),
             ToCome::Value(_) => None,
         }
     }
 
     /// What is still to come after one part more: a member, a key or a value.
     pub(super) fn after_part(self) -> ToCome
-        ensures { result ≡ after_part self }
+        ensures { frame_of result ≡ emptied (put (frame_of self) some_item) }
     {
         match self {
             ToCome::Items(count) => ToCome::Items(count.less()),

@@ -8,7 +8,7 @@ use Rattle.cbor_diag.proofs.skipping.SkippedParts.{first_goes, last_ends, open_e
 use Rattle.cbor_diag.proofs.parse.binary.skip.after_item.Goals as goal
 
 pub turns-init : goal.turns-init
-turns-init c = record { goes = rw c.new-outer.ensures (first_goes c.args.bytes.now) }
+turns-init c = record { goes = rw c.new-outer.ensures (first_goes c.args.bytes.now c.one-top.result c.one-top.ensures) }
 
 pub returns-in_default-pop-clause-goes : goal.returns-in_default-pop-clause-goes
 returns-in_default-pop-clause-goes c =
@@ -51,9 +51,9 @@ turns-preserved-in-Some-parts c =
     let levels : c.from.result - c.len.result ≡ deepest - length outer = omega arith in
     let part = subst (λ l. Goes (skip_item l) (begun (l - 1) c.in_ok-parts.parts) rest after) levels
     c.in_ok-parts.ensures.goes in
-    let next = opens_goes outer top parts rest after c.in_default.ensures c.in_ok-parts.ensures.shorter
-    (rw c.in-Some-parts.is at part) in
-    record { goes = goes_then c.turns.invariant.goes (rw (c.push.ensures, c.after_part-top.ensures) next) }
+    let next = opens_goes outer top c.after_part-top.result parts rest after c.in_default.ensures c.after_part-top.ensures
+    c.in_ok-parts.ensures.shorter (rw c.in-Some-parts.is at part) in
+    record { goes = goes_then c.turns.invariant.goes (rw c.push.ensures next) }
 
 pub turns-preserved : goal.turns-preserved
 turns-preserved c =
@@ -64,6 +64,6 @@ turns-preserved c =
     let levels : c.from.result - c.len.result ≡ deepest - length outer = omega arith in
     let part = subst (λ l. Goes (skip_item l) (begun (l - 1) c.in_ok-parts.parts) rest after) levels
     c.in_ok-parts.ensures.goes in
-    let next = whole_goes outer top rest after c.in_default.ensures c.in_ok-parts.ensures.shorter
-    (rw c.in_default-parts.is at part) in
-    record { goes = goes_then c.turns.invariant.goes (rw c.after_part-top.ensures next) }
+    let next = whole_goes outer top c.after_part-top.result rest after c.in_default.ensures c.after_part-top.ensures
+    c.in_ok-parts.ensures.shorter (rw c.in_default-parts.is at part) in
+    record { goes = goes_then c.turns.invariant.goes next }

@@ -2,10 +2,10 @@ use Rattle.std.proofs.Common.{◌≡◌, ◌≢◌, ℕ, ◌/◌, ◌%◌, ◌�
 use Rattle.std.proofs.lemmas.Result.{err_from_is_err_and}
 use Rattle.cbor_diag.specs.declared.syntax.IntegerWidth.{IntegerWidth}
 use Rattle.cbor_diag.specs.declared.error.Error.TheVariants.{Head}
-use Rattle.cbor_diag.specs.declared.parse.binary.head.Info.TheVariants.{Number}
+use Rattle.cbor_diag.specs.Argument.{number}
 use Rattle.cbor_diag.specs.Head.{break_byte}
 use Rattle.cbor_diag.specs.StringKind.{StringKind, major_of}
-use Rattle.cbor_diag.specs.Reading.{◌>>=◌, read_info}
+use Rattle.cbor_diag.specs.Reading.{◌>>=◌, read_argument}
 use Rattle.cbor_diag.specs.mirror.HeadErrors.{head_error}
 use Rattle.cbor_diag.specs.mirror.Skipping.{here, Goes, Shows, StopsSo, stop_of, skip_content, skip_chunks}
 use Rattle.cbor_diag.specs.mirror.StringView.{kind_view}
@@ -41,7 +41,7 @@ returns-then-first-number-clause-stops c =
 -- a chunk's head, with its content and more chunks after it
 head_goes : (kind : StringKind) (n : ℕ) (w : IntegerWidth) (b rest : List ℕ) → 1 ≤ length b → IsBytes b
     → get_or b 0 0 ≢ break_byte → get_or b 0 0 / 32 ≡ major_of kind
-    → read_info (get_or b 0 0 % 32) (behind_first b) ≡ Ok (Number n w, rest)
+    → read_argument (get_or b 0 0 % 32) (behind_first b) ≡ Ok (number n w, rest)
     → Goes (skip_chunks kind) (λ c. skip_content kind n w c >>= skip_chunks kind) b rest
 head_goes kind n w b rest some fits no_break major read =
     let behind = IsBytes-rest (get_or b 0 0) (behind_first b) (fits_first b some fits) in

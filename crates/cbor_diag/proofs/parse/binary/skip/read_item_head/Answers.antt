@@ -1,10 +1,10 @@
-use Rattle.std.proofs.Common.{◌-◌, ℕ, List, get_or, length, Ok, ap, sym, ◌∙◌, arith}
-use Rattle.cbor_diag.specs.declared.error.Error.TheVariants.{Head, TooDeep}
-use Rattle.cbor_diag.specs.declared.parse.binary.head.ItemHead.{ItemHead}
+use Rattle.std.proofs.Common.{◌-◌, ℕ, List, get_or, length, ap, sym, ◌∙◌, arith}
+use Rattle.cbor_diag.specs.declared.error.Error.TheVariants.{TooDeep}
 use Rattle.cbor_diag.specs.Reading.{read_head}
 use Rattle.cbor_diag.specs.mirror.HeadErrors.{head_error}
+use Rattle.cbor_diag.specs.mirror.HeadView.{head_view}
 use Rattle.cbor_diag.specs.mirror.Skipping.{Goes, Shows, StopsSo, stop_of, skip_item, skip_body}
-use Rattle.cbor_diag.proofs.skipping.Skips.{head_goes, head_stops, break_shows, deep_shows, no_item, behind_first}
+use Rattle.cbor_diag.proofs.skipping.Skips.{head_goes, head_stops, deep_shows, no_item, behind_first}
 use Rattle.cbor_diag.proofs.skipping.Skips.{first_is, at_first, fits_first, empty_is}
 use Rattle.cbor_diag.proofs.parse.binary.skip.read_item_head.Goals as goal
 
@@ -18,24 +18,14 @@ returns-then-levels-eq0-clause-stops c =
     at_first (λ (x : List ℕ). Shows (skip_item c.args.levels) x TooDeep (length (behind_first b))) b
     c.in-len1-up.len_at_least (deep_shows c.args.levels (get_or b 0 0) (behind_first b) (omega arith))
 
-pub returns-in-Break-clause-stops : goal.returns-in-Break-clause-stops
-returns-in-Break-clause-stops c =
-    let b = c.args.bytes.now in
-    let some = c.in-len1-up.len_at_least in
-    let fits = fits_first b some (λ i. omega (arith, c.type_inv.bytes i)) in
-    let read = ap read_head (sym (first_is b some)) ∙ c.in-Ok.ensures.gives
-    ∙ ap (λ (h : ItemHead). Ok (h, c.in-Ok.rest.now)) c.in-Break.is in
-    at_first (λ (x : List ℕ). Shows (skip_item c.args.levels) x Head (length (behind_first b))) b some
-    (break_shows c.args.levels (get_or b 0 0) (behind_first b) c.in-Ok.rest.now (omega arith) fits read)
-
-pub returns-in_default-head-clause-goes : goal.returns-in_default-head-clause-goes
-returns-in_default-head-clause-goes c =
+pub returns-in-Ok-clause-goes : goal.returns-in-Ok-clause-goes
+returns-in-Ok-clause-goes c =
     let b = c.args.bytes.now in
     let some = c.in-len1-up.len_at_least in
     let fits = fits_first b some (λ i. omega (arith, c.type_inv.bytes i)) in
     let read = ap read_head (sym (first_is b some)) ∙ c.in-Ok.ensures.gives in
-    at_first (λ (x : List ℕ). Goes (skip_item c.args.levels) (skip_body (c.args.levels - 1) c.in-Ok.head) x
-    c.in-Ok.rest.now) b some (head_goes c.args.levels c.in-Ok.head (get_or b 0 0) (behind_first b) c.in-Ok.rest.now
+    at_first (λ (x : List ℕ). Goes (skip_item c.args.levels) (skip_body (c.args.levels - 1) (head_view c.in-Ok.read.0)) x
+    c.in-Ok.read.1.now) b some (head_goes c.args.levels (head_view c.in-Ok.read.0) (get_or b 0 0) (behind_first b) c.in-Ok.read.1.now
     (omega arith) fits read)
 
 pub returns-in-Err-clause-stops : goal.returns-in-Err-clause-stops

@@ -1,5 +1,5 @@
 use Rattle.std.proofs.Common.{◌≡◌, ℕ, ◌+◌, ◌*◌, ◌≤◌, length, map}
-use Rattle.cbor_diag.specs.mirror.Counting.{later, counted_chunks}
+use Rattle.cbor_diag.specs.Reading.{later, read_chunks}
 use Rattle.cbor_diag.proofs.turns.ChunkLoops.{onto}
 use Rattle.cbor_diag.proofs.parse.binary.strings.read_chunks.Given as goal
 
@@ -11,8 +11,8 @@ invariant-chunks g l = record {
   bound : ℕ;
   enough : length l.rest ≤ bound;
   so_far : later l.turns (onto (map g.S.DefiniteString.chunk l.chunks.items)
-      (counted_chunks bound g.S.DefiniteString.kind l.rest))
-      ≡ later l.initial.turns (counted_chunks (length l.bytes) g.S.DefiniteString.kind l.bytes);
+      (read_chunks bound g.S.DefiniteString.kind l.rest))
+      ≡ later l.initial.turns (read_chunks (length l.bytes) g.S.DefiniteString.kind l.bytes);
   falls : l.turns + 2 * length l.rest ≤ l.initial.turns + 2 * length l.bytes;
   rises : l.initial.turns ≤ l.turns;
 }

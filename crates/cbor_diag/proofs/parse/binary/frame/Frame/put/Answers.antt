@@ -1,6 +1,6 @@
 use Rattle.std.proofs.Common.{length, refl}
 use Rattle.cbor_diag.specs.declared.syntax.DataItem.{DataItem}
-use Rattle.cbor_diag.proofs.turns.Frames.{item_joins, pair_joins, wanted_less, wanted_pushed}
+use Rattle.cbor_diag.proofs.turns.Frames.{item_joins, pair_joins, left_less, left_pushed}
 use Rattle.cbor_diag.proofs.parse.binary.frame.Frame.put.Goals as goal
 
 pub returns-in_ok-push-in-Array-clause-put : goal.returns-in_ok-push-in-Array-clause-put
@@ -11,8 +11,8 @@ returns-in_ok-push-in-Array-clause-put c =
     rw (
       c.in_ok-push-in-Array.ensures.items,
       item_joins held part,
-      wanted_pushed len held part,
-      wanted_less len (length held),
+      left_pushed len held part,
+      left_less len (length held),
       c.in-Array.is,
     ) refl
 
@@ -27,5 +27,5 @@ returns-in_ok-push-in-Some-clause-put c =
       ← c.in-Some.ensures.value,
       c.in_ok-push-in-Some.ensures.items,
       pair_joins held p,
-      wanted_pushed len held p,
+      left_pushed len held p,
     ) refl

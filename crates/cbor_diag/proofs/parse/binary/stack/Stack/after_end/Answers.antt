@@ -1,6 +1,6 @@
 use Rattle.std.proofs.Common.{◌≡◌, Some, ap, ◌∙◌}
 use Rattle.std.specs.Prelude.{option_map, option_and_then}
-use Rattle.cbor_diag.specs.mirror.Counting.{after_end}
+use Rattle.cbor_diag.specs.Reading.{after_end}
 use Rattle.cbor_diag.specs.mirror.Stack.{frame, last_of}
 use Rattle.cbor_diag.proofs.turns.TopFrames.{get_last}
 use Rattle.cbor_diag.proofs.parse.binary.stack.Stack.after_end.Goals as goal

@@ -1,7 +1,7 @@
 use Rattle.std.proofs.Common.{◌≡◌, Some, map, IfOk, IsSome, ap, sym, subst, ◌∙◌}
 use Rattle.std.specs.Prelude.{option_map, option_and_then}
 use Rattle.cbor_diag.specs.View.{view}
-use Rattle.cbor_diag.specs.mirror.Counting.{closed}
+use Rattle.cbor_diag.specs.Reading.{closed}
 use Rattle.cbor_diag.specs.mirror.Stack.{frame, last_of, before_last}
 use Rattle.cbor_diag.proofs.turns.TopFrames.{last_pushed, before_pushed, stack_at, all_at}
 use Rattle.cbor_diag.proofs.parse.binary.stack.Stack.close.Goals as goal

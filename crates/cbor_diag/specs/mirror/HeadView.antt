@@ -1,0 +1,22 @@
+-- What the code's own types of heads are.
+use Rattle.cbor_diag.specs.declared.parse.binary.argument.Argument as code_argument
+use Rattle.cbor_diag.specs.declared.parse.binary.argument.Argument.TheVariants.{Number, Indefinite}
+use Rattle.cbor_diag.specs.declared.parse.binary.head.ItemHead as code_head
+use Rattle.cbor_diag.specs.declared.parse.binary.head.ItemHead.TheVariants as code
+use Rattle.cbor_diag.specs.Argument.{Argument, number, indefinite}
+use Rattle.cbor_diag.specs.ItemHead.{ItemHead, integer, negative, string, array, map, tag, float, simple}
+use Rattle.cbor_diag.specs.mirror.StringView.{kind_view}
+
+abbrev pub argument_view : code_argument.Argument → Argument
+argument_view (Number n w) = number n w
+argument_view Indefinite = indefinite
+
+abbrev pub head_view : code_head.ItemHead → ItemHead
+head_view (code.Integer n w) = integer n w
+head_view (code.Negative n w) = negative n w
+head_view (code.String kind a) = string (kind_view kind) (argument_view a)
+head_view (code.Array a) = array (argument_view a)
+head_view (code.Map a) = map (argument_view a)
+head_view (code.Tag n w) = tag n w
+head_view (code.Float bits w) = float bits w
+head_view (code.Simple n) = simple n

@@ -1,0 +1,60 @@
+//! What a head says beside its major type (RFC 8949 section 3 calls it the argument).
+ghost use Rattle.std.specs.Prelude.{◌≡◌, ℕ, option_map};
+ghost use Rattle.cbor_diag.specs.Reading.{after_break, after_members, count_width, one_less};
+ghost use Rattle.cbor_diag.specs.mirror.HeadView.{argument_view};
+ghost use Rattle.cbor_diag.specs.mirror.Stack.{left_of};
+
+use crate::syntax::IntegerWidth;
+
+/// What a head says beside its major type, in its five bits of info and the bytes that they ask for.
+#[derive(Clone, Copy)]
+pub(super) enum Argument {
+    /// A number, and the width that it was written in.
+    Number(u64, IntegerWidth),
+    /// No number: an indefinite length, or a break.
+    Indefinite,
+}
+
+/// The bytes after the break at the front, if there is one.
+fn after_break(bytes: &[u8]) -> Option<&[u8]>
+    ensures { option_map (λ x. x.now) result ≡ after_break bytes.now }
+{
+    match bytes {
+        [0xff, rest @ ..] => Some(rest),
+        _ => None,
+    }
+}
+
+impl Argument {
+    /// The width of a count, where there is one.
+    pub(super) fn width(self) -> Option<IntegerWidth>
+        ensures { (held : ℕ) → result ≡ count_width (left_of self held) }
+    {
+        match self {
+            Argument::Number(_, width) => Some(width),
+            Argument::Indefinite => None,
+        }
+    }
+
+    /// The bytes after a container of that length which holds `held` members, if it ends here: the
+    /// same bytes if it needs no more members, or those after the break.
+    pub(super) fn after_end(self, held: usize, bytes: &[u8]) -> Option<&[u8]>
+        ensures { option_map (λ x. x.now) result ≡ after_members (left_of self held) bytes.now }
+    {
+        match self {
+            Argument::Number(count, _) if (held as u64) < count => None,
+            Argument::Number(..) => Some(bytes),
+            Argument::Indefinite => after_break(bytes),
+        }
+    }
+
+    /// One part less to come.
+    pub(super) fn less(self) -> Argument
+        ensures { argument_view result ≡ one_less (argument_view self) }
+    {
+        match self {
+            Argument::Number(count, width) => Argument::Number(count.saturating_sub(1), width),
+            Argument::Indefinite => Argument::Indefinite,
+        }
+    }
+}
