@@ -90,9 +90,6 @@ pub no_break_at : (x rest : List ℕ) → Begins x → after_break (x ++ rest) �
 no_break_at x rest s = ap (λ (y : List ℕ). after_break (y ++ rest)) s.parts
     ∙ rw (ne_eqb s.first break_byte s.no_break) refl
 
-pub begins_longer : (x rest : List ℕ) → Begins x → length rest < length (x ++ rest)
-begins_longer x rest s = omega (arith, length-append x rest, ap length s.parts)
-
 -- ---- the parts of an open container
 
 -- each spelled item is read again, in its turns

@@ -1,6 +1,6 @@
 -- Where a head is refused: its bytes are cut short, or no item can have it.
 use Rattle.std.proofs.Common.{◌≡◌, ℕ, zero, suc, ◌+◌, ◌/◌, ◌%◌, ◌^◌, ◌<◌, ◌≤◌, ltb, eqb, List, [], ◌∷◌, length, Result}
-use Rattle.std.proofs.Common.{Ok, Err, ◌⊎◌, inl, inr, refl, ap, subst, ◌∙◌, arith}
+use Rattle.std.proofs.Common.{Ok, Err, ◌⊎◌, inl, inr, refl, sym, ap, subst, ◌∙◌, arith}
 use Rattle.std.specs.Int.{Width, w8, w16, w32, w64, byte_len, from_be_bytes}
 use Rattle.std.specs.Prelude.{take, drop}
 use Rattle.std.proofs.lemmas.Bool.{cases_eq, ltb-true, ltb-false, lt-ltb, le-ltb, eqb-true, eqb-false, ne_eqb}
@@ -11,7 +11,8 @@ use Rattle.cbor_diag.specs.declared.error.Error.TheVariants as refusal
 use Rattle.cbor_diag.specs.Argument.{Argument, number, indefinite}
 use Rattle.cbor_diag.specs.Refused.{CutHead, cut_head, BadHead, no_info, no_length}
 use Rattle.cbor_diag.specs.Reading.{◌>>=◌, read_number, read_wide, read_argument, numbered, head_of, read_head}
-use Rattle.cbor_diag.proofs.bytes.Heads.{IsBytes, IsBytes-rest, bind_err, branch, info_takes}
+use Rattle.cbor_diag.proofs.bytes.Heads.{IsBytes, IsBytes-rest, bind_err, branch, info_way, in_byte, in_bytes}
+use Rattle.cbor_diag.proofs.bytes.Heads.{no_number, no_meaning, info_takes}
 
 -- a step's refusal is the refusal
 pub err_is : {A : Type 0} (x : Result A Error) (d e : Error) → x ≡ Err d → x ≡ Err e → d ≡ e
@@ -49,53 +50,36 @@ cut_width w width bits k b e small is len h =
     let c = wide_refused w width b e h in
     subst (λ (d : Error). InfoRefusal bits b d) c.1 (cut_info k small is (rw (← len) c.0))
 
-pub info_refused : (bits : ℕ) (b : List ℕ) (e : Error) → bits < 32 → read_argument bits b ≡ Err e → InfoRefusal bits b e
-unfolding read_argument
+pub info_refused : (bits : ℕ) (b : List ℕ) (e : Error) → bits < 32 → read_argument bits b ≡ Err e
+    → InfoRefusal bits b e
 info_refused bits b e small h =
-    elim (branch (ltb bits 24) _ _ (Err e) h) [
-      | inl t ↦ absurd cc
-      | inr t0 ↦ elim (branch (eqb bits 24) _ _ (Err e) t0.1) [
-        | inl t ↦ cut_width w8 Eight bits 0 b e (omega arith) (eqb-true _ _ t.0) refl t.1
-        | inr t1 ↦ elim (branch (eqb bits 25) _ _ (Err e) t1.1) [
-          | inl t ↦ cut_width w16 Sixteen bits 1 b e (omega arith) (eqb-true _ _ t.0) refl t.1
-          | inr t2 ↦ elim (branch (eqb bits 26) _ _ (Err e) t2.1) [
-            | inl t ↦ cut_width w32 ThirtyTwo bits 2 b e (omega arith) (eqb-true _ _ t.0) refl t.1
-            | inr t3 ↦ elim (branch (eqb bits 27) _ _ (Err e) t3.1) [
-              | inl t ↦ cut_width w64 SixtyFour bits 3 b e (omega arith) (eqb-true _ _ t.0) refl t.1
-              | inr t4 ↦ elim (branch (eqb bits 31) _ _ (Err e) t4.1) [
-                | inl t ↦ absurd cc
-                | inr t5 ↦
-                    let long : 24 ≤ bits = ltb-false _ _ t0.0 in
-                    let not24 : bits ≡ 24 → ⊥ = eqb-false _ _ t1.0 in
-                    let not25 : bits ≡ 25 → ⊥ = eqb-false _ _ t2.0 in
-                    let not26 : bits ≡ 26 → ⊥ = eqb-false _ _ t3.0 in
-                    let not27 : bits ≡ 27 → ⊥ = eqb-false _ _ t4.0 in
-                    let not31 : bits ≡ 31 → ⊥ = eqb-false _ _ t5.0 in
-                    let is : refusal.Head ≡ e = cc in
-                    subst (λ (d : Error). InfoRefusal bits b d) is (bad_info (omega arith) (omega arith))
-              ]
-            ]
-          ]
-        ]
-      ]
+    elim (info_way bits b) [
+      | in_byte lt reads ↦ absurd (let wrong = sym reads ∙ h in cc)
+      | in_bytes k w width info reads ↦ cut_width w width bits k b e info.few info.is info.len (sym reads ∙ h)
+      | no_number is reads ↦ absurd (let wrong = sym reads ∙ h in cc)
+      | no_meaning least other reads ↦
+          let is : refusal.Head ≡ e = err_is (read_argument bits b) refusal.Head e reads h in
+          let no31 : bits ≡ 31 → ⊥ = other in
+          subst (λ (d : Error). InfoRefusal bits b d) is (bad_info least (grind arith))
     ]
 
 pub info_refuses : (bits : ℕ) (b : List ℕ) (e : Error) → InfoRefusal bits b e → read_argument bits b ≡ Err e
-unfolding read_argument
-info_refuses bits b e (cut_info zero small is short) = rw is (wide_cut w8 Eight b short)
-info_refuses bits b e (cut_info (suc zero) small is short) = rw is (wide_cut w16 Sixteen b short)
-info_refuses bits b e (cut_info (suc (suc zero)) small is short) = rw is (wide_cut w32 ThirtyTwo b short)
-info_refuses bits b e (cut_info (suc (suc (suc zero))) small is short) = rw is (wide_cut w64 SixtyFour b short)
-info_refuses bits b e (cut_info (suc (suc (suc (suc k)))) small is short) = absurd (omega arith)
+info_refuses bits b e (cut_info k small is short) =
+    elim (info_way bits b) [
+      | in_byte lt reads ↦ absurd (omega arith)
+      | in_bytes j w width info reads ↦
+          let same : k ≡ j = omega (arith, info.is) in
+          reads ∙ wide_cut w width b (rw info.len (subst (λ (n : ℕ). length b < 2 ^ n) same short))
+      | no_number opens reads ↦ absurd (omega arith)
+      | no_meaning least other reads ↦ absurd (omega arith)
+    ]
 info_refuses bits b e (bad_info least most) =
-    rw (
-      le-ltb bits 24 (omega arith),
-      ne_eqb bits 24 (omega arith),
-      ne_eqb bits 25 (omega arith),
-      ne_eqb bits 26 (omega arith),
-      ne_eqb bits 27 (omega arith),
-      ne_eqb bits 31 (omega arith),
-    ) refl
+    elim (info_way bits b) [
+      | in_byte lt reads ↦ absurd (omega arith)
+      | in_bytes k w width info reads ↦ absurd (omega (arith, info.few, info.is))
+      | no_number is reads ↦ absurd (omega arith)
+      | no_meaning low other reads ↦ reads
+    ]
 
 -- info 31 asks for no bytes
 pub info_opens : (bits : ℕ) (b : List ℕ) → bits ≡ 31 → read_argument bits b ≡ Ok (indefinite, b)

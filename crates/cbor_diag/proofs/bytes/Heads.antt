@@ -1,5 +1,5 @@
 -- A head that was read is what the bytes begin with, and what begins with a head is read so.
-use Rattle.std.proofs.Common.{◌≡◌, ℕ, zero, suc, ◌+◌, ◌*◌, ◌/◌, ◌%◌, ◌^◌, ◌<◌, ◌≤◌, Bool, true, false, cond, ltb, List}
+use Rattle.std.proofs.Common.{◌≡◌, ℕ, zero, suc, ◌+◌, ◌*◌, ◌/◌, ◌%◌, ◌^◌, ◌<◌, ◌≤◌, ◌≢◌, Bool, true, false, cond, ltb, List}
 use Rattle.std.proofs.Common.{[], ◌∷◌, ◌++◌, length, get_or, take, drop, Result, Ok, Err, ◌⊎◌, inl, inr, refl, sym, ap}
 use Rattle.std.proofs.Common.{subst, ◌∙◌, append_assoc, arith}
 use Rattle.std.specs.Int.{Width, w8, w16, w32, w64, byte_len, from_be_bytes, to_be_bytes}
@@ -240,48 +240,84 @@ wide_is bits wide_w limit wide w b rest i fits e found =
     let t = wide_takes wide_w limit wide w b rest i fits e in
     subst (λ (x : Argument). ArgumentIs bits x b rest) t.1 (found t.0 t.2 t.3 t.4)
 
-pub info_takes : (bits : ℕ) (b rest : List ℕ) (i : Argument) → IsBytes b → read_argument bits b ≡ Ok (i, rest)
-    → ArgumentIs bits i b rest
+-- a number in 2 ^ k bytes after the first
+pub record WideInfo (info k : ℕ) (w : Width) (width : IntegerWidth) : Type 0 where
+  pub limit : ℕ
+  pub wide : IsWide w limit
+  pub few : k ≤ 3
+  pub is : info ≡ 24 + k
+  pub len : byte_len w ≡ 2 ^ k
+  pub bytes : (n : ℕ) → n < limit
+      → FitsStated width n × (bits_of width n ≡ info) × (number_bytes width n ≡ to_be_bytes w n)
+
+-- what info asks for: nothing, since it is the number; the bytes of a number; nothing, since there is none; or it means
+-- nothing
+pub data InfoWay (info : ℕ) (b : List ℕ) : Type 0 where
+  in_byte : info < 24 → read_argument info b ≡ Ok (number info Zero, b) → InfoWay info b
+  in_bytes : (k : ℕ) (w : Width) (width : IntegerWidth) → WideInfo info k w width
+      → read_argument info b ≡ read_wide w width b → InfoWay info b
+  no_number : info ≡ 31 → read_argument info b ≡ Ok (indefinite, b) → InfoWay info b
+  no_meaning : 28 ≤ info → info ≢ 31 → read_argument info b ≡ Err refusal.Head → InfoWay info b
+
+in_width : (k : ℕ) (w : Width) (width : IntegerWidth) (limit : ℕ) → IsWide w limit → k ≤ 3 → byte_len w ≡ 2 ^ k
+    → ((n : ℕ) → n < limit
+    → FitsStated width n × (bits_of width n ≡ 24 + k) × (number_bytes width n ≡ to_be_bytes w n))
+    → WideInfo (24 + k) k w width
+in_width k w width limit wide few len bytes =
+    record { limit = limit; wide = wide; few = few; is = refl; len = len; bytes = bytes }
+
+pub info_way : (info : ℕ) (b : List ℕ) → InfoWay info b
 unfolding read_argument
-info_takes bits b rest i fits e =
-    elim (cases_lt bits 24) [
-      | inl lt ↦
-          let read : done (number bits Zero, b) ≡ Ok (i, rest) = rw (lt-ltb bits 24 lt) at e in
-          subst (λ (p : Argument × List ℕ). ArgumentIs bits p.0 b p.1) (ok_is (number bits Zero, b) (i, rest) read)
-          (lt, refl, refl, fits)
-      | inr le ↦ elim (cases_eq bits 24) [
-        | inl is ↦ wide_is bits w8 (2 ^ 8) wide8 Eight b rest i fits (rw is at e)
-            (λ n lt parts others. (lt, is, parts, others))
-        | inr no24 ↦ elim (cases_eq bits 25) [
-          | inl is ↦ wide_is bits w16 (2 ^ 16) wide16 Sixteen b rest i fits (rw is at e)
-              (λ n lt parts others. (lt, is, parts, others))
-          | inr no25 ↦ elim (cases_eq bits 26) [
-            | inl is ↦ wide_is bits w32 (2 ^ 32) wide32 ThirtyTwo b rest i fits (rw is at e)
-                (λ n lt parts others. (lt, is, parts, others))
-            | inr no26 ↦ elim (cases_eq bits 27) [
-              | inl is ↦ wide_is bits w64 (2 ^ 64) wide64 SixtyFour b rest i fits (rw is at e)
-                  (λ n lt parts others. (lt, is, parts, others))
-              | inr no27 ↦ elim (cases_eq bits 31) [
-                | inl is ↦
-                    let read : done (indefinite, b) ≡ Ok (i, rest) = rw is at e in
-                    subst (λ (p : Argument × List ℕ). ArgumentIs bits p.0 b p.1) (ok_is (indefinite, b) (i, rest) read)
-                    (is, refl, fits)
-                | inr no31 ↦
-                    let wrong : refused {A = Argument × List ℕ} refusal.Head ≡ Ok (i, rest) =
-                    rw (
-                      le-ltb bits 24 le,
-                      ne_eqb bits 24 no24,
-                      ne_eqb bits 25 no25,
-                      ne_eqb bits 26 no26,
-                      ne_eqb bits 27 no27,
-                      ne_eqb bits 31 no31,
-                    ) at e in
-                    absurd cc
-              ]
+info_way info b =
+    elim (cases_lt info 24) [
+      | inl lt ↦ in_byte lt (rw (lt-ltb info 24 lt) refl)
+      | inr le ↦ elim (cases_eq info 24) [
+        | inl is ↦ rw is (in_bytes 0 w8 Eight (in_width 0 w8 Eight (2 ^ 8) wide8 (omega arith) refl
+            (λ n lt. (lt, refl, refl))) refl)
+        | inr no24 ↦ elim (cases_eq info 25) [
+          | inl is ↦ rw is (in_bytes 1 w16 Sixteen (in_width 1 w16 Sixteen (2 ^ 16) wide16 (omega arith) refl
+              (λ n lt. (lt, refl, refl))) refl)
+          | inr no25 ↦ elim (cases_eq info 26) [
+            | inl is ↦ rw is (in_bytes 2 w32 ThirtyTwo (in_width 2 w32 ThirtyTwo (2 ^ 32) wide32 (omega arith) refl
+                (λ n lt. (lt, refl, refl))) refl)
+            | inr no26 ↦ elim (cases_eq info 27) [
+              | inl is ↦ rw is (in_bytes 3 w64 SixtyFour (in_width 3 w64 SixtyFour (2 ^ 64) wide64 (omega arith) refl
+                  (λ n lt. (lt, refl, refl))) refl)
+              | inr no27 ↦
+                  elim (cases_eq info 31) [
+                    | inl is ↦ no_number is (rw is refl)
+                    | inr no31 ↦ no_meaning (omega arith) no31 (rw (
+                      le-ltb info 24 le,
+                      ne_eqb info 24 no24,
+                      ne_eqb info 25 no25,
+                      ne_eqb info 26 no26,
+                      ne_eqb info 27 no27,
+                      ne_eqb info 31 no31,
+                    ) refl)
+                  ]
             ]
           ]
         ]
       ]
+    ]
+
+pub info_takes : (bits : ℕ) (b rest : List ℕ) (i : Argument) → IsBytes b → read_argument bits b ≡ Ok (i, rest)
+    → ArgumentIs bits i b rest
+info_takes bits b rest i fits e =
+    elim (info_way bits b) [
+      | in_byte lt reads ↦
+          let read : done (number bits Zero, b) ≡ Ok (i, rest) = sym reads ∙ e in
+          subst (λ (p : Argument × List ℕ). ArgumentIs bits p.0 b p.1) (ok_is (number bits Zero, b) (i, rest) read)
+          (lt, refl, refl, fits)
+      | in_bytes k w width info reads ↦ wide_is bits w info.limit info.wide width b rest i fits (sym reads ∙ e)
+          (λ n lt parts others.
+          let p = info.bytes n lt in
+          (p.0, sym p.1, parts ∙ ap (λ (x : List ℕ). x ++ rest) (sym p.2), others))
+      | no_number is reads ↦
+          let read : done (indefinite, b) ≡ Ok (i, rest) = sym reads ∙ e in
+          subst (λ (p : Argument × List ℕ). ArgumentIs bits p.0 b p.1) (ok_is (indefinite, b) (i, rest) read)
+          (is, refl, fits)
+      | no_meaning least other reads ↦ absurd (let wrong = sym reads ∙ e in cc)
     ]
 
 pub info_again : (w : IntegerWidth) (n : ℕ) (rest : List ℕ) → FitsStated w n

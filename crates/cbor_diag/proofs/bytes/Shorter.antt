@@ -19,6 +19,7 @@ use Rattle.cbor_diag.specs.Reading.{read_argument, head_of, read_head, split_at,
 use Rattle.cbor_diag.specs.Reading.{Counted, go_on, ◌>>-◌, more_chunks, read_chunks, read_atom, Frame, items_in, pairs_in}
 use Rattle.cbor_diag.specs.Reading.{value_of, tag_of, tagged_with, opened, put, after_break, after_members, after_end}
 use Rattle.cbor_diag.specs.Reading.{closed, close_or, parts_from, read_body, no_level_left, counted_item, read_item}
+use Rattle.cbor_diag.proofs.bytes.Heads.{info_way, in_byte, in_bytes, no_number, no_meaning}
 
 -- fewer than n bytes are left where something was read
 abbrev pub Leaves : {X : Type 0} → ℕ → Read X → Type 0
@@ -50,33 +51,12 @@ wide_leaves w width b = leaves_made (suc (length b)) (suc (length b)) (read_numb
     (omega arith) (leaves_cut (byte_len w) (byte_len w) b (from_be_bytes w (take (byte_len w) b)))
 
 info_leaves : (bits : ℕ) (b : List ℕ) → Leaves (suc (length b)) (read_argument bits b)
-unfolding read_argument
 info_leaves bits b =
-    elim (cases_lt bits 24) [
-      | inl lt ↦ rw (lt-ltb bits 24 lt) (omega arith)
-      | inr le ↦ elim (cases_eq bits 24) [
-        | inl is ↦ rw is (wide_leaves w8 Eight b)
-        | inr no24 ↦ elim (cases_eq bits 25) [
-          | inl is ↦ rw is (wide_leaves w16 Sixteen b)
-          | inr no25 ↦ elim (cases_eq bits 26) [
-            | inl is ↦ rw is (wide_leaves w32 ThirtyTwo b)
-            | inr no26 ↦ elim (cases_eq bits 27) [
-              | inl is ↦ rw is (wide_leaves w64 SixtyFour b)
-              | inr no27 ↦ elim (cases_eq bits 31) [
-                | inl is ↦ rw is (omega arith)
-                | inr no31 ↦ rw (
-                  le-ltb bits 24 le,
-                  ne_eqb bits 24 no24,
-                  ne_eqb bits 25 no25,
-                  ne_eqb bits 26 no26,
-                  ne_eqb bits 27 no27,
-                  ne_eqb bits 31 no31,
-                ) tt
-              ]
-            ]
-          ]
-        ]
-      ]
+    elim (info_way bits b) [
+      | in_byte lt reads ↦ rw reads (omega arith)
+      | in_bytes k w width info reads ↦ rw reads (wide_leaves w width b)
+      | no_number is reads ↦ rw reads (omega arith)
+      | no_meaning least other reads ↦ rw reads tt
     ]
 
 made_leaves : {X : Type 0} (n : ℕ) (r : Result X Error) (rest : List ℕ) → length rest < n
