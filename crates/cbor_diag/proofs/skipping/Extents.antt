@@ -119,12 +119,6 @@ has_fault : (b : List ℕ) (e : Error) (end : ℕ) → IsExtent b (extent.Fault 
 has_fault b e end h = subst (λ (x : List ℕ). Fault 1 x e) (take-append-drop end b)
     (fault_append 1 (take end b) (drop end b) e h.0.2)
 
--- the outcome that bytes begin so with
-outcome_of : (b : List ℕ) (x : Extent) → IsExtent b x → (o : Outcome) × IsOutcome 1 b o
-outcome_of b (extent.Item n) h = (spelled h.0 n, (h.1.1, h.1.2))
-outcome_of b extent.Cut h = (cut, h)
-outcome_of b (extent.Fault e end) h = (fault e, has_fault b e end h)
-
 same : (b : List ℕ) → OneOutcome 1 b → (o p : Outcome) → IsOutcome 1 b o → IsOutcome 1 b p → o ≡ p
 same b one o p h k = one.only o h ∙ sym (one.only p k)
 

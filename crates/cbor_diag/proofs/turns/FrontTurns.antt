@@ -30,12 +30,6 @@ first_fails left old new b refusal.Memory h = tt
 first_fails left old new b e h = ap (λ (c : Counted Item). c.1) h
 
 -- its turns, and no more where memory ran out
-pub run_within : {X : Type 0} (f : X → Item × List ℕ) (old new : ℕ) (r : Result X Error) (c : Counted Item)
-    → Runs f old new r c → new ≤ old + c.0
-run_within f old new (Ok x) c h = omega (arith, ap (λ (d : Counted Item). d.0) h)
-run_within f old new (Err refusal.Memory) c h = h
-run_within f old new (Err e) c h = omega (arith, ap (λ (d : Counted Item). d.0) h)
-
 pub ok_turns : (level left old new : ℕ) (b rest : List ℕ) (i : Item) → level + left ≡ 129 → IsBytes b
     → later old (counted_item left b) ≡ (new, Ok (i, rest)) → new ≡ old + item_turns i
 ok_turns level left old new b rest i levels fits h =
