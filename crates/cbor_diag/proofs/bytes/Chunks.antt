@@ -17,7 +17,8 @@ use Rattle.cbor_diag.specs.Reading.{checked_chunk, Read, ◌>>=◌, read_argumen
 use Rattle.cbor_diag.specs.Reading.{read_content, chunk_of, read_chunk, Counted, ◌>>-◌, more_chunks, read_chunks}
 use Rattle.cbor_diag.proofs.bytes.Heads.{IsBytes, IsBytes-drop, IsBytes-rest, bind_ok, then_ok, guard_ok, guard_held}
 use Rattle.cbor_diag.proofs.bytes.Heads.{ok_is}
-use Rattle.cbor_diag.proofs.bytes.Heads.{head_append, head_front, head_shorter, ArgumentIs, info_takes, head_then, opened}
+use Rattle.cbor_diag.proofs.bytes.Heads.{head_append, head_front, head_shorter, ArgumentIs, info_takes, head_then}
+use Rattle.cbor_diag.proofs.bytes.Heads.{opened}
 
 -- ---- content
 

@@ -16,8 +16,10 @@ use Rattle.cbor_diag.specs.Head.{opening, break_byte, HeadThen}
 use Rattle.cbor_diag.specs.WellFormed.{deepest}
 use Rattle.cbor_diag.specs.StringKind.{StringKind, major_of}
 use Rattle.cbor_diag.specs.Bytes.{any, OpenThen, ChunkThen, SpellsChunks, Spells, SpellsItems, SpellsPairs, MembersThen}
-use Rattle.cbor_diag.specs.Reading.{◌>>=◌, Read, Counted, read_head, read_content, read_chunks, read_atom, Frame, items_in}
-use Rattle.cbor_diag.specs.Reading.{pairs_in, value_of, tag_of, tagged_with, opened, after_break, after_members, after_end}
+use Rattle.cbor_diag.specs.Reading.{◌>>=◌, Read, Counted, read_head, read_content, read_chunks, read_atom, Frame}
+use Rattle.cbor_diag.specs.Reading.{items_in}
+use Rattle.cbor_diag.specs.Reading.{pairs_in, value_of, tag_of, tagged_with, opened, after_break, after_members}
+use Rattle.cbor_diag.specs.Reading.{after_end}
 use Rattle.cbor_diag.specs.Reading.{closed, count_width, read_parts, read_body, counted_item, read_item}
 use Rattle.cbor_diag.proofs.bytes.Heads.{IsBytes, IsBytes-rest, bind_ok, then_ok, done, ok_is, ArgumentThen, HeadIs}
 use Rattle.cbor_diag.proofs.bytes.Heads.{head_front, head_takes}
@@ -210,7 +212,8 @@ atom_takes level (item_head.string kind (number n w)) b r rest i le h fits e =
     given level b a.0.1 rest (atom (string kind a.0.0)) i a.2
     (record { front = t.0; parts = t.1; spells = (le, t.2); rest_bytes = t.3 })
 atom_takes level (item_head.string kind indefinite) b r rest i le h fits e =
-    let a = then_ok (read_chunks (length r) kind r) (λ cs. (0, Ok (atom (chunked_string kind cs.0), cs.1))) (i, rest) e in
+    let whole = λ cs. (0, Ok (atom (chunked_string kind cs.0), cs.1)) in
+    let a = then_ok (read_chunks (length r) kind r) whole (i, rest) e in
     let t = open_string_takes kind b r a.0.1 a.0.0 fits h a.1 in
     given level b a.0.1 rest (atom (chunked_string kind a.0.0)) i a.2
     (record { front = t.0; parts = t.1; spells = (le, t.2); rest_bytes = t.3 })

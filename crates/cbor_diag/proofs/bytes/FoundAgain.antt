@@ -1,5 +1,6 @@
 -- An item that bytes spell is read again, in its turns, whatever follows them.
-use Rattle.std.proofs.Common.{◌≡◌, ◌≢◌, ℕ, zero, suc, ◌+◌, ◌*◌, ◌%◌, ◌<◌, ◌≤◌, List, [], ◌∷◌, ◌++◌, length, Option, Some}
+use Rattle.std.proofs.Common.{◌≡◌, ◌≢◌, ℕ, zero, suc, ◌+◌, ◌*◌, ◌%◌, ◌<◌, ◌≤◌, List, [], ◌∷◌, ◌++◌, length, Option}
+use Rattle.std.proofs.Common.{Some}
 use Rattle.std.proofs.Common.{None, Ok, inl, inr, refl, sym, ap, subst, ◌∙◌, append_assoc, arith}
 use Rattle.std.specs.Int.{w16, w32, w64, to_be_bytes}
 use Rattle.std.proofs.lemmas.Bool.{ne_eqb}
@@ -9,18 +10,23 @@ use Rattle.cbor_diag.specs.declared.syntax.IntegerWidth.TheVariants.{Zero, Eight
 use Rattle.cbor_diag.specs.declared.syntax.FloatWidth.TheVariants as float_width
 use Rattle.cbor_diag.specs.Argument.{Argument, number, indefinite}
 use Rattle.cbor_diag.specs.Item as spec
-use Rattle.cbor_diag.specs.Item.{Chunk, Atom, integer, negative, string, chunked_string, float, simple, Item, atom, array}
+use Rattle.cbor_diag.specs.Item.{Chunk, Atom, integer, negative, string, chunked_string, float, simple, Item, atom}
+use Rattle.cbor_diag.specs.Item.{array}
 use Rattle.cbor_diag.specs.Item.{tagged, Items, no_items, item, Pairs, no_pairs, pair, item_count, pair_count}
 use Rattle.cbor_diag.specs.ItemHead as item_head
 use Rattle.cbor_diag.specs.ItemHead.{ItemHead}
 use Rattle.cbor_diag.specs.Head.{head, opening, break_byte, HeadThen}
 use Rattle.cbor_diag.specs.WellFormed.{deepest}
 use Rattle.cbor_diag.specs.StringKind.{StringKind, bytes_kind, text_kind, major_of}
-use Rattle.cbor_diag.specs.Bytes.{any, SpellsSimple, SpellsAtom, ChunkThen, MembersThen, Spells, SpellsItems, SpellsPairs}
+use Rattle.cbor_diag.specs.Bytes.{any, SpellsSimple, SpellsAtom, ChunkThen, MembersThen, Spells, SpellsItems}
+use Rattle.cbor_diag.specs.Bytes.{SpellsPairs}
 use Rattle.cbor_diag.specs.Turns.{item_turns, items_turns, pairs_turns}
-use Rattle.cbor_diag.specs.Reading.{◌>>=◌, Counted, later, go_on, ◌>>-◌, head_of, read_head, joined, joined_pairs, Frame}
-use Rattle.cbor_diag.specs.Reading.{items_in, pairs_in, value_of, tag_of, tagged_with, opened, one_less, count_width, put}
-use Rattle.cbor_diag.specs.Reading.{after_break, after_members, after_end, read_parts, read_body, counted_item, read_item}
+use Rattle.cbor_diag.specs.Reading.{◌>>=◌, Counted, later, go_on, ◌>>-◌, head_of, read_head, joined, joined_pairs}
+use Rattle.cbor_diag.specs.Reading.{Frame}
+use Rattle.cbor_diag.specs.Reading.{items_in, pairs_in, value_of, tag_of, tagged_with, opened, one_less, count_width}
+use Rattle.cbor_diag.specs.Reading.{put}
+use Rattle.cbor_diag.specs.Reading.{after_break, after_members, after_end, read_parts, read_body, counted_item}
+use Rattle.cbor_diag.specs.Reading.{read_item}
 use Rattle.cbor_diag.proofs.bytes.Heads as heads
 use Rattle.cbor_diag.proofs.bytes.Heads.{head_append, head_again, byte_of, ArgumentThen}
 use Rattle.cbor_diag.proofs.bytes.Chunks.{content_again, chunks_again, chunks_append}
@@ -180,7 +186,8 @@ module _ (level : ℕ) (read : List ℕ → Counted Item) (again : FindsAgain le
       (more_open c h.0 (h.1 ++ h.2) (spelled_begins level h.0 k h.4))
       ∙ ap (λ d. later (item_turns k) (read_parts read (value_of held k d) (h.1 ++ h.2))) (less_more c)
       ∙ ap (later (item_turns k)) (part_again (value_of held k c) h.1 h.2 v h.5 refl
-      ∙ ap (later (item_turns v)) (pairs_again more ps a h.2 end h.6) ∙ later_later (item_turns v) (pairs_turns ps) others)
+      ∙ ap (later (item_turns v)) (pairs_again more ps a h.2 end h.6)
+      ∙ later_later (item_turns v) (pairs_turns ps) others)
       ∙ later_later (item_turns k) (item_turns v + pairs_turns ps) others
       ∙ ap (λ qs. later (pairs_turns (pair k v ps)) (read_parts read (pairs_in qs a) end)) (joined_pair held k v ps)
 
@@ -272,7 +279,8 @@ module _ (level : ℕ) (read : List ℕ → Counted Item) (again : FindsAgain (l
       (head_again (major_of kind) indefinite (item_head.string kind indefinite) (x ++ rest) r
       (omega (arith, kind_major kind)) (ap (λ (y : List ℕ). y ++ rest) h.1.1) (string_head kind indefinite))
       (ap (λ c. c >>- λ cs. (0, Ok (atom (chunked_string kind cs.0), cs.1))) chunks
-      ∙ ap (λ n. (n, Ok (atom (chunked_string kind cs), rest))) (let e : length cs + 1 + 0 ≡ length cs + 1 = omega arith in e))
+      ∙ ap (λ n. (n, Ok (atom (chunked_string kind cs), rest)))
+      (let e : length cs + 1 + 0 ≡ length cs + 1 = omega arith in e))
       sum
   body_again x (atom (float bits float_width.Unknown)) rest h = absurd h.1
   body_again x (atom (float bits float_width.Sixteen)) rest h =
@@ -304,7 +312,8 @@ module _ (level : ℕ) (read : List ℕ → Counted Item) (again : FindsAgain (l
       (λ a end over e. parts_end read short (items_in is a) end over (array is (count_width a)) refl e) in
       let sum : 1 + (items_turns is + 1) ≡ 2 + items_turns is = omega arith in
       after_head (x ++ rest) g.0 rest (item_head.array (argument_of w n)) (items_turns is + 1) (array is w)
-      (head_again 4 (argument_of w n) (item_head.array (argument_of w n)) (x ++ rest) g.0 (omega arith) g.1 refl) g.2 sum
+      (head_again 4 (argument_of w n) (item_head.array (argument_of w n)) (x ++ rest) g.0 (omega arith) g.1 refl)
+      g.2 sum
   body_again x (spec.map ps w) rest h =
       let n : ℕ = pair_count ps in
       let g = members_again (level + 1) read again short 5 n (pairs_turns ps) w x rest

@@ -1,14 +1,17 @@
 -- What was read of an open container is what the bytes before its next part spell, and is read again from them.
-use Rattle.std.proofs.Common.{◌≡◌, ℕ, zero, suc, ◌+◌, ◌*◌, ◌<◌, List, [], ◌∷◌, ◌++◌, length, Option, Some, None, Ok, Err}
+use Rattle.std.proofs.Common.{◌≡◌, ℕ, zero, suc, ◌+◌, ◌*◌, ◌<◌, List, [], ◌∷◌, ◌++◌, length, Option, Some, None, Ok}
+use Rattle.std.proofs.Common.{Err}
 use Rattle.std.proofs.Common.{◌⊎◌, inl, inr, refl, sym, ap, subst, ◌∙◌, append_assoc, append-nil, arith}
 use Rattle.cbor_diag.specs.declared.error.Error.{Error}
 use Rattle.cbor_diag.specs.declared.syntax.IntegerWidth.{IntegerWidth}
 use Rattle.cbor_diag.specs.Argument.{Argument, number, indefinite}
 use Rattle.cbor_diag.specs.Item as spec
-use Rattle.cbor_diag.specs.Item.{Item, array, tagged, Items, no_items, item, Pairs, no_pairs, pair, item_count, pair_count}
+use Rattle.cbor_diag.specs.Item.{Item, array, tagged, Items, no_items, item, Pairs, no_pairs, pair, item_count}
+use Rattle.cbor_diag.specs.Item.{pair_count}
 use Rattle.cbor_diag.specs.Bytes.{any, Spells, SpellsItems, SpellsPairs}
 use Rattle.cbor_diag.specs.Refused.{SpelledParts}
-use Rattle.cbor_diag.specs.Reading.{Read, Counted, go_on, ◌>>-◌, joined, joined_pairs, Frame, items_in, pairs_in, value_of}
+use Rattle.cbor_diag.specs.Reading.{Read, Counted, go_on, ◌>>-◌, joined, joined_pairs, Frame, items_in, pairs_in}
+use Rattle.cbor_diag.specs.Reading.{value_of}
 use Rattle.cbor_diag.specs.Reading.{tag_of, tagged_with, one_less, put, after_members, after_end, closed, close_or}
 use Rattle.cbor_diag.specs.Reading.{parts_from}
 use Rattle.cbor_diag.proofs.bytes.Heads.{IsBytes}
@@ -68,7 +71,8 @@ pub and_none : (a : Argument) → a ≡ and_more 0 a
 and_none (number n w) = let e : n ≡ 0 + n = omega arith in ap (λ m. number m w) e
 and_none indefinite = refl
 
-more_less : (k : ℕ) (a : Argument) (b : List ℕ) → after_members a b ≡ None → and_more k a ≡ and_more (suc k) (one_less a)
+more_less : (k : ℕ) (a : Argument) (b : List ℕ) → after_members a b ≡ None
+    → and_more k a ≡ and_more (suc k) (one_less a)
 more_less k (number zero w) b none = absurd cc
 more_less k (number (suc n) w) b none = let e : k + suc n ≡ suc k + n = omega arith in ap (λ m. number m w) e
 more_less k indefinite b none = refl
@@ -127,10 +131,12 @@ pub record Spelled (level : ℕ) (b : List ℕ) (i : Item) (rest : List ℕ) : T
 
 -- each item that `read` reads is spelled so
 abbrev pub Finds : ℕ → (List ℕ → Counted Item) → Type 0
-Finds level read = (b : List ℕ) (i : Item) (rest : List ℕ) → IsBytes b → (read b).1 ≡ Ok (i, rest) → Spelled level b i rest
+Finds level read =
+    (b : List ℕ) (i : Item) (rest : List ℕ) → IsBytes b → (read b).1 ≡ Ok (i, rest) → Spelled level b i rest
 
 -- whether a container ends here
-pub end_ways : (f : Frame) (b : List ℕ) → ((i : Item) × (after : List ℕ) × (closed f ≡ Some i) × (after_end f b ≡ Some after))
+pub end_ways : (f : Frame) (b : List ℕ)
+    → ((i : Item) × (after : List ℕ) × (closed f ≡ Some i) × (after_end f b ≡ Some after))
     ⊎ (after_end f b ≡ None)
 end_ways f b = closes f (after_end f b) refl
   where

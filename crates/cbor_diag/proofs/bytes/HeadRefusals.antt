@@ -147,8 +147,8 @@ info_head : (first : ℕ) (b : List ℕ) (e : Error) → InfoRefusal (first % 32
 info_head first b e (cut_info k small is short) = short_head (cut_head k small is short)
 info_head first b e (bad_info least most) = bad_head (no_info least most)
 
-unread : (first : ℕ) (b rest : List ℕ) (a : Argument) (e : Error) → IsBytes b → read_argument (first % 32) b ≡ Ok (a, rest)
-    → head_of (first / 32) a ≡ Err e → HeadRefusal (first ∷ b) e
+unread : (first : ℕ) (b rest : List ℕ) (a : Argument) (e : Error) → IsBytes b
+    → read_argument (first % 32) b ≡ Ok (a, rest) → head_of (first / 32) a ≡ Err e → HeadRefusal (first ∷ b) e
 unread first b rest a e fits read h =
     let u = head_of_refused (first / 32) a e h in
     let none : read_argument (first % 32) b ≡ Ok (indefinite, rest) =

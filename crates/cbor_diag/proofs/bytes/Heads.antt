@@ -1,5 +1,6 @@
 -- A head that was read is what the bytes begin with, and what begins with a head is read so.
-use Rattle.std.proofs.Common.{◌≡◌, ℕ, zero, suc, ◌+◌, ◌*◌, ◌/◌, ◌%◌, ◌^◌, ◌<◌, ◌≤◌, ◌≢◌, Bool, true, false, cond, ltb, List}
+use Rattle.std.proofs.Common.{◌≡◌, ℕ, zero, suc, ◌+◌, ◌*◌, ◌/◌, ◌%◌, ◌^◌, ◌<◌, ◌≤◌, ◌≢◌, Bool, true, false, cond, ltb}
+use Rattle.std.proofs.Common.{List}
 use Rattle.std.proofs.Common.{[], ◌∷◌, ◌++◌, length, get_or, take, drop, Result, Ok, Err, ◌⊎◌, inl, inr, refl, sym, ap}
 use Rattle.std.proofs.Common.{subst, ◌∙◌, append_assoc, arith}
 use Rattle.std.specs.Int.{Width, w8, w16, w32, w64, byte_len, from_be_bytes, to_be_bytes}
@@ -68,7 +69,8 @@ pub then_err : {A B : Type 0} (c : Counted A) (f : A × List ℕ → Counted B) 
     → (c.1 ≡ Err e) ⊎ ((x : A × List ℕ) × (c.1 ≡ Ok x) × ((f x).1 ≡ Err e))
 then_err {A = A} {B = B} c f e h = go c.0 c.1 h
   where
-    go : (n : ℕ) (r : Read A) → (go_on n r f).1 ≡ Err e → (r ≡ Err e) ⊎ ((x : A × List ℕ) × (r ≡ Ok x) × ((f x).1 ≡ Err e))
+    go : (n : ℕ) (r : Read A) → (go_on n r f).1 ≡ Err e
+        → (r ≡ Err e) ⊎ ((x : A × List ℕ) × (r ≡ Ok x) × ((f x).1 ≡ Err e))
     go n (Ok x) h = inr (x, refl, h)
     go n (Err d) h = inl cc
 
@@ -210,8 +212,8 @@ ArgumentIs bits (number n w) b rest = FitsStated w n × (bits ≡ bits_of w n) �
     × IsBytes rest
 ArgumentIs bits indefinite b rest = (bits ≡ 31) × (b ≡ rest) × IsBytes rest
 
-wide_takes : (wide_w : Width) (limit : ℕ) (wide : IsWide wide_w limit) (w : IntegerWidth) (b rest : List ℕ) (i : Argument)
-    → IsBytes b → read_wide wide_w w b ≡ Ok (i, rest) → (n : ℕ) × (number n w ≡ i) × (n < limit)
+wide_takes : (wide_w : Width) (limit : ℕ) (wide : IsWide wide_w limit) (w : IntegerWidth) (b rest : List ℕ)
+    (i : Argument) → IsBytes b → read_wide wide_w w b ≡ Ok (i, rest) → (n : ℕ) × (number n w ≡ i) × (n < limit)
     × (b ≡ to_be_bytes wide_w n ++ rest) × IsBytes rest
 unfolding read_wide
 wide_takes wide_w limit wide w b rest i fits e =

@@ -14,7 +14,8 @@ use Rattle.cbor_diag.specs.Bytes.{any, Spells, SpellsItems, SpellsPairs}
 use Rattle.cbor_diag.specs.WellFormed.{deepest}
 use Rattle.cbor_diag.specs.StringKind.{StringKind, bytes_kind, text_kind, major_of}
 use Rattle.cbor_diag.specs.Refused as spelled
-use Rattle.cbor_diag.specs.Refused.{SpelledParts, Next, part, part_or_break, Inside, in_tag, in_array, in_map, in_open_array}
+use Rattle.cbor_diag.specs.Refused.{SpelledParts, Next, part, part_or_break, Inside, in_tag, in_array, in_map}
+use Rattle.cbor_diag.specs.Refused.{in_open_array}
 use Rattle.cbor_diag.specs.Refused.{at_open_key, at_open_value, InsideString, Cut, nothing, in_head, in_content}
 use Rattle.cbor_diag.specs.Refused.{in_chunk, in_part, BeginsWithBreak, NoBreakAt, Fault, too_deep, bad_chunk_head}
 use Rattle.cbor_diag.specs.Refused.{bad_chunk_text, bad_part}
@@ -102,7 +103,8 @@ parts_snoc level zero b y i h s =
 parts_snoc level (suc n) b y i h s =
     let sum : suc (n + 1) ≡ suc n + 1 = omega arith in
     subst (λ (k : ℕ). SpelledParts level k (b ++ y)) sum
-    (h.0, h.1 ++ y, h.2, ap (λ (x : List ℕ). x ++ y) h.3 ∙ append_assoc h.0 h.1 y, h.4, parts_snoc level n h.1 y i h.5 s)
+    (h.0, h.1 ++ y, h.2, ap (λ (x : List ℕ). x ++ y) h.3 ∙ append_assoc h.0 h.1 y, h.4,
+    parts_snoc level n h.1 y i h.5 s)
 
 -- where an open container halts, it is not whole, and something has to follow
 stops : (level : ℕ) (f g : Frame) (b r whole rest : List ℕ) → OpenedBy f b r → r ≡ whole ++ rest

@@ -138,7 +138,8 @@ inside_spent level left t next b rest e levels (in_map n k w whole h parts few) 
     (head_again 5 (number n w) (item_head.map (number n w)) b (whole ++ rest) (omega arith) h refl) parts few fails
 inside_spent level left t next b rest e levels (in_open_array k whole opens parts) no_break fails =
     within level left k t b whole rest (item_head.array indefinite) (items_in no_items indefinite) e levels refl
-    (head_again 4 indefinite (item_head.array indefinite) b (whole ++ rest) (omega arith) opens refl) parts no_break fails
+    (head_again 4 indefinite (item_head.array indefinite) b (whole ++ rest) (omega arith) opens refl) parts
+    no_break fails
 inside_spent level left t next b rest e levels (at_open_key k whole opens parts) no_break fails =
     within level left (2 * k) t b whole rest (item_head.map indefinite) (pairs_in no_pairs indefinite) e levels refl
     (head_again 5 indefinite (item_head.map indefinite) b (whole ++ rest) (omega arith) opens refl) parts
@@ -156,7 +157,8 @@ content_spent : (kind : StringKind) (left n : ℕ) (w : IntegerWidth) (b rest : 
 content_spent kind left n w b rest e h refused =
     let a : Argument = number n w in
     after_head left 0 1 b rest (item_head.string kind a) e
-    (head_again (major_of kind) a (item_head.string kind a) b rest (omega (arith, kind_major kind)) h (string_head kind a))
+    (head_again (major_of kind) a (item_head.string kind a) b rest (omega (arith, kind_major kind)) h
+    (string_head kind a))
     (ap (λ r. (0, r >>= λ c. Ok (atom (string kind c.0), c.1))) (content_refuses kind n w rest e refused)) refl
 
 string_spent : (kind : StringKind) (left : ℕ) (b rest : List ℕ) (e : Error) → (inside : InsideString kind b rest)
@@ -164,8 +166,8 @@ string_spent : (kind : StringKind) (left : ℕ) (b rest : List ℕ) (e : Error) 
 string_spent kind left b rest e inside refused =
     let sum : 1 + (length inside.0 + 1) ≡ 1 + length inside.0 + 1 = omega arith in
     after_head left (length inside.0 + 1) (1 + length inside.0 + 1) b inside.1 (item_head.string kind indefinite) e
-    (head_again (major_of kind) indefinite (item_head.string kind indefinite) b inside.1 (omega (arith, kind_major kind))
-    inside.2 (string_head kind indefinite))
+    (head_again (major_of kind) indefinite (item_head.string kind indefinite) b inside.1
+    (omega (arith, kind_major kind)) inside.2 (string_head kind indefinite))
     (ap (λ c. c >>- λ cs. (0, Ok (atom (chunked_string kind cs.0), cs.1)))
     (chunks_refuse (length inside.1) kind inside.0 inside.1 rest e inside.3 (omega arith) refused)) sum
 

@@ -16,7 +16,8 @@ use Rattle.cbor_diag.specs.Head.{break_byte}
 use Rattle.cbor_diag.specs.StringKind.{StringKind, major_of}
 use Rattle.cbor_diag.specs.Reading.{checked_chunk, Read, ◌>>=◌, read_number, read_wide}
 use Rattle.cbor_diag.specs.Reading.{read_argument, head_of, read_head, split_at, read_content, chunk_of, read_chunk}
-use Rattle.cbor_diag.specs.Reading.{Counted, go_on, ◌>>-◌, more_chunks, read_chunks, read_atom, Frame, items_in, pairs_in}
+use Rattle.cbor_diag.specs.Reading.{Counted, go_on, ◌>>-◌, more_chunks, read_chunks, read_atom, Frame, items_in}
+use Rattle.cbor_diag.specs.Reading.{pairs_in}
 use Rattle.cbor_diag.specs.Reading.{value_of, tag_of, tagged_with, opened, put, after_break, after_members, after_end}
 use Rattle.cbor_diag.specs.Reading.{closed, close_or, parts_from, read_body, no_level_left, counted_item, read_item}
 use Rattle.cbor_diag.proofs.bytes.Heads.{info_way, in_byte, in_bytes, no_number, no_meaning}

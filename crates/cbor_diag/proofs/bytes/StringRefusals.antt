@@ -107,9 +107,9 @@ content_chunk kind n w first b rest e h (short_content short) = cut_chunk (inr (
 content_chunk text_kind n w first b rest e h (bad_content text after parts len no_text) =
     bad_text (n, w, (h.0, h.1, h.2, (text, after, h.3 ∙ parts, len, no_text)))
 
-behind_chunk : (kind : StringKind) (first : ℕ) (b rest : List ℕ) (i : Argument) (e : Error) → IsBytes b → first ≢ break_byte
-    → first / 32 ≡ major_of kind → read_argument (first % 32) b ≡ Ok (i, rest) → chunk_of kind i rest ≡ Err e
-    → ChunkRefusal kind (first ∷ b) e
+behind_chunk : (kind : StringKind) (first : ℕ) (b rest : List ℕ) (i : Argument) (e : Error) → IsBytes b
+    → first ≢ break_byte → first / 32 ≡ major_of kind → read_argument (first % 32) b ≡ Ok (i, rest)
+    → chunk_of kind i rest ≡ Err e → ChunkRefusal kind (first ∷ b) e
 behind_chunk kind first b rest (number n w) e fits no_break major read h =
     elim (bind_err (read_content kind n w rest) (λ c. Ok (Some c.0, c.1)) e h) [
       | inl refused ↦

@@ -398,7 +398,8 @@ bad_shows : (left first : ℕ) (b : List ℕ) → 0 < left → BadHead (first �
 unfolding counted_item
 bad_shows zero first b some bad = absurd (omega arith)
 bad_shows (suc left) first b some bad = shows_first (skip_item (suc left)) first b refusal.Head
-    (ap rest_of (item_nothing (suc left))) (ap (λ r. rest_of (go_on 1 r (λ h. read_body (counted_item left) (opened h.0) h.0 h.1)).1)
+    (ap rest_of (item_nothing (suc left)))
+    (ap (λ r. rest_of (go_on 1 r (λ h. read_body (counted_item left) (opened h.0) h.0 h.1)).1)
     (head_bad (first ∷ []) (bad_alone bad))) (λ same. absurd cc)
 
 head_shows : (left first : ℕ) (b : List ℕ) (e : Error) → 0 < left → IsBytes (first ∷ b) → read_head (first ∷ b) ≡ Err e

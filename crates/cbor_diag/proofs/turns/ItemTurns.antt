@@ -5,7 +5,8 @@ use Rattle.std.proofs.lemmas.List.{length-append}
 use Rattle.cbor_diag.specs.declared.syntax.IntegerWidth.{IntegerWidth}
 use Rattle.cbor_diag.specs.declared.error.Error.{Error}
 use Rattle.cbor_diag.specs.Item as spec
-use Rattle.cbor_diag.specs.Item.{Atom, chunked_string, Item, atom, array, tagged, Items, no_items, item, Pairs, no_pairs}
+use Rattle.cbor_diag.specs.Item.{Atom, chunked_string, Item, atom, array, tagged, Items, no_items, item, Pairs}
+use Rattle.cbor_diag.specs.Item.{no_pairs}
 use Rattle.cbor_diag.specs.Item.{pair, item_count, pair_count}
 use Rattle.cbor_diag.specs.Bytes.{any, MembersThen, Spells, SpellsItems, SpellsPairs}
 use Rattle.cbor_diag.specs.StringKind.{major_of}

@@ -1,5 +1,5 @@
--- Reading as in `specs/Reading.antt` over a stack of open containers, as the code of `parse/binary.rt` goes: what is open
--- is what is left to do with the next item. No public clause names it.
+-- Reading as in `specs/Reading.antt` over a stack of open containers, as the code of `parse/binary.rt` goes: what is
+-- open is what is left to do with the next item. No public clause names it.
 use Rattle.std.specs.Prelude.{◌≡◌, ℕ, zero, suc, ◌-◌, ◌≤◌, List, [], ◌∷◌, ◌++◌, length, Option, Some, None, Result}
 use Rattle.std.specs.Prelude.{Ok, Err}
 use Rattle.cbor_diag.specs.declared.error.Error.{Error}

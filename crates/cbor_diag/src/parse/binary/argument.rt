@@ -6,7 +6,8 @@ ghost use Rattle.cbor_diag.specs.mirror.Stack.{left_of};
 
 use crate::syntax::IntegerWidth;
 
-/// What a head says beside its major type, in its five bits of info and the bytes that they ask for.
+/// What a head says beside its major type, in its five bits of info and the bytes that they ask
+/// for.
 #[derive(Clone, Copy)]
 pub(super) enum Argument {
     /// A number, and the width that it was written in.

@@ -116,7 +116,8 @@ fn read_chunk(kind: StringKind, bytes: &[u8]) -> Result<(Chunk, &[u8]), Stop>
 
 /// The bytes after the break of an indefinite string; its opening byte is read already.
 fn after_chunks(kind: StringKind, bytes: &[u8]) -> Result<&[u8], Stop>
-    ensures goes { IfOk result (λ rest. Goes (skip_chunks (kind_view kind)) here bytes.now rest.now) }
+    ensures goes { IfOk result
+        (λ rest. Goes (skip_chunks (kind_view kind)) here bytes.now rest.now) }
     ensures stops { IfErr result (λ stop. StopsSo (skip_chunks (kind_view kind)) bytes.now stop) }
     ensures shorter { IfOk result (λ rest. length rest.now ≤ length bytes.now) }
 {

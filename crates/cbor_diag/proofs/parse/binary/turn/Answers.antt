@@ -55,13 +55,15 @@ returns-in_err-head-clause-stops c =
 
 pub returns-in_err-container-clause-memory : goal.returns-in_err-container-clause-memory
 returns-in_err-container-clause-memory c = λ e none.
-    wanted_opens _ c.args.bytes.now (head_view c.in_ok-head.head) c.in_ok-head.rest.now (λ i. omega (arith, c.type_inv.bytes i))
+    wanted_opens _ c.args.bytes.now (head_view c.in_ok-head.head) c.in_ok-head.rest.now
+    (λ i. omega (arith, c.type_inv.bytes i))
     c.in_ok-head.ensures.gives (some_holds (head_view c.in_ok-head.head) c.in_err-container.ensures.memory.1)
 
 pub returns-in_err-open-in-Some-2-clause-memory : goal.returns-in_err-open-in-Some-2-clause-memory
 returns-in_err-open-in-Some-2-clause-memory c = λ e none.
     let is = sym c.in_ok-container.ensures.opens ∙ ap (option_map frame) c.in-Some-2.is in
-    wanted_opens _ c.args.bytes.now (head_view c.in_ok-head.head) c.in_ok-head.rest.now (λ i. omega (arith, c.type_inv.bytes i))
+    wanted_opens _ c.args.bytes.now (head_view c.in_ok-head.head) c.in_ok-head.rest.now
+    (λ i. omega (arith, c.type_inv.bytes i))
     c.in_ok-head.ensures.gives (opened_holds (head_view c.in_ok-head.head) (frame c.in-Some-2.container) is)
 
 pub returns-in_err-item-in-None-clause-stops : goal.returns-in_err-item-in-None-clause-stops
@@ -84,7 +86,8 @@ returns-in_err-item-in-None-clause-memory c = λ e none.
     let p = err_from_is_err_and c.from_residual-in_err-item-in-None.result
     c.from_residual-in_err-item-in-None.ensures.1 in
     let wants = sym p.2 ∙ err_is c.from_residual-in_err-item-in-None.result p.0 refusal.Memory p.1 e in
-    wanted_opens _ c.args.bytes.now (head_view c.in_ok-head.head) c.in_ok-head.rest.now (λ i. omega (arith, c.type_inv.bytes i))
+    wanted_opens _ c.args.bytes.now (head_view c.in_ok-head.head) c.in_ok-head.rest.now
+    (λ i. omega (arith, c.type_inv.bytes i))
     c.in_ok-head.ensures.gives (c.in_err-item-in-None.ensures.memory (ap Err wants))
 
 pub returns-in_ok-open-in-Some-2-clause-gives : goal.returns-in_ok-open-in-Some-2-clause-gives
@@ -113,7 +116,8 @@ returns-in_ok-open-in-Some-2-clause-level c =
 pub returns-in_ok-open-in-Some-2-clause-opens : goal.returns-in_ok-open-in-Some-2-clause-opens
 returns-in_ok-open-in-Some-2-clause-opens c = λ e none.
     let is = sym c.in_ok-container.ensures.opens ∙ ap (option_map frame) c.in-Some-2.is in
-    wanted_opens _ c.args.bytes.now (head_view c.in_ok-head.head) c.in_ok-head.rest.now (λ i. omega (arith, c.type_inv.bytes i))
+    wanted_opens _ c.args.bytes.now (head_view c.in_ok-head.head) c.in_ok-head.rest.now
+    (λ i. omega (arith, c.type_inv.bytes i))
     c.in_ok-head.ensures.gives (opened_holds (head_view c.in_ok-head.head) (frame c.in-Some-2.container) is)
 
 pub returns-in_ok-item-in-None-clause-gives : goal.returns-in_ok-item-in-None-clause-gives

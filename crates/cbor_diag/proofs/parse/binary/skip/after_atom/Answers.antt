@@ -7,5 +7,6 @@ use Rattle.cbor_diag.proofs.parse.binary.skip.after_atom.Goals as goal
 
 pub returns-in-String-clause-stops : goal.returns-in-String-clause-stops
 returns-in-String-clause-stops c = λ left. IfErr-weaker c.after_string.result _ _ (λ stop stops.
-    subst (λ (h : ItemHead). StopsSo (skip_body left h) c.args.bytes.now stop) (sym (ap head_view c.in-String.is)) stops)
+    subst (λ (h : ItemHead). StopsSo (skip_body left h) c.args.bytes.now stop) (sym (ap head_view c.in-String.is))
+    stops)
     (c.after_string.ensures.stops left)

@@ -51,7 +51,8 @@ turns-preserved-in-Some-parts c =
     let levels : c.from.result - c.len.result ≡ deepest - length outer = omega arith in
     let part = subst (λ l. Goes (skip_item l) (begun (l - 1) c.in_ok-parts.parts) rest after) levels
     c.in_ok-parts.ensures.goes in
-    let next = opens_goes outer top c.after_part-top.result parts rest after c.in_default.ensures c.after_part-top.ensures
+    let next = opens_goes outer top c.after_part-top.result parts rest after c.in_default.ensures
+    c.after_part-top.ensures
     c.in_ok-parts.ensures.shorter (rw c.in-Some-parts.is at part) in
     record { goes = goes_then c.turns.invariant.goes (rw c.push.ensures next) }
 

@@ -24,9 +24,9 @@ returns-in-Ok-clause-goes c =
     let some = c.in-len1-up.len_at_least in
     let fits = fits_first b some (λ i. omega (arith, c.type_inv.bytes i)) in
     let read = ap read_head (sym (first_is b some)) ∙ c.in-Ok.ensures.gives in
-    at_first (λ (x : List ℕ). Goes (skip_item c.args.levels) (skip_body (c.args.levels - 1) (head_view c.in-Ok.read.0)) x
-    c.in-Ok.read.1.now) b some (head_goes c.args.levels (head_view c.in-Ok.read.0) (get_or b 0 0) (behind_first b) c.in-Ok.read.1.now
-    (omega arith) fits read)
+    at_first (λ (x : List ℕ). Goes (skip_item c.args.levels) (skip_body (c.args.levels - 1) (head_view c.in-Ok.read.0))
+    x c.in-Ok.read.1.now) b some (head_goes c.args.levels (head_view c.in-Ok.read.0) (get_or b 0 0) (behind_first b)
+    c.in-Ok.read.1.now (omega arith) fits read)
 
 pub returns-in-Err-clause-stops : goal.returns-in-Err-clause-stops
 returns-in-Err-clause-stops c =
