@@ -212,8 +212,8 @@ atom_takes level (item_head.string kind (number n w)) b r rest i le h fits e =
     given level b a.0.1 rest (atom (string kind a.0.0)) i a.2
     (record { front = t.0; parts = t.1; spells = (le, t.2); rest_bytes = t.3 })
 atom_takes level (item_head.string kind indefinite) b r rest i le h fits e =
-    let whole = λ cs. (0, Ok (atom (chunked_string kind cs.0), cs.1)) in
-    let a = then_ok (read_chunks (length r) kind r) whole (i, rest) e in
+    let a = then_ok (read_chunks (length r) kind r) (λ cs. (0, Ok (atom (chunked_string kind cs.0), cs.1)))
+    (i, rest) e in
     let t = open_string_takes kind b r a.0.1 a.0.0 fits h a.1 in
     given level b a.0.1 rest (atom (chunked_string kind a.0.0)) i a.2
     (record { front = t.0; parts = t.1; spells = (le, t.2); rest_bytes = t.3 })

@@ -23,6 +23,8 @@ use Rattle.cbor_diag.specs.Reading.{Read, ◌>>=◌, Counted, ◌>>-◌, read_co
 use Rattle.cbor_diag.specs.Reading.{pairs_in, value_of, tag_of, tagged_with, opened, put, after_break, after_members}
 use Rattle.cbor_diag.specs.Reading.{after_end, closed, close_or, parts_from, read_parts, counted_item, read_item}
 use Rattle.cbor_diag.specs.mirror.Skipping.{Skip, rest_of, here, Goes, StopsSo, skip_content, skip_chunks, skip_item}
+use Rattle.cbor_diag.specs.mirror.Skipping.{any_width}
+use Rattle.cbor_diag.specs.Reading.{one_less}
 use Rattle.cbor_diag.specs.mirror.Skipping.{skip_body, some_item, emptied, frame_of, skip_frame, skip_parts, begun}
 use Rattle.cbor_diag.specs.mirror.Skipping.{closing, skip_open}
 use Rattle.cbor_diag.proofs.bytes.Heads.{cons_is}
@@ -34,27 +36,42 @@ use Rattle.cbor_diag.proofs.skipping.Skips.{goes_here, goes_then, goes_within, b
 
 -- ---- what was read makes no difference
 
+-- neither does the width of a count
+width_ends : (a : Argument) (b : List ℕ) → after_members (any_width a) b ≡ after_members a b
+width_ends (number zero w) b = refl
+width_ends (number (suc n) w) b = refl
+width_ends indefinite b = refl
+
+width_twice : (a : Argument) → any_width (any_width a) ≡ any_width a
+width_twice (number n w) = refl
+width_twice indefinite = refl
+
+width_less : (a : Argument) → any_width (one_less a) ≡ any_width (one_less (any_width a))
+width_less (number zero w) = refl
+width_less (number (suc n) w) = refl
+width_less indefinite = refl
+
 -- a container ends where it ends with nothing read
 emptied_ends : (f : Frame) (b : List ℕ) → after_end (emptied f) b ≡ after_end f b
-emptied_ends (items_in is left) b = refl
-emptied_ends (pairs_in ps left) b = refl
+emptied_ends (items_in is left) b = width_ends left b
+emptied_ends (pairs_in ps left) b = width_ends left b
 emptied_ends (value_of ps k left) b = refl
 emptied_ends (tag_of t w) b = refl
 emptied_ends (tagged_with t w i) b = refl
 
 emptied_twice : (f : Frame) → emptied (emptied f) ≡ emptied f
-emptied_twice (items_in is left) = refl
-emptied_twice (pairs_in ps left) = refl
-emptied_twice (value_of ps k left) = refl
+emptied_twice (items_in is left) = ap (items_in no_items) (width_twice left)
+emptied_twice (pairs_in ps left) = ap (pairs_in no_pairs) (width_twice left)
+emptied_twice (value_of ps k left) = ap (value_of no_pairs some_item) (width_twice left)
 emptied_twice (tag_of t w) = refl
 emptied_twice (tagged_with t w i) = refl
 
 -- where a part has to follow, it makes no difference which one does
 emptied_put : (f : Frame) (b : List ℕ) (i : Item) → after_end f b ≡ None
     → emptied (put f i) ≡ emptied (put (emptied f) some_item)
-emptied_put (items_in is left) b i none = refl
-emptied_put (pairs_in ps left) b i none = refl
-emptied_put (value_of ps k left) b i none = refl
+emptied_put (items_in is left) b i none = ap (items_in no_items) (width_less left)
+emptied_put (pairs_in ps left) b i none = ap (value_of no_pairs some_item) (width_less left)
+emptied_put (value_of ps k left) b i none = ap (pairs_in no_pairs) (sym (width_twice left))
 emptied_put (tag_of t w) b i none = refl
 emptied_put (tagged_with t w j) b i none = absurd cc
 

@@ -17,10 +17,9 @@ use Rattle.cbor_diag.specs.Item.{Item, atom, simple, no_items, no_pairs}
 use Rattle.cbor_diag.specs.ItemHead.{ItemHead}
 use Rattle.cbor_diag.specs.WellFormed.{deepest}
 use Rattle.cbor_diag.specs.StringKind.{StringKind}
-use Rattle.cbor_diag.specs.Argument.{number}
+use Rattle.cbor_diag.specs.Argument.{Argument, number, indefinite}
 use Rattle.cbor_diag.specs.Reading.{Read, ◌>>=◌, read_content, read_chunks, Frame, items_in, pairs_in, value_of, tag_of}
 use Rattle.cbor_diag.specs.Reading.{tagged_with, opened, read_parts, read_body, counted_item, read_item}
-use Rattle.cbor_diag.specs.mirror.HeadView.{argument_view}
 
 -- ---- skipping
 
@@ -88,18 +87,27 @@ after_chunk kind chunks.Break b = here b
 abbrev pub some_item : Item
 some_item = atom (simple 0)
 
+-- so many parts, or all up to a break; the width of a count makes no difference either
+abbrev pub argument_of : Option ℕ → Argument
+argument_of (Some n) = number n Zero
+argument_of None = indefinite
+
+abbrev pub any_width : Argument → Argument
+any_width (number n w) = number n Zero
+any_width indefinite = indefinite
+
 -- a container of which as much is to come, and in which nothing was read but a key
 abbrev pub emptied : Frame → Frame
-emptied (items_in is left) = items_in no_items left
-emptied (pairs_in ps left) = pairs_in no_pairs left
-emptied (value_of ps k left) = value_of no_pairs some_item left
+emptied (items_in is left) = items_in no_items (any_width left)
+emptied (pairs_in ps left) = pairs_in no_pairs (any_width left)
+emptied (value_of ps k left) = value_of no_pairs some_item (any_width left)
 emptied (tag_of t w) = items_in no_items (number 1 Zero)
 emptied (tagged_with t w i) = items_in no_items (number 0 Zero)
 
 abbrev pub frame_of : ToCome → Frame
-frame_of (to_come.Items left) = items_in no_items (argument_view left)
-frame_of (to_come.Pairs left) = pairs_in no_pairs (argument_view left)
-frame_of (to_come.Value left) = value_of no_pairs some_item (argument_view left)
+frame_of (to_come.Items left) = items_in no_items (argument_of left)
+frame_of (to_come.Pairs left) = pairs_in no_pairs (argument_of left)
+frame_of (to_come.Value left) = value_of no_pairs some_item (argument_of left)
 
 -- the parts, with `left` levels left for each
 abbrev pub skip_frame : ℕ → Frame → List ℕ → Skip

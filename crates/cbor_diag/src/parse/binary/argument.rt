@@ -1,7 +1,6 @@
 //! What a head says beside its major type (RFC 8949 section 3 calls it the argument).
 ghost use Rattle.std.specs.Prelude.{◌≡◌, ℕ, option_map};
-ghost use Rattle.cbor_diag.specs.Reading.{after_break, after_members, count_width, one_less};
-ghost use Rattle.cbor_diag.specs.mirror.HeadView.{argument_view};
+ghost use Rattle.cbor_diag.specs.Reading.{after_break, after_members, count_width};
 ghost use Rattle.cbor_diag.specs.mirror.Stack.{left_of};
 
 use crate::syntax::IntegerWidth;
@@ -17,7 +16,7 @@ pub(super) enum Argument {
 }
 
 /// The bytes after the break at the front, if there is one.
-fn after_break(bytes: &[u8]) -> Option<&[u8]>
+pub(super) fn after_break(bytes: &[u8]) -> Option<&[u8]>
     ensures { option_map (λ x. x.now) result ≡ after_break bytes.now }
 {
     match bytes {
@@ -46,16 +45,6 @@ impl Argument {
             Argument::Number(count, _) if (held as u64) < count => None,
             Argument::Number(..) => Some(bytes),
             Argument::Indefinite => after_break(bytes),
-        }
-    }
-
-    /// One part less to come.
-    pub(super) fn less(self) -> Argument
-        ensures { argument_view result ≡ one_less (argument_view self) }
-    {
-        match self {
-            Argument::Number(count, width) => Argument::Number(count.saturating_sub(1), width),
-            Argument::Indefinite => Argument::Indefinite,
         }
     }
 }

@@ -1,32 +1,65 @@
 //! What is still to come in an open container.
-ghost use Rattle.std.specs.Prelude.{◌≡◌, option_map};
-ghost use Rattle.cbor_diag.specs.Argument.{number};
+ghost use Rattle.std.specs.Prelude.{◌≡◌, Some, option_map};
 ghost use Rattle.cbor_diag.specs.Item.{no_items};
-ghost use Rattle.cbor_diag.specs.Reading.{items_in, put, after_end, opened};
-ghost use Rattle.cbor_diag.specs.mirror.HeadView.{head_view};
-ghost use Rattle.cbor_diag.specs.mirror.Skipping.{frame_of, emptied, some_item};
+ghost use Rattle.cbor_diag.specs.Reading.{items_in, put, after_members, after_end, one_less, opened};
+ghost use Rattle.cbor_diag.specs.mirror.HeadView.{argument_view, head_view};
+ghost use Rattle.cbor_diag.specs.mirror.Skipping.{argument_of, any_width, frame_of, emptied};
+ghost use Rattle.cbor_diag.specs.mirror.Skipping.{some_item};
 
-use super::super::argument::Argument;
+use super::super::argument::{Argument, after_break};
 use super::super::head::ItemHead;
-use crate::syntax::IntegerWidth;
 
-/// What is still to come in an open container: so many parts, or all up to a break.
+/// How many parts are still to come, or `None` for all up to a break.
+type Count = Option<u64>;
+
+/// What is still to come in an open container.
 #[derive(Clone, Copy)]
 pub(super) enum ToCome {
     /// The members of an array, or the item of a tag.
-    Items(Argument),
+    Items(Count),
     /// The pairs of a map.
-    Pairs(Argument),
+    Pairs(Count),
     /// The value of a key that was read, and then pairs.
-    Value(Argument),
+    Value(Count),
+}
+
+/// The parts of a container of that length.
+fn parts_of(len: Argument) -> Count
+    ensures { argument_of result ≡ any_width (argument_view len) }
+{
+    match len {
+        Argument::Number(count, _) => Some(count),
+        Argument::Indefinite => None,
+    }
+}
+
+/// The bytes after the parts, if none is to come.
+fn after_parts(count: Count, bytes: &[u8]) -> Option<&[u8]>
+    ensures { option_map (λ x. x.now) result ≡ after_members (argument_of count) bytes.now }
+{
+    match count {
+        Some(0) => Some(bytes),
+        Some(_) => None,
+        None => after_break(bytes),
+    }
+}
+
+/// One part less.
+fn one_less(count: Count) -> Count
+    ensures { argument_of result ≡ one_less (argument_of count) }
+{
+    match count {
+        Some(parts) => Some(parts.saturating_sub(1)),
+        None => None,
+    }
 }
 
 impl ToCome {
     /// One item.
     pub(super) fn one() -> ToCome
-        ensures { frame_of result ≡ items_in no_items (number 1 IntegerWidth.Zero) }
+        ensures { frame_of result ≡ items_in no_items (argument_of (Some 1)) }
     {
-        ToCome::Items(Argument::Number(1, IntegerWidth::Zero))
+        ToCome::Items(Some(1))
     }
 
     /// All of the container that a head opens, or `None` if it opens none.
@@ -34,8 +67,8 @@ impl ToCome {
         ensures { option_map frame_of result ≡ option_map emptied (opened (head_view head)) }
     {
         match head {
-            ItemHead::Array(count) => Some(ToCome::Items(count)),
-            ItemHead::Map(count) => Some(ToCome::Pairs(count)),
+            ItemHead::Array(len) => Some(ToCome::Items(parts_of(len))),
+            ItemHead::Map(len) => Some(ToCome::Pairs(parts_of(len))),
             ItemHead::Tag(..) => Some(ToCome::one()),
             _ => None,
         }
@@ -46,7 +79,7 @@ impl ToCome {
         ensures { option_map (λ x. x.now) result ≡ after_end (frame_of self) bytes.now }
     {
         match self {
-            ToCome::Items(count) | ToCome::Pairs(count) => count.after_end(0, bytes),
+            ToCome::Items(count) | ToCome::Pairs(count) => after_parts(count, bytes),
             ToCome::Value(_) => None,
         }
     }
@@ -56,8 +89,8 @@ impl ToCome {
         ensures { frame_of result ≡ emptied (put (frame_of self) some_item) }
     {
         match self {
-            ToCome::Items(count) => ToCome::Items(count.less()),
-            ToCome::Pairs(count) => ToCome::Value(count.less()),
+            ToCome::Items(count) => ToCome::Items(one_less(count)),
+            ToCome::Pairs(count) => ToCome::Value(one_less(count)),
             ToCome::Value(count) => ToCome::Pairs(count),
         }
     }
