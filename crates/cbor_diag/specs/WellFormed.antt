@@ -9,7 +9,7 @@ use Rattle.cbor_diag.specs.Item.{Chunk, Atom, integer, negative, string, chunked
 use Rattle.cbor_diag.specs.Item.{float, simple, Item, atom, array, tagged, Items, no_items, item, Pairs, no_pairs}
 use Rattle.cbor_diag.specs.Item.{pair, item_count, pair_count}
 use Rattle.cbor_diag.specs.Head.{FitsWidth}
-use Rattle.cbor_diag.specs.StringKind.{StringKind, bytes_kind, text_kind, IsContent}
+use Rattle.cbor_diag.specs.StringKind.{StringKind, IsContent}
 
 -- the deepest level of an item; the outermost is at level 1
 abbrev pub deepest : ℕ

@@ -104,13 +104,17 @@ chunk_bytes : (major : ℕ) (c : Chunk) → major ≤ 6 → FitsWidth c.width (l
 chunk_bytes major c low fits bytes = all_bytes-append (encoded_head major (length c.bytes) c.width) c.bytes
     (written_bytes major (length c.bytes) c.width low fits) bytes
 
-chunks_bytes : (kind : StringKind) (cs : List Chunk) → major_of kind ≤ 6 → AllByRecursion (IsChunk kind) cs
+low_major : (kind : StringKind) → major_of kind ≤ 6
+low_major bytes_kind = omega arith
+low_major text_kind = omega arith
+
+chunks_bytes : (kind : StringKind) (cs : List Chunk) → AllByRecursion (IsChunk kind) cs
     → AllBytes (flat_map (encoded_chunk (major_of kind)) cs)
-chunks_bytes kind [] low all = tt
-chunks_bytes kind (c ∷ cs) low all =
+chunks_bytes kind [] all = tt
+chunks_bytes kind (c ∷ cs) all =
     let major = major_of kind in
     all_bytes-append (encoded_chunk major c) (flat_map (encoded_chunk major) cs)
-    (chunk_bytes major c low all.0.fits all.0.bytes) (chunks_bytes kind cs low all.1)
+    (chunk_bytes major c (low_major kind) all.0.fits all.0.bytes) (chunks_bytes kind cs all.1)
 
 break_bytes : AllBytes (break_byte ∷ [])
 break_bytes = (lit< tt, tt)
@@ -118,17 +122,11 @@ break_bytes = (lit< tt, tt)
 atom_bytes : (a : Atom) → WellFormedAtom a → AllBytes (encoded_atom a)
 atom_bytes (integer n w) well = written_bytes 0 n w (omega arith) well
 atom_bytes (negative n w) well = written_bytes 1 n w (omega arith) well
-atom_bytes (string bytes_kind c) well = chunk_bytes 2 c (omega arith) well.fits well.bytes
-atom_bytes (string text_kind c) well = chunk_bytes 3 c (omega arith) well.fits well.bytes
-atom_bytes (chunked_string bytes_kind cs) well = (
-  lit< tt,
-  all_bytes-append (flat_map (encoded_chunk 2) cs) (break_byte ∷ [])
-      (chunks_bytes bytes_kind cs (omega arith) well) break_bytes,
-)
-atom_bytes (chunked_string text_kind cs) well = (
-  lit< tt,
-  all_bytes-append (flat_map (encoded_chunk 3) cs) (break_byte ∷ [])
-      (chunks_bytes text_kind cs (omega arith) well) break_bytes,
+atom_bytes (string kind c) well = chunk_bytes (major_of kind) c (low_major kind) well.fits well.bytes
+atom_bytes (chunked_string kind cs) well = (
+  omega (arith, low_major kind),
+  all_bytes-append (flat_map (encoded_chunk (major_of kind)) cs) (break_byte ∷ []) (chunks_bytes kind cs well)
+      break_bytes,
 )
 atom_bytes (float bits w) well = float_bytes bits w
 atom_bytes (simple n) well = simple_bytes n well

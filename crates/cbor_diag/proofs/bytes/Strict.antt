@@ -18,7 +18,7 @@ use Rattle.cbor_diag.specs.Head.{FitsWidth, FitsStated, shortest, stated, head, 
 use Rattle.cbor_diag.specs.WellFormed.{IsChunk, FitsFloat, WellFormedAtom, FitsCount, WellFormed}
 use Rattle.cbor_diag.specs.WellFormed.{WellFormedItems, WellFormedPairs}
 use Rattle.cbor_diag.specs.Bytes.{any, strict, SpellsSimple}
-use Rattle.cbor_diag.specs.StringKind.{StringKind, bytes_kind, text_kind, major_of}
+use Rattle.cbor_diag.specs.StringKind.{StringKind, major_of}
 use Rattle.cbor_diag.specs.Bytes.{SpellsFloat, ChunkThen, SpellsChunks, SpellsAtom, MembersThen, Spells, SpellsItems}
 use Rattle.cbor_diag.specs.Bytes.{SpellsPairs}
 use Rattle.cbor_diag.specs.Written.{encoded_head, encoded_chunk, encoded_float, encoded_simple, encoded_atom}
@@ -203,17 +203,11 @@ head_enc major n w fits = (stated_fits w n fits, [], sym (append-nil (encoded_he
 atom_enc : (a : Atom) → WellFormedAtom a → SpellsAtom strict (encoded_atom a) (resolve_atom a)
 atom_enc (integer n w) h = head_enc 0 n w h
 atom_enc (negative n w) h = head_enc 1 n w h
-atom_enc (string bytes_kind c) h = string_enc bytes_kind c h
-atom_enc (string text_kind c) h = string_enc text_kind c h
-atom_enc (chunked_string bytes_kind cs) h = (
-  flat_map (encoded_chunk 2) cs ++ break_byte ∷ [],
+atom_enc (string kind c) h = string_enc kind c h
+atom_enc (chunked_string kind cs) h = (
+  flat_map (encoded_chunk (major_of kind)) cs ++ break_byte ∷ [],
   refl,
-  chunks_enc bytes_kind cs (break_byte ∷ []) h,
-)
-atom_enc (chunked_string text_kind cs) h = (
-  flat_map (encoded_chunk 3) cs ++ break_byte ∷ [],
-  refl,
-  chunks_enc text_kind cs (break_byte ∷ []) h,
+  chunks_enc kind cs (break_byte ∷ []) h,
 )
 atom_enc (float bits w) h = float_enc bits w h
 atom_enc (simple n) h = simple_enc n h
@@ -300,12 +294,9 @@ simple_only b n (inr h) = rw (le-ltb n 24 h.0) h.2
 atom_only : (b : List ℕ) (a : Atom) → SpellsAtom strict b a → b ≡ encoded_atom a
 atom_only b (integer n w) h = head_only 0 n w b [] h ∙ append-nil (encoded_head 0 n w)
 atom_only b (negative n w) h = head_only 1 n w b [] h ∙ append-nil (encoded_head 1 n w)
-atom_only b (string bytes_kind c) h = chunk_only bytes_kind c b [] h ∙ append-nil (encoded_chunk 2 c)
-atom_only b (string text_kind c) h = chunk_only text_kind c b [] h ∙ append-nil (encoded_chunk 3 c)
-atom_only b (chunked_string bytes_kind cs) h = h.1 ∙ ap (λ (x : List ℕ). opening 2 ∷ x)
-    (chunks_only bytes_kind cs h.0 (break_byte ∷ []) h.2)
-atom_only b (chunked_string text_kind cs) h = h.1 ∙ ap (λ (x : List ℕ). opening 3 ∷ x)
-    (chunks_only text_kind cs h.0 (break_byte ∷ []) h.2)
+atom_only b (string kind c) h = chunk_only kind c b [] h ∙ append-nil (encoded_chunk (major_of kind) c)
+atom_only b (chunked_string kind cs) h = h.1 ∙ ap (λ (x : List ℕ). opening (major_of kind) ∷ x)
+    (chunks_only kind cs h.0 (break_byte ∷ []) h.2)
 atom_only b (float bits w) h = float_only b bits w h
 atom_only b (simple n) h = simple_only b n h
 
@@ -352,10 +343,9 @@ float-resolve bits w = refl
 atom-resolve : (a : Atom) → encoded_atom (resolve_atom a) ≡ encoded_atom a
 atom-resolve (integer n w) = encoded_head-resolve 0 n w
 atom-resolve (negative n w) = encoded_head-resolve 1 n w
-atom-resolve (string bytes_kind c) = chunk-resolve 2 c
-atom-resolve (string text_kind c) = chunk-resolve 3 c
-atom-resolve (chunked_string bytes_kind cs) = ap (λ (x : List ℕ). opening 2 ∷ (x ++ break_byte ∷ [])) (chunks-resolve 2 cs)
-atom-resolve (chunked_string text_kind cs) = ap (λ (x : List ℕ). opening 3 ∷ (x ++ break_byte ∷ [])) (chunks-resolve 3 cs)
+atom-resolve (string kind c) = chunk-resolve (major_of kind) c
+atom-resolve (chunked_string kind cs) = ap (λ (x : List ℕ). opening (major_of kind) ∷ (x ++ break_byte ∷ []))
+    (chunks-resolve (major_of kind) cs)
 atom-resolve (float bits w) = float-resolve bits w
 atom-resolve (simple n) = refl
 

@@ -196,10 +196,8 @@ close_are depth None = alone depth (break_byte ∷ []) (codes "break")
 atom_are : (p : Context) (a : Atom) → Are (atom_lines p a) (encoded_atom a)
 atom_are p (integer n w) = alone p.depth (encoded_head 0 n w) (unsigned_comment n)
 atom_are p (negative n w) = alone p.depth (encoded_head 1 n w) (negative_comment n)
-atom_are p (string bytes_kind c) = string_are bytes_kind p c
-atom_are p (string text_kind c) = string_are text_kind p c
-atom_are p (chunked_string bytes_kind cs) = all_chunks_are bytes_kind p cs
-atom_are p (chunked_string text_kind cs) = all_chunks_are text_kind p cs
+atom_are p (string kind c) = string_are kind p c
+atom_are p (chunked_string kind cs) = all_chunks_are kind p cs
 atom_are p (float bits w) = alone p.depth (encoded_float bits w) (float_comment (encoded_float bits w))
 atom_are p (simple n) = alone p.depth (encoded_simple n) (simple_comment n)
 

@@ -254,10 +254,8 @@ atom_fits p (negative n w) low = (
       (negative_line n),
   tt,
 )
-atom_fits p (string bytes_kind c) low = string_fits bytes_kind p c (omega arith)
-atom_fits p (string text_kind c) low = string_fits text_kind p c (omega arith)
-atom_fits p (chunked_string bytes_kind cs) low = all_chunks_fit bytes_kind p cs low
-atom_fits p (chunked_string text_kind cs) low = all_chunks_fit text_kind p cs low
+atom_fits p (string kind c) low = string_fits kind p c (omega arith)
+atom_fits p (chunked_string kind cs) low = all_chunks_fit kind p cs low
 atom_fits p (float bits w) low = (
   fit_head p.depth (encoded_float bits w) _ (omega arith) (float_length bits w)
       (float_line (encoded_float bits w)),

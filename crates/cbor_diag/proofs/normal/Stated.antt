@@ -19,9 +19,9 @@ use Rattle.cbor_diag.specs.Bytes.{any, SpellsAtom, SpellsFloat, Spells, SpellsIt
 use Rattle.cbor_diag.specs.Written.{resolve_chunk, resolve_float, resolve_atom, resolve}
 use Rattle.cbor_diag.specs.Written.{resolve_items, resolve_pairs}
 use Rattle.cbor_diag.specs.StringKind.{bytes_kind, text_kind}
-use Rattle.cbor_diag.specs.NotationText.{number, bracketed, float_text, encoding_below, quoted, text}
+use Rattle.cbor_diag.specs.NotationText.{number, bracketed, float_text, encoding_below}
 use Rattle.cbor_diag.specs.NotationText.{item_texts, pair_texts}
-use Rattle.cbor_diag.specs.NotationText.{no_chunks, chunks_listed, atom_text, text_with, text_at}
+use Rattle.cbor_diag.specs.NotationText.{string_text, no_chunks, chunks_listed, atom_text, text_with, text_at}
 use Rattle.cbor_diag.specs.Normal.{normal_width, normal_chunk, normal_items, normal_pairs}
 use Rattle.cbor_diag.specs.Normal.{normal_atom, normal_with, normal_at}
 use Rattle.cbor_diag.proofs.bytes.Strict.{stated_is}
@@ -114,10 +114,7 @@ module _ (left : ℕ) (into : Option ℕ → Item → Item)
   normal_atom_stated tag (negative n w) h = rw (width_kept n w h) h
   normal_atom_stated tag (float bits w) h = rw (float_kept w h) h
   normal_atom_stated tag (string bytes_kind c) h = tt
-  normal_atom_stated tag (string text_kind c) h = tt
-  normal_atom_stated tag (chunked_string bytes_kind cs) h = tt
-  normal_atom_stated tag (chunked_string text_kind cs) h = tt
-  normal_atom_stated tag (simple n) h = tt
+  normal_atom_stated tag a h = tt
 
   normal_with_stated : (tag : Option ℕ) (i : Item) → Stated i → Stated (normal_with left into tag i)
   normal_with_stated tag (atom a) h = normal_atom_stated tag a h
@@ -165,10 +162,8 @@ module _ (left : ℕ) (write : Writer)
     atom_resolved e tag (negative n w) h = ap (λ v. codes "-" ++ number (n + 1) v) (stated_is w n h)
     atom_resolved e tag (string bytes_kind c) h = refl
     atom_resolved e tag (string text_kind c) h = refl
-    atom_resolved e tag (chunked_string bytes_kind cs) h =
-        ap (chunks_listed style.Compact (no_chunks bytes_kind)) (bytes_resolved (λ s. quoted e s.bytes) (λ c. refl) cs)
-    atom_resolved e tag (chunked_string text_kind cs) h =
-        ap (chunks_listed style.Compact (no_chunks text_kind)) (bytes_resolved (λ s. text s.bytes) (λ c. refl) cs)
+    atom_resolved e tag (chunked_string kind cs) h = ap (chunks_listed style.Compact (no_chunks kind))
+        (bytes_resolved (λ s. string_text kind e s.bytes) (λ c. refl) cs)
     atom_resolved e tag (float bits w) h = ap (float_text bits) (float_kept w h)
     atom_resolved e tag (simple n) h = refl
 

@@ -20,9 +20,9 @@ use Rattle.cbor_diag.specs.Written.{encoded, encoded_items, resolve_float, resol
 use Rattle.cbor_diag.specs.Written.{resolve_items}
 use Rattle.cbor_diag.specs.Embedded.{embedded_at, sequence_at}
 use Rattle.cbor_diag.specs.StringKind.{bytes_kind, text_kind}
-use Rattle.cbor_diag.specs.NotationText.{indicator, bracketed, inside, float_text, encoding_below, quoted, text}
+use Rattle.cbor_diag.specs.NotationText.{indicator, bracketed, inside, float_text, encoding_below}
 use Rattle.cbor_diag.specs.NotationText.{item_texts, pair_texts, embedded_text, rest_text, sequence_text, content_text}
-use Rattle.cbor_diag.specs.NotationText.{no_chunks, chunks_listed, atom_text, text_with, text_at}
+use Rattle.cbor_diag.specs.NotationText.{string_text, no_chunks, chunks_listed, atom_text, text_with, text_at}
 use Rattle.cbor_diag.specs.Normal.{normal_width, normal_chunk, normal_items, normal_pairs, normal_embedded}
 use Rattle.cbor_diag.specs.Normal.{normal_sequence, normal_content, normal_atom, normal_with, normal_at}
 use Rattle.cbor_diag.proofs.bytes.Strict.{strict_any, strict_encoded, items_enc, items_any}
@@ -204,10 +204,8 @@ module _ (level left : ℕ) (levels : level + left ≡ 129)
   atom_normal_text e tag (negative n w) h = ap (λ t. codes "-" ++ (decimal (n + 1) ++ t)) (indicator_kept n w)
   atom_normal_text e tag (string bytes_kind c) h = content_normal_text e tag c.bytes h.bytes
   atom_normal_text e tag (string text_kind c) h = refl
-  atom_normal_text e tag (chunked_string bytes_kind cs) h =
-      ap (chunks_listed style.Compact (no_chunks bytes_kind)) (bytes_normal (λ s. quoted e s.bytes) (λ c. refl) cs)
-  atom_normal_text e tag (chunked_string text_kind cs) h =
-      ap (chunks_listed style.Compact (no_chunks text_kind)) (bytes_normal (λ s. text s.bytes) (λ c. refl) cs)
+  atom_normal_text e tag (chunked_string kind cs) h = ap (chunks_listed style.Compact (no_chunks kind))
+      (bytes_normal (λ s. string_text kind e s.bytes) (λ c. refl) cs)
   atom_normal_text e tag (float bits w) h = float_normal_text bits w
   atom_normal_text e tag (simple n) h = refl
 

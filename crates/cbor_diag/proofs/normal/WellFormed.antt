@@ -86,19 +86,12 @@ simple_spelled b n (inr h) = omega (arith, simple_len n, ap length h.1)
 atom_spelled : (b : List ℕ) (a : Atom) → SpellsAtom any b a → length (encoded_atom a) ≤ length b
 atom_spelled b (integer n w) h = omega (arith, head_spelled 0 n w b _ h)
 atom_spelled b (negative n w) h = omega (arith, head_spelled 1 n w b _ h)
-atom_spelled b (string bytes_kind c) h = omega (arith, chunk_spelled bytes_kind c b _ h)
-atom_spelled b (string text_kind c) h = omega (arith, chunk_spelled text_kind c b _ h)
-atom_spelled b (chunked_string bytes_kind cs) h = omega (
+atom_spelled b (string kind c) h = omega (arith, chunk_spelled kind c b _ h)
+atom_spelled b (chunked_string kind cs) h = omega (
   arith,
-  chunks_spelled bytes_kind cs h.0 (break_byte ∷ []) h.2,
+  chunks_spelled kind cs h.0 (break_byte ∷ []) h.2,
   ap length h.1,
-  length-append (flat_map (encoded_chunk 2) cs) (break_byte ∷ []),
-)
-atom_spelled b (chunked_string text_kind cs) h = omega (
-  arith,
-  chunks_spelled text_kind cs h.0 (break_byte ∷ []) h.2,
-  ap length h.1,
-  length-append (flat_map (encoded_chunk 3) cs) (break_byte ∷ []),
+  length-append (flat_map (encoded_chunk (major_of kind)) cs) (break_byte ∷ []),
 )
 atom_spelled b (float bits w) h = float_spelled b bits w h
 atom_spelled b (simple n) h = simple_spelled b n h
@@ -367,8 +360,7 @@ module _ (level left : ℕ) (levels : (level + 1) + left ≡ 129) (into : Option
       )
   atom_serves tag (string text_kind c) h =
       (chunk_serves text_kind c h, string_no_longer 3 c c.bytes h.fits (omega arith))
-  atom_serves tag (chunked_string bytes_kind cs) h = let s = chunks_serve bytes_kind cs h in (s.0, omega (arith, s.1))
-  atom_serves tag (chunked_string text_kind cs) h = let s = chunks_serve text_kind cs h in (s.0, omega (arith, s.1))
+  atom_serves tag (chunked_string kind cs) h = let s = chunks_serve kind cs h in (s.0, omega (arith, s.1))
   atom_serves tag (float bits w) h = (float_fits bits w h, omega (arith, ap length (normal_float bits w)))
   atom_serves tag (simple n) h = (h, omega arith)
 

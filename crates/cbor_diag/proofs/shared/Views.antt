@@ -40,10 +40,12 @@ view-Integer n w = search (rules, the_lemmas)
 pub view-Negative : (n : ℕ) (w : IntegerWidth) → view (Negative n w) ≡ spec.atom (spec.negative n w)
 view-Negative n w = search (rules, the_lemmas)
 
-pub view-ByteString : (s : byte_string.ByteString) → view (ByteString s) ≡ spec.atom (spec.string bytes_kind (byte_chunk s))
+pub view-ByteString : (s : byte_string.ByteString)
+    → view (ByteString s) ≡ spec.atom (spec.string bytes_kind (byte_chunk s))
 view-ByteString s = search (rules, the_lemmas)
 
-pub view-TextString : (s : text_string.TextString) → view (TextString s) ≡ spec.atom (spec.string text_kind (text_chunk s))
+pub view-TextString : (s : text_string.TextString)
+    → view (TextString s) ≡ spec.atom (spec.string text_kind (text_chunk s))
 view-TextString s = search (rules, the_lemmas)
 
 pub view-IndefiniteByteString : (v : Vec byte_string.ByteString Global)

@@ -94,8 +94,10 @@ atom_is (negative n v) (negative m w) h =
     λ k. negative (number_is n m p.0 k) (width_is v w p.1 k)
 atom_is (string bytes_kind c) (string bytes_kind d) h = ap (string bytes_kind) (chunk_is c d h)
 atom_is (string text_kind c) (string text_kind d) h = ap (string text_kind) (chunk_is c d h)
-atom_is (chunked_string bytes_kind cs) (chunked_string bytes_kind ds) h = ap (chunked_string bytes_kind) ((pointwise_decides chunk_decides cs ds).0 h)
-atom_is (chunked_string text_kind cs) (chunked_string text_kind ds) h = ap (chunked_string text_kind) ((pointwise_decides chunk_decides cs ds).0 h)
+atom_is (chunked_string bytes_kind cs) (chunked_string bytes_kind ds) h =
+    ap (chunked_string bytes_kind) ((pointwise_decides chunk_decides cs ds).0 h)
+atom_is (chunked_string text_kind cs) (chunked_string text_kind ds) h =
+    ap (chunked_string text_kind) ((pointwise_decides chunk_decides cs ds).0 h)
 atom_is (float n v) (float m w) h =
     let p = and_parts (nat_eq n m) (same_float_width v w) h in
     λ k. float (number_is n m p.0 k) (float_width_is v w p.1 k)
