@@ -209,14 +209,9 @@ module _ (level left : ℕ) (levels : level + left ≡ 129) (reads : IsRead leve
       bytes in
       (refl, tt, subst Shows (sym is) (content_read tag c s.bytes h.bytes), tt)
   atom_read c tag (string text_kind s) is h = text_read (Reads left) s.bytes h.content
-  atom_read c tag (chunked_string bytes_kind []) is h = inl (refl, refl)
-  atom_read c tag (chunked_string bytes_kind (s ∷ cs)) is h =
-      inr (chunks_read bytes_kind (Reads left) c.encoding (item_style c (atom (chunked_string bytes_kind (s ∷ cs)))) s cs h)
-  atom_read c tag (chunked_string text_kind []) is h = inl (refl, refl)
-  atom_read c tag (chunked_string text_kind (s ∷ cs)) is h = inr (
-    omega arith,
-    chunks_read text_kind (Reads left) c.encoding (item_style c (atom (chunked_string text_kind (s ∷ cs)))) s cs h,
-  )
+  atom_read c tag (chunked_string kind []) is h = inl (refl, refl)
+  atom_read c tag (chunked_string kind (s ∷ cs)) is h =
+      inr (tt, chunks_read kind (Reads left) c.encoding (item_style c (atom (chunked_string kind (s ∷ cs)))) s cs h)
   atom_read c tag (float n w) is h = float_read n w h
   atom_read c tag (simple n) is h = simple_read n h
 

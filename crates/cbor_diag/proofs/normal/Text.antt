@@ -19,10 +19,10 @@ use Rattle.cbor_diag.specs.WellFormed.{WellFormedAtom, WellFormed, WellFormedIte
 use Rattle.cbor_diag.specs.Written.{encoded, encoded_items, resolve_float, resolve}
 use Rattle.cbor_diag.specs.Written.{resolve_items}
 use Rattle.cbor_diag.specs.Embedded.{embedded_at, sequence_at}
-use Rattle.cbor_diag.specs.StringKind.{bytes_kind, text_kind}
+use Rattle.cbor_diag.specs.StringKind.{bytes_kind, text_kind, no_chunks}
 use Rattle.cbor_diag.specs.NotationText.{indicator, bracketed, inside, float_text, encoding_below}
 use Rattle.cbor_diag.specs.NotationText.{item_texts, pair_texts, embedded_text, rest_text, sequence_text, content_text}
-use Rattle.cbor_diag.specs.NotationText.{string_text, no_chunks, chunks_listed, atom_text, text_with, text_at}
+use Rattle.cbor_diag.specs.NotationText.{string_text, chunks_listed, atom_text, text_with, text_at}
 use Rattle.cbor_diag.specs.Normal.{normal_width, normal_chunk, normal_items, normal_pairs, normal_embedded}
 use Rattle.cbor_diag.specs.Normal.{normal_sequence, normal_content, normal_atom, normal_with, normal_at}
 use Rattle.cbor_diag.proofs.bytes.Strict.{strict_any, strict_encoded, items_enc, items_any}

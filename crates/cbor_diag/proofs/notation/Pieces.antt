@@ -16,7 +16,7 @@ use Rattle.cbor_diag.specs.Notation.{IsBlank, QuotedBy, DigitsIn, Notation, in_b
 use Rattle.cbor_diag.specs.Notation.{in_base64, as_text, as_items, PieceOf, Joined, one, more, list_of, Listed}
 use Rattle.cbor_diag.specs.mirror.NotationReading.{or_refused, skip_blank, start_of, first_start, begins_piece}
 use Rattle.cbor_diag.specs.mirror.NotationReading.{read_piece, read_pieces, read_decoded, base16_bytes, base16_of}
-use Rattle.cbor_diag.specs.mirror.NotationReading.{base32_of, base32hex_of, base64_of, may_have_texts}
+use Rattle.cbor_diag.specs.mirror.NotationReading.{base32_of, base32hex_of, base64_of}
 use Rattle.cbor_diag.proofs.notation.Ends.{holds_of, Begins, begins_append, begins_more, item_ends, core_starts}
 use Rattle.cbor_diag.proofs.notation.Ends.{notation_starts, Follows, follows_passed, Starts, starts_passed}
 use Rattle.cbor_diag.proofs.notation.Lists.{ReadsAgain, listed_again}
@@ -164,47 +164,46 @@ begins_length bytes (b ∷ text) is = omega arith
 
 -- where a piece begins the pieces go on, and before what follows an item they end
 goes_on : (kind : StringKind) (text : List ℕ) → Begins (piece_starts kind) text
-    → begins_piece (may_have_texts kind) (first_start text) ≡ true
+    → begins_piece kind (first_start text) ≡ true
 unfolding start_of
 goes_on kind [] is = absurd is
-goes_on bytes_kind (b ∷ text) is = holds_of (λ c. begins_piece false (start_of c)) (piece_starts bytes_kind) b refl is
-goes_on text_kind (b ∷ text) is = holds_of (λ c. begins_piece true (start_of c)) (piece_starts text_kind) b refl is
+goes_on bytes_kind (b ∷ text) is = holds_of (λ c. begins_piece bytes_kind (start_of c)) (piece_starts bytes_kind) b
+    refl is
+goes_on text_kind (b ∷ text) is = holds_of (λ c. begins_piece text_kind (start_of c)) (piece_starts text_kind) b refl is
 
-ends_there : (texts : Bool) (text : List ℕ) → Follows text → begins_piece texts (first_start text) ≡ false
+ends_there : (kind : StringKind) (text : List ℕ) → Follows text → begins_piece kind (first_start text) ≡ false
 unfolding start_of
-ends_there texts [] follows = refl
-ends_there true (b ∷ text) follows = not-true (begins_piece true (start_of b))
-    (holds_of (λ c. not (begins_piece true (start_of c))) item_ends b refl follows)
-ends_there false (b ∷ text) follows = not-true (begins_piece false (start_of b))
-    (holds_of (λ c. not (begins_piece false (start_of c))) item_ends b refl follows)
+ends_there kind [] follows = refl
+ends_there kind (b ∷ text) follows = not-true (begins_piece kind (start_of b))
+    (holds_of (λ c. not (begins_piece kind (start_of c))) item_ends b refl follows)
 
-pub pieces_go : (read : List ℕ → Read Item) (texts : Bool) (n : ℕ) (text : List ℕ)
-    → begins_piece texts (first_start text) ≡ true
-    → read_pieces read texts (suc n) text ≡ (read_piece read text >>= λ x. read_pieces read texts n (skip_blank x.1)
+pub pieces_go : (read : List ℕ → Read Item) (kind : StringKind) (n : ℕ) (text : List ℕ)
+    → begins_piece kind (first_start text) ≡ true
+    → read_pieces read kind (suc n) text ≡ (read_piece read text >>= λ x. read_pieces read kind n (skip_blank x.1)
     >>= λ xs. Ok (x.0 ++ xs.0, xs.1))
 unfolding read_pieces
-pieces_go read texts n text e = rw (e, read_pieces) refl
+pieces_go read kind n text e = rw (e, read_pieces) refl
 
-pub pieces_stop : (read : List ℕ → Read Item) (texts : Bool) (n : ℕ) (text : List ℕ)
-    → begins_piece texts (first_start text) ≡ false → read_pieces read texts (suc n) text ≡ Ok ([], text)
+pub pieces_stop : (read : List ℕ → Read Item) (kind : StringKind) (n : ℕ) (text : List ℕ)
+    → begins_piece kind (first_start text) ≡ false → read_pieces read kind (suc n) text ≡ Ok ([], text)
 unfolding read_pieces
-pieces_stop read texts n text e = rw (e, read_pieces) refl
+pieces_stop read kind n text e = rw (e, read_pieces) refl
 
 module _ (Reads : List ℕ → Item → Type 0) (read : List ℕ → Read Item) (it : ReadsAgain Reads read) where
   pub joined_again : (kind : StringKind) (n : ℕ) (text bytes after rest : List ℕ) → length text < n → IsBlank after
       → Follows rest → Joined (PieceOf kind Reads) text bytes
-      → read_pieces read (may_have_texts kind) n (text ++ (after ++ rest)) ≡ Ok (bytes, rest)
+      → read_pieces read kind n (text ++ (after ++ rest)) ≡ Ok (bytes, rest)
   joined_again kind zero text bytes after rest lt is_blank follows is = absurd (omega arith)
   joined_again kind (suc zero) text bytes after rest lt is_blank follows is =
       absurd (omega (arith, begins_length (piece_starts kind) text (joined_begins Reads kind text bytes is)))
   joined_again kind (suc (suc n)) text bytes after rest lt is_blank follows (one is) =
       rw (
-        pieces_go read (may_have_texts kind) (suc n) (text ++ (after ++ rest))
+        pieces_go read kind (suc n) (text ++ (after ++ rest))
             (goes_on kind (text ++ (after ++ rest))
             (begins_append (piece_starts kind) text (after ++ rest) (piece_begins Reads kind text bytes is))),
         piece_again Reads read it kind text bytes (after ++ rest) is,
         follows_passed after rest is_blank follows,
-        pieces_stop read (may_have_texts kind) n rest (ends_there (may_have_texts kind) rest follows),
+        pieces_stop read kind n rest (ends_there kind rest follows),
         append-nil bytes,
       ) refl
   joined_again kind (suc (suc n)) text bytes after rest lt is_blank follows
@@ -226,7 +225,7 @@ module _ (Reads : List ℕ → Item → Type 0) (read : List ℕ → Read Item) 
       ) in
       rw (
         whole,
-        pieces_go read (may_have_texts kind) (suc n) (first ++ (blank ++ tail))
+        pieces_go read kind (suc n) (first ++ (blank ++ tail))
             (goes_on kind (first ++ (blank ++ tail)) (begins_append (piece_starts kind) first (blank ++ tail) begins)),
         piece_again Reads read it kind first bytes_first (blank ++ tail) is,
         starts_passed blank tail blank_is starts,

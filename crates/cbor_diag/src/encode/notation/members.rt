@@ -4,20 +4,17 @@
 
 ghost use Rattle.std.specs.Prelude.{◌≡◌, ◌∷◌, [], ◌++◌, ◌<◌, ◌≤◌, ◌^◌, map};
 ghost use Rattle.cbor_diag.specs.mirror.Appends.{AppendsText};
-ghost use Rattle.cbor_diag.specs.StringKind.{StringKind, major_of};
 ghost use Rattle.cbor_diag.specs.WellFormed.{deepest};
 ghost use Rattle.cbor_diag.specs.mirror.LayoutView.{style_view, context_view, chunks_there};
 ghost use Rattle.cbor_diag.specs.mirror.LayoutView.{IsIndented};
-ghost use Rattle.cbor_diag.specs.mirror.MajorNumber.{major_number};
 ghost use Rattle.cbor_diag.specs.mirror.LayoutView.{before_member, after_member};
 ghost use Rattle.cbor_diag.specs.NotationText.{line, last_line, opened, colon};
 ghost use Rattle.cbor_diag.specs.NotationText.{style_indent};
-ghost use Rattle.cbor_diag.specs.NotationText.{no_chunks, rest_text};
+ghost use Rattle.cbor_diag.specs.NotationText.{rest_text};
 
 use super::context::{ContainerStyle, Layout, NotationContext};
 use super::scalars::{push_quoted, push_string};
 use crate::syntax::IntegerWidth;
-use crate::syntax::major::Major;
 use crate::syntax::strings::DefiniteString;
 use std::alloc::AllocError;
 
@@ -140,7 +137,7 @@ pub(crate) fn push_chunks<S: DefiniteString>(
         (chunks_there context.now S.kind (map S.chunk chunks.now)) }
 {
     if chunks.is_empty() {
-        return push_no_chunks(out, S::kind().major());
+        return out.push_str(S::kind().no_chunks());
     }
     let style = context.layout.chunks_style(chunks);
     push_opening(out, '(', None, style)?;
@@ -152,17 +149,6 @@ pub(crate) fn push_chunks<S: DefiniteString>(
         first = false;
     }
     push_closing(out, style, ')')
-}
-
-/// Writes an indefinite string of no chunks, of this major type.
-fn push_no_chunks(out: &mut String, major: Major) -> Result<(), AllocError>
-    ensures { (kind : StringKind) → major_number major ≡ major_of kind
-        → AppendsText result out.old out.new (no_chunks kind) }
-{
-    match major {
-        Major::Text => out.push_str("\"\"_"),
-        _ => out.push_str("''_"),
-    }
 }
 
 /// Writes the rest of a sequence, which can't be read as an item.
