@@ -2,6 +2,7 @@
 use Rattle.std.proofs.Common.{◌≡◌, ℕ, ◌+◌, ◌<◌, ◌≤◌, true, false, nat_lt, inl, inr, List, [], ◌∷◌, ◌++◌, length}
 use Rattle.std.proofs.Common.{zero, suc, Option, Some, None, arith, lit<}
 use Rattle.std.specs.List.{AllByRecursion, flat_map}
+use Rattle.std.specs.Int.{w64, to_be_bytes}
 use Rattle.std.proofs.lemmas.Bool.Decides.{nat_tests}
 use Rattle.std.proofs.lemmas.Bool.{cases_lt}
 use Rattle.hex.specs.Hex.{IsBytes}
@@ -41,6 +42,12 @@ bytes_at [] h i = omega arith
 bytes_at (x ∷ b) h zero = h.0
 bytes_at (x ∷ b) h (suc i) = bytes_at b h.1 i
 
+pub wide_bytes : (n : ℕ) → AllBytes (to_be_bytes w64 n)
+wide_bytes n = (
+  omega arith,
+  (omega arith, (omega arith, (omega arith, (omega arith, (omega arith, (omega arith, (omega arith, tt))))))),
+)
+
 head_bytes : (major n : ℕ) (w : IntegerWidth) → major ≤ 6 → FitsStated w n → AllBytes (head major n w)
 head_bytes major n width.Unknown low fits = tt
 head_bytes major n width.Zero low fits = (omega arith, tt)
@@ -48,49 +55,16 @@ head_bytes major n width.Eight low fits = (omega arith, (omega arith, tt))
 head_bytes major n width.Sixteen low fits = (omega arith, (omega arith, (omega arith, tt)))
 head_bytes major n width.ThirtyTwo low fits =
     (omega arith, (omega arith, (omega arith, (omega arith, (omega arith, tt)))))
-head_bytes major n width.SixtyFour low fits = (
-  omega arith,
-  (
-    omega arith,
-    (
-      omega arith,
-      (omega arith, (omega arith, (omega arith, (omega arith, (omega arith, (omega arith, tt)))))),
-    ),
-  ),
-)
+head_bytes major n width.SixtyFour low fits = (omega arith, wide_bytes n)
 
 written_bytes : (major n : ℕ) (w : IntegerWidth) → major ≤ 6 → FitsWidth w n → AllBytes (encoded_head major n w)
 written_bytes major n w low fits = head_bytes major n (stated w n) low (stated_fits w n fits)
 
 float_bytes : (bits : ℕ) (w : FloatWidth) → AllBytes (encoded_float bits w)
-float_bytes bits float_width.Unknown = (
-  lit< tt,
-  (
-    omega arith,
-    (
-      omega arith,
-      (
-        omega arith,
-        (omega arith, (omega arith, (omega arith, (omega arith, (omega arith, tt))))),
-      ),
-    ),
-  ),
-)
+float_bytes bits float_width.Unknown = (lit< tt, wide_bytes bits)
 float_bytes bits float_width.Sixteen = (lit< tt, (omega arith, (omega arith, tt)))
 float_bytes bits float_width.ThirtyTwo = (lit< tt, (omega arith, (omega arith, (omega arith, (omega arith, tt)))))
-float_bytes bits float_width.SixtyFour = (
-  lit< tt,
-  (
-    omega arith,
-    (
-      omega arith,
-      (
-        omega arith,
-        (omega arith, (omega arith, (omega arith, (omega arith, (omega arith, tt))))),
-      ),
-    ),
-  ),
-)
+float_bytes bits float_width.SixtyFour = (lit< tt, wide_bytes bits)
 
 simple_bytes : (n : ℕ) → n < 256 → AllBytes (encoded_simple n)
 simple_bytes n fits =

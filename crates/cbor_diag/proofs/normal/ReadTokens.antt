@@ -1,8 +1,8 @@
 -- What is written of numbers, strings, floats and simple values is read as these.
-use Rattle.std.proofs.Common.{◌≡◌, ℕ, zero, suc, ◌+◌, ◌*◌, ◌/◌, ◌%◌, ◌^◌, ◌<◌, ◌≤◌, Bool, true, false, cond, IsTrue}
+use Rattle.std.proofs.Common.{◌≡◌, ℕ, zero, suc, ◌+◌, ◌*◌, ◌/◌, ◌%◌, ◌^◌, ◌<◌, ◌≤◌, ◌==◌, Bool, true, false, cond, IsTrue}
 use Rattle.std.proofs.Common.{List, [], ◌∷◌, ◌++◌, length, replicate, slice_index, codes, Option, Some, None, ◌⊎◌, inl}
 use Rattle.std.proofs.Common.{inr, refl, sym, ap, subst, ◌∙◌, arith}
-use Rattle.std.proofs.lemmas.Bool.{cases_eq, eq-eqb, ne_eqb, lt-ltb}
+use Rattle.std.proofs.lemmas.Bool.{agree_below_at, cases_eq, eq-eqb, eqb-true, ne_eqb, lt-ltb}
 use Rattle.std.proofs.lemmas.Nat.{from_be_bytes-to_be_bytes_4, from_be_bytes-to_be_bytes_8}
 use Rattle.std.proofs.lemmas.Bool.{false≢true}
 use Rattle.std.proofs.lemmas.Fmt.{decimal_is_IsNumeral}
@@ -31,10 +31,10 @@ use Rattle.cbor_diag.specs.WellFormed.{FitsFloat}
 use Rattle.cbor_diag.specs.StringKind.{bytes_kind, text_kind}
 use Rattle.cbor_diag.specs.Written.{resolve_float}
 use Rattle.cbor_diag.specs.Notation.{NumberOf, NegativeOf, number_width, Notation, in_base16, in_base64, StringOf, one}
-use Rattle.cbor_diag.specs.Notation.{SimpleOf, FloatOf}
+use Rattle.cbor_diag.specs.Notation.{SimpleOf, FloatDigits, FloatOf}
 use Rattle.cbor_diag.specs.NotationText.{indicator, number, quoted, text, float_text, simple_text}
 use Rattle.cbor_diag.specs.Normal.{normal_width}
-use Rattle.cbor_diag.proofs.bytes.Laws.{AllBytes}
+use Rattle.cbor_diag.proofs.bytes.Laws.{AllBytes, wide_bytes}
 use Rattle.cbor_diag.proofs.normal.Form.{normal_fits}
 
 -- ---- blanks
@@ -208,24 +208,7 @@ text_read Read b h = (refl, (in_quotes 34 b ++ 34 ∷ [], refl), one (inl refl),
 -- ---- floats and simple values
 
 digit_is : (k : ℕ) → k < 16 → digit_value (slice_index lower_digits k) ≡ k
-digit_is zero lt = refl
-digit_is (suc zero) lt = refl
-digit_is (suc (suc zero)) lt = refl
-digit_is (suc (suc (suc zero))) lt = refl
-digit_is (suc (suc (suc (suc zero)))) lt = refl
-digit_is (suc (suc (suc (suc (suc zero))))) lt = refl
-digit_is (suc (suc (suc (suc (suc (suc zero)))))) lt = refl
-digit_is (suc (suc (suc (suc (suc (suc (suc zero))))))) lt = refl
-digit_is (suc (suc (suc (suc (suc (suc (suc (suc zero)))))))) lt = refl
-digit_is (suc (suc (suc (suc (suc (suc (suc (suc (suc zero))))))))) lt = refl
-digit_is (suc (suc (suc (suc (suc (suc (suc (suc (suc (suc zero)))))))))) lt = refl
-digit_is (suc (suc (suc (suc (suc (suc (suc (suc (suc (suc (suc zero))))))))))) lt = refl
-digit_is (suc (suc (suc (suc (suc (suc (suc (suc (suc (suc (suc (suc zero)))))))))))) lt = refl
-digit_is (suc (suc (suc (suc (suc (suc (suc (suc (suc (suc (suc (suc (suc zero))))))))))))) lt = refl
-digit_is (suc (suc (suc (suc (suc (suc (suc (suc (suc (suc (suc (suc (suc (suc zero)))))))))))))) lt = refl
-digit_is (suc (suc (suc (suc (suc (suc (suc (suc (suc (suc (suc (suc (suc (suc (suc zero))))))))))))))) lt = refl
-digit_is (suc (suc (suc (suc (suc (suc (suc (suc (suc (suc (suc (suc (suc (suc (suc (suc k)))))))))))))))) lt =
-    absurd (omega arith)
+digit_is k lt = eqb-true _ k (agree_below_at (λ k. digit_value (slice_index lower_digits k) == k) (λ k. true) 16 k refl lt)
 
 -- the number that bytes are, the first of them the highest
 abbrev number_after : ℕ → List ℕ → ℕ
@@ -253,42 +236,26 @@ hex_all (b ∷ bs) h =
 wide_number : (n : ℕ) → n < 2 ^ 64 → number_after 0 (to_be_bytes w64 n) ≡ n
 wide_number n lt = omega (arith, from_be_bytes-to_be_bytes_8 n lt)
 
+module _ (n : ℕ) (w : FloatWidth) (bs : List ℕ) (all : AllBytes bs) (value : number_after 0 bs ≡ n) where
+  float_of : 0 < length (encode_lower bs) → FloatDigits w (length (encode_lower bs))
+      → FloatOf (codes "float'" ++ (encode_lower bs ++ codes "'")) n w
+  float_of some count = (encode_lower bs, refl, (((some, hex_all bs all), sym (hex_value 0 bs all ∙ value)), count))
+
+wide_read : (n : ℕ) → n < 2 ^ 64 → FloatOf (float_text n float_width.SixtyFour) n float_width.SixtyFour
+unfolding encode_with
+wide_read n lt =
+    float_of n float_width.SixtyFour (to_be_bytes w64 n) (wide_bytes n) (wide_number n lt) (omega arith) refl
+
 pub float_read : (n : ℕ) (w : FloatWidth) → FitsFloat w n → FloatOf (float_text n w) n (resolve_float w)
 unfolding encode_with
-float_read n float_width.Unknown fits =
-    let bs = to_be_bytes w64 n in
-    let all : AllBytes bs = (
-      omega arith,
-      (
-        omega arith,
-        (omega arith, (omega arith, (omega arith, (omega arith, (omega arith, (omega arith, tt)))))),
-      ),
-    ) in
-    let lt : n < 2 ^ 64 = fits in
-    (encode_lower bs, refl, (((omega arith, hex_all bs all), sym (hex_value 0 bs all ∙ wide_number n lt)), refl))
+float_read n float_width.Unknown fits = wide_read n fits
 float_read n float_width.Sixteen fits =
-    let bs = to_be_bytes w16 n in
-    let all : AllBytes bs = (omega arith, (omega arith, tt)) in
-    let lt : n < 2 ^ 16 = fits in
-    let value : number_after 0 bs ≡ n = omega arith in
-    (encode_lower bs, refl, (((omega arith, hex_all bs all), sym (hex_value 0 bs all ∙ value)), refl))
+    float_of n float_width.Sixteen (to_be_bytes w16 n) (omega arith, (omega arith, tt)) (omega arith) (omega arith) refl
 float_read n float_width.ThirtyTwo fits =
-    let bs = to_be_bytes w32 n in
-    let all : AllBytes bs = (omega arith, (omega arith, (omega arith, (omega arith, tt)))) in
-    let lt : n < 2 ^ 32 = fits in
-    let value : number_after 0 bs ≡ n = omega (arith, from_be_bytes-to_be_bytes_4 n lt) in
-    (encode_lower bs, refl, (((omega arith, hex_all bs all), sym (hex_value 0 bs all ∙ value)), refl))
-float_read n float_width.SixtyFour fits =
-    let bs = to_be_bytes w64 n in
-    let all : AllBytes bs = (
-      omega arith,
-      (
-        omega arith,
-        (omega arith, (omega arith, (omega arith, (omega arith, (omega arith, (omega arith, tt)))))),
-      ),
-    ) in
-    let lt : n < 2 ^ 64 = fits in
-    (encode_lower bs, refl, (((omega arith, hex_all bs all), sym (hex_value 0 bs all ∙ wide_number n lt)), refl))
+    float_of n float_width.ThirtyTwo (to_be_bytes w32 n)
+    (omega arith, (omega arith, (omega arith, (omega arith, tt))))
+    (omega (arith, from_be_bytes-to_be_bytes_4 n fits)) (omega arith) refl
+float_read n float_width.SixtyFour fits = wide_read n fits
 
 pub simple_read : (n : ℕ) → n < 256 → SimpleOf (simple_text n) n
 simple_read n lt =

@@ -3,6 +3,7 @@ use Rattle.std.proofs.Common.{◌≡◌, ◌≢◌, ℕ, zero, suc, ◌<◌, Boo
 use Rattle.std.proofs.Common.{Option, Some, Ok, refl, sym, ap, ◌∙◌, subst, inl, inr, arith}
 use Rattle.std.proofs.lemmas.Bool.{not-true}
 use Rattle.std.proofs.lemmas.List.{append_assoc, append-nil, length-append}
+use Rattle.cbor_notes.specs.Base32.{standard, extended_hex}
 use Rattle.cbor_notes.specs.Token.{in_quotes, DigitsBetween}
 use Rattle.cbor_notes.specs.TokenReading.{unquoted}
 use Rattle.cbor_notes.proofs.tokens.Quoted.{unquoted-in_quotes}
@@ -16,11 +17,11 @@ use Rattle.cbor_diag.specs.Notation.{IsBlank, QuotedBy, DigitsIn, Notation, in_b
 use Rattle.cbor_diag.specs.Notation.{in_base64, as_text, as_items, PieceOf, Joined, one, more, list_of, Listed}
 use Rattle.cbor_diag.specs.mirror.NotationReading.{or_refused, skip_blank, start_of, first_start, begins_piece}
 use Rattle.cbor_diag.specs.mirror.NotationReading.{read_piece, read_pieces, read_decoded, base16_bytes, base16_of}
-use Rattle.cbor_diag.specs.mirror.NotationReading.{base32_of, base32hex_of, base64_of}
+use Rattle.cbor_diag.specs.mirror.NotationReading.{base32_of, base64_of}
 use Rattle.cbor_diag.proofs.notation.Ends.{holds_of, Begins, begins_append, begins_more, item_ends, core_starts}
 use Rattle.cbor_diag.proofs.notation.Ends.{notation_starts, Follows, follows_passed, Starts, starts_passed}
 use Rattle.cbor_diag.proofs.notation.Lists.{ReadsAgain, listed_again}
-use Rattle.cbor_diag.proofs.notation.Decoded.{base32_again, base32hex_again, url_safe_again, standard_again}
+use Rattle.cbor_diag.proofs.notation.Decoded.{base32_again, url_safe_again, standard_again}
 
 -- ---- one piece
 
@@ -64,14 +65,15 @@ module _ (Reads : List ℕ → Item → Type 0) (read : List ℕ → Read Item) 
   h_again content digits bytes rest between is = decoded_again true base16_of content digits bytes rest between is
 
   h32_again : (content digits bytes rest : List ℕ) → DigitsBetween true content digits
-      → base32hex_of digits ≡ Some bytes → read_piece read (codes "h32'" ++ (content ++ 39 ∷ rest)) ≡ Ok (bytes, rest)
+      → base32_of extended_hex digits ≡ Some bytes → read_piece read (codes "h32'" ++ (content ++ 39 ∷ rest)) ≡ Ok (bytes, rest)
   unfolding read_piece start_of
-  h32_again content digits bytes rest between is = decoded_again true base32hex_of content digits bytes rest between is
+  h32_again content digits bytes rest between is = decoded_again true (base32_of extended_hex) content digits bytes rest between is
 
-  b32_again : (content digits bytes rest : List ℕ) → DigitsBetween true content digits → base32_of digits ≡ Some bytes
+  b32_again : (content digits bytes rest : List ℕ) → DigitsBetween true content digits
+      → base32_of standard digits ≡ Some bytes
       → read_piece read (codes "b32'" ++ (content ++ 39 ∷ rest)) ≡ Ok (bytes, rest)
   unfolding read_piece start_of
-  b32_again content digits bytes rest between is = decoded_again true base32_of content digits bytes rest between is
+  b32_again content digits bytes rest between is = decoded_again true (base32_of standard) content digits bytes rest between is
 
   b64_again : (content digits bytes rest : List ℕ) → DigitsBetween false content digits → base64_of digits ≡ Some bytes
       → read_piece read (codes "b64'" ++ (content ++ 39 ∷ rest)) ≡ Ok (bytes, rest)
@@ -102,10 +104,10 @@ module _ (Reads : List ℕ → Item → Type 0) (read : List ℕ → Read Item) 
       ∙ h_again is.0 digits bytes rest is.2 (ap base16_bytes decodes)
   notation_again text bytes rest (in_base32 digits is all encodes) =
       ap (read_piece read) (digits_parts true (codes "b32'") text digits rest is)
-      ∙ b32_again is.0 digits bytes rest is.2 (ap base32_of encodes ∙ base32_again bytes all)
+      ∙ b32_again is.0 digits bytes rest is.2 (ap (base32_of standard) encodes ∙ base32_again standard bytes all)
   notation_again text bytes rest (in_base32hex digits is all encodes) =
       ap (read_piece read) (digits_parts true (codes "h32'") text digits rest is)
-      ∙ h32_again is.0 digits bytes rest is.2 (ap base32hex_of encodes ∙ base32hex_again bytes all)
+      ∙ h32_again is.0 digits bytes rest is.2 (ap (base32_of extended_hex) encodes ∙ base32_again extended_hex bytes all)
   notation_again text bytes rest (in_base64 digits is all (inl encodes)) =
       ap (read_piece read) (digits_parts false (codes "b64'") text digits rest is)
       ∙ b64_again is.0 digits bytes rest is.2 (ap base64_of encodes ∙ url_safe_again bytes all)

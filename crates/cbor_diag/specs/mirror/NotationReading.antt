@@ -188,13 +188,9 @@ from_sixes values = []
 abbrev pub unpadded : List ℕ → List ℕ
 unpadded digits = before_first (λ d. d == 61) digits
 
-unfoldable pub base32_of : List ℕ → Option (List ℕ)
-base32_of digits = if_encoded base32.base32 digits
-    (from_fives (map (value_in (codes "ABCDEFGHIJKLMNOPQRSTUVWXYZ234567")) (unpadded digits)))
-
-unfoldable pub base32hex_of : List ℕ → Option (List ℕ)
-base32hex_of digits = if_encoded base32.base32hex digits
-    (from_fives (map (value_in (codes "0123456789ABCDEFGHIJKLMNOPQRSTUV")) (unpadded digits)))
+unfoldable pub base32_of : base32.Alphabet → List ℕ → Option (List ℕ)
+base32_of alphabet digits = if_encoded (base32.encode alphabet) digits
+    (from_fives (map (value_in (base32.characters alphabet)) (unpadded digits)))
 
 -- the value of a digit in either alphabet of base 64
 abbrev pub six_bits : ℕ → ℕ
@@ -235,10 +231,10 @@ either_word None first None second = Err refusal.Notation
 -- `h'..'` or `h32'..'`, and `b32'..'` or `b64'..'`, after the letter
 abbrev pub h_notation : List ℕ → Read (List ℕ)
 h_notation text = either_word (after_word (codes "'") text) (read_decoded true base16_of)
-    (after_word (codes "32'") text) (read_decoded true base32hex_of)
+    (after_word (codes "32'") text) (read_decoded true (base32_of base32.extended_hex))
 
 abbrev pub b_notation : List ℕ → Read (List ℕ)
-b_notation text = either_word (after_word (codes "32'") text) (read_decoded true base32_of)
+b_notation text = either_word (after_word (codes "32'") text) (read_decoded true (base32_of base32.standard))
     (after_word (codes "64'") text) (read_decoded false base64_of)
 
 -- items after the first `<` of `<<`, and their encodings

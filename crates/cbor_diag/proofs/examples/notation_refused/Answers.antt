@@ -4,13 +4,13 @@ use Rattle.base64.specs.Rfc4648.{encode_symbols}
 use Rattle.cbor_notes.specs.Base32.{encode}
 use Rattle.cbor_diag.specs.mirror.NotationReading.{read_item, read_core, start_of, read_members, members_from}
 use Rattle.cbor_diag.specs.mirror.NotationReading.{read_piece, read_pieces, read_string, from_fives, from_sixes}
-use Rattle.cbor_diag.specs.mirror.NotationReading.{base32_of, base32hex_of, base64_of}
+use Rattle.cbor_diag.specs.mirror.NotationReading.{base32_of, base64_of}
 use Rattle.cbor_diag.proofs.notation.PublicReader.{not_read}
 use Rattle.cbor_diag.proofs.examples.notation_refused.Goals as goal
 
 pub returns : goal.returns
 unfolding read_item read_core start_of read_members members_from read_piece read_pieces read_string from_fives
-    from_sixes base32_of base32hex_of base64_of encode encode_symbols decode_pairs
+    from_sixes base32_of base64_of encode encode_symbols decode_pairs
 returns c = (
   not_read 128 (codes "") _ refl,
   (
