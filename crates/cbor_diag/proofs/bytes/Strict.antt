@@ -336,7 +336,7 @@ chunks-resolve : (major : ℕ) (cs : List Chunk)
 chunks-resolve major [] = refl
 chunks-resolve major (c ∷ cs) = rw (chunk-resolve major c, chunks-resolve major cs) refl
 
-float-resolve : (bits : ℕ) (w : FloatWidth) → encoded_float bits (resolve_float w) ≡ encoded_float bits w
+pub float-resolve : (bits : ℕ) (w : FloatWidth) → encoded_float bits (resolve_float w) ≡ encoded_float bits w
 float-resolve bits float_width.Unknown = refl
 float-resolve bits w = refl
 

@@ -106,17 +106,11 @@ fit_piece depth piece comment low few said = record {
 
 pub head_length : (major n : ℕ) (w : IntegerWidth) → length (head major n w) ≤ 9
 head_length major n width.Unknown = omega arith
-head_length major n width.Zero = omega arith
-head_length major n width.Eight = omega arith
-head_length major n width.Sixteen = omega arith
-head_length major n width.ThirtyTwo = omega arith
-head_length major n width.SixtyFour = omega arith
+head_length major n _ = omega arith
 
 float_length : (bits : ℕ) (w : FloatWidth) → length (encoded_float bits w) ≤ 9
 float_length bits float_width.Unknown = omega arith
-float_length bits float_width.Sixteen = omega arith
-float_length bits float_width.ThirtyTwo = omega arith
-float_length bits float_width.SixtyFour = omega arith
+float_length bits _ = omega arith
 
 simple_length : (n : ℕ) → length (encoded_simple n) ≤ 9
 simple_length n = grind (arith, nat_tests)

@@ -9,7 +9,7 @@ use Rattle.cbor_diag.specs.declared.syntax.FloatWidth.{FloatWidth}
 use Rattle.cbor_diag.specs.declared.syntax.FloatWidth.TheVariants as float_width
 use Rattle.cbor_diag.specs.Head.{FitsWidth, FitsStated, shortest, stated, head}
 use Rattle.cbor_diag.specs.WellFormed.{FitsFloat}
-use Rattle.cbor_diag.specs.Written.{encoded_head, encoded_float}
+use Rattle.cbor_diag.specs.Written.{encoded_head}
 use Rattle.cbor_diag.specs.Written.{resolve_float}
 use Rattle.cbor_diag.specs.Normal.{normal_width}
 use Rattle.cbor_diag.proofs.bytes.Strict.{stated_fits}
@@ -26,11 +26,7 @@ width_len SixtyFour = 9
 
 head_len : (major n : ℕ) (w : IntegerWidth) → FitsStated w n → length (head major n w) ≡ width_len w
 head_len major n Unknown fits = absurd fits
-head_len major n Zero fits = refl
-head_len major n Eight fits = refl
-head_len major n Sixteen fits = refl
-head_len major n ThirtyTwo fits = refl
-head_len major n SixtyFour fits = refl
+head_len major n _ fits = refl
 
 below8 : (n : ℕ) → n < 2 ^ 8 → width_len (shortest n) ≤ 2
 below8 n lt = elim (cases_lt n 24) [
@@ -110,11 +106,7 @@ head_no_longer major m n w le fits =
 pub normal_fits : (n : ℕ) (w : IntegerWidth) → FitsWidth w n → FitsWidth (normal_width w n) n
 normal_fits n Unknown fits = elim (cases_lt n 24)
     [ inl low ↦ rw (lt-ltb n 24 low) low | inr high ↦ rw (le-ltb n 24 high) fits ]
-normal_fits n Zero fits = fits
-normal_fits n Eight fits = fits
-normal_fits n Sixteen fits = fits
-normal_fits n ThirtyTwo fits = fits
-normal_fits n SixtyFour fits = fits
+normal_fits n _ fits = fits
 
 pub normal_head : (major n : ℕ) (w : IntegerWidth) → encoded_head major n (normal_width w n) ≡ encoded_head major n w
 normal_head major n Unknown =
@@ -123,20 +115,8 @@ normal_head major n Unknown =
       | inr high ↦ let same : normal_width Unknown n ≡ Unknown =
           rw (le-ltb n 24 high) refl in ap (encoded_head major n) same
     ]
-normal_head major n Zero = refl
-normal_head major n Eight = refl
-normal_head major n Sixteen = refl
-normal_head major n ThirtyTwo = refl
-normal_head major n SixtyFour = refl
-
-pub normal_float : (bits : ℕ) (w : FloatWidth) → encoded_float bits (resolve_float w) ≡ encoded_float bits w
-normal_float bits float_width.Unknown = refl
-normal_float bits float_width.Sixteen = refl
-normal_float bits float_width.ThirtyTwo = refl
-normal_float bits float_width.SixtyFour = refl
+normal_head major n _ = refl
 
 pub float_fits : (bits : ℕ) (w : FloatWidth) → FitsFloat w bits → FitsFloat (resolve_float w) bits
 float_fits bits float_width.Unknown fits = fits
-float_fits bits float_width.Sixteen fits = fits
-float_fits bits float_width.ThirtyTwo fits = fits
-float_fits bits float_width.SixtyFour fits = fits
+float_fits bits _ fits = fits

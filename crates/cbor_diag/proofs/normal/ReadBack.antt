@@ -4,7 +4,6 @@ use Rattle.std.proofs.Common.{inr, refl, sym, ap, subst, ◌∙◌, append_assoc
 use Rattle.std.specs.List.{AllByRecursion}
 use Rattle.std.proofs.lemmas.List.{append-nil}
 use Rattle.cbor_notes.specs.Token.{nothing}
-use Rattle.cbor_notes.proofs.tokens.Blanks.{Blank-append}
 use Rattle.cbor_diag.specs.declared.syntax.IntegerWidth.TheVariants.{Unknown}
 use Rattle.cbor_diag.specs.Encoding.{Encoding}
 use Rattle.cbor_diag.specs.Layout.{Content, Layout, Compact, Pretty, Context}
@@ -34,6 +33,8 @@ use Rattle.cbor_diag.proofs.text.Parts.{content_of, well_level}
 use Rattle.cbor_diag.proofs.shared.EmbeddedItems.{embedded_spells, sequence_spells}
 use Rattle.cbor_diag.proofs.bytes.Laws.{AllBytes, bytes_at}
 use Rattle.cbor_diag.proofs.normal.WellFormed.{tag_kind, items_well}
+use Rattle.cbor_diag.proofs.notation.sound.Items.{reads_blank}
+use Rattle.cbor_diag.proofs.notation.sound.Pieces.{blanked_more}
 use Rattle.cbor_diag.proofs.normal.ReadTokens.{one_space, number_read, negative_read, quoted_read, bytes_read}
 use Rattle.cbor_diag.proofs.normal.ReadTokens.{text_read, float_read, simple_read}
 use Rattle.cbor_diag.proofs.normal.ReadLists.{Each, opening_of, opens, listed}
@@ -42,22 +43,6 @@ use Rattle.cbor_diag.proofs.normal.ReadLists.{Each, opening_of, opens, listed}
 
 plain : (Is : List ℕ → Type 0) (core : List ℕ) → Is core → Blanked Is core
 plain Is core h = ([], core, [], sym (append-nil core), nothing, h, nothing)
-
-blank_before : (Is : List ℕ → Type 0) (gap core : List ℕ) → IsBlank gap → Blanked Is core → Blanked Is (gap ++ core)
-blank_before Is gap core b h = (
-  gap ++ h.0,
-  h.1,
-  h.2,
-  ap (λ t. gap ++ t) h.3 ∙ sym (append_assoc gap h.0 (h.1 ++ h.2)),
-  Blank-append b h.4,
-  h.5,
-  h.6,
-)
-
-reads_after : (left : ℕ) (gap t : List ℕ) (i : Item) → IsBlank gap → Reads left t i → Reads left (gap ++ t) i
-unfolding Reads
-reads_after zero gap t i b h = absurd h
-reads_after (suc left) gap t i b h = blank_before (λ core. Core (Reads left) core i) gap t b h
 
 -- ---- chunks
 
@@ -74,7 +59,7 @@ chunks_each kind Read e [] h = tt
 chunks_each kind Read e (s ∷ cs) h =
     let Is : List ℕ → Type 0 = λ core. StringOf kind Read core (normal_chunk s) in
     let one = string_text kind e s.bytes in (
-      λ gap b. blank_before Is gap one b (plain Is one (string_core kind Read e s h.0)),
+      λ gap b. blanked_more Is gap one b (plain Is one (string_core kind Read e s h.0)),
       chunks_each kind Read e cs h.1,
     )
 
@@ -131,7 +116,7 @@ module _ (level left : ℕ) (levels : level + left ≡ 129) (reads : IsRead leve
       (list_of (normal_items (normal_at left None) is))
   items_each c no_items h = tt
   items_each c (item i is) h = (
-    λ gap b. reads_after left gap (text_at left (inside c.layout c) i) (normal_at left None i) b
+    λ gap b. reads_blank left gap (text_at left (inside c.layout c) i) (normal_at left None i) b
         (reads (inside c.layout c) None i refl h.0),
     items_each c is h.1,
   )
@@ -148,9 +133,9 @@ module _ (level left : ℕ) (levels : level + left ≡ 129) (reads : IsRead leve
           colon_gap l ++ value,
           sym (append_assoc gap key (colon l ++ value))
               ∙ ap (λ t. (gap ++ key) ++ t) (colon_after l value),
-          reads_after left gap key _ b
+          reads_blank left gap key _ b
               (reads (inside c.layout c) None k refl h.0),
-          reads_after left (colon_gap l) value _ (colon_blank l)
+          reads_blank left (colon_gap l) value _ (colon_blank l)
               (reads (inside c.layout c) None v refl h.1),
         ),
         pairs_each c l ps h.2,

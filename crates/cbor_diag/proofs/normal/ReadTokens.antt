@@ -77,10 +77,7 @@ is_number v w le = decimal_IsNumber v (indicator w) (indicated w) le (indicates 
 width_is : (n : ℕ) (w : IntegerWidth) → FitsWidth w n → normal_width w n ≡ number_width n (indicated w)
 width_is n Unknown fits = refl
 width_is n Zero fits = let lt : n < 24 = fits in rw (lt-ltb n 24 lt) refl
-width_is n Eight fits = refl
-width_is n Sixteen fits = refl
-width_is n ThirtyTwo fits = refl
-width_is n SixtyFour fits = refl
+width_is n _ fits = refl
 
 below_limit : (n : ℕ) (w : IntegerWidth) → FitsWidth w n → n < 2 ^ 64
 below_limit n Unknown fits = fits

@@ -24,12 +24,12 @@ use Rattle.cbor_diag.specs.Embedded.{embedded_at, sequence_at}
 use Rattle.cbor_diag.specs.Normal.{normal_width, normal_chunk, normal_count, normal_items, normal_pairs}
 use Rattle.cbor_diag.specs.Normal.{normal_embedded, normal_sequence, normal_content, normal_atom, normal_with}
 use Rattle.cbor_diag.specs.Normal.{normal_at}
-use Rattle.cbor_diag.proofs.bytes.Strict.{stated_is}
+use Rattle.cbor_diag.proofs.bytes.Strict.{float-resolve, stated_is}
 use Rattle.cbor_diag.proofs.bytes.Resolved.{spells_well}
 use Rattle.cbor_diag.proofs.shared.EmbeddedItems.{embedded_spells, sequence_spells}
 use Rattle.cbor_diag.proofs.bytes.Laws.{AllBytes, all_bytes-append, all_bytes-front, all_bytes-rest, bytes_at}
 use Rattle.cbor_diag.proofs.bytes.Laws.{item_bytes, items_bytes}
-use Rattle.cbor_diag.proofs.normal.Form.{open_fits, head_no_longer, normal_fits, normal_head, normal_float, float_fits}
+use Rattle.cbor_diag.proofs.normal.Form.{open_fits, head_no_longer, normal_fits, normal_head, float_fits}
 
 -- ---- the encoding of a spelled item is no longer than its spelling
 
@@ -68,9 +68,7 @@ chunks_spelled kind (c ∷ cs) b end h =
 float_spelled : (b : List ℕ) (bits : ℕ) (w : FloatWidth) → SpellsFloat b bits w
     → length (encoded_float bits w) ≤ length b
 float_spelled b bits float_width.Unknown h = absurd h
-float_spelled b bits float_width.Sixteen h = omega (arith, ap length h.1)
-float_spelled b bits float_width.ThirtyTwo h = omega (arith, ap length h.1)
-float_spelled b bits float_width.SixtyFour h = omega (arith, ap length h.1)
+float_spelled b bits _ h = omega (arith, ap length h.1)
 
 simple_len : (n : ℕ) → length (encoded_simple n) ≤ 2
 simple_len n = elim (cases_lt n 24) [
@@ -361,7 +359,7 @@ module _ (level left : ℕ) (levels : (level + 1) + left ≡ 129) (into : Option
   atom_serves tag (string text_kind c) h =
       (chunk_serves text_kind c h, string_no_longer 3 c c.bytes h.fits (omega arith))
   atom_serves tag (chunked_string kind cs) h = let s = chunks_serve kind cs h in (s.0, omega (arith, s.1))
-  atom_serves tag (float bits w) h = (float_fits bits w h, omega (arith, ap length (normal_float bits w)))
+  atom_serves tag (float bits w) h = (float_fits bits w h, omega (arith, ap length (float-resolve bits w)))
   atom_serves tag (simple n) h = (h, omega arith)
 
   with_serves : (tag : Option ℕ) (i : Item) → WellFormed level i → Serves level i (normal_with left into tag i)

@@ -1,5 +1,5 @@
 -- What reading an item, a string or a piece gives, by what is at the front of the text.
-use Rattle.std.proofs.Common.{◌≡◌, ◌≢◌, ℕ, zero, suc, ◌+◌, ◌-◌, ◌<◌, ◌≤◌, ◌^◌, ◌⊎◌, inl, inr, Bool, true, false, List}
+use Rattle.std.proofs.Common.{◌≡◌, ℕ, zero, suc, ◌+◌, ◌-◌, ◌<◌, ◌≤◌, ◌^◌, ◌⊎◌, inl, inr, Bool, true, false, List}
 use Rattle.std.proofs.Common.{[], ◌∷◌, ◌++◌, length, Option, Some, None, Result, Ok, Err, Vec, Global, refl, sym, ap}
 use Rattle.std.proofs.Common.{subst, ◌∙◌, append_assoc, arith}
 use Rattle.std.specs.List.{AllByRecursion}
@@ -46,16 +46,6 @@ pub piece_by : (read : List ℕ → Read Item) (text rest : List ℕ) (s : Start
 unfolding read_piece
 piece_by read [] rest s is behind = sym (ap (λ s. piece_of read s rest) is)
 piece_by read (b ∷ text) rest s is behind = ap (λ s. piece_of read s text) (sym is) ∙ ap (piece_of read s) (sym behind)
-
--- what begins otherwise is no piece, and no text string
-pub no_piece : (read : List ℕ → Read Item) (rest : List ℕ) (s : Start) → s ≢ start.Quote → s ≢ start.Apostrophe
-    → s ≢ start.Angle → s ≢ start.LetterB → s ≢ start.LetterH → piece_of read s rest ≡ Err refusal.Notation
-no_piece read rest start.Quote q a n b h = absurd (q refl)
-no_piece read rest start.Apostrophe q a n b h = absurd (a refl)
-no_piece read rest start.Angle q a n b h = absurd (n refl)
-no_piece read rest start.LetterB q a n b h = absurd (b refl)
-no_piece read rest start.LetterH q a n b h = absurd (h refl)
-no_piece read rest _ q a n b h = refl
 
 pub content_by : (read : List ℕ → Read Item) (kind : StringKind) (text : List ℕ) (t : Bool)
     → begins_string kind (first_start text) ≡ t → read_content read kind text ≡ content_of read kind text t
@@ -196,13 +186,6 @@ module _ (read : List ℕ → Read Item) (kind : StringKind) (front : List ℕ) 
             blank ∙ sym (joined piece (read_pieces read kind left.0 (skip_blank after)))
             ∙ sym (ap (onto (λ xs. front ++ xs)) here) ∙ so_far,
       )
-
--- ---- well formed members
-
-pub items_push : (level : ℕ) (vs : List DataItem) (v : DataItem) → WellFormedItems level (items_view vs)
-    → WellFormed level (view v) → WellFormedItems level (items_view (vs ++ v ∷ []))
-items_push level [] v held well = (well, tt)
-items_push level (w ∷ vs) v held well = (held.0, items_push level vs v held.1 well)
 
 -- ---- a key, `:` and its value, one after the other
 

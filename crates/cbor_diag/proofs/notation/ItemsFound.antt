@@ -9,7 +9,7 @@ use Rattle.cbor_diag.specs.Item.{float, simple, Item, atom, array, tagged}
 use Rattle.cbor_diag.specs.StringKind.{StringKind, bytes_kind, text_kind, no_chunks}
 use Rattle.cbor_diag.specs.Reading.{Read}
 use Rattle.cbor_diag.specs.Notation.{IsBlank, Opens, StringOf, ChunksOf, ShowsKind, AtomCore, Core, Reads}
-use Rattle.cbor_diag.specs.mirror.NotationReading.{skip_blank, string_of, read_string_item, read_chunks}
+use Rattle.cbor_diag.specs.mirror.NotationReading.{skip_blank, string_of, read_string_item}
 use Rattle.cbor_diag.specs.mirror.NotationReading.{start_of, read_core, core_of, read_item, notation_of}
 use Rattle.cbor_diag.proofs.notation.Ends.{Begins, begins_append, begins_more, core_starts, digits, Follows}
 use Rattle.cbor_diag.proofs.notation.Ends.{follows_passed, follows_blank, Starts, starts_passed}
@@ -73,10 +73,6 @@ module _ (Reads : List ℕ → Item → Type 0) (read : List ℕ → Read Item) 
       at_one_of (λ c. core_of read (start_of c) (b ∷ text) text ≡ read_string_item read text_kind (b ∷ text))
       (codes "\"") b (refl, tt) begins
 
-  chunks_core : (text : List ℕ) → read_core read (40 ∷ text) ≡ read_chunks read text
-  unfolding read_core start_of
-  chunks_core text = refl
-
   no_chunks_again : (kind : StringKind) (rest : List ℕ)
       → read_core read (no_chunks kind ++ rest) ≡ Ok (atom (chunked_string kind []), rest)
   unfolding read_core start_of
@@ -94,9 +90,10 @@ module _ (Reads : List ℕ → Item → Type 0) (read : List ℕ → Read Item) 
 
   chunked_again : (kind : StringKind) (text rest : List ℕ) (cs : List Chunk) → ChunksOf kind Reads text cs
       → ShowsKind kind cs → read_core read (text ++ rest) ≡ Ok (atom (chunked_string kind cs), rest)
+  unfolding read_core start_of
   chunked_again kind text rest cs is shows =
       let c = chunks_again Reads read it kind cs text rest is shows in
-      ap (read_core read) c.1 ∙ (chunks_core (95 ∷ c.0) ∙ c.2)
+      ap (read_core read) c.1 ∙ c.2
 
   atom_again : (text after rest : List ℕ) (a : Atom) → AtomCore Reads text a → IsBlank after → Follows rest
       → Answers (read_core read (text ++ (after ++ rest))) (atom a) rest

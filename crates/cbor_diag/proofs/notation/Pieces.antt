@@ -59,37 +59,6 @@ digits_parts comments prefix text digits rest is =
     ∙ ap (λ (t : List ℕ). prefix ++ t) (append_assoc is.0 (codes "'") rest))
 
 module _ (Reads : List ℕ → Item → Type 0) (read : List ℕ → Read Item) (it : ReadsAgain Reads read) where
-  h_again : (content digits bytes rest : List ℕ) → DigitsBetween true content digits → base16_of digits ≡ Some bytes
-      → read_piece read (codes "h'" ++ (content ++ 39 ∷ rest)) ≡ Ok (bytes, rest)
-  unfolding read_piece start_of
-  h_again content digits bytes rest between is = decoded_again true base16_of content digits bytes rest between is
-
-  h32_again : (content digits bytes rest : List ℕ) → DigitsBetween true content digits
-      → base32_of extended_hex digits ≡ Some bytes → read_piece read (codes "h32'" ++ (content ++ 39 ∷ rest)) ≡ Ok (bytes, rest)
-  unfolding read_piece start_of
-  h32_again content digits bytes rest between is = decoded_again true (base32_of extended_hex) content digits bytes rest between is
-
-  b32_again : (content digits bytes rest : List ℕ) → DigitsBetween true content digits
-      → base32_of standard digits ≡ Some bytes
-      → read_piece read (codes "b32'" ++ (content ++ 39 ∷ rest)) ≡ Ok (bytes, rest)
-  unfolding read_piece start_of
-  b32_again content digits bytes rest between is = decoded_again true (base32_of standard) content digits bytes rest between is
-
-  b64_again : (content digits bytes rest : List ℕ) → DigitsBetween false content digits → base64_of digits ≡ Some bytes
-      → read_piece read (codes "b64'" ++ (content ++ 39 ∷ rest)) ≡ Ok (bytes, rest)
-  unfolding read_piece start_of
-  b64_again content digits bytes rest between is = decoded_again false base64_of content digits bytes rest between is
-
-  apostrophes_again : (content rest : List ℕ)
-      → read_piece read (39 ∷ (in_quotes 39 content ++ 39 ∷ rest)) ≡ Ok (content, rest)
-  unfolding read_piece start_of
-  apostrophes_again content rest = quoted_again 39 content rest apostrophe
-
-  quotes_again : (content rest : List ℕ) → read_piece read (34 ∷ (in_quotes 34 content ++ 34 ∷ rest))
-      ≡ Ok (content, rest)
-  unfolding read_piece start_of
-  quotes_again content rest = quoted_again 34 content rest quotation_mark
-
   embedded_again : (is : Items) (text rest : List ℕ) → Listed Reads (codes "<<") (codes ">>") text (list_of is)
       → read_piece read (text ++ rest) ≡ Ok (encoded_items is, rest)
   unfolding read_piece start_of
@@ -99,32 +68,36 @@ module _ (Reads : List ℕ → Item → Type 0) (read : List ℕ → Read Item) 
 
   notation_again : (text bytes rest : List ℕ) → Notation Reads text bytes
       → read_piece read (text ++ rest) ≡ Ok (bytes, rest)
+  unfolding read_piece start_of
   notation_again text bytes rest (in_base16 digits is decodes) =
       ap (read_piece read) (digits_parts true (codes "h'") text digits rest is)
-      ∙ h_again is.0 digits bytes rest is.2 (ap base16_bytes decodes)
+      ∙ decoded_again true base16_of is.0 digits bytes rest is.2 (ap base16_bytes decodes)
   notation_again text bytes rest (in_base32 digits is all encodes) =
       ap (read_piece read) (digits_parts true (codes "b32'") text digits rest is)
-      ∙ b32_again is.0 digits bytes rest is.2 (ap (base32_of standard) encodes ∙ base32_again standard bytes all)
+      ∙ decoded_again true (base32_of standard) is.0 digits bytes rest is.2
+      (ap (base32_of standard) encodes ∙ base32_again standard bytes all)
   notation_again text bytes rest (in_base32hex digits is all encodes) =
       ap (read_piece read) (digits_parts true (codes "h32'") text digits rest is)
-      ∙ h32_again is.0 digits bytes rest is.2 (ap (base32_of extended_hex) encodes ∙ base32_again extended_hex bytes all)
+      ∙ decoded_again true (base32_of extended_hex) is.0 digits bytes rest is.2
+      (ap (base32_of extended_hex) encodes ∙ base32_again extended_hex bytes all)
   notation_again text bytes rest (in_base64 digits is all (inl encodes)) =
       ap (read_piece read) (digits_parts false (codes "b64'") text digits rest is)
-      ∙ b64_again is.0 digits bytes rest is.2 (ap base64_of encodes ∙ url_safe_again bytes all)
+      ∙ decoded_again false base64_of is.0 digits bytes rest is.2 (ap base64_of encodes ∙ url_safe_again bytes all)
   notation_again text bytes rest (in_base64 digits is all (inr encodes)) =
       ap (read_piece read) (digits_parts false (codes "b64'") text digits rest is)
-      ∙ b64_again is.0 digits bytes rest is.2 (ap base64_of encodes ∙ standard_again bytes all)
+      ∙ decoded_again false base64_of is.0 digits bytes rest is.2 (ap base64_of encodes ∙ standard_again bytes all)
   notation_again text bytes rest (as_text is) = ap (read_piece read) (quoted_parts 39 text bytes rest is)
-      ∙ apostrophes_again bytes rest
+      ∙ quoted_again 39 bytes rest apostrophe
   notation_again text bytes rest (as_items is listed encodes) = embedded_again is text rest listed
       ∙ ap (λ (b : List ℕ). Ok (b, rest)) (sym encodes)
 
   pub piece_again : (kind : StringKind) (text bytes rest : List ℕ) → PieceOf kind Reads text bytes
       → read_piece read (text ++ rest) ≡ Ok (bytes, rest)
+  unfolding read_piece start_of
   piece_again bytes_kind text bytes rest is = notation_again text bytes rest is
   piece_again text_kind text bytes rest (inr is) = notation_again text bytes rest is
   piece_again text_kind text bytes rest (inl is) = ap (read_piece read) (quoted_parts 34 text bytes rest is)
-      ∙ quotes_again bytes rest
+      ∙ quoted_again 34 bytes rest quotation_mark
 
 -- ---- several pieces
 

@@ -80,9 +80,7 @@ module _ (read : List ℕ → Read Item) where
 
   float_of_again : (w : FloatWidth) (count : ℕ) → FloatDigits w count → float_of count ≡ Some w
   float_of_again float_width.Unknown count is = absurd is
-  float_of_again float_width.Sixteen count is = rw is refl
-  float_of_again float_width.ThirtyTwo count is = rw is refl
-  float_of_again float_width.SixtyFour count is = rw is refl
+  float_of_again _ count is = rw is refl
 
   numeral_again : (base : ℕ) (ds : List ℕ) (n : ℕ) → AreDigits base ds n → numeral base ds ≡ Some n
   numeral_again base [] n are = absurd (omega (arith, are.0.0))

@@ -61,17 +61,11 @@ number_itself n = (Decides-eqb n n).1 refl
 
 width_itself : Holds same_width
 width_itself Unknown = refl
-width_itself Zero = refl
-width_itself Eight = refl
-width_itself Sixteen = refl
-width_itself ThirtyTwo = refl
-width_itself SixtyFour = refl
+width_itself _ = refl
 
 float_width_itself : Holds same_float_width
 float_width_itself float_width.Unknown = refl
-float_width_itself float_width.Sixteen = refl
-float_width_itself float_width.ThirtyTwo = refl
-float_width_itself float_width.SixtyFour = refl
+float_width_itself _ = refl
 
 count_itself : Holds same_count
 count_itself None = refl

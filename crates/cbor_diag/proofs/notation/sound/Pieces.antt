@@ -188,12 +188,7 @@ module _ (left : ℕ) (R : List ℕ → Item → Type 0) (read : List ℕ → Re
       (h_notation text)
       (λ g bytes h. (in_kind kind (b ∷ g) bytes (subst (λ (z : ℕ). Notation R (z ∷ g) bytes) (sym is) h), g, refl))
       (h_sound R (suc left) text))
-  piece_sound kind b text start.Parenthesis is begins = tt
-  piece_sound kind b text start.Minus is begins = tt
-  piece_sound kind b text start.Digit is begins = tt
-  piece_sound kind b text start.Bracket is begins = tt
-  piece_sound kind b text start.Brace is begins = tt
-  piece_sound kind b text start.Other is begins = tt
+  piece_sound kind b text _ is begins = tt
 
   -- ---- pieces
 
@@ -272,16 +267,7 @@ module _ (left : ℕ) (R : List ℕ → Item → Type 0) (read : List ℕ → Re
   -- a text string begins with a quote
   quote_start : (s : Start) (b : ℕ) → StartIs s b → begins_string text_kind s ≡ true → b ≡ 34
   quote_start start.Quote b is h = is
-  quote_start start.Apostrophe b is h = absurd cc
-  quote_start start.Parenthesis b is h = absurd cc
-  quote_start start.Minus b is h = absurd cc
-  quote_start start.Digit b is h = absurd cc
-  quote_start start.Angle b is h = absurd cc
-  quote_start start.Bracket b is h = absurd cc
-  quote_start start.LetterB b is h = absurd cc
-  quote_start start.LetterH b is h = absurd cc
-  quote_start start.Brace b is h = absurd cc
-  quote_start start.Other b is h = absurd cc
+  quote_start _ b is h = absurd cc
 
   piece_start : (s : Start) → begins_string text_kind s ≡ true → begins_piece text_kind s ≡ true
   piece_start start.Quote h = refl
@@ -293,8 +279,7 @@ module _ (left : ℕ) (R : List ℕ → Item → Type 0) (read : List ℕ → Re
   piece_start start.Bracket h = h
   piece_start start.LetterB h = refl
   piece_start start.LetterH h = refl
-  piece_start start.Brace h = h
-  piece_start start.Other h = h
+  piece_start _ h = h
 
   string_begins : (kind : StringKind) (b : ℕ) → begins_string kind (start_of b) ≡ true
       → begins_piece kind (start_of b) ≡ true

@@ -17,8 +17,7 @@ use Rattle.cbor_notes.proofs.tokens.Numbers.{IsNumber-number_of}
 use Rattle.cbor_diag.specs.declared.error.Error.{Error}
 use Rattle.cbor_diag.specs.declared.error.Error.TheVariants as refusal
 use Rattle.cbor_diag.specs.declared.syntax.IntegerWidth.{IntegerWidth}
-use Rattle.cbor_diag.specs.declared.syntax.IntegerWidth.TheVariants.{Unknown, Zero, Eight, Sixteen, ThirtyTwo}
-use Rattle.cbor_diag.specs.declared.syntax.IntegerWidth.TheVariants.{SixtyFour}
+use Rattle.cbor_diag.specs.declared.syntax.IntegerWidth.TheVariants.{Unknown}
 use Rattle.cbor_diag.specs.declared.syntax.FloatWidth.{FloatWidth}
 use Rattle.cbor_diag.specs.declared.syntax.FloatWidth.TheVariants as float_width_of
 use Rattle.cbor_diag.specs.Item.{Item, atom, negative, float, simple, tagged}
@@ -45,11 +44,7 @@ SizedSo n indicator (Err e) = OddNumber indicator e
 
 fits_past : (w : IntegerWidth) (n : ℕ) → n < past_width w → FitsWidth w n
 fits_past Unknown n h = h
-fits_past Zero n h = h
-fits_past Eight n h = h
-fits_past Sixteen n h = h
-fits_past ThirtyTwo n h = h
-fits_past SixtyFour n h = h
+fits_past _ n h = h
 
 fits_open : (n : ℕ) → n < 2 ^ 64 → FitsWidth (number_width n None) n
 fits_open n h =

@@ -64,9 +64,7 @@ push_map-returns t c =
 pub push_pairs-push_item-requires-in-pairs : goal.push_pairs-push_item-requires-in-pairs
 push_pairs-push_item-requires-in-pairs t c = (
   search (rules, the_lemmas),
-  let all = c.deref-key-items.result.now in
-      let i = c.pairs.key-index in
-      let here = drop_here all i c.pairs-item.result c.pairs-test.true c.pairs-item.is in
+  let here = drop_here c.deref-key-items.result.now _ _ c.pairs-test.true c.pairs-item.is in
       let well = subst (λ ps. WellFormedPairs c.pairs.invariant.1 (pairs_view ps)) here c.pairs.invariant.2 in
       (c.pairs.invariant.1, well.1),
 )
@@ -88,9 +86,7 @@ push_pairs-returns-in_err-push_item-2 t c =
 pub push_items-push_item-requires : goal.push_items-push_item-requires
 push_items-push_item-requires t c = (
   search (rules, the_lemmas),
-  let all = c.deref-item-items.result.now in
-      let i = c.items.item-index in
-      let here = drop_here all i c.item-item.result c.items-test.true c.item-item.is in
+  let here = drop_here c.deref-item-items.result.now _ _ c.items-test.true c.item-item.is in
       let well = subst (λ vs. WellFormedItems c.items.invariant.1 (items_view vs)) here c.items.invariant.2 in
       (c.items.invariant.1, well.0),
 )
@@ -104,9 +100,7 @@ push_items-returns-in_err-push_item t c =
 pub push_pairs-push_item-requires : goal.push_pairs-push_item-requires
 push_pairs-push_item-requires t c = (
   search (rules, the_lemmas),
-  let all = c.deref-key-items.result.now in
-      let i = c.pairs.key-index in
-      let here = drop_here all i c.pairs-item.result c.pairs-test.true c.pairs-item.is in
+  let here = drop_here c.deref-key-items.result.now _ _ c.pairs-test.true c.pairs-item.is in
       let well = subst (λ ps. WellFormedPairs c.pairs.invariant.1 (pairs_view ps)) here c.pairs.invariant.2 in
       (c.pairs.invariant.1, well.0),
 )

@@ -17,10 +17,10 @@ use Rattle.cbor_diag.proofs.notation.Loops.{members_closed, members_begin, membe
 use Rattle.cbor_diag.proofs.notation.Loops.{member_more}
 use Rattle.cbor_diag.proofs.notation.Cores.{core_by, bytes_core, item_none}
 use Rattle.cbor_diag.proofs.notation.Cores.{no_content, no_string, string_read, no_chunks, chunks_read, chunks_well}
-use Rattle.cbor_diag.proofs.notation.Cores.{item_some, pieces_begin, pieces_end, piece_fails, piece_more, items_push}
+use Rattle.cbor_diag.proofs.notation.Cores.{item_some, pieces_begin, pieces_end, piece_fails, piece_more}
 use Rattle.cbor_diag.proofs.notation.Cores.{no_key, no_colon, no_value, pair_read, pair_view, pairs_push}
 use Rattle.cbor_diag.proofs.notation.Cores.{array_well, map_well}
-use Rattle.cbor_diag.proofs.shared.Views.{view-Array, view-Map, view-Negative}
+use Rattle.cbor_diag.proofs.shared.Views.{items_push, view-Array, view-Map, view-Negative}
 use Rattle.cbor_diag.proofs.parse.notation.+diag.Goals as goal
 
 pub read_items-returns-in-Some-clause-gives : goal.read_items-returns-in-Some-clause-gives
