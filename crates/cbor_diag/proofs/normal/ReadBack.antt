@@ -80,8 +80,7 @@ colon_gap _ = codes " "
 
 colon_blank : (l : ContainerStyle) → IsBlank (colon_gap l)
 colon_blank style.Compact = nothing
-colon_blank (style.OneLine k) = one_space
-colon_blank (style.MultiLine k) = one_space
+colon_blank _ = one_space
 
 -- no bytes are no item
 nothing_embedded : (left : ℕ) (e : Item) → embedded_at left [] ≡ Some e → ⊥
@@ -100,8 +99,7 @@ rest_read {Read} c shown bytes (x ∷ rest) first all =
 
 colon_after : (l : ContainerStyle) (value : List ℕ) → colon l ++ value ≡ codes ":" ++ (colon_gap l ++ value)
 colon_after style.Compact value = refl
-colon_after (style.OneLine k) value = refl
-colon_after (style.MultiLine k) value = refl
+colon_after _ value = refl
 
 -- ---- one level: members are read by what reads the level below
 

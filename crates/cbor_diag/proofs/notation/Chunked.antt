@@ -9,7 +9,7 @@ use Rattle.cbor_diag.specs.Notation.{Blanked, Closes, Members, StringOf, ChunksO
 use Rattle.cbor_diag.specs.mirror.NotationReading.{skip_blank, start_of, first_start, read_string, read_chunk}
 use Rattle.cbor_diag.specs.mirror.NotationReading.{chunks_of, kind_from, read_chunks, read_members}
 use Rattle.cbor_diag.proofs.notation.Ends.{Begins, begins_append, begins_more, begins_ends, blank_passed}
-use Rattle.cbor_diag.proofs.notation.Ends.{Starts, starts_passed}
+use Rattle.cbor_diag.proofs.notation.Ends.{starts_passed}
 use Rattle.cbor_diag.proofs.notation.Lists.{ReadsAgain, blanked_parts, blanked_stripped, members_again}
 use Rattle.cbor_diag.proofs.notation.Lists.{members_at_blank}
 use Rattle.cbor_diag.proofs.notation.Numbers.{at_one_of}
@@ -20,23 +20,20 @@ abbrev pub ChunkOf : StringKind → (List ℕ → Item → Type 0) → List ℕ 
 ChunkOf kind Reads member c = Blanked (λ core. StringOf kind Reads core c) member
 
 module _ (Reads : List ℕ → Item → Type 0) (kind : StringKind) where
-  starts_chunk : (core : List ℕ) (c : Chunk) → StringOf kind Reads core c → Starts core
-  starts_chunk core c is = string_starts_core kind core (string_begins Reads kind core c is)
-
   -- what is left of a chunk and the rest after the blank
   chunk_passed : (text rest : List ℕ) (c : Chunk) (is : ChunkOf kind Reads text c)
       → skip_blank (text ++ rest) ≡ is.1 ++ (is.2 ++ rest)
   chunk_passed text rest c is =
       ap skip_blank (blanked_parts text is.0 is.1 is.2 rest is.3)
       ∙ starts_passed is.0 (is.1 ++ (is.2 ++ rest)) is.4
-      (begins_append (codes "'<bh\"-[{(ftnus0123456789") is.1 (is.2 ++ rest) (starts_chunk is.1 c is.5))
+      (begins_append (codes "'<bh\"-[{(ftnus0123456789") is.1 (is.2 ++ rest) (string_starts_core Reads kind is.1 c is.5))
 
   chunk_reads : (read : List ℕ → Read Item) → ReadsAgain Reads read
       → ReadsAgain (ChunkOf kind Reads) (read_chunk read kind)
   chunk_reads read it = record {
     again = λ text rest c is follows. ap (read_string read kind) (chunk_passed text rest c is)
         ∙ string_again Reads read it kind is.1 is.2 rest c is.5 is.6 follows;
-    stripped = λ text c is. blanked_stripped (StringOf kind Reads) starts_chunk text c is;
+    stripped = λ text c is. blanked_stripped (StringOf kind Reads) (string_starts_core Reads kind) text c is;
   }
 
   -- what follows the opening and a blank

@@ -30,7 +30,7 @@ no_chunks_start text_kind = refl
 atom_starts : (Reads : List ℕ → Item → Type 0) (text : List ℕ) (a : Atom) → AtomCore Reads text a → Starts text
 atom_starts Reads text (integer n w) is = begins_more digits core_starts text refl (number_begins text n is.0 is.1)
 atom_starts Reads text (negative n w) is = subst Starts (sym is.2) refl
-atom_starts Reads text (string kind c) is = string_starts_core kind text (string_begins Reads kind text c is)
+atom_starts Reads text (string kind c) is = string_starts_core Reads kind text c is
 atom_starts Reads text (chunked_string kind cs) (inl is) = subst Starts (sym is.1) (no_chunks_start kind)
 atom_starts Reads text (chunked_string kind cs) (inr is) = subst Starts (sym is.1.1) refl
 atom_starts Reads text (float bits w) is = subst Starts (sym is.1) refl

@@ -129,9 +129,14 @@ module _ (Reads : List ℕ → Item → Type 0) where
       subst (Begins (piece_starts kind)) (sym text_is)
       (begins_append (piece_starts kind) first (blank ++ rest) (piece_begins kind first bytes_first is))
 
+-- all begin as pieces of texts may
+pub any_piece : (kind : StringKind) (text : List ℕ) → Begins (piece_starts kind) text
+    → Begins (piece_starts text_kind) text
+any_piece bytes_kind text is = begins_more (piece_starts bytes_kind) (piece_starts text_kind) text refl is
+any_piece text_kind text is = is
+
 pub piece_starts_core : (kind : StringKind) (text : List ℕ) → Begins (piece_starts kind) text → Starts text
-piece_starts_core bytes_kind text is = begins_more (piece_starts bytes_kind) core_starts text refl is
-piece_starts_core text_kind text is = begins_more (piece_starts text_kind) core_starts text refl is
+piece_starts_core kind text is = begins_more (piece_starts text_kind) core_starts text refl (any_piece kind text is)
 
 begins_length : (bytes text : List ℕ) → Begins bytes text → 0 < length text
 begins_length bytes [] is = absurd is

@@ -15,12 +15,12 @@ use Rattle.cbor_diag.specs.Notation.{as_text, as_items, PieceOf, Joined, one, mo
 use Rattle.cbor_diag.specs.mirror.NotationReading.{after_word, start_of, first_start, begins_string}
 use Rattle.cbor_diag.specs.mirror.NotationReading.{checked, read_string}
 use Rattle.cbor_diag.proofs.shared.Utf8.{utf8_passes}
-use Rattle.cbor_diag.proofs.notation.Ends.{holds_of, Begins, Ends, begins_append, begins_more, begins_ends, ends_more}
-use Rattle.cbor_diag.proofs.notation.Ends.{blank_ends, core_ends, core_starts, notation_starts, Follows, follows_blank}
+use Rattle.cbor_diag.proofs.notation.Ends.{holds_of, Begins, Ends, begins_append, begins_ends, ends_more}
+use Rattle.cbor_diag.proofs.notation.Ends.{blank_ends, core_ends, notation_starts, Follows, follows_blank}
 use Rattle.cbor_diag.proofs.notation.Ends.{Starts}
 use Rattle.cbor_diag.proofs.notation.Lists.{ReadsAgain}
 use Rattle.cbor_diag.proofs.notation.Pieces.{apostrophe, quotation_mark, quoted_parts, piece_starts, piece_begins}
-use Rattle.cbor_diag.proofs.notation.Pieces.{joined_begins, joined_again}
+use Rattle.cbor_diag.proofs.notation.Pieces.{any_piece, piece_starts_core, joined_begins, joined_again}
 
 -- what a string of each kind begins with
 abbrev pub string_starts : StringKind → List ℕ
@@ -32,9 +32,9 @@ pub string_begins : (Reads : List ℕ → Item → Type 0) (kind : StringKind) (
 string_begins Reads bytes_kind text c is = joined_begins Reads bytes_kind text c.bytes is.2
 string_begins Reads text_kind text c is = subst (Begins (string_starts text_kind)) (sym is.1.1) refl
 
-pub string_starts_core : (kind : StringKind) (text : List ℕ) → Begins (string_starts kind) text → Starts text
-string_starts_core bytes_kind text is = begins_more (string_starts bytes_kind) core_starts text refl is
-string_starts_core text_kind text is = begins_more (string_starts text_kind) core_starts text refl is
+pub string_starts_core : (Reads : List ℕ → Item → Type 0) (kind : StringKind) (text : List ℕ) (c : Chunk)
+    → StringOf kind Reads text c → Starts text
+string_starts_core Reads kind text c is = piece_starts_core kind text (joined_begins Reads kind text c.bytes is.2)
 
 string_goes : (kind : StringKind) (text : List ℕ) → Begins (string_starts kind) text
     → begins_string kind (first_start text) ≡ true
@@ -133,12 +133,6 @@ module _ (Reads : List ℕ → Item → Type 0) where
       other_start 34 notation_starts (text ++ rest) refl
       (begins_append notation_starts text rest (piece_begins Reads bytes_kind text bytes is))
 
-  pieces_follow : (kind : StringKind) (text : List ℕ) → Begins (piece_starts kind) text → Ends (codes "'<bh\"") text
-  pieces_follow bytes_kind text is = begins_ends (codes "'<bh\"") text
-      (begins_more (piece_starts bytes_kind) (codes "'<bh\"") text refl is)
-  pieces_follow text_kind text is = begins_ends (codes "'<bh\"") text
-      (begins_more (piece_starts text_kind) (codes "'<bh\"") text refl is)
-
   joined_no_word : (kind : StringKind) (text bytes rest : List ℕ) → Ends core_ends rest
       → Joined (PieceOf kind Reads) text bytes → after_word (no_chunks kind) (text ++ rest) ≡ None
   joined_no_word kind text bytes rest ends (one is) =
@@ -149,8 +143,8 @@ module _ (Reads : List ℕ → Item → Type 0) where
       let whole : text ++ rest ≡ first ++ (blank ++ tail) = ap (λ (t : List ℕ). t ++ rest) text_is
       ∙ (append_assoc first (blank ++ others) rest
       ∙ ap (λ (t : List ℕ). first ++ t) (append_assoc blank others rest)) in
-      let next = pieces_follow kind tail (begins_append (piece_starts kind) others rest
-      (joined_begins Reads kind others bytes_rest then)) in
+      let next = begins_ends (codes "'<bh\"") tail (any_piece kind tail (begins_append (piece_starts kind) others rest
+      (joined_begins Reads kind others bytes_rest then))) in
       ap (after_word (no_chunks kind)) whole
       ∙ piece_no_word kind first bytes_first (blank ++ tail)
       (blank_ends (codes "'<bh\"") piece_ends blank tail refl refl blank_is next) is
