@@ -1,8 +1,9 @@
 -- Digits that are read as bytes are the encoding of these bytes.
 use Rattle.std.proofs.Common.{◌≡◌, ◌≢◌, ℕ, ◌-◌, ◌*◌, ◌/◌, ◌^◌, ◌<◌, ◌==◌, ◌||◌, ◌⊎◌, inl, inr, Bool, true, false}
 use Rattle.std.proofs.Common.{if◌then◌else◌, List, [], ◌∷◌, length, map, take, zero, suc, position, unwrap_or, bytes_eq}
-use Rattle.std.proofs.Common.{codes, Option, Some, None, refl, sym, ap, subst, ◌∙◌, arith, lit<}
+use Rattle.std.proofs.Common.{codes, Vec, Global, Option, Some, None, refl, sym, ap, subst, ◌∙◌, arith, lit<}
 use Rattle.std.specs.Int.Digits.{AllBelowBase, number_from_digits}
+use Rattle.std.specs.Option.{ok_or, IfSome, IfNone}
 use Rattle.std.proofs.lemmas.Slice.Eq.{bytes_eq-Decides}
 use Rattle.cbor_notes.specs.AreBytes.{AreBytes}
 use Rattle.cbor_notes.specs.Base32.{Alphabet, characters, places, encode}
@@ -10,8 +11,10 @@ use Rattle.cbor_notes.specs.Base64.{standard, url_safe}
 use Rattle.cbor_notes.proofs.bases.Base32Encode.{AllBelowBase-append}
 use Rattle.cbor_notes.proofs.dates.Places.{AllBelowBase-places}
 use Rattle.cbor_notes.proofs.tokens.TextPlaces.{first_at}
-use Rattle.cbor_diag.proofs.notation.Decoded.{url_safe_again, standard_again}
-use Rattle.cbor_diag.specs.mirror.NotationReading.{if_encoded, either, value_in, bytes_of_fives, from_fives, from_sixes}
+use Rattle.cbor_diag.proofs.notation.Decoded.{base32_again, url_safe_again, standard_again}
+use Rattle.cbor_diag.specs.declared.error.Error.TheVariants as refusal
+use Rattle.cbor_diag.specs.Reading.{Gives}
+use Rattle.cbor_diag.specs.mirror.NotationReading.{or_refused, if_encoded, either, value_in, bytes_of_fives, from_fives, from_sixes}
 use Rattle.cbor_diag.specs.mirror.NotationReading.{six_bits, unpadded, base32_of, base64_of}
 
 -- the answer whose encoding was compared
@@ -116,12 +119,21 @@ none_found : (r : Option (List ℕ)) → ((bytes : List ℕ) → ¬ (r ≡ Some 
 none_found None none = refl
 none_found (Some bytes) none = absurd (none bytes refl)
 
-pub base32_missing : (alphabet : Alphabet) (digits : List ℕ)
+base32_missing : (alphabet : Alphabet) (digits : List ℕ)
     → ((bytes : List ℕ) → AreBytes bytes → digits ≢ encode alphabet bytes) → base32_of alphabet digits ≡ None
 base32_missing alphabet digits none = none_found (base32_of alphabet digits)
     (λ bytes e. let found = base32_found alphabet digits bytes e in none bytes found.0 found.1)
 
-pub base64_missing : (digits : List ℕ) → ((bytes : List ℕ) → AreBytes bytes
+-- what was found, or why nothing was, is the answer
+pub base32_answer : (alphabet : Alphabet) (digits : List ℕ) (found : Option (Vec ℕ Global))
+    → IfSome found (λ v. AreBytes v.items × (digits ≡ encode alphabet v.items))
+    → IfNone found ((bytes : List ℕ) → AreBytes bytes → digits ≢ encode alphabet bytes)
+    → Gives (λ v. v.items) (ok_or found refusal.Notation) (or_refused (base32_of alphabet digits))
+base32_answer alphabet digits (Some v) is none =
+    ap or_refused (ap (base32_of alphabet) is.1 ∙ base32_again alphabet v.items is.0)
+base32_answer alphabet digits None is none = ap or_refused (base32_missing alphabet digits none)
+
+base64_missing : (digits : List ℕ) → ((bytes : List ℕ) → AreBytes bytes
     → (digits ≢ url_safe bytes) × (digits ≢ standard bytes)) → base64_of digits ≡ None
 base64_missing digits none = none_found (base64_of digits)
     (λ bytes e. let found = base64_found digits bytes e in neither bytes found.0 found.1) where
@@ -129,7 +141,14 @@ base64_missing digits none = none_found (base64_of digits)
       neither bytes are (inl e) = (none bytes are).0 e
       neither bytes are (inr e) = (none bytes are).1 e
 
-pub base64_again : (digits bytes : List ℕ) → AreBytes bytes → (digits ≡ url_safe bytes) ⊎ (digits ≡ standard bytes)
+base64_again : (digits bytes : List ℕ) → AreBytes bytes → (digits ≡ url_safe bytes) ⊎ (digits ≡ standard bytes)
     → base64_of digits ≡ Some bytes
 base64_again digits bytes are (inl e) = ap base64_of e ∙ url_safe_again bytes are
 base64_again digits bytes are (inr e) = ap base64_of e ∙ standard_again bytes are
+
+pub base64_answer : (digits : List ℕ) (found : Option (Vec ℕ Global))
+    → IfSome found (λ v. AreBytes v.items × ((digits ≡ url_safe v.items) ⊎ (digits ≡ standard v.items)))
+    → IfNone found ((bytes : List ℕ) → AreBytes bytes → (digits ≢ url_safe bytes) × (digits ≢ standard bytes))
+    → Gives (λ v. v.items) (ok_or found refusal.Notation) (or_refused (base64_of digits))
+base64_answer digits (Some v) is none = ap or_refused (base64_again digits v.items is.0 is.1)
+base64_answer digits None is none = ap or_refused (base64_missing digits none)

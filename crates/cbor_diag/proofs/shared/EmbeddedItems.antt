@@ -26,12 +26,6 @@ use Rattle.cbor_diag.proofs.shared.Views.{items_push}
 
 -- ---- one item
 
-pub whole_item : (level : ℕ) (b : List ℕ) (i : Item) → level ≤ 129 → Spells any level b i
-    → embedded_at (129 - level) b ≡ Some i
-whole_item level b i le s =
-    ap if_whole (ap (read_item (129 - level)) (sym (append-nil b))
-    ∙ item_again level (129 - level) b i [] (omega arith) s)
-
 bytes_after : (i : Item) (r : List ℕ) → r ≢ [] → if_whole (Ok (i, r)) ≡ None
 bytes_after i [] h = absurd (h refl)
 bytes_after i (x ∷ r) h = refl

@@ -96,20 +96,16 @@ fn read_base16(alloc: Global, text: &[u8]) -> Result<(Vec<u8>, &[u8])>
 fn base32(alloc: Global, digits: &[u8]) -> Result<Vec<u8>>
     ensures { Gives (λ x. x.items) result (or_refused (base32_of standard digits.now)) }
 {
-    match cbor_notes::base32_decode(alloc, digits)? {
-        Some(bytes) => Ok(bytes),
-        None => Err(Error::Notation),
-    }
+    let found = cbor_notes::base32_decode(alloc, digits)?;
+    found.ok_or(Error::Notation)
 }
 
 /// The bytes that digits of base 32 with the extended hex alphabet encode.
 fn base32hex(alloc: Global, digits: &[u8]) -> Result<Vec<u8>>
     ensures { Gives (λ x. x.items) result (or_refused (base32_of extended_hex digits.now)) }
 {
-    match cbor_notes::base32hex_decode(alloc, digits)? {
-        Some(bytes) => Ok(bytes),
-        None => Err(Error::Notation),
-    }
+    let found = cbor_notes::base32hex_decode(alloc, digits)?;
+    found.ok_or(Error::Notation)
 }
 
 /// The bytes that base 64 digits encode, in the alphabet for URLs without padding or in the
@@ -117,10 +113,8 @@ fn base32hex(alloc: Global, digits: &[u8]) -> Result<Vec<u8>>
 fn base64(alloc: Global, digits: &[u8]) -> Result<Vec<u8>>
     ensures { Gives (λ x. x.items) result (or_refused (base64_of digits.now)) }
 {
-    match cbor_notes::base64_any_decode(alloc, digits)? {
-        Some(bytes) => Ok(bytes),
-        None => Err(Error::Notation),
-    }
+    let found = cbor_notes::base64_any_decode(alloc, digits)?;
+    found.ok_or(Error::Notation)
 }
 
 /// The bytes of `h'..'` or `h32'..'` after the `h`.
