@@ -171,11 +171,6 @@ chunk_enc kind c b end Rest h is holds = (
   ),
 )
 
-string_enc : (kind : StringKind) (c : Chunk) → IsChunk kind c
-    → ChunkThen kind (resolve_chunk c) (encoded_chunk (major_of kind) c) (λ rest. rest ≡ [])
-string_enc kind c h = chunk_enc kind c (encoded_chunk (major_of kind) c) [] (λ rest. rest ≡ []) h
-    (sym (append-nil (encoded_chunk (major_of kind) c))) refl
-
 chunks_enc : (kind : StringKind) (cs : List Chunk) (end : List ℕ) → AllByRecursion (IsChunk kind) cs
     → SpellsChunks kind (flat_map (encoded_chunk (major_of kind)) cs ++ end) (map resolve_chunk cs) end
 chunks_enc kind [] end h = refl
@@ -203,7 +198,8 @@ head_enc major n w fits = (stated_fits w n fits, [], sym (append-nil (encoded_he
 atom_enc : (a : Atom) → WellFormedAtom a → SpellsAtom strict (encoded_atom a) (resolve_atom a)
 atom_enc (integer n w) h = head_enc 0 n w h
 atom_enc (negative n w) h = head_enc 1 n w h
-atom_enc (string kind c) h = string_enc kind c h
+atom_enc (string kind c) h =
+    chunk_enc kind c _ [] (λ rest. rest ≡ []) h (sym (append-nil (encoded_chunk (major_of kind) c))) refl
 atom_enc (chunked_string kind cs) h = (
   flat_map (encoded_chunk (major_of kind)) cs ++ break_byte ∷ [],
   refl,

@@ -74,21 +74,6 @@ module _ (R : List ℕ → Item → Type 0) where
       → Notation R text bytes
   from_base16 text digits bytes within e = in_base16 digits within (base16_so digits bytes (decode_of digits) refl e)
 
-  from_base32 : (text digits bytes : List ℕ) → DigitsIn true (codes "b32'") text digits
-      → base32_of base32.standard digits ≡ Some bytes → Notation R text bytes
-  from_base32 text digits bytes within e =
-      let found = base32_found base32.standard digits bytes e in in_base32 digits within found.0 found.1
-
-  from_base32hex : (text digits bytes : List ℕ) → DigitsIn true (codes "h32'") text digits
-      → base32_of base32.extended_hex digits ≡ Some bytes → Notation R text bytes
-  from_base32hex text digits bytes within e =
-      let found = base32_found base32.extended_hex digits bytes e in in_base32hex digits within found.0 found.1
-
-  from_base64 : (text digits bytes : List ℕ) → DigitsIn false (codes "b64'") text digits → base64_of digits ≡ Some bytes
-      → Notation R text bytes
-  from_base64 text digits bytes within e =
-      let found = base64_found digits bytes e in in_base64 digits within found.0 found.1
-
   -- after the opened quote of a notation
   decoded_sound : (levels : ℕ) (comments : Bool) (decode : List ℕ → Option (List ℕ)) (word : List ℕ)
       → ((text digits bytes : List ℕ) → DigitsIn comments word text digits → decode digits ≡ Some bytes
@@ -125,7 +110,8 @@ module _ (R : List ℕ → Item → Type 0) where
       either_sound levels (λ g bytes. Notation R (104 ∷ g) bytes) text (codes "'") (codes "32'")
       (read_decoded true base16_of) (read_decoded true (base32_of base32.extended_hex))
       (decoded_sound levels true base16_of (codes "h'") from_base16)
-      (decoded_sound levels true (base32_of base32.extended_hex) (codes "h32'") from_base32hex)
+      (decoded_sound levels true (base32_of base32.extended_hex) (codes "h32'") (λ text digits bytes within e.
+      let found = base32_found base32.extended_hex digits bytes e in in_base32hex digits within found.0 found.1))
       (after_word (codes "'") text) (after_word (codes "32'") text) refl refl
 
   pub b_sound : (levels : ℕ) (text : List ℕ)
@@ -133,6 +119,8 @@ module _ (R : List ℕ → Item → Type 0) where
   b_sound levels text =
       either_sound levels (λ g bytes. Notation R (98 ∷ g) bytes) text (codes "32'") (codes "64'")
       (read_decoded true (base32_of base32.standard)) (read_decoded false base64_of)
-      (decoded_sound levels true (base32_of base32.standard) (codes "b32'") from_base32)
-      (decoded_sound levels false base64_of (codes "b64'") from_base64)
+      (decoded_sound levels true (base32_of base32.standard) (codes "b32'") (λ text digits bytes within e.
+      let found = base32_found base32.standard digits bytes e in in_base32 digits within found.0 found.1))
+      (decoded_sound levels false base64_of (codes "b64'") (λ text digits bytes within e.
+      let found = base64_found digits bytes e in in_base64 digits within found.0 found.1))
       (after_word (codes "32'") text) (after_word (codes "64'") text) refl refl
