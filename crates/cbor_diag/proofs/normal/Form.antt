@@ -13,6 +13,7 @@ use Rattle.cbor_diag.specs.Written.{encoded_head}
 use Rattle.cbor_diag.specs.Written.{resolve_float}
 use Rattle.cbor_diag.specs.Normal.{normal_width}
 use Rattle.cbor_diag.proofs.bytes.Strict.{stated_fits}
+use Rattle.cbor_diag.proofs.notation.Numbers.{fits_64}
 
 -- ---- lengths of heads
 
@@ -81,12 +82,7 @@ less_fits m n ThirtyTwo le fits = let lt : n < 2 ^ 32 = fits in omega arith
 less_fits m n SixtyFour le fits = let lt : n < 2 ^ 64 = fits in omega arith
 
 pub open_fits : (m n : ℕ) (w : IntegerWidth) → m ≤ n → FitsWidth w n → FitsWidth Unknown m
-open_fits m n Unknown le fits = let lt : n < 2 ^ 64 = fits in omega arith
-open_fits m n Zero le fits = let lt : n < 24 = fits in omega arith
-open_fits m n Eight le fits = let lt : n < 2 ^ 8 = fits in omega arith
-open_fits m n Sixteen le fits = let lt : n < 2 ^ 16 = fits in omega arith
-open_fits m n ThirtyTwo le fits = let lt : n < 2 ^ 32 = fits in omega arith
-open_fits m n SixtyFour le fits = let lt : n < 2 ^ 64 = fits in omega arith
+open_fits m n w le fits = let lt = fits_64 w n fits in omega arith
 
 -- the head of a length that is no greater, in an unstated width, is no longer
 pub head_no_longer : (major m n : ℕ) (w : IntegerWidth) → m ≤ n → FitsWidth w n

@@ -68,3 +68,6 @@ pub long_sequence : (level indent : ℕ) (e : Encoding) (w : IntegerWidth) (b : 
 long_sequence level indent e w b lt many =
     sequence_is level indent e w b lt ∙ ap (λ l. sequence_laid_out l e level indent w b.bytes)
     (tall indent (sequence_size (sequence (level + 2) b.bytes)) many)
+
+-- what a pretty text is by its estimate
+pub ruleset pretty_laws = (short_is, long_is, short_sequence, long_sequence)

@@ -338,6 +338,7 @@ impl DataItem {
     /// let item = parse_bytes(alloc, b"\x9f\x01\x82\x02\x03\xff")?;
     /// assert_eq!(rt; item.to_diag_pretty(alloc)?.as_str(), "[_ 1, [2, 3]]");
     /// ```
+    #[tactic(auto, using(crate::proofs::text::Forms::pretty_laws))]
     pub fn to_diag_pretty(&self, alloc: Global) -> crate::Result<String>
         requires { IsWellFormed (view self.now) }
         ensures text { IfOk result (λ s. string_bytes s ≡ pretty_of (view self.now)) }
