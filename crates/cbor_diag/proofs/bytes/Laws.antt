@@ -113,28 +113,19 @@ close_bytes : (w : Option IntegerWidth) → AllBytes (encoded_close w)
 close_bytes (Some w) = tt
 close_bytes None = break_bytes
 
-four : 4 ≤ 6
-four = omega arith
-
-five : 5 ≤ 6
-five = omega arith
-
-six : 6 ≤ 6
-six = omega arith
-
 mutual
   pub item_bytes : (level : ℕ) (i : Item) → WellFormed level i → AllBytes (encoded i)
   item_bytes level (atom a) well = atom_bytes a well.1
   item_bytes level (array is w) well =
       all_bytes-append (encoded_open 4 (item_count is) w) (encoded_items is ++ encoded_close w)
-      (open_bytes 4 (item_count is) w four well.1)
+      (open_bytes 4 (item_count is) w (omega arith) well.1)
       (all_bytes-append (encoded_items is) (encoded_close w) (items_bytes (level + 1) is well.2) (close_bytes w))
   item_bytes level (spec.map ps w) well =
       all_bytes-append (encoded_open 5 (pair_count ps) w) (encoded_pairs ps ++ encoded_close w)
-      (open_bytes 5 (pair_count ps) w five well.1)
+      (open_bytes 5 (pair_count ps) w (omega arith) well.1)
       (all_bytes-append (encoded_pairs ps) (encoded_close w) (pairs_bytes (level + 1) ps well.2) (close_bytes w))
   item_bytes level (tagged t w i) well =
-      all_bytes-append (encoded_head 6 t w) (encoded i) (written_bytes 6 t w six well.1)
+      all_bytes-append (encoded_head 6 t w) (encoded i) (written_bytes 6 t w (omega arith) well.1)
       (item_bytes (level + 1) i well.2)
 
   pub items_bytes : (level : ℕ) (is : Items) → WellFormedItems level is → AllBytes (encoded_items is)

@@ -1,5 +1,5 @@
 -- Without comments and blanks the lines of a dump are the encoding of the item, in hex.
-use Rattle.std.proofs.Common.{◌≡◌, ◌≢◌, ℕ, zero, suc, ◌+◌, ◌%◌, ◌==◌, ◌≤◌, true, false, cond, unwrap_or, not, List, []}
+use Rattle.std.proofs.Common.{◌≡◌, ℕ, zero, suc, ◌+◌, ◌%◌, ◌==◌, ◌≤◌, true, false, cond, unwrap_or, not, List, []}
 use Rattle.std.proofs.Common.{◌∷◌, ◌++◌, map, length, take, drop, codes, Option, Some, None, inl, inr, refl, sym, ap}
 use Rattle.std.proofs.Common.{subst, ◌∙◌, append-nil, arith}
 use Rattle.std.specs.List.{filter, flat_map}
@@ -46,11 +46,8 @@ keep_all : (xs : List ℕ) → Free 32 xs → shown xs ≡ xs
 keep_all [] free = refl
 keep_all (x ∷ xs) free = rw (ne_eqb x 32 free.0) (ap (λ rest. x ∷ rest) (keep_all xs free.1))
 
-zero_blank : ◌≢◌ {A = ℕ} 0 32
-zero_blank e = cc e
-
 shown_hex : (bytes : List ℕ) → shown (encode_lower bytes) ≡ encode_lower bytes
-shown_hex bytes = keep_all (encode_lower bytes) (free_hex 32 zero_blank (from_test 32 lower_digits refl) bytes)
+shown_hex bytes = keep_all (encode_lower bytes) (free_hex 32 (λ e. cc e) (from_test 32 lower_digits refl) bytes)
 
 hex_both : (xs ys : List ℕ) → encode_lower (xs ++ ys) ≡ encode_lower xs ++ encode_lower ys
 hex_both xs ys = encode_with-append lower_digits xs ys

@@ -48,15 +48,6 @@ pub record IsGood (line : DumpLine) : Type 0 where
   pub fit : IsFit line
   pub plain : IsPlain line
 
-zero_hash : ◌≢◌ {A = ℕ} 0 35
-zero_hash e = cc e
-
-zero_feed : ◌≢◌ {A = ℕ} 0 10
-zero_feed e = cc e
-
-blank_hash : ◌≢◌ {A = ℕ} 32 35
-blank_hash e = cc e
-
 pub blank_feed : ◌≢◌ {A = ℕ} 32 10
 blank_feed e = cc e
 
@@ -84,8 +75,8 @@ pub fit_head : (depth : ℕ) (bytes comment : List ℕ) → depth < 140 → leng
 fit_head depth bytes comment low few said = record {
   fit = record { level = low; short = head_fits bytes few; ascii = ascii_head bytes };
   plain = record {
-    no_hash = lacks_of 35 (head_hex bytes) (free_head 35 zero_hash blank_hash (from_test 35 lower_digits refl) bytes);
-    no_feed = lacks_of 10 (head_hex bytes) (free_head 10 zero_feed blank_feed (from_test 10 lower_digits refl) bytes);
+    no_hash = lacks_of 35 (head_hex bytes) (free_head 35 (λ e. cc e) (λ e. cc e) (from_test 35 lower_digits refl) bytes);
+    no_feed = lacks_of 10 (head_hex bytes) (free_head 10 (λ e. cc e) blank_feed (from_test 10 lower_digits refl) bytes);
     one_line = lacks_of 10 comment said;
   };
 }
@@ -98,8 +89,8 @@ fit_piece : (depth : ℕ) (piece comment : List ℕ) → depth < 140 → length 
 fit_piece depth piece comment low few said = record {
   fit = record { level = low; short = piece_short piece few; ascii = IsAscii-encode_lower piece };
   plain = record {
-    no_hash = lacks_of 35 (encode_lower piece) (free_hex 35 zero_hash (from_test 35 lower_digits refl) piece);
-    no_feed = lacks_of 10 (encode_lower piece) (free_hex 10 zero_feed (from_test 10 lower_digits refl) piece);
+    no_hash = lacks_of 35 (encode_lower piece) (free_hex 35 (λ e. cc e) (from_test 35 lower_digits refl) piece);
+    no_feed = lacks_of 10 (encode_lower piece) (free_hex 10 (λ e. cc e) (from_test 10 lower_digits refl) piece);
     one_line = lacks_of 10 comment said;
   };
 }

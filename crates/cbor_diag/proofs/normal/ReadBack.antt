@@ -35,8 +35,8 @@ use Rattle.cbor_diag.proofs.bytes.Laws.{AllBytes, bytes_at}
 use Rattle.cbor_diag.proofs.normal.WellFormed.{tag_kind, items_well}
 use Rattle.cbor_diag.proofs.notation.sound.Items.{reads_blank}
 use Rattle.cbor_diag.proofs.notation.sound.Pieces.{blanked_more}
-use Rattle.cbor_diag.proofs.normal.ReadTokens.{one_space, number_read, negative_read, quoted_read, bytes_read}
-use Rattle.cbor_diag.proofs.normal.ReadTokens.{text_read, float_read, simple_read}
+use Rattle.cbor_diag.proofs.normal.ReadTokens.{one_space, number_read, negative_read, quoted_read}
+use Rattle.cbor_diag.proofs.normal.ReadTokens.{string_read, float_read, simple_read}
 use Rattle.cbor_diag.proofs.normal.ReadLists.{Each, opening_of, opens, listed}
 
 -- ---- blanks round a core
@@ -46,11 +46,6 @@ plain Is core h = ([], core, [], sym (append-nil core), nothing, h, nothing)
 
 -- ---- chunks
 
-string_core : (kind : StringKind) (Read : List ℕ → Item → Type 0) (e : Encoding) (s : Chunk) → IsChunk kind s
-    → StringOf kind Read (string_text kind e s.bytes) (normal_chunk s)
-string_core bytes_kind Read e s h = bytes_read Read e s.bytes h.bytes
-string_core text_kind Read e s h = text_read Read s.bytes h.content
-
 chunks_each : (kind : StringKind) (Read : List ℕ → Item → Type 0) (e : Encoding) (cs : List Chunk)
     → AllByRecursion (IsChunk kind) cs
     → Each (λ m x. Blanked (λ core. StringOf kind Read core x) m) (map (λ s. string_text kind e s.bytes) cs)
@@ -59,7 +54,7 @@ chunks_each kind Read e [] h = tt
 chunks_each kind Read e (s ∷ cs) h =
     let Is : List ℕ → Type 0 = λ core. StringOf kind Read core (normal_chunk s) in
     let one = string_text kind e s.bytes in (
-      λ gap b. blanked_more Is gap one b (plain Is one (string_core kind Read e s h.0)),
+      λ gap b. blanked_more Is gap one b (plain Is one (string_read kind Read e s h.0)),
       chunks_each kind Read e cs h.1,
     )
 
@@ -191,7 +186,7 @@ module _ (level left : ℕ) (levels : level + left ≡ 129) (reads : IsRead leve
       let Shows = λ (x : Content). Joined (Notation (Reads left)) (content_text left (text_at left) x c s.bytes)
       bytes in
       (refl, tt, subst Shows (sym is) (content_read tag c s.bytes h.bytes), tt)
-  atom_read c tag (string text_kind s) is h = text_read (Reads left) s.bytes h.content
+  atom_read c tag (string text_kind s) is h = string_read text_kind (Reads left) c.encoding s h
   atom_read c tag (chunked_string kind []) is h = inl (refl, refl)
   atom_read c tag (chunked_string kind (s ∷ cs)) is h =
       inr (tt, chunks_read kind (Reads left) c.encoding (item_style c (atom (chunked_string kind (s ∷ cs)))) s cs h)

@@ -9,7 +9,6 @@ use Rattle.std.proofs.lemmas.Fmt.{decimal_is_IsNumeral}
 use Rattle.std.specs.List.{AllByRecursion}
 use Rattle.std.specs.Char.{digit_value}
 use Rattle.std.specs.Fmt.{decimal, digits}
-use Rattle.std.specs.Str.{IsUtf8}
 use Rattle.std.specs.Str.Parse.{AllDigits, digits_value_after}
 use Rattle.std.specs.Int.{w16, w32, w64, to_be_bytes}
 use Rattle.hex.specs.Hex.{encode_lower, encode_with, lower_digits}
@@ -27,13 +26,13 @@ use Rattle.cbor_diag.specs.declared.syntax.FloatWidth.TheVariants as float_width
 use Rattle.cbor_diag.specs.Encoding.{Encoding, Base16, Base64, Base64Url}
 use Rattle.cbor_diag.specs.Item.{Chunk, Item}
 use Rattle.cbor_diag.specs.Head.{FitsWidth}
-use Rattle.cbor_diag.specs.WellFormed.{FitsFloat}
-use Rattle.cbor_diag.specs.StringKind.{bytes_kind, text_kind}
+use Rattle.cbor_diag.specs.WellFormed.{FitsFloat, IsChunk}
+use Rattle.cbor_diag.specs.StringKind.{StringKind, bytes_kind, text_kind}
 use Rattle.cbor_diag.specs.Written.{resolve_float}
 use Rattle.cbor_diag.specs.Notation.{NumberOf, NegativeOf, number_width, Notation, in_base16, in_base64, StringOf, one}
 use Rattle.cbor_diag.specs.Notation.{SimpleOf, FloatDigits, FloatOf}
-use Rattle.cbor_diag.specs.NotationText.{indicator, number, quoted, text, float_text, simple_text}
-use Rattle.cbor_diag.specs.Normal.{normal_width}
+use Rattle.cbor_diag.specs.NotationText.{indicator, number, quoted, string_text, float_text, simple_text}
+use Rattle.cbor_diag.specs.Normal.{normal_width, normal_chunk}
 use Rattle.cbor_diag.proofs.bytes.Laws.{AllBytes, wide_bytes}
 use Rattle.cbor_diag.proofs.normal.Form.{normal_fits}
 
@@ -178,29 +177,20 @@ some_or_none (d ∷ ds) = inr (omega arith)
 pub between : (comments : Bool) (ds : List ℕ) → Digits comments ds → DigitsBetween comments ds ds
 between comments ds h = (spaced comments ds h, some_or_none ds)
 
-bytes_index : (b : List ℕ) → AllBytes b → (i : ℕ) → slice_index b i < 256
-bytes_index b h i = at_index (λ x. x < 256) b h (omega arith) i
-
 pub quoted_read : (Read : List ℕ → Item → Type 0) (e : Encoding) (b : List ℕ) → AllBytes b
     → Notation Read (quoted e b) b
 quoted_read Read Base16 b h = in_base16 (encode_lower b)
     (encode_lower b, refl, between true (encode_lower b) (encoded_digits b))
-    (decode_of-encode_lower b (bytes_index b h))
+    (decode_of-encode_lower b (λ i. at_index (λ x. x < 256) b h (omega arith) i))
 quoted_read Read Base64 b h = in_base64 (standard b) (standard b, refl, between false (standard b) (standard_digits b))
     h (inr refl)
 quoted_read Read Base64Url b h = in_base64 (url_safe b)
     (url_safe b, refl, between false (url_safe b) (url_safe_digits b)) h (inl refl)
 
-abbrev open_chunk : List ℕ → Chunk
-open_chunk b = record { bytes = b; width = Unknown }
-
-pub bytes_read : (Read : List ℕ → Item → Type 0) (e : Encoding) (b : List ℕ) → AllBytes b
-    → StringOf bytes_kind Read (quoted e b) (open_chunk b)
-bytes_read Read e b h = (refl, tt, one (quoted_read Read e b h), tt)
-
-pub text_read : (Read : List ℕ → Item → Type 0) (b : List ℕ) → IsUtf8 b
-    → StringOf text_kind Read (text b) (open_chunk b)
-text_read Read b h = (refl, (in_quotes 34 b ++ 34 ∷ [], refl), one (inl refl), h)
+pub string_read : (kind : StringKind) (Read : List ℕ → Item → Type 0) (e : Encoding) (s : Chunk) → IsChunk kind s
+    → StringOf kind Read (string_text kind e s.bytes) (normal_chunk s)
+string_read bytes_kind Read e s h = (refl, tt, one (quoted_read Read e s.bytes h.bytes), tt)
+string_read text_kind Read e s h = (refl, (in_quotes 34 s.bytes ++ 34 ∷ [], refl), one (inl refl), h.content)
 
 -- ---- floats and simple values
 
@@ -230,9 +220,6 @@ hex_all (b ∷ bs) h =
     let lt : b < 256 = h.0 in
     (omega (arith, digit_is (b / 16) (omega arith)), (omega (arith, digit_is (b % 16) (omega arith)), hex_all bs h.1))
 
-wide_number : (n : ℕ) → n < 2 ^ 64 → number_after 0 (to_be_bytes w64 n) ≡ n
-wide_number n lt = omega (arith, from_be_bytes-to_be_bytes_8 n lt)
-
 module _ (n : ℕ) (w : FloatWidth) (bs : List ℕ) (all : AllBytes bs) (value : number_after 0 bs ≡ n) where
   float_of : 0 < length (encode_lower bs) → FloatDigits w (length (encode_lower bs))
       → FloatOf (codes "float'" ++ (encode_lower bs ++ codes "'")) n w
@@ -241,7 +228,7 @@ module _ (n : ℕ) (w : FloatWidth) (bs : List ℕ) (all : AllBytes bs) (value :
 wide_read : (n : ℕ) → n < 2 ^ 64 → FloatOf (float_text n float_width.SixtyFour) n float_width.SixtyFour
 unfolding encode_with
 wide_read n lt =
-    float_of n float_width.SixtyFour (to_be_bytes w64 n) (wide_bytes n) (wide_number n lt) (omega arith) refl
+    float_of n float_width.SixtyFour (to_be_bytes w64 n) (wide_bytes n) (omega (arith, from_be_bytes-to_be_bytes_8 n lt)) (omega arith) refl
 
 pub float_read : (n : ℕ) (w : FloatWidth) → FitsFloat w n → FloatOf (float_text n w) n (resolve_float w)
 unfolding encode_with

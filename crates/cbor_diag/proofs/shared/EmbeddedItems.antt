@@ -132,12 +132,9 @@ fault_ends level b e le h = outcome_reads level (129 - level) b (fault e) (omega
 
 -- ---- what embedded items are, by the grammar
 
-some_is : (x y : Item) → Some x ≡ Some y → x ≡ y
-some_is x y e = cc
-
 -- The bytes are an item exactly where they spell it.
 if_whole_is : (read : Read Item) (e : Item) → if_whole read ≡ Some e → read ≡ Ok (e, [])
-if_whole_is (Ok (i, [])) e h = ap (λ (x : Item). Ok (x, [])) (some_is i e h)
+if_whole_is (Ok (i, [])) e h = let same : i ≡ e = cc in ap (λ (x : Item). Ok (x, [])) same
 if_whole_is (Ok (i, x ∷ r)) e h = absurd cc
 if_whole_is (Err f) e h = absurd cc
 
