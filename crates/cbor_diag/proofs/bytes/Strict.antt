@@ -3,7 +3,8 @@
 use Rattle.std.proofs.Common.{◌≡◌, ℕ, suc, ◌+◌, ◌^◌, ◌<◌, List, [], ◌∷◌, ◌++◌, length, map, Option, Some, None, inl}
 use Rattle.std.proofs.Common.{inr, refl, sym, ap, ◌∙◌, append_assoc}
 use Rattle.std.specs.List.{AllByRecursion, flat_map}
-use Rattle.std.proofs.lemmas.Bool.{cases_lt, lt-ltb, le-ltb}
+use Rattle.std.proofs.Common.{nat_lt}
+use Rattle.std.proofs.lemmas.Bool.{cond_both, ltb-true, cases_lt, lt-ltb, le-ltb}
 use Rattle.std.proofs.lemmas.List.{append-nil}
 use Rattle.cbor_diag.specs.declared.syntax.IntegerWidth.{IntegerWidth}
 use Rattle.cbor_diag.specs.declared.syntax.IntegerWidth.TheVariants.{Unknown, Zero, Eight, Sixteen, ThirtyTwo}
@@ -32,21 +33,10 @@ use Rattle.cbor_diag.proofs.bytes.Chunks.{chunk_parts}
 shortest_has : (P : IntegerWidth → Type 0) (n : ℕ) → (n < 24 → P Zero) → (n < 2 ^ 8 → P Eight)
     → (n < 2 ^ 16 → P Sixteen) → (n < 2 ^ 32 → P ThirtyTwo) → P SixtyFour → P (shortest n)
 shortest_has P n at0 at8 at16 at32 at64 =
-    elim (cases_lt n 24) [
-      | inl lt ↦ rw (lt-ltb n 24 lt) (at0 lt)
-      | inr le24 ↦ elim (cases_lt n (2 ^ 8)) [
-        | inl lt ↦ rw (le-ltb n 24 le24, lt-ltb n (2 ^ 8) lt) (at8 lt)
-        | inr le8 ↦ elim (cases_lt n (2 ^ 16)) [
-          | inl lt ↦ rw (le-ltb n 24 le24, le-ltb n (2 ^ 8) le8, lt-ltb n (2 ^ 16) lt) (at16 lt)
-          | inr le16 ↦ elim (cases_lt n (2 ^ 32)) [
-            | inl lt ↦ rw (le-ltb n 24 le24, le-ltb n (2 ^ 8) le8, le-ltb n (2 ^ 16) le16, lt-ltb n (2 ^ 32) lt)
-                (at32 lt)
-            | inr le32 ↦ rw (le-ltb n 24 le24, le-ltb n (2 ^ 8) le8, le-ltb n (2 ^ 16) le16, le-ltb n (2 ^ 32) le32)
-                at64
-          ]
-        ]
-      ]
-    ]
+    cond_both (nat_lt n 24) Zero _ P (λ e. at0 (ltb-true n 24 e)) (λ _.
+    cond_both (nat_lt n (2 ^ 8)) Eight _ P (λ e. at8 (ltb-true n (2 ^ 8) e)) (λ _.
+    cond_both (nat_lt n (2 ^ 16)) Sixteen _ P (λ e. at16 (ltb-true n (2 ^ 16) e)) (λ _.
+    cond_both (nat_lt n (2 ^ 32)) ThirtyTwo _ P (λ e. at32 (ltb-true n (2 ^ 32) e)) (λ _. at64))))
 
 -- the width that a number is written in is stated, and the number fits it
 pub stated_fits : (w : IntegerWidth) (n : ℕ) → FitsWidth w n → FitsStated (stated w n) n

@@ -1,9 +1,9 @@
 -- Without comments and blanks the lines of a dump are the encoding of the item, in hex.
-use Rattle.std.proofs.Common.{◌≡◌, ℕ, zero, suc, ◌+◌, ◌%◌, ◌==◌, ◌≤◌, true, false, cond, unwrap_or, not, List, []}
+use Rattle.std.proofs.Common.{◌≡◌, ℕ, zero, suc, ◌+◌, ◌%◌, ◌==◌, ◌≤◌, unwrap_or, not, List, []}
 use Rattle.std.proofs.Common.{◌∷◌, ◌++◌, map, length, take, drop, codes, Option, Some, None, inl, inr, refl, sym, ap}
 use Rattle.std.proofs.Common.{subst, ◌∙◌, append-nil, arith}
 use Rattle.std.specs.List.{filter, flat_map}
-use Rattle.std.proofs.lemmas.Bool.{cases_lt, ne_eqb}
+use Rattle.std.proofs.lemmas.Bool.{cond_both, cases_lt, ne_eqb}
 use Rattle.std.proofs.lemmas.List.{take-append-drop}
 use Rattle.std.proofs.lemmas.List.Elements.{filter-append}
 use Rattle.std.proofs.lemmas.Grind.{flat_map-append}
@@ -145,11 +145,8 @@ sized_are : (depth : ℕ) (encoding : Option Encoding) (t : ℕ) (size : Option 
     → Are (sized_lines depth encoding t size bytes) bytes
 sized_are depth encoding t None bytes small = plain_are depth encoding bytes
 sized_are depth encoding t (Some size) bytes small =
-    elim (length bytes % size == 0) as (λ v. Are
-    (cond v (element_lines depth t size bytes) (bytes_lines depth encoding bytes)) bytes) [
-      | true ↦ elements_are depth t size bytes small.0
-      | false ↦ plain_are depth encoding bytes
-    ]
+    cond_both (length bytes % size == 0) _ _ (λ lines. Are lines bytes) (λ _. elements_are depth t size bytes small.0)
+    (λ _. plain_are depth encoding bytes)
 
 tagged_are : (depth : ℕ) (encoding : Option Encoding) (tag : Option ℕ) (bytes : List ℕ)
     → Are (tagged_lines depth encoding tag bytes) bytes

@@ -5,7 +5,7 @@ use Rattle.std.proofs.Common.{Some, None, refl, sym, ap, subst, ◌∙◌, arith
 use Rattle.std.specs.List.{AllByRecursion, flat_map}
 use Rattle.std.specs.Str.{IsAscii}
 use Rattle.std.proofs.lemmas.Bool.Decides.{nat_tests}
-use Rattle.std.proofs.lemmas.Bool.{cases_lt}
+use Rattle.std.proofs.lemmas.Bool.{cond_both, cases_lt}
 use Rattle.std.proofs.lemmas.Str.{IsAscii-append}
 use Rattle.std.proofs.lemmas.List.{length-take}
 use Rattle.hex.specs.Hex.{encode_lower, lower_digits}
@@ -53,14 +53,10 @@ blank_feed e = cc e
 
 ascii_head : (bytes : List ℕ) → IsAscii (head_hex bytes)
 ascii_head bytes =
-    elim (nat_le (length bytes) 1) as (λ v. IsAscii
-    (cond v (encode_lower bytes) ((encode_lower (take 1 bytes) ++ codes " ") ++ encode_lower (drop 1 bytes)))) [
-      | true ↦ IsAscii-encode_lower bytes
-      | false ↦
-          IsAscii-append (encode_lower (take 1 bytes) ++ codes " ") (encode_lower (drop 1 bytes))
-          (IsAscii-append (encode_lower (take 1 bytes)) (codes " ") (IsAscii-encode_lower (take 1 bytes))
-          (IsAscii-from_test (codes " ") refl)) (IsAscii-encode_lower (drop 1 bytes))
-    ]
+    cond_both (nat_le (length bytes) 1) _ _ IsAscii (λ _. IsAscii-encode_lower bytes) (λ _.
+    IsAscii-append (encode_lower (take 1 bytes) ++ codes " ") (encode_lower (drop 1 bytes))
+    (IsAscii-append (encode_lower (take 1 bytes)) (codes " ") (IsAscii-encode_lower (take 1 bytes))
+    (IsAscii-from_test (codes " ") refl)) (IsAscii-encode_lower (drop 1 bytes)))
 
 head_fits : (bytes : List ℕ) → length bytes ≤ 9 → length (head_hex bytes) ≤ 64
 head_fits bytes few =
@@ -175,11 +171,8 @@ sized_fit : (depth : ℕ) (encoding : Option Encoding) (t : ℕ) (size : Option 
     → Small size → AllByRecursion IsGood (sized_lines depth encoding t size bytes)
 sized_fit depth encoding t None bytes low small = plain_fits depth encoding bytes low
 sized_fit depth encoding t (Some size) bytes low small =
-    elim (length bytes % size == 0) as (λ v. AllByRecursion IsGood
-    (cond v (element_lines depth t size bytes) (bytes_lines depth encoding bytes))) [
-      | true ↦ elements_fit depth t size bytes low small.1
-      | false ↦ plain_fits depth encoding bytes low
-    ]
+    cond_both (length bytes % size == 0) _ _ (AllByRecursion IsGood) (λ _. elements_fit depth t size bytes low small.1)
+    (λ _. plain_fits depth encoding bytes low)
 
 tagged_fit : (depth : ℕ) (encoding : Option Encoding) (tag : Option ℕ) (bytes : List ℕ) → depth < 140
     → AllByRecursion IsGood (tagged_lines depth encoding tag bytes)

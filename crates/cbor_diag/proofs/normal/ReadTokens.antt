@@ -2,7 +2,7 @@
 use Rattle.std.proofs.Common.{◌≡◌, ℕ, zero, suc, ◌+◌, ◌*◌, ◌/◌, ◌%◌, ◌^◌, ◌<◌, ◌≤◌, ◌==◌, Bool, true, false, cond, IsTrue}
 use Rattle.std.proofs.Common.{List, [], ◌∷◌, ◌++◌, length, replicate, slice_index, codes, Option, Some, None, ◌⊎◌, inl}
 use Rattle.std.proofs.Common.{inr, refl, sym, ap, subst, ◌∙◌, arith}
-use Rattle.std.proofs.lemmas.Bool.{agree_below_at, cases_eq, eq-eqb, eqb-true, ne_eqb, lt-ltb}
+use Rattle.std.proofs.lemmas.Bool.{agree_below_at, cond_both, eqb-true, lt-ltb}
 use Rattle.std.proofs.lemmas.Nat.{from_be_bytes-to_be_bytes_4, from_be_bytes-to_be_bytes_8}
 use Rattle.std.proofs.lemmas.Bool.{false≢true}
 use Rattle.std.proofs.lemmas.Fmt.{decimal_is_IsNumeral}
@@ -228,7 +228,8 @@ module _ (n : ℕ) (w : FloatWidth) (bs : List ℕ) (all : AllBytes bs) (value :
 wide_read : (n : ℕ) → n < 2 ^ 64 → FloatOf (float_text n float_width.SixtyFour) n float_width.SixtyFour
 unfolding encode_with
 wide_read n lt =
-    float_of n float_width.SixtyFour (to_be_bytes w64 n) (wide_bytes n) (omega (arith, from_be_bytes-to_be_bytes_8 n lt)) (omega arith) refl
+    float_of n float_width.SixtyFour (to_be_bytes w64 n) (wide_bytes n)
+    (omega (arith, from_be_bytes-to_be_bytes_8 n lt)) (omega arith) refl
 
 pub float_read : (n : ℕ) (w : FloatWidth) → FitsFloat w n → FloatOf (float_text n w) n (resolve_float w)
 unfolding encode_with
@@ -243,19 +244,12 @@ float_read n float_width.SixtyFour fits = wide_read n fits
 
 pub simple_read : (n : ℕ) → n < 256 → SimpleOf (simple_text n) n
 simple_read n lt =
-    elim (cases_eq n 20) [
-      | inl e ↦ rw (eq-eqb n 20 e) (inl (inl (refl, e)))
-      | inr a ↦ elim (cases_eq n 21) [
-        | inl e ↦ rw (ne_eqb n 20 a, eq-eqb n 21 e) (inl (inr (inl (refl, e))))
-        | inr b ↦ elim (cases_eq n 22) [
-          | inl e ↦ rw (ne_eqb n 20 a, ne_eqb n 21 b, eq-eqb n 22 e) (inl (inr (inr (inl (refl, e)))))
-          | inr c ↦ elim (cases_eq n 23) [
-            | inl e ↦ rw (ne_eqb n 20 a, ne_eqb n 21 b, ne_eqb n 22 c, eq-eqb n 23 e) (inl (inr (inr (inr (refl, e)))))
-            | inr d ↦
-                let v = decimal_is_IsNumeral n (omega arith) in
-                rw (ne_eqb n 20 a, ne_eqb n 21 b, ne_eqb n 22 c, ne_eqb n 23 d)
-                (inr (decimal n, refl, ((v.0, sym v.1), lt)))
-          ]
-        ]
-      ]
-    ]
+    named_or (n == 20) (codes "false") _ (λ e. inl (inl (refl, eqb-true n 20 e)))
+    (named_or (n == 21) (codes "true") _ (λ e. inl (inr (inl (refl, eqb-true n 21 e))))
+    (named_or (n == 22) (codes "null") _ (λ e. inl (inr (inr (inl (refl, eqb-true n 22 e)))))
+    (named_or (n == 23) (codes "undefined") _ (λ e. inl (inr (inr (inr (refl, eqb-true n 23 e)))))
+    (let v = decimal_is_IsNumeral n (omega arith) in inr (decimal n, refl, ((v.0, sym v.1), lt))))))
+  where
+    named_or : (test : Bool) (name other : List ℕ) → (test ≡ true → SimpleOf name n) → SimpleOf other n
+        → SimpleOf (cond test name other) n
+    named_or test name other this or = cond_both test name other (λ t. SimpleOf t n) this (λ e. or)

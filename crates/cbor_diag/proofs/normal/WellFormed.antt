@@ -2,7 +2,8 @@
 use Rattle.std.proofs.Common.{◌≡◌, ℕ, zero, suc, ◌+◌, ◌≤◌, List, [], ◌∷◌, ◌++◌, length, map, Option, Some, None, ◌⊎◌}
 use Rattle.std.proofs.Common.{inl, inr, eqb, false, refl, ap, subst, arith}
 use Rattle.std.specs.List.{AllByRecursion, flat_map}
-use Rattle.std.proofs.lemmas.Bool.{cases_lt, lt-ltb, le-ltb, cases_eq, ne_eqb}
+use Rattle.std.proofs.Common.{nat_lt}
+use Rattle.std.proofs.lemmas.Bool.{cond_both, lt-ltb, cases_eq, ne_eqb}
 use Rattle.std.proofs.lemmas.List.{length-append}
 use Rattle.cbor_diag.specs.declared.syntax.IntegerWidth.{IntegerWidth}
 use Rattle.cbor_diag.specs.declared.syntax.IntegerWidth.TheVariants.{Unknown}
@@ -71,11 +72,7 @@ float_spelled b bits float_width.Unknown h = absurd h
 float_spelled b bits _ h = omega (arith, ap length h.1)
 
 simple_len : (n : ℕ) → length (encoded_simple n) ≤ 2
-simple_len n = elim (cases_lt n 24) [
-  | inl low ↦ rw (lt-ltb n 24 low) (omega arith)
-  | inr high ↦ rw (le-ltb n 24 high)
-      (omega arith)
-]
+simple_len n = cond_both (nat_lt n 24) _ _ (λ (b : List ℕ). length b ≤ 2) (λ _. omega arith) (λ _. omega arith)
 
 simple_spelled : (b : List ℕ) (n : ℕ) → SpellsSimple any b n → length (encoded_simple n) ≤ length b
 simple_spelled b n (inl h) = rw (lt-ltb n 24 h.0) (omega (arith, ap length h.1))

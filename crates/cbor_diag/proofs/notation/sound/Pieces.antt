@@ -3,7 +3,7 @@ use Rattle.std.proofs.Common.{◌≡◌, ℕ, zero, suc, Bool, true, false, cond
 use Rattle.std.proofs.Common.{length, Ok, Err, refl, sym, ap, subst, ◌∙◌, append_assoc, append-nil, ◌⊎◌, inl, inr}
 use Rattle.std.proofs.Common.{arith}
 use Rattle.std.specs.Str.{is_utf8}
-use Rattle.std.proofs.lemmas.Bool.{cases_eq, eq-eqb, ne_eqb}
+use Rattle.std.proofs.lemmas.Bool.{cond_both, eqb-true}
 use Rattle.std.proofs.lemmas.List.Sums.{sum_by-cons}
 use Rattle.std.proofs.lemmas.Str.{IsUtf8-from_is_utf8}
 use Rattle.cbor_notes.specs.Token.{in_quotes}
@@ -50,48 +50,19 @@ StartIs start.Other b = Unit {0}
 pub start_is : (b : ℕ) → StartIs (start_of b) b
 unfolding start_of
 start_is b =
-    elim (cases_eq b 34) [
-      | inl is ↦ rw (eq-eqb b 34 is) is
-      | inr no34 ↦
-          elim (cases_eq b 39) [
-            | inl is ↦ rw (ne_eqb b 34 no34, eq-eqb b 39 is) is
-            | inr no39 ↦
-                elim (cases_eq b 40) [
-                  | inl is ↦ rw (ne_eqb b 34 no34, ne_eqb b 39 no39, eq-eqb b 40 is) is
-                  | inr no40 ↦
-                      elim (cases_eq b 45) [
-                        | inl is ↦ rw (ne_eqb b 34 no34, ne_eqb b 39 no39, ne_eqb b 40 no40, eq-eqb b 45 is) is
-                        | inr no45 ↦
-                            rw (ne_eqb b 34 no34, ne_eqb b 39 no39, ne_eqb b 40 no40, ne_eqb b 45 no45)
-                            (elim (a_test (nat_le 48 b && nat_le b 57)) [
-                              | inl this ↦ rw this tt
-                              | inr no_digit ↦ rw no_digit
-                                  (elim (cases_eq b 60) [
-                                    | inl is ↦ rw (eq-eqb b 60 is) is
-                                    | inr no60 ↦ rw (ne_eqb b 60 no60)
-                                        (elim (cases_eq b 91) [
-                                          | inl is ↦ rw (eq-eqb b 91 is) is
-                                          | inr no91 ↦ rw (ne_eqb b 91 no91)
-                                              (elim (cases_eq b 98) [
-                                                | inl is ↦ rw (eq-eqb b 98 is) is
-                                                | inr no98 ↦ rw (ne_eqb b 98 no98)
-                                                    (elim (cases_eq b 104) [
-                                                      | inl is ↦ rw (eq-eqb b 104 is) is
-                                                      | inr no104 ↦ rw (ne_eqb b 104 no104)
-                                                          (elim (cases_eq b 123) [
-                                                            | inl is ↦ rw (eq-eqb b 123 is) is
-                                                            | inr no123 ↦ rw
-                                                                (ne_eqb b 123 no123) tt
-                                                          ])
-                                                    ])
-                                              ])
-                                        ])
-                                  ])
-                            ])
-                      ]
-                ]
-          ]
-    ]
+    is_or (b == 34) start.Quote _ (eqb-true b 34)
+    (is_or (b == 39) start.Apostrophe _ (eqb-true b 39)
+    (is_or (b == 40) start.Parenthesis _ (eqb-true b 40)
+    (is_or (b == 45) start.Minus _ (eqb-true b 45)
+    (is_or (nat_le 48 b && nat_le b 57) start.Digit _ (λ e. tt)
+    (is_or (b == 60) start.Angle _ (eqb-true b 60)
+    (is_or (b == 91) start.Bracket _ (eqb-true b 91)
+    (is_or (b == 98) start.LetterB _ (eqb-true b 98)
+    (is_or (b == 104) start.LetterH _ (eqb-true b 104)
+    (is_or (b == 123) start.Brace _ (eqb-true b 123) tt)))))))))
+  where
+    is_or : (test : Bool) (s t : Start) → (test ≡ true → StartIs s b) → StartIs t b → StartIs (cond test s t) b
+    is_or test s t this other = cond_both test s t (λ u. StartIs u b) this (λ e. other)
 
 -- such a text, and a blank after it
 abbrev pub Trailed : (List ℕ → Type 0) → List ℕ → Type 0
