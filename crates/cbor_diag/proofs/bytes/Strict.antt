@@ -3,8 +3,8 @@
 use Rattle.std.proofs.Common.{◌≡◌, ℕ, suc, ◌+◌, ◌^◌, ◌<◌, List, [], ◌∷◌, ◌++◌, length, map, Option, Some, None, inl}
 use Rattle.std.proofs.Common.{inr, refl, sym, ap, ◌∙◌, append_assoc}
 use Rattle.std.specs.List.{AllByRecursion, flat_map}
-use Rattle.std.proofs.Common.{nat_lt}
-use Rattle.std.proofs.lemmas.Bool.{cond_both, ltb-true, cases_lt, lt-ltb, le-ltb}
+use Rattle.std.proofs.Common.{◌≤◌, nat_lt}
+use Rattle.std.proofs.lemmas.Bool.{cond_both, ltb-false, ltb-true, cases_lt, lt-ltb, le-ltb}
 use Rattle.std.proofs.lemmas.List.{append-nil}
 use Rattle.cbor_diag.specs.declared.syntax.IntegerWidth.{IntegerWidth}
 use Rattle.cbor_diag.specs.declared.syntax.IntegerWidth.TheVariants.{Unknown, Zero, Eight, Sixteen, ThirtyTwo}
@@ -29,18 +29,24 @@ use Rattle.cbor_diag.proofs.bytes.Chunks.{chunk_parts}
 
 -- ---- widths
 
--- what holds of each width that a number fits holds of the shortest
-shortest_has : (P : IntegerWidth → Type 0) (n : ℕ) → (n < 24 → P Zero) → (n < 2 ^ 8 → P Eight)
-    → (n < 2 ^ 16 → P Sixteen) → (n < 2 ^ 32 → P ThirtyTwo) → P SixtyFour → P (shortest n)
+-- what holds of a width where it is the shortest holds of the shortest
+pub shortest_has : (P : IntegerWidth → Type 0) (n : ℕ) → (n < 24 → P Zero) → (24 ≤ n → n < 2 ^ 8 → P Eight)
+    → (2 ^ 8 ≤ n → n < 2 ^ 16 → P Sixteen) → (2 ^ 16 ≤ n → n < 2 ^ 32 → P ThirtyTwo) → (2 ^ 32 ≤ n → P SixtyFour)
+    → P (shortest n)
 shortest_has P n at0 at8 at16 at32 at64 =
-    cond_both (nat_lt n 24) Zero _ P (λ e. at0 (ltb-true n 24 e)) (λ _.
-    cond_both (nat_lt n (2 ^ 8)) Eight _ P (λ e. at8 (ltb-true n (2 ^ 8) e)) (λ _.
-    cond_both (nat_lt n (2 ^ 16)) Sixteen _ P (λ e. at16 (ltb-true n (2 ^ 16) e)) (λ _.
-    cond_both (nat_lt n (2 ^ 32)) ThirtyTwo _ P (λ e. at32 (ltb-true n (2 ^ 32) e)) (λ _. at64))))
+    cond_both (nat_lt n 24) Zero _ P (λ e. at0 (ltb-true n 24 e)) (λ d.
+    let no0 : 24 ≤ n = ltb-false n 24 d in
+    cond_both (nat_lt n (2 ^ 8)) Eight _ P (λ e. at8 no0 (ltb-true n (2 ^ 8) e)) (λ d.
+    let no8 : 2 ^ 8 ≤ n = ltb-false n (2 ^ 8) d in
+    cond_both (nat_lt n (2 ^ 16)) Sixteen _ P (λ e. at16 no8 (ltb-true n (2 ^ 16) e)) (λ d.
+    let no16 : 2 ^ 16 ≤ n = ltb-false n (2 ^ 16) d in
+    cond_both (nat_lt n (2 ^ 32)) ThirtyTwo _ P (λ e. at32 no16 (ltb-true n (2 ^ 32) e))
+    (λ d. at64 (ltb-false n (2 ^ 32) d)))))
 
 -- the width that a number is written in is stated, and the number fits it
 pub stated_fits : (w : IntegerWidth) (n : ℕ) → FitsWidth w n → FitsStated (stated w n) n
-stated_fits Unknown n fits = shortest_has (λ w. FitsStated w n) n (λ h. h) (λ h. h) (λ h. h) (λ h. h) fits
+stated_fits Unknown n fits = shortest_has (λ w. FitsStated w n) n (λ h. h) (λ l h. h) (λ l h. h) (λ l h. h)
+    (λ l. fits)
 stated_fits w n fits = fits
 
 -- a number that fits a stated width fits that width
@@ -54,7 +60,8 @@ stated_is Unknown n fits = absurd fits
 stated_is w n fits = refl
 
 pub stated-stated : (w : IntegerWidth) (n : ℕ) → stated (stated w n) n ≡ stated w n
-stated-stated Unknown n = shortest_has (λ w. stated w n ≡ w) n (λ h. refl) (λ h. refl) (λ h. refl) (λ h. refl) refl
+stated-stated Unknown n = shortest_has (λ w. stated w n ≡ w) n (λ h. refl) (λ l h. refl) (λ l h. refl) (λ l h. refl)
+    (λ l. refl)
 stated-stated w n = refl
 
 head_written : (major n : ℕ) (w : IntegerWidth) → FitsStated w n → head major n w ≡ encoded_head major n w

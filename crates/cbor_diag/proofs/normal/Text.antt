@@ -1,10 +1,11 @@
 -- The text of an item is that of its normal form, and the normal form of a normal form is itself.
 use Rattle.std.proofs.Common.{◌≡◌, ℕ, zero, suc, ◌+◌, ◌≤◌, List, [], ◌∷◌, ◌++◌, length, codes, Option, Some, None}
 use Rattle.std.proofs.Common.{◌⊎◌, inl, inr, refl, sym, ap, ◌∙◌, arith}
-use Rattle.std.proofs.lemmas.Bool.{cases_lt, lt-ltb, le-ltb}
+use Rattle.std.proofs.Common.{nat_lt}
+use Rattle.std.proofs.lemmas.Bool.{cond_both, cases_lt, lt-ltb, le-ltb}
 use Rattle.std.specs.Fmt.{decimal}
 use Rattle.cbor_diag.specs.declared.syntax.IntegerWidth.{IntegerWidth}
-use Rattle.cbor_diag.specs.declared.syntax.IntegerWidth.TheVariants.{Unknown}
+use Rattle.cbor_diag.specs.declared.syntax.IntegerWidth.TheVariants.{Unknown, Zero}
 use Rattle.cbor_diag.specs.declared.syntax.FloatWidth.{FloatWidth}
 use Rattle.cbor_diag.specs.declared.syntax.FloatWidth.TheVariants as float_width
 use Rattle.cbor_diag.specs.Encoding.{Encoding}
@@ -231,11 +232,7 @@ normal_text level (suc left) levels e tag i h =
 
 normal_width_twice : (n : ℕ) (w : IntegerWidth) → normal_width (normal_width w n) n ≡ normal_width w n
 normal_width_twice n Unknown =
-    elim (cases_lt n 24) [
-      | inl low ↦ rw (lt-ltb n 24 low) refl
-      | inr high ↦ let same : normal_width Unknown n ≡ Unknown =
-          rw (le-ltb n 24 high) refl in ap (λ v. normal_width v n) same
-    ]
+    cond_both (nat_lt n 24) Zero Unknown (λ w. normal_width w n ≡ w) (λ low. refl) (λ high. rw high refl)
 normal_width_twice n _ = refl
 
 resolve_float_twice : (w : FloatWidth) → resolve_float (resolve_float w) ≡ resolve_float w
