@@ -71,7 +71,8 @@ pub fit_head : (depth : ℕ) (bytes comment : List ℕ) → depth < 140 → leng
 fit_head depth bytes comment low few said = record {
   fit = record { level = low; short = head_fits bytes few; ascii = ascii_head bytes };
   plain = record {
-    no_hash = lacks_of 35 (head_hex bytes) (free_head 35 (λ e. cc e) (λ e. cc e) (from_test 35 lower_digits refl) bytes);
+    no_hash = lacks_of 35 (head_hex bytes)
+        (free_head 35 (λ e. cc e) (λ e. cc e) (from_test 35 lower_digits refl) bytes);
     no_feed = lacks_of 10 (head_hex bytes) (free_head 10 (λ e. cc e) blank_feed (from_test 10 lower_digits refl) bytes);
     one_line = lacks_of 10 comment said;
   };

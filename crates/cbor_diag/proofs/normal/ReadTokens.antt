@@ -1,7 +1,7 @@
 -- What is written of numbers, strings, floats and simple values is read as these.
-use Rattle.std.proofs.Common.{◌≡◌, ℕ, zero, suc, ◌+◌, ◌*◌, ◌/◌, ◌%◌, ◌^◌, ◌<◌, ◌≤◌, ◌==◌, Bool, true, false, cond, IsTrue}
+use Rattle.std.proofs.Common.{◌≡◌, ℕ, zero, suc, ◌+◌, ◌*◌, ◌/◌, ◌%◌, ◌^◌, ◌<◌, ◌≤◌, ◌==◌, Bool, true, false, cond}
 use Rattle.std.proofs.Common.{List, [], ◌∷◌, ◌++◌, length, replicate, slice_index, codes, Option, Some, None, ◌⊎◌, inl}
-use Rattle.std.proofs.Common.{inr, refl, sym, ap, subst, ◌∙◌, arith}
+use Rattle.std.proofs.Common.{IsTrue, inr, refl, sym, ap, subst, ◌∙◌, arith}
 use Rattle.std.proofs.lemmas.Bool.{agree_below_at, cond_both, eqb-true, lt-ltb}
 use Rattle.std.proofs.lemmas.Nat.{from_be_bytes-to_be_bytes_4, from_be_bytes-to_be_bytes_8}
 use Rattle.std.proofs.lemmas.Bool.{false≢true}
@@ -195,7 +195,8 @@ string_read text_kind Read e s h = (refl, (in_quotes 34 s.bytes ++ 34 ∷ [], re
 -- ---- floats and simple values
 
 digit_is : (k : ℕ) → k < 16 → digit_value (slice_index lower_digits k) ≡ k
-digit_is k lt = eqb-true _ k (agree_below_at (λ k. digit_value (slice_index lower_digits k) == k) (λ k. true) 16 k refl lt)
+digit_is k lt = eqb-true _ k
+    (agree_below_at (λ k. digit_value (slice_index lower_digits k) == k) (λ k. true) 16 k refl lt)
 
 -- the number that bytes are, the first of them the highest
 abbrev number_after : ℕ → List ℕ → ℕ

@@ -9,7 +9,7 @@ use Rattle.cbor_diag.specs.Notation.{Blanked, Closes, Members, StringOf, ChunksO
 use Rattle.cbor_diag.specs.mirror.NotationReading.{skip_blank, start_of, first_start, read_string, read_chunk}
 use Rattle.cbor_diag.specs.mirror.NotationReading.{chunks_of, kind_from, read_chunks, read_members}
 use Rattle.cbor_diag.proofs.notation.Ends.{Begins, begins_append, begins_more, begins_ends, blank_passed}
-use Rattle.cbor_diag.proofs.notation.Ends.{starts_passed}
+use Rattle.cbor_diag.proofs.notation.Ends.{core_starts, starts_passed}
 use Rattle.cbor_diag.proofs.notation.Lists.{ReadsAgain, blanked_parts, blanked_stripped, members_again}
 use Rattle.cbor_diag.proofs.notation.Lists.{members_at_blank}
 use Rattle.cbor_diag.proofs.notation.Numbers.{at_one_of}
@@ -26,7 +26,7 @@ module _ (Reads : List ℕ → Item → Type 0) (kind : StringKind) where
   chunk_passed text rest c is =
       ap skip_blank (blanked_parts text is.0 is.1 is.2 rest is.3)
       ∙ starts_passed is.0 (is.1 ++ (is.2 ++ rest)) is.4
-      (begins_append (codes "'<bh\"-[{(ftnus0123456789") is.1 (is.2 ++ rest) (string_starts_core Reads kind is.1 c is.5))
+      (begins_append core_starts is.1 (is.2 ++ rest) (string_starts_core Reads kind is.1 c is.5))
 
   chunk_reads : (read : List ℕ → Read Item) → ReadsAgain Reads read
       → ReadsAgain (ChunkOf kind Reads) (read_chunk read kind)

@@ -134,8 +134,9 @@ pieces_begin read kind text content none =
       onto_nothing (Ok r) = refl
       onto_nothing (Err e) = refl
 
-module _ (read : List ℕ → Read Item) (kind : StringKind) (front : List ℕ) (n : ℕ) (text : List ℕ) (total : Read (List ℕ))
-    (room : length text < n) (so_far : onto (λ xs. front ++ xs) (read_pieces read kind n text) ≡ total) where
+module _ (read : List ℕ → Read Item) (kind : StringKind) (front : List ℕ) (n : ℕ) (text : List ℕ)
+    (total : Read (List ℕ)) (room : length text < n)
+    (so_far : onto (λ xs. front ++ xs) (read_pieces read kind n text) ≡ total) where
   room_left : (k : ℕ) → length text < k → (m : ℕ) × (k ≡ suc m)
   room_left zero lt = absurd (omega arith)
   room_left (suc m) lt = (m, refl)

@@ -116,7 +116,8 @@ alphabet_of : (size : ℕ) (symbols : List ℕ) (value : ℕ → ℕ)
     → agree_below (λ v. slice_index symbols v == 61) (λ v. false) size ≡ true
     → IsAlphabet size (slice_index symbols) value
 alphabet_of size symbols value back plain = record {
-  back = λ v small. eqb-true _ v (agree_below_at (λ v. value (slice_index symbols v) == v) (λ v. true) size v back small);
+  back = λ v small. eqb-true _ v
+      (agree_below_at (λ v. value (slice_index symbols v) == v) (λ v. true) size v back small);
   plain = λ v small. agree_below_at (λ v. slice_index symbols v == 61) (λ v. false) size v plain small;
 }
 

@@ -110,7 +110,8 @@ module _ (Reads : List ℕ → Item → Type 0) (read : List ℕ → Read Item) 
   atom_again text after rest (string kind c) is is_blank follows =
       (rest, string_item_again kind text after rest c is is_blank follows, follows_passed [] rest nothing follows)
   atom_again text after rest (chunked_string kind cs) (inl is) is_blank follows =
-      (after ++ rest, rw (is.0, is.1) (no_chunks_again kind (after ++ rest)), follows_passed after rest is_blank follows)
+      let again = no_chunks_again kind (after ++ rest) in
+      (after ++ rest, rw (is.0, is.1) again, follows_passed after rest is_blank follows)
   atom_again text after rest (chunked_string kind cs) (inr is) is_blank follows = (
     after ++ rest,
     chunked_again kind text (after ++ rest) cs is.1 is.0,

@@ -53,7 +53,12 @@ fn push_chunks<S: DefiniteString>(out: &mut Vec<u8>, chunks: &[S]) -> Result<(),
 {
     push_open(out, S::kind().major(), chunks.len(), None)?;
     'chunks: for chunk in chunks {
-        push_string(out, S::kind().major(), chunk.content().as_bytes(), chunk.width())?;
+        push_string(
+            out,
+            S::kind().major(),
+            chunk.content().as_bytes(),
+            chunk.width(),
+        )?;
     }
     push_close(out, None)
 }

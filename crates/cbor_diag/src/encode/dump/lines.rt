@@ -299,7 +299,10 @@ impl Lines {
     {
         let content = string.content();
         let length = content.as_bytes().len() as u64;
-        self.number(context.depth, Head::new(S::kind().major(), length, string.width()))?;
+        self.number(
+            context.depth,
+            Head::new(S::kind().major(), length, string.width()),
+        )?;
         self.string_content(context, content)
     }
 

@@ -155,7 +155,7 @@ fn read_pieces(
     requires { inner ≤ 129 }
     ensures gives { Gives (λ x. (x.0.items, x.1.now)) result
         (read_pieces (read_item (levels_left inner)) (kind_view kind)
-            (suc (length text.now)) text.now) }
+        (suc (length text.now)) text.now) }
     ensures shorter { IfOk result (λ x. length x.1.now ≤ length text.now) }
 {
     let mut content = Vec::new(alloc);

@@ -88,7 +88,8 @@ push_item-returns-in-IndefiniteByteString t c =
     let old = string_bytes c.args.out.now in
     let new = string_bytes c.push_chunks.new.out in
     shown c.push_chunks.result c.args.context.now.level (context_view c.args.context.now) (view c.args.item.now)
-    (atom (chunked_string bytes_kind (map byte_chunk c.in-IndefiniteByteString.chunks.items))) old new c.requires.well_formed seen
+    (atom (chunked_string bytes_kind (map byte_chunk c.in-IndefiniteByteString.chunks.items))) old new
+    c.requires.well_formed seen
     (subst (λ vs. Appends c.push_chunks.result old new (chunks_there c.args.context.now bytes_kind (map byte_chunk vs)))
     c.deref-in-IndefiniteByteString.ensures.value c.push_chunks.ensures)
 
@@ -99,7 +100,8 @@ push_item-returns-in-IndefiniteTextString t c =
     let new = string_bytes c.push_chunks-in-IndefiniteTextString.new.out in
     shown c.push_chunks-in-IndefiniteTextString.result c.args.context.now.level (context_view c.args.context.now)
     (view c.args.item.now)
-    (atom (chunked_string text_kind (map text_chunk c.in-IndefiniteTextString.chunks.items))) old new c.requires.well_formed seen
+    (atom (chunked_string text_kind (map text_chunk c.in-IndefiniteTextString.chunks.items))) old new
+    c.requires.well_formed seen
     (subst (λ vs. Appends c.push_chunks-in-IndefiniteTextString.result old new
     (chunks_there c.args.context.now text_kind (map text_chunk vs)))
     c.deref-in-IndefiniteTextString.ensures.value c.push_chunks-in-IndefiniteTextString.ensures)

@@ -239,8 +239,8 @@ strings::read_chunk_list-returns-in-Some-after_end-clause-gives t c =
     let item = read_item (129 - c.args.inner) in
     let read = read_chunk item (kind_view c.args.kind) in
     let i = c.chunks.invariant in
-    let added = string_read item (kind_view c.args.kind) c.chunks.rest.now c.after_blank.result.now c.after_blank.ensures.gives
-    c.in_ok-content.content.items c.in_ok-content.after.now c.in_ok-content.ensures.gives
+    let added = string_read item (kind_view c.args.kind) c.chunks.rest.now c.after_blank.result.now
+    c.after_blank.ensures.gives c.in_ok-content.content.items c.in_ok-content.after.now c.in_ok-content.ensures.gives
     (list_kind c.chunks.chunks) (chunk_list c.chunks.chunks) i.5 (chunk_list c.push.new.self)
     c.in_ok-push.ensures.gives in
     rw added.1 (member_last read 41 (chunk_list c.chunks.chunks) i.0 c.chunks.rest.now
@@ -260,8 +260,8 @@ strings::read_chunk_list-returns-in_err-rest-clause-gives t c =
     let item = read_item (129 - c.args.inner) in
     let read = read_chunk item (kind_view c.args.kind) in
     let i = c.chunks.invariant in
-    let added = string_read item (kind_view c.args.kind) c.chunks.rest.now c.after_blank.result.now c.after_blank.ensures.gives
-    c.in_ok-content.content.items c.in_ok-content.after.now c.in_ok-content.ensures.gives
+    let added = string_read item (kind_view c.args.kind) c.chunks.rest.now c.after_blank.result.now
+    c.after_blank.ensures.gives c.in_ok-content.content.items c.in_ok-content.after.now c.in_ok-content.ensures.gives
     (list_kind c.chunks.chunks) (chunk_list c.chunks.chunks) i.5 (chunk_list c.push.new.self)
     c.in_ok-push.ensures.gives in
     rw (p.1, p.2) (no_comma read 41 (chunk_list c.chunks.chunks) i.0 c.chunks.rest.now (read_members read 41
@@ -273,8 +273,8 @@ strings::read_chunk_list-chunks-preserved t c =
     let item = read_item (129 - c.args.inner) in
     let read = read_chunk item (kind_view c.args.kind) in
     let i = c.chunks.invariant in
-    let added = string_read item (kind_view c.args.kind) c.chunks.rest.now c.after_blank.result.now c.after_blank.ensures.gives
-    c.in_ok-content.content.items c.in_ok-content.after.now c.in_ok-content.ensures.gives
+    let added = string_read item (kind_view c.args.kind) c.chunks.rest.now c.after_blank.result.now
+    c.after_blank.ensures.gives c.in_ok-content.content.items c.in_ok-content.after.now c.in_ok-content.ensures.gives
     (list_kind c.chunks.chunks) (chunk_list c.chunks.chunks) i.5 (chunk_list c.push.new.self)
     c.in_ok-push.ensures.gives in
     let shorter : length c.in_ok-content.after.now ≤ length c.chunks.rest.now =
@@ -459,8 +459,8 @@ read_item-returns-clause-gives t c =
 
 pub strings::read_pieces-pieces-init : goal.strings::read_pieces-pieces-init
 strings::read_pieces-pieces-init t c =
-    let begun = pieces_begin (read_item (129 - c.args.inner)) (kind_view c.args.kind) c.args.text.now c.new-content.result.items
-    c.new-content.ensures.items in
+    let begun = pieces_begin (read_item (129 - c.args.inner)) (kind_view c.args.kind) c.args.text.now
+    c.new-content.result.items c.new-content.ensures.items in
     (begun.0, begun.1, begun.2, omega arith)
 
 pub strings::read_pieces-returns-in_err-piece-clause-gives : goal.strings::read_pieces-returns-in_err-piece-clause-gives
@@ -468,19 +468,21 @@ strings::read_pieces-returns-in_err-piece-clause-gives t c =
     let p = err_from_is_err_and c.from_residual.result c.from_residual.ensures.1 in
     let read = read_item (129 - c.args.inner) in
     let i = c.pieces.invariant in
-    let begins = sym (c.begins_piece.ensures ∙ ap (begins_piece (kind_view c.args.kind)) c.of.ensures) ∙ c.pieces-test.true in
+    let begins = sym (c.begins_piece.ensures ∙ ap (begins_piece (kind_view c.args.kind)) c.of.ensures)
+    ∙ c.pieces-test.true in
     rw (p.1, p.2) (piece_fails read (kind_view c.args.kind) c.pieces.content.items i.0 c.pieces.rest.now
-    (read_pieces read (kind_view c.args.kind) (suc (length c.args.text.now)) c.args.text.now) i.1 i.2 c.in_err-piece.field-0.0
-    begins c.in_err-piece.ensures.gives)
+    (read_pieces read (kind_view c.args.kind) (suc (length c.args.text.now)) c.args.text.now) i.1 i.2
+    c.in_err-piece.field-0.0 begins c.in_err-piece.ensures.gives)
 
 pub strings::read_pieces-pieces-preserved : goal.strings::read_pieces-pieces-preserved
 strings::read_pieces-pieces-preserved t c =
     let read = read_item (129 - c.args.inner) in
     let i = c.pieces.invariant in
-    let begins = sym (c.begins_piece.ensures ∙ ap (begins_piece (kind_view c.args.kind)) c.of.ensures) ∙ c.pieces-test.true in
+    let begins = sym (c.begins_piece.ensures ∙ ap (begins_piece (kind_view c.args.kind)) c.of.ensures)
+    ∙ c.pieces-test.true in
     let next = piece_more read (kind_view c.args.kind) c.pieces.content.items i.0 c.pieces.rest.now
-    (read_pieces read (kind_view c.args.kind) (suc (length c.args.text.now)) c.args.text.now) i.1 i.2 c.in_ok-piece.piece.items
-    c.in_ok-piece.after.now c.after_blank-rest.result.now begins c.in_ok-piece.ensures.gives
+    (read_pieces read (kind_view c.args.kind) (suc (length c.args.text.now)) c.args.text.now) i.1 i.2
+    c.in_ok-piece.piece.items c.in_ok-piece.after.now c.after_blank-rest.result.now begins c.in_ok-piece.ensures.gives
     c.after_blank-rest.ensures.gives c.in_ok-piece.ensures.shorter c.after_blank-rest.ensures.shorter in (
       next.0,
       next.1,
