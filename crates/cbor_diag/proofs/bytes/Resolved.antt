@@ -8,16 +8,14 @@ use Rattle.cbor_diag.specs.declared.syntax.IntegerWidth.{IntegerWidth}
 use Rattle.cbor_diag.specs.declared.syntax.FloatWidth.{FloatWidth}
 use Rattle.cbor_diag.specs.declared.syntax.FloatWidth.TheVariants as float_width
 use Rattle.cbor_diag.specs.Item as spec
-use Rattle.cbor_diag.specs.Item.{Chunk, Atom, integer, negative, string, chunked_string}
-use Rattle.cbor_diag.specs.Item.{float, simple, Item, atom, array, tagged, Items, no_items, item, Pairs, no_pairs, pair}
-use Rattle.cbor_diag.specs.Item.{item_count, pair_count}
+use Rattle.cbor_diag.specs.Item.{Chunk, Atom, integer, negative, string, chunked_string, float, simple, Item, atom}
+use Rattle.cbor_diag.specs.Item.{array, tagged, Items, no_items, item, Pairs, no_pairs, pair, item_count, pair_count}
 use Rattle.cbor_diag.specs.Head.{stated, head, opening, break_byte}
 use Rattle.cbor_diag.specs.WellFormed.{IsChunk, FitsFloat, WellFormedAtom, FitsCount, WellFormed, WellFormedItems}
 use Rattle.cbor_diag.specs.WellFormed.{WellFormedPairs}
-use Rattle.cbor_diag.specs.Bytes.{any, strict, SpellsFloat}
+use Rattle.cbor_diag.specs.Bytes.{any, strict, SpellsFloat, ChunkThen, SpellsChunks, SpellsAtom, MembersThen, Spells}
+use Rattle.cbor_diag.specs.Bytes.{SpellsItems, SpellsPairs}
 use Rattle.cbor_diag.specs.StringKind.{StringKind, major_of}
-use Rattle.cbor_diag.specs.Bytes.{ChunkThen, SpellsChunks, SpellsAtom, MembersThen, Spells, SpellsItems}
-use Rattle.cbor_diag.specs.Bytes.{SpellsPairs}
 use Rattle.cbor_diag.specs.Written.{encoded, resolve_chunk, resolve_float, resolve_atom, resolve_count, resolve}
 use Rattle.cbor_diag.specs.Written.{resolve_items, resolve_pairs}
 use Rattle.cbor_diag.specs.Reading.{read_item}

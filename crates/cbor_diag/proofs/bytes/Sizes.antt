@@ -3,13 +3,11 @@ use Rattle.std.proofs.Common.{ℕ, ◌+◌, ◌≤◌, List, [], ◌∷◌, ◌+
 use Rattle.std.proofs.lemmas.List.{length-append}
 use Rattle.cbor_diag.specs.declared.syntax.IntegerWidth.{IntegerWidth}
 use Rattle.cbor_diag.specs.Item as spec
-use Rattle.cbor_diag.specs.Item.{Chunk, Atom, integer, negative, string, chunked_string}
-use Rattle.cbor_diag.specs.Item.{float, simple, Item, atom, array, tagged, Items, no_items, item, Pairs, no_pairs, pair}
-use Rattle.cbor_diag.specs.Item.{item_count, pair_count}
+use Rattle.cbor_diag.specs.Item.{Chunk, Atom, integer, negative, string, chunked_string, float, simple, Item, atom}
+use Rattle.cbor_diag.specs.Item.{array, tagged, Items, no_items, item, Pairs, no_pairs, pair, item_count, pair_count}
 use Rattle.cbor_diag.specs.Head.{break_byte}
-use Rattle.cbor_diag.specs.Bytes.{any, OpenThen, SpellsChunks, MembersThen, Spells}
+use Rattle.cbor_diag.specs.Bytes.{any, OpenThen, SpellsChunks, MembersThen, Spells, SpellsItems, SpellsPairs}
 use Rattle.cbor_diag.specs.StringKind.{StringKind, major_of}
-use Rattle.cbor_diag.specs.Bytes.{SpellsItems, SpellsPairs}
 use Rattle.cbor_diag.specs.Answer.{atom_size, size, items_size, pairs_size}
 use Rattle.cbor_diag.proofs.bytes.Heads.{head_shorter}
 use Rattle.cbor_diag.proofs.bytes.Chunks.{chunk_parts}

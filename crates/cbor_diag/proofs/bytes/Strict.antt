@@ -1,9 +1,8 @@
 -- The strict spelling of an item is its encoding, and the encoding of an item is the strict spelling of
 -- what it reads as.
 use Rattle.std.proofs.Common.{◌≡◌, ℕ, suc, ◌+◌, ◌^◌, ◌<◌, List, [], ◌∷◌, ◌++◌, length, map, Option, Some, None, inl}
-use Rattle.std.proofs.Common.{inr, refl, sym, ap, ◌∙◌, append_assoc}
+use Rattle.std.proofs.Common.{inr, refl, sym, ap, ◌∙◌, append_assoc, ◌≤◌, nat_lt}
 use Rattle.std.specs.List.{AllByRecursion, flat_map}
-use Rattle.std.proofs.Common.{◌≤◌, nat_lt}
 use Rattle.std.proofs.lemmas.Bool.{cond_both, ltb-false, ltb-true, cases_lt, lt-ltb, le-ltb}
 use Rattle.std.proofs.lemmas.List.{append-nil}
 use Rattle.cbor_diag.specs.declared.syntax.IntegerWidth.{IntegerWidth}
@@ -12,16 +11,14 @@ use Rattle.cbor_diag.specs.declared.syntax.IntegerWidth.TheVariants.{SixtyFour}
 use Rattle.cbor_diag.specs.declared.syntax.FloatWidth.{FloatWidth}
 use Rattle.cbor_diag.specs.declared.syntax.FloatWidth.TheVariants as float_width
 use Rattle.cbor_diag.specs.Item as spec
-use Rattle.cbor_diag.specs.Item.{Chunk, Atom, integer, negative, string, chunked_string}
-use Rattle.cbor_diag.specs.Item.{float, simple, Item, atom, array, tagged, Items, no_items, item, Pairs, no_pairs, pair}
-use Rattle.cbor_diag.specs.Item.{item_count, pair_count}
+use Rattle.cbor_diag.specs.Item.{Chunk, Atom, integer, negative, string, chunked_string, float, simple, Item, atom}
+use Rattle.cbor_diag.specs.Item.{array, tagged, Items, no_items, item, Pairs, no_pairs, pair, item_count, pair_count}
 use Rattle.cbor_diag.specs.Head.{FitsWidth, FitsStated, shortest, stated, head, opening, break_byte, HeadThen}
 use Rattle.cbor_diag.specs.WellFormed.{IsChunk, FitsFloat, WellFormedAtom, FitsCount, WellFormed}
 use Rattle.cbor_diag.specs.WellFormed.{WellFormedItems, WellFormedPairs}
-use Rattle.cbor_diag.specs.Bytes.{any, strict, SpellsSimple}
+use Rattle.cbor_diag.specs.Bytes.{any, strict, SpellsSimple, SpellsFloat, ChunkThen, SpellsChunks, SpellsAtom}
+use Rattle.cbor_diag.specs.Bytes.{MembersThen, Spells, SpellsItems, SpellsPairs}
 use Rattle.cbor_diag.specs.StringKind.{StringKind, major_of}
-use Rattle.cbor_diag.specs.Bytes.{SpellsFloat, ChunkThen, SpellsChunks, SpellsAtom, MembersThen, Spells, SpellsItems}
-use Rattle.cbor_diag.specs.Bytes.{SpellsPairs}
 use Rattle.cbor_diag.specs.Written.{encoded_head, encoded_chunk, encoded_float, encoded_simple, encoded_atom}
 use Rattle.cbor_diag.specs.Written.{encoded_open, encoded_close, encoded, encoded_items, encoded_pairs, resolve_chunk}
 use Rattle.cbor_diag.specs.Written.{resolve_float, resolve_atom, resolve_count, resolve, resolve_items, resolve_pairs}

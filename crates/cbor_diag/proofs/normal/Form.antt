@@ -1,7 +1,5 @@
 -- The normal form of a well-formed item is well formed, and its encoding is no longer.
-use Rattle.std.proofs.Common.{◌≡◌, ℕ, ◌^◌, ◌<◌, ◌≤◌, length}
-use Rattle.std.proofs.Common.{inl, inr, refl, arith}
-use Rattle.std.proofs.Common.{nat_lt}
+use Rattle.std.proofs.Common.{◌≡◌, ℕ, ◌^◌, ◌<◌, ◌≤◌, length, inl, inr, refl, arith, nat_lt}
 use Rattle.std.proofs.lemmas.Bool.{cond_both, cases_lt, lt-ltb, le-ltb}
 use Rattle.cbor_diag.specs.declared.syntax.IntegerWidth.{IntegerWidth}
 use Rattle.cbor_diag.specs.declared.syntax.IntegerWidth.TheVariants.{Unknown, Zero, Eight, Sixteen, ThirtyTwo}
@@ -10,8 +8,7 @@ use Rattle.cbor_diag.specs.declared.syntax.FloatWidth.{FloatWidth}
 use Rattle.cbor_diag.specs.declared.syntax.FloatWidth.TheVariants as float_width
 use Rattle.cbor_diag.specs.Head.{FitsWidth, FitsStated, shortest, stated, head}
 use Rattle.cbor_diag.specs.WellFormed.{FitsFloat}
-use Rattle.cbor_diag.specs.Written.{encoded_head}
-use Rattle.cbor_diag.specs.Written.{resolve_float}
+use Rattle.cbor_diag.specs.Written.{encoded_head, resolve_float}
 use Rattle.cbor_diag.specs.Normal.{normal_width}
 use Rattle.cbor_diag.proofs.bytes.Strict.{shortest_has, stated_fits}
 use Rattle.cbor_diag.proofs.notation.Numbers.{fits_64}

@@ -15,11 +15,9 @@ use Rattle.cbor_diag.specs.Item.{float, simple, Item, atom, array, tagged, Items
 use Rattle.cbor_diag.specs.Head.{FitsStated}
 use Rattle.cbor_diag.specs.WellFormed.{WellFormed, WellFormedItems, WellFormedPairs}
 use Rattle.cbor_diag.specs.Bytes.{any, SpellsAtom, SpellsFloat, Spells, SpellsItems, SpellsPairs}
-use Rattle.cbor_diag.specs.Written.{resolve_chunk, resolve_float, resolve_atom, resolve}
-use Rattle.cbor_diag.specs.Written.{resolve_items, resolve_pairs}
+use Rattle.cbor_diag.specs.Written.{resolve_chunk, resolve_float, resolve_atom, resolve, resolve_items, resolve_pairs}
 use Rattle.cbor_diag.specs.StringKind.{bytes_kind, text_kind, no_chunks}
-use Rattle.cbor_diag.specs.NotationText.{number, bracketed, float_text, encoding_below}
-use Rattle.cbor_diag.specs.NotationText.{item_texts, pair_texts}
+use Rattle.cbor_diag.specs.NotationText.{number, bracketed, float_text, encoding_below, item_texts, pair_texts}
 use Rattle.cbor_diag.specs.NotationText.{string_text, chunks_listed, atom_text, text_with, text_at}
 use Rattle.cbor_diag.specs.Normal.{normal_width, normal_chunk, normal_items, normal_pairs}
 use Rattle.cbor_diag.specs.Normal.{normal_atom, normal_with, normal_at}

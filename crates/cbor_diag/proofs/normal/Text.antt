@@ -1,7 +1,6 @@
 -- The text of an item is that of its normal form, and the normal form of a normal form is itself.
-use Rattle.std.proofs.Common.{◌≡◌, ℕ, zero, suc, ◌+◌, ◌≤◌, List, [], ◌∷◌, ◌++◌, length, codes, Option, Some, None}
-use Rattle.std.proofs.Common.{◌⊎◌, inl, inr, refl, sym, ap, ◌∙◌, arith}
-use Rattle.std.proofs.Common.{nat_lt}
+use Rattle.std.proofs.Common.{◌≡◌, ℕ, zero, suc, ◌+◌, ◌≤◌, List, [], ◌∷◌, ◌++◌, length, codes, Option, Some, None, ◌⊎◌}
+use Rattle.std.proofs.Common.{inl, inr, refl, sym, ap, ◌∙◌, arith, nat_lt}
 use Rattle.std.proofs.lemmas.Bool.{cond_both, cases_lt, lt-ltb, le-ltb}
 use Rattle.std.specs.Fmt.{decimal}
 use Rattle.cbor_diag.specs.declared.syntax.IntegerWidth.{IntegerWidth}
@@ -16,8 +15,7 @@ use Rattle.cbor_diag.specs.Item as spec
 use Rattle.cbor_diag.specs.Item.{Chunk, Atom, integer, negative, string, chunked_string}
 use Rattle.cbor_diag.specs.Item.{float, simple, Item, atom, array, tagged, Items, no_items, item, Pairs, no_pairs, pair}
 use Rattle.cbor_diag.specs.WellFormed.{WellFormedAtom, WellFormed, WellFormedItems, WellFormedPairs}
-use Rattle.cbor_diag.specs.Written.{encoded, encoded_items, resolve_float, resolve}
-use Rattle.cbor_diag.specs.Written.{resolve_items}
+use Rattle.cbor_diag.specs.Written.{encoded, encoded_items, resolve_float, resolve, resolve_items}
 use Rattle.cbor_diag.specs.Embedded.{embedded_at, sequence_at}
 use Rattle.cbor_diag.specs.StringKind.{bytes_kind, text_kind, no_chunks}
 use Rattle.cbor_diag.specs.NotationText.{indicator, bracketed, inside, float_text, encoding_below}
@@ -32,10 +30,9 @@ use Rattle.cbor_diag.proofs.text.Parts.{content_of}
 use Rattle.cbor_diag.proofs.shared.EmbeddedItems.{embedded_spells, spells_embedded, sequence_spells, sequence_again}
 use Rattle.cbor_diag.proofs.bytes.Laws.{AllBytes, bytes_at}
 use Rattle.cbor_diag.proofs.normal.WellFormed.{tag_kind, items_serve, items_well, normal_serves}
-use Rattle.cbor_diag.proofs.normal.Stated.{map_kept}
-use Rattle.cbor_diag.proofs.normal.Stated.{Stated, StatedItems, spelled_stated, items_stated, normal_items_stated}
-use Rattle.cbor_diag.proofs.normal.Stated.{normal_stated, at, Writer, text_resolved, normal_items_resolved}
-use Rattle.cbor_diag.proofs.normal.Stated.{normal_resolved, items_resolved}
+use Rattle.cbor_diag.proofs.normal.Stated.{map_kept, Stated, StatedItems, spelled_stated, items_stated}
+use Rattle.cbor_diag.proofs.normal.Stated.{normal_items_stated, normal_stated, at, Writer, text_resolved}
+use Rattle.cbor_diag.proofs.normal.Stated.{normal_items_resolved, normal_resolved, items_resolved}
 
 -- ---- embedded items, read again from the bytes of their normal forms
 

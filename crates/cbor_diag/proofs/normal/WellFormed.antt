@@ -1,8 +1,7 @@
 -- The normal form of a well-formed item is well formed, and its encoding is no longer.
 use Rattle.std.proofs.Common.{◌≡◌, ℕ, zero, suc, ◌+◌, ◌≤◌, List, [], ◌∷◌, ◌++◌, length, map, Option, Some, None, ◌⊎◌}
-use Rattle.std.proofs.Common.{inl, inr, eqb, false, refl, ap, subst, arith}
+use Rattle.std.proofs.Common.{inl, inr, eqb, false, refl, ap, subst, arith, nat_lt}
 use Rattle.std.specs.List.{AllByRecursion, flat_map}
-use Rattle.std.proofs.Common.{nat_lt}
 use Rattle.std.proofs.lemmas.Bool.{cond_both, lt-ltb, cases_eq, ne_eqb}
 use Rattle.std.proofs.lemmas.List.{length-append}
 use Rattle.cbor_diag.specs.declared.syntax.IntegerWidth.{IntegerWidth}
@@ -10,12 +9,10 @@ use Rattle.cbor_diag.specs.declared.syntax.IntegerWidth.TheVariants.{Unknown}
 use Rattle.cbor_diag.specs.declared.syntax.FloatWidth.{FloatWidth}
 use Rattle.cbor_diag.specs.declared.syntax.FloatWidth.TheVariants as float_width
 use Rattle.cbor_diag.specs.Item as spec
-use Rattle.cbor_diag.specs.Item.{Chunk, Atom, integer, negative, string, chunked_string}
-use Rattle.cbor_diag.specs.Item.{float, simple, Item, atom, array, tagged, Items, no_items, item, Pairs, no_pairs, pair}
-use Rattle.cbor_diag.specs.Item.{item_count, pair_count}
+use Rattle.cbor_diag.specs.Item.{Chunk, Atom, integer, negative, string, chunked_string, float, simple, Item, atom}
+use Rattle.cbor_diag.specs.Item.{array, tagged, Items, no_items, item, Pairs, no_pairs, pair, item_count, pair_count}
 use Rattle.cbor_diag.specs.Head.{FitsWidth, head, break_byte, HeadThen}
-use Rattle.cbor_diag.specs.WellFormed.{IsChunk, WellFormedAtom, FitsCount, WellFormed, WellFormedItems}
-use Rattle.cbor_diag.specs.WellFormed.{WellFormedPairs}
+use Rattle.cbor_diag.specs.WellFormed.{IsChunk, WellFormedAtom, FitsCount, WellFormed, WellFormedItems, WellFormedPairs}
 use Rattle.cbor_diag.specs.Bytes.{any, ChunkThen, SpellsChunks, SpellsAtom}
 use Rattle.cbor_diag.specs.StringKind.{StringKind, bytes_kind, text_kind, major_of}
 use Rattle.cbor_diag.specs.Bytes.{SpellsFloat, SpellsSimple, MembersThen, Spells, SpellsItems, SpellsPairs}

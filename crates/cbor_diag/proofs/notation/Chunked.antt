@@ -1,6 +1,5 @@
 -- Indefinite strings are read again, chunk by chunk.
-use Rattle.std.proofs.Common.{◌≡◌, ℕ, List, [], ◌∷◌, ◌++◌, codes, Ok, refl, sym, ap, ◌∙◌}
-use Rattle.std.proofs.Common.{subst, inl, inr}
+use Rattle.std.proofs.Common.{◌≡◌, ℕ, List, [], ◌∷◌, ◌++◌, codes, Ok, refl, sym, ap, ◌∙◌, subst, inl, inr}
 use Rattle.std.proofs.lemmas.List.{append_assoc}
 use Rattle.cbor_diag.specs.Item.{Chunk, Item, atom, chunked_string}
 use Rattle.cbor_diag.specs.StringKind.{StringKind, bytes_kind, text_kind}

@@ -7,8 +7,7 @@ use Rattle.cbor_diag.specs.Item.{Item, array, Items, Pairs, no_pairs, pair}
 use Rattle.cbor_diag.specs.View.{pairs_of}
 use Rattle.cbor_diag.specs.Reading.{Read}
 use Rattle.cbor_diag.specs.Notation.{Members, Listed, list_of, pairs_list, PairOf, Opens}
-use Rattle.cbor_diag.specs.mirror.NotationReading.{after_byte, read_members, read_pair, length_of}
-use Rattle.cbor_diag.specs.mirror.NotationReading.{start_of, read_core}
+use Rattle.cbor_diag.specs.mirror.NotationReading.{after_byte, read_members, read_pair, length_of, start_of, read_core}
 use Rattle.cbor_diag.proofs.notation.Ends.{Ends, begins_append, begins_ends, blank_ends, ends_after_byte, core_starts}
 use Rattle.cbor_diag.proofs.notation.Lists.{ReadsAgain, Stripped, IsClose, follows_further, listed_again}
 use Rattle.cbor_diag.proofs.notation.Pieces.{items_again}

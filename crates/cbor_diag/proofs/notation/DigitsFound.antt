@@ -14,9 +14,8 @@ use Rattle.cbor_notes.proofs.tokens.TextPlaces.{first_at}
 use Rattle.cbor_diag.proofs.notation.Decoded.{base32_again, url_safe_again, standard_again}
 use Rattle.cbor_diag.specs.declared.error.Error.TheVariants as refusal
 use Rattle.cbor_diag.specs.Reading.{Gives}
-use Rattle.cbor_diag.specs.mirror.NotationReading.{or_refused, if_encoded, either, value_in, bytes_of_fives}
-use Rattle.cbor_diag.specs.mirror.NotationReading.{from_fives, from_sixes}
-use Rattle.cbor_diag.specs.mirror.NotationReading.{six_bits, unpadded, base32_of, base64_of}
+use Rattle.cbor_diag.specs.mirror.NotationReading.{or_refused, if_encoded, either, value_in, bytes_of_fives, from_fives}
+use Rattle.cbor_diag.specs.mirror.NotationReading.{from_sixes, six_bits, unpadded, base32_of, base64_of}
 
 -- the answer whose encoding was compared
 encoded_is : (encode : List ℕ → List ℕ) (digits answer bytes : List ℕ) → if_encoded encode digits answer ≡ Some bytes

@@ -15,9 +15,8 @@ use Rattle.cbor_diag.specs.Notation.{as_text, as_items, PieceOf, Joined, one, mo
 use Rattle.cbor_diag.specs.mirror.NotationReading.{after_word, start_of, first_start, begins_string}
 use Rattle.cbor_diag.specs.mirror.NotationReading.{checked, read_string}
 use Rattle.cbor_diag.proofs.shared.Utf8.{utf8_passes}
-use Rattle.cbor_diag.proofs.notation.Ends.{holds_of, Begins, Ends, begins_append, begins_ends, ends_more}
-use Rattle.cbor_diag.proofs.notation.Ends.{blank_ends, core_ends, notation_starts, Follows, follows_blank}
-use Rattle.cbor_diag.proofs.notation.Ends.{Starts}
+use Rattle.cbor_diag.proofs.notation.Ends.{holds_of, Begins, Ends, begins_append, begins_ends, ends_more, blank_ends}
+use Rattle.cbor_diag.proofs.notation.Ends.{core_ends, notation_starts, Follows, follows_blank, Starts}
 use Rattle.cbor_diag.proofs.notation.Lists.{ReadsAgain}
 use Rattle.cbor_diag.proofs.notation.Pieces.{apostrophe, quotation_mark, quoted_parts, piece_starts, piece_begins}
 use Rattle.cbor_diag.proofs.notation.Pieces.{any_piece, piece_starts_core, joined_begins, joined_again}

@@ -27,9 +27,8 @@ ghost use Rattle.cbor_diag.specs.Facts.{IsWellFormed, diag_of, pretty_of, normal
 ghost use Rattle.cbor_diag.specs.WellFormed.{deepest, WellFormed, WellFormedItems, WellFormedPairs};
 ghost use Rattle.cbor_diag.specs.Layout as shown;
 ghost use Rattle.cbor_diag.specs.mirror.LayoutView.{layout_view, style_view, context_view};
-ghost use Rattle.cbor_diag.specs.mirror.LayoutView.{IsIndented};
-ghost use Rattle.cbor_diag.specs.mirror.LayoutView.{item_text, items_there, pairs_there};
-ghost use Rattle.cbor_diag.specs.mirror.LayoutView.{content_there};
+ghost use Rattle.cbor_diag.specs.mirror.LayoutView.{IsIndented, item_text, items_there};
+ghost use Rattle.cbor_diag.specs.mirror.LayoutView.{pairs_there, content_there};
 ghost use Rattle.cbor_diag.specs.NotationText.{indent_of, style_indent, in_encoding};
 ghost use Rattle.cbor_diag.specs.NotationText.{text_at_level, sequence_size};
 ghost use Rattle.cbor_diag.specs.Embedded.{sequence, EmbedsExactly};

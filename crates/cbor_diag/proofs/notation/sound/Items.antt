@@ -7,8 +7,7 @@ use Rattle.cbor_diag.specs.declared.parse.notation.start.Start.{Start}
 use Rattle.cbor_diag.specs.declared.parse.notation.start.Start.TheVariants as start
 use Rattle.cbor_diag.specs.declared.syntax.IntegerWidth.TheVariants.{Unknown}
 use Rattle.cbor_diag.specs.Item as spec
-use Rattle.cbor_diag.specs.Item.{Chunk, string, chunked_string, Item, atom, array, no_items}
-use Rattle.cbor_diag.specs.Item.{item, no_pairs, pair}
+use Rattle.cbor_diag.specs.Item.{Chunk, string, chunked_string, Item, atom, array, no_items, item, no_pairs, pair}
 use Rattle.cbor_diag.specs.View.{items_of, pairs_of}
 use Rattle.cbor_diag.specs.StringKind.{StringKind, bytes_kind, text_kind, no_chunks}
 use Rattle.cbor_diag.specs.Reading.{Read, ◌>>=◌}
@@ -16,10 +15,9 @@ use Rattle.cbor_diag.specs.Notation.{IsBlank, Blanked, Closes, Members, pairs_li
 use Rattle.cbor_diag.specs.Notation.{Reads}
 use Rattle.cbor_diag.specs.mirror.NotationReading.{or_refused, skip_blank, after_byte, after_word, read_members}
 use Rattle.cbor_diag.specs.mirror.NotationReading.{read_pair, length_of, read_array, read_map, first_start, start_of}
-use Rattle.cbor_diag.specs.mirror.NotationReading.{read_chunk, chunks_of, kind_from, read_chunks}
-use Rattle.cbor_diag.specs.mirror.NotationReading.{string_of, read_string_item, core_of, read_core}
-use Rattle.cbor_diag.specs.mirror.NotationReading.{read_item, whole, notation_of, read_integer, read_negative}
-use Rattle.cbor_diag.specs.mirror.NotationReading.{read_word, read_string}
+use Rattle.cbor_diag.specs.mirror.NotationReading.{read_chunk, chunks_of, kind_from, read_chunks, string_of}
+use Rattle.cbor_diag.specs.mirror.NotationReading.{read_string_item, core_of, read_core, read_item, whole, notation_of}
+use Rattle.cbor_diag.specs.mirror.NotationReading.{read_integer, read_negative, read_word, read_string}
 use Rattle.cbor_diag.specs.NotationRefused.{is_opening, IsAnswered}
 use Rattle.cbor_diag.proofs.notation.sound.Steps.{Sound, moved, moved_in, weaker, weaker_here, sound_then, sound_map}
 use Rattle.cbor_diag.proofs.notation.sound.Steps.{sound_option, after_byte_is, after_word_is}

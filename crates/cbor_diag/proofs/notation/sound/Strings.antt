@@ -11,10 +11,8 @@ use Rattle.cbor_diag.specs.View.{items_of}
 use Rattle.cbor_diag.specs.Reading.{Read, ◌>>=◌}
 use Rattle.cbor_diag.specs.Notation.{Closes, Further, Members, list_of, DigitsIn, Notation, in_base16, in_base32}
 use Rattle.cbor_diag.specs.Notation.{in_base32hex, in_base64}
-use Rattle.cbor_diag.specs.mirror.NotationReading.{or_refused, after_word}
-use Rattle.cbor_diag.specs.mirror.NotationReading.{base32_of, base64_of}
-use Rattle.cbor_diag.specs.mirror.NotationReading.{base16_bytes, base16_of, read_decoded, either_word, h_notation}
-use Rattle.cbor_diag.specs.mirror.NotationReading.{b_notation}
+use Rattle.cbor_diag.specs.mirror.NotationReading.{or_refused, after_word, base32_of, base64_of, base16_bytes}
+use Rattle.cbor_diag.specs.mirror.NotationReading.{base16_of, read_decoded, either_word, h_notation, b_notation}
 use Rattle.cbor_diag.proofs.notation.sound.Steps.{none_some, Sound, moved, sound_option, after_word_is}
 use Rattle.cbor_diag.proofs.notation.DigitsFound.{base32_found, base64_found}
 

@@ -6,10 +6,8 @@ ghost use Rattle.std.specs.Prelude.{◌≡◌, ◌∷◌, [], ◌++◌, ◌<◌,
 ghost use Rattle.cbor_diag.specs.mirror.Appends.{AppendsText};
 ghost use Rattle.cbor_diag.specs.WellFormed.{deepest};
 ghost use Rattle.cbor_diag.specs.mirror.LayoutView.{style_view, context_view, chunks_there};
-ghost use Rattle.cbor_diag.specs.mirror.LayoutView.{IsIndented};
-ghost use Rattle.cbor_diag.specs.mirror.LayoutView.{before_member, after_member};
-ghost use Rattle.cbor_diag.specs.NotationText.{line, last_line, opened, colon};
-ghost use Rattle.cbor_diag.specs.NotationText.{style_indent};
+ghost use Rattle.cbor_diag.specs.mirror.LayoutView.{IsIndented, before_member, after_member};
+ghost use Rattle.cbor_diag.specs.NotationText.{line, last_line, opened, colon, style_indent};
 ghost use Rattle.cbor_diag.specs.NotationText.{rest_text};
 
 use super::context::{ContainerStyle, Layout, NotationContext};

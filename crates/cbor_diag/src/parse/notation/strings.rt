@@ -13,12 +13,11 @@ ghost use Rattle.cbor_diag.specs.StringKind.{bytes_kind, text_kind};
 ghost use Rattle.cbor_diag.specs.Written.{encoded_items};
 ghost use Rattle.cbor_diag.specs.Item.{Item, atom, chunked_string};
 ghost use Rattle.cbor_diag.specs.Reading.{Gives, Read};
-ghost use Rattle.cbor_diag.specs.mirror.NotationReading.{base16_of, read_string_item};
-ghost use Rattle.cbor_diag.specs.mirror.NotationReading.{checked, read_chunk};
-ghost use Rattle.cbor_diag.specs.mirror.NotationReading.{read_chunks, read_embedded, ends_string};
-ghost use Rattle.cbor_diag.specs.mirror.NotationReading.{read_item, read_members, one_string};
-ghost use Rattle.cbor_diag.specs.mirror.NotationReading.{read_piece, read_pieces, read_string};
-ghost use Rattle.cbor_diag.specs.mirror.NotationReading.{read_content, with_chunk};
+ghost use Rattle.cbor_diag.specs.mirror.NotationReading.{base16_of, read_string_item, checked};
+ghost use Rattle.cbor_diag.specs.mirror.NotationReading.{read_chunk, read_chunks, read_embedded};
+ghost use Rattle.cbor_diag.specs.mirror.NotationReading.{ends_string, read_item, read_members};
+ghost use Rattle.cbor_diag.specs.mirror.NotationReading.{one_string, read_piece, read_pieces};
+ghost use Rattle.cbor_diag.specs.mirror.NotationReading.{read_string, read_content, with_chunk};
 ghost use Rattle.cbor_diag.specs.mirror.StringView.{chunk_list, kind_view, list_kind};
 
 use super::content::{b_notation, base16, h_notation, read_plain, read_quoted};

@@ -1,5 +1,4 @@
-use Rattle.std.proofs.Common.{◌≡◌, ℕ, List, ◌++◌, subst, ◌∙◌, append_assoc, arith}
-use Rattle.std.proofs.Common.{Option, Result, rules}
+use Rattle.std.proofs.Common.{◌≡◌, ℕ, List, ◌++◌, subst, ◌∙◌, append_assoc, arith, Option, Result, rules}
 use Rattle.cbor_diag.specs.declared.syntax.IntegerWidth.{IntegerWidth}
 use Rattle.cbor_diag.specs.mirror.Appends.{Appends}
 use Rattle.cbor_diag.specs.Item.{item_count, pair_count}

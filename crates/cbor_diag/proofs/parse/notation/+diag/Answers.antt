@@ -1,5 +1,4 @@
-use Rattle.std.proofs.Common.{◌≡◌, suc, ◌+◌, ◌-◌, ◌≤◌, ◌++◌, ◌∷◌, [], Ok, length, map, sym, ap}
-use Rattle.std.proofs.Common.{subst, ◌∙◌, arith}
+use Rattle.std.proofs.Common.{◌≡◌, suc, ◌+◌, ◌-◌, ◌≤◌, ◌++◌, ◌∷◌, [], Ok, length, map, sym, ap, subst, ◌∙◌, arith}
 use Rattle.std.proofs.lemmas.List.{map_push}
 use Rattle.std.proofs.lemmas.Result.{err_from_is_err_and}
 use Rattle.cbor_diag.specs.declared.parse.notation.start.Start.TheVariants as start
@@ -15,11 +14,10 @@ use Rattle.cbor_diag.specs.mirror.StringView.{kind_view, chunk_list, list_kind}
 use Rattle.cbor_diag.proofs.notation.ChunkLoops.{Fails-bind, onto}
 use Rattle.cbor_diag.proofs.notation.Loops.{members_closed, members_begin, member_fails, member_last, no_comma}
 use Rattle.cbor_diag.proofs.notation.Loops.{member_more}
-use Rattle.cbor_diag.proofs.notation.Cores.{core_by, bytes_core, item_none}
-use Rattle.cbor_diag.proofs.notation.Cores.{no_content, no_string, string_read, no_chunks, chunks_read, chunks_well}
-use Rattle.cbor_diag.proofs.notation.Cores.{item_some, pieces_begin, pieces_end, piece_fails, piece_more}
-use Rattle.cbor_diag.proofs.notation.Cores.{no_key, no_colon, no_value, pair_read, pair_view, pairs_push}
-use Rattle.cbor_diag.proofs.notation.Cores.{array_well, map_well}
+use Rattle.cbor_diag.proofs.notation.Cores.{core_by, bytes_core, item_none, no_content, no_string, string_read}
+use Rattle.cbor_diag.proofs.notation.Cores.{no_chunks, chunks_read, chunks_well, item_some, pieces_begin, pieces_end}
+use Rattle.cbor_diag.proofs.notation.Cores.{piece_fails, piece_more, no_key, no_colon, no_value, pair_read, pair_view}
+use Rattle.cbor_diag.proofs.notation.Cores.{pairs_push, array_well, map_well}
 use Rattle.cbor_diag.proofs.shared.Views.{items_push, view-Array, view-Map, view-Negative}
 use Rattle.cbor_diag.proofs.parse.notation.+diag.Goals as goal
 
