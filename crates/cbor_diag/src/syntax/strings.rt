@@ -5,7 +5,7 @@ ghost use Rattle.cbor_diag.specs.Head.{FitsWidth};
 ghost use Rattle.cbor_diag.specs.Item.{Chunk};
 ghost use Rattle.cbor_diag.specs.Reading.{Gives, checked_chunk};
 ghost use Rattle.cbor_diag.specs.StringKind.{StringKind, bytes_kind, text_kind};
-ghost use Rattle.cbor_diag.specs.StringKind.{major_of, no_chunks, IsContent};
+ghost use Rattle.cbor_diag.specs.StringKind.{major_of, IsContent};
 ghost use Rattle.cbor_diag.specs.View.{byte_chunk, text_chunk};
 ghost use Rattle.cbor_diag.specs.WellFormed.{IsChunk};
 ghost use Rattle.cbor_diag.specs.mirror.MajorNumber.{major_number};
@@ -34,16 +34,6 @@ impl StringKind {
         match self {
             StringKind::Bytes => Major::Bytes,
             StringKind::Text => Major::Text,
-        }
-    }
-
-    /// What an indefinite string of this kind is in notation if it has no chunks.
-    pub(crate) fn no_chunks(self) -> &'static str
-        ensures { result.now ≡ no_chunks (kind_view self) }
-    {
-        match self {
-            StringKind::Bytes => "''_",
-            StringKind::Text => "\"\"_",
         }
     }
 
