@@ -46,15 +46,12 @@ dump-dump_item-requires t c =
     let begun = c.in_ok-walk.ensures in
     let deep = well_level level i c.requires.well_formed in
     let wide = subst (λ p. width_of (lines_at_level level top 0 i) ≤ room p) (sym begun.0)
-    (narrow level i c.requires.level c.requires.well_formed) in (
+    (narrow level i c.requires.level c.requires.well_formed) in
+    let takes = starts level i c.requires.level c.requires.well_formed walk.shared begun.1 walk.lines.pass wide in (
       omega (arith, c.decreases),
       (
         (omega (arith, c.requires.level), omega (arith, deep)),
-        (
-          c.requires.well_formed,
-          starts level i c.requires.level c.requires.well_formed walk.shared begun.1
-              walk.lines.pass wide,
-        ),
+        (c.requires.well_formed, takes),
       ),
     )
 
@@ -78,15 +75,12 @@ dump-dump_item-requires-2 t c =
     let measured = found level i c.requires.level c.requires.well_formed c.in_ok-walk.walk.shared first.1
     c.in_ok-walk.walk.lines.pass c.dump_item.new.walk.lines.pass first.0 c.in_ok-dump_item.ensures.took in
     let same = c.new-writer.ensures.width ∙ (c.width.ensures ∙ measured) in
-    let wide = subst (λ p. width_of (lines_at_level level top 0 i) ≤ room p) (sym begun.0) (omega (arith, same)) in (
+    let wide = subst (λ p. width_of (lines_at_level level top 0 i) ≤ room p) (sym begun.0) (omega (arith, same)) in
+    let takes = starts level i c.requires.level c.requires.well_formed walk.shared begun.1 walk.lines.pass wide in (
       omega (arith, c.decreases),
       (
         (omega (arith, c.requires.level), omega (arith, deep)),
-        (
-          c.requires.well_formed,
-          starts level i c.requires.level c.requires.well_formed walk.shared begun.1
-              walk.lines.pass wide,
-        ),
+        (c.requires.well_formed, takes),
       ),
     )
 
