@@ -7,7 +7,6 @@ use Rattle.cbor_diag.specs.declared.syntax.DataItem.{DataItem}
 use Rattle.cbor_diag.specs.Item as spec
 use Rattle.cbor_diag.specs.Item.{Atom, chunked_string, Item, atom, array, tagged, Items, no_items, item}
 use Rattle.cbor_diag.specs.Item.{Pairs, no_pairs, pair}
-use Rattle.cbor_diag.specs.StringKind.{bytes_kind, text_kind}
 use Rattle.cbor_diag.specs.View.{view}
 use Rattle.cbor_diag.specs.Bytes.{any, Spells}
 use Rattle.cbor_diag.specs.Refused.{Cut, Fault}

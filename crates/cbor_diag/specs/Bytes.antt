@@ -5,11 +5,10 @@ use Rattle.cbor_diag.specs.declared.syntax.IntegerWidth.{IntegerWidth}
 use Rattle.cbor_diag.specs.declared.syntax.FloatWidth.{FloatWidth}
 use Rattle.cbor_diag.specs.declared.syntax.FloatWidth.TheVariants as float_width
 use Rattle.cbor_diag.specs.Item as spec
-use Rattle.cbor_diag.specs.Item.{Chunk, Atom, integer, negative, string, chunked_string}
-use Rattle.cbor_diag.specs.Item.{float, simple, Item, atom, array, tagged, Items, no_items, item, Pairs, no_pairs}
-use Rattle.cbor_diag.specs.Item.{pair, item_count, pair_count}
+use Rattle.cbor_diag.specs.Item.{Chunk, Atom, integer, negative, string, chunked_string, float, simple, Item, atom}
+use Rattle.cbor_diag.specs.Item.{array, tagged, Items, no_items, item, Pairs, no_pairs, pair, item_count, pair_count}
 use Rattle.cbor_diag.specs.Head.{opening, break_byte, HeadThen}
-use Rattle.cbor_diag.specs.StringKind.{StringKind, bytes_kind, text_kind, major_of, IsContent}
+use Rattle.cbor_diag.specs.StringKind.{StringKind, major_of, IsContent}
 use Rattle.cbor_diag.specs.WellFormed.{deepest, FitsFloat}
 
 -- An item whose widths are stated has one spelling, but for simple values below 24 (RFC 7049 section

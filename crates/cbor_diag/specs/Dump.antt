@@ -12,9 +12,8 @@ use Rattle.cbor_diag.specs.declared.error.Error.TheVariants.{Remaining}
 use Rattle.cbor_diag.specs.declared.syntax.IntegerWidth.{IntegerWidth}
 use Rattle.cbor_diag.specs.Encoding.{Encoding}
 use Rattle.cbor_diag.specs.Item as spec
-use Rattle.cbor_diag.specs.Item.{Chunk, Atom, integer, negative, string, chunked_string}
-use Rattle.cbor_diag.specs.Item.{float, simple, Item, atom, array, tagged, Items, no_items, item, Pairs, no_pairs, pair}
-use Rattle.cbor_diag.specs.Item.{item_count, pair_count}
+use Rattle.cbor_diag.specs.Item.{Chunk, Atom, integer, negative, string, chunked_string, float, simple, Item, atom}
+use Rattle.cbor_diag.specs.Item.{array, tagged, Items, no_items, item, Pairs, no_pairs, pair, item_count, pair_count}
 use Rattle.cbor_diag.specs.Head.{opening, break_byte}
 use Rattle.cbor_diag.specs.StringKind.{StringKind, bytes_kind, text_kind, major_of}
 use Rattle.cbor_diag.specs.Written.{encoded_head, encoded_open, encoded_float, encoded_simple}

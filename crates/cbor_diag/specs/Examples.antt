@@ -2,8 +2,7 @@
 use Rattle.std.specs.Prelude.{ℕ, zero, suc, List, [], ◌∷◌, codes, Some, None}
 use Rattle.cbor_diag.specs.declared.syntax.IntegerWidth.TheVariants.{Unknown, Zero, Eight}
 use Rattle.cbor_diag.specs.Item as spec
-use Rattle.cbor_diag.specs.Item.{Chunk, Item, Items, atom, array, tagged, integer, string}
-use Rattle.cbor_diag.specs.Item.{chunked_string, simple}
+use Rattle.cbor_diag.specs.Item.{Chunk, Item, Items, atom, array, tagged, integer, string, chunked_string, simple}
 use Rattle.cbor_diag.specs.Item.{no_items, item, no_pairs, pair}
 use Rattle.cbor_diag.specs.StringKind.{bytes_kind, text_kind}
 

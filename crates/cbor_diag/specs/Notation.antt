@@ -18,7 +18,7 @@ use Rattle.cbor_diag.specs.Item.{Chunk, Atom, integer, negative, string, chunked
 use Rattle.cbor_diag.specs.Item.{float, simple, Item, atom, array, tagged, Items, no_items, item, Pairs, no_pairs, pair}
 use Rattle.cbor_diag.specs.Head.{FitsWidth}
 use Rattle.cbor_diag.specs.WellFormed.{deepest}
-use Rattle.cbor_diag.specs.StringKind.{StringKind, bytes_kind, text_kind, IsContent}
+use Rattle.cbor_diag.specs.StringKind.{StringKind, bytes_kind, text_kind, IsContent, no_chunks}
 use Rattle.cbor_diag.specs.Written.{encoded_items}
 
 -- whitespace and comments, perhaps none
@@ -159,6 +159,11 @@ abbrev pub ChunksOf : StringKind → (List ℕ → Item → Type 0) → List ℕ
 ChunksOf kind Read text cs = Listed (λ member c. Blanked (λ core. StringOf kind Read core c) member) (codes "(_")
     (codes ")") text cs
 
+-- `(_ )`, without a chunk, is a byte string
+abbrev pub ShowsKind : StringKind → List Chunk → Type 0
+ShowsKind kind [] = kind ≡ bytes_kind
+ShowsKind kind (c ∷ cs) = Unit {0}
+
 -- Simple values and floats
 
 abbrev pub NamedSimple : List ℕ → ℕ → Type 0
@@ -189,9 +194,8 @@ abbrev pub AtomCore : (List ℕ → Item → Type 0) → List ℕ → Atom → T
 AtomCore Read text (integer n w) = NumberOf text n w
 AtomCore Read text (negative n w) = NegativeOf text n w
 AtomCore Read text (string kind c) = StringOf kind Read text c
-AtomCore Read text (chunked_string bytes_kind cs) = ((cs ≡ []) × (text ≡ codes "''_")) ⊎ ChunksOf bytes_kind Read text cs
-AtomCore Read text (chunked_string text_kind cs) = ((cs ≡ []) × (text ≡ codes "\"\"_"))
-    ⊎ ((0 < length cs) × ChunksOf text_kind Read text cs)
+AtomCore Read text (chunked_string kind cs) = ((cs ≡ []) × (text ≡ no_chunks kind))
+    ⊎ (ShowsKind kind cs × ChunksOf kind Read text cs)
 AtomCore Read text (float bits w) = FloatOf text bits w
 AtomCore Read text (simple n) = SimpleOf text n
 

@@ -18,7 +18,7 @@ use Rattle.cbor_diag.specs.Layout as content
 use Rattle.cbor_diag.specs.Layout.{Content, Layout, Compact, Pretty, Context}
 use Rattle.cbor_diag.specs.ContainerStyle as style
 use Rattle.cbor_diag.specs.ContainerStyle.{ContainerStyle, OneLine, MultiLine}
-use Rattle.cbor_diag.specs.StringKind.{StringKind, bytes_kind, text_kind}
+use Rattle.cbor_diag.specs.StringKind.{StringKind, bytes_kind, text_kind, no_chunks}
 use Rattle.cbor_diag.specs.Item as spec
 use Rattle.cbor_diag.specs.Item.{Chunk, Atom, integer, negative, string, chunked_string}
 use Rattle.cbor_diag.specs.Item.{float, simple, Item, atom, array, tagged, Items, no_items, item, Pairs, no_pairs, pair}
@@ -228,11 +228,6 @@ content_text left write content.Sequence c b = sequence_text write c (sequence_a
 abbrev pub string_text : StringKind → Encoding → List ℕ → List ℕ
 string_text bytes_kind e b = quoted e b
 string_text text_kind e b = text b
-
--- An indefinite string of no chunks keeps its kind (RFC 8949 section 8.1).
-abbrev pub no_chunks : StringKind → List ℕ
-no_chunks bytes_kind = codes "''_"
-no_chunks text_kind = codes "\"\"_"
 
 -- an indefinite string by the texts of its chunks
 abbrev pub chunks_listed : ContainerStyle → List ℕ → List (List ℕ) → List ℕ

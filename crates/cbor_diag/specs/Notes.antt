@@ -10,8 +10,7 @@ use Rattle.cbor_notes.specs.Element.{element_size}
 use Rattle.cbor_notes.specs.Identifier.{fields_line, base16_line, base58_line, base64_line}
 use Rattle.cbor_notes.specs.Text.{grouped, escaped_text}
 use Rattle.cbor_notes.specs.Url.{is_url}
-use Rattle.cbor_diag.specs.Item.{integer, negative, string, float, simple, Item, atom, array, Items}
-use Rattle.cbor_diag.specs.Item.{no_items, item}
+use Rattle.cbor_diag.specs.Item.{integer, negative, string, float, simple, Item, atom, array, Items, no_items, item}
 use Rattle.cbor_diag.specs.StringKind.{bytes_kind, text_kind}
 use Rattle.cbor_diag.specs.Comments.{in_brackets}
 

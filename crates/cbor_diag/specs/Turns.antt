@@ -5,7 +5,6 @@ use Rattle.cbor_diag.specs.declared.error.Error.{Error}
 use Rattle.cbor_diag.specs.Item as spec
 use Rattle.cbor_diag.specs.Item.{Atom, chunked_string, Item, atom, array, tagged, Items, no_items, item}
 use Rattle.cbor_diag.specs.Item.{Pairs, no_pairs, pair}
-use Rattle.cbor_diag.specs.StringKind.{bytes_kind, text_kind}
 use Rattle.cbor_diag.specs.Refused.{SpelledParts, Next, Inside, in_tag, in_array, in_map, in_open_array, at_open_key}
 use Rattle.cbor_diag.specs.Refused.{at_open_value, Cut, nothing, in_head, in_content, in_chunk, in_part}
 use Rattle.cbor_diag.specs.Refused.{Fault, too_deep, bad_head, bad_text, bad_chunk_head, bad_chunk_text, bad_part}

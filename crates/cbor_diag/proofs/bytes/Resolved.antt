@@ -8,16 +8,14 @@ use Rattle.cbor_diag.specs.declared.syntax.IntegerWidth.{IntegerWidth}
 use Rattle.cbor_diag.specs.declared.syntax.FloatWidth.{FloatWidth}
 use Rattle.cbor_diag.specs.declared.syntax.FloatWidth.TheVariants as float_width
 use Rattle.cbor_diag.specs.Item as spec
-use Rattle.cbor_diag.specs.Item.{Chunk, Atom, integer, negative, string, chunked_string}
-use Rattle.cbor_diag.specs.Item.{float, simple, Item, atom, array, tagged, Items, no_items, item, Pairs, no_pairs, pair}
-use Rattle.cbor_diag.specs.Item.{item_count, pair_count}
+use Rattle.cbor_diag.specs.Item.{Chunk, Atom, integer, negative, string, chunked_string, float, simple, Item, atom}
+use Rattle.cbor_diag.specs.Item.{array, tagged, Items, no_items, item, Pairs, no_pairs, pair, item_count, pair_count}
 use Rattle.cbor_diag.specs.Head.{stated, head, opening, break_byte}
 use Rattle.cbor_diag.specs.WellFormed.{IsChunk, FitsFloat, WellFormedAtom, FitsCount, WellFormed, WellFormedItems}
 use Rattle.cbor_diag.specs.WellFormed.{WellFormedPairs}
-use Rattle.cbor_diag.specs.Bytes.{any, strict, SpellsFloat}
-use Rattle.cbor_diag.specs.StringKind.{StringKind, bytes_kind, text_kind, major_of}
-use Rattle.cbor_diag.specs.Bytes.{ChunkThen, OpenThen, SpellsChunks, SpellsAtom, MembersThen, Spells, SpellsItems}
-use Rattle.cbor_diag.specs.Bytes.{SpellsPairs}
+use Rattle.cbor_diag.specs.Bytes.{any, strict, SpellsFloat, ChunkThen, SpellsChunks, SpellsAtom, MembersThen, Spells}
+use Rattle.cbor_diag.specs.Bytes.{SpellsItems, SpellsPairs}
+use Rattle.cbor_diag.specs.StringKind.{StringKind, major_of}
 use Rattle.cbor_diag.specs.Written.{encoded, resolve_chunk, resolve_float, resolve_atom, resolve_count, resolve}
 use Rattle.cbor_diag.specs.Written.{resolve_items, resolve_pairs}
 use Rattle.cbor_diag.specs.Reading.{read_item}
@@ -153,10 +151,6 @@ chunk_well kind c b rest bytes h =
       IsBytes-behind c.bytes rest inside,
     )
 
-string_well : (kind : StringKind) (c : Chunk) (b : List ℕ) → IsBytes b → ChunkThen kind c b (λ r. r ≡ [])
-    → IsChunk kind c
-string_well kind c b bytes h = (chunk_well kind c b [] bytes h).0
-
 chunks_well : (kind : StringKind) (cs : List Chunk) (b end : List ℕ) → IsBytes b → SpellsChunks kind b cs end
     → AllByRecursion (IsChunk kind) cs
 chunks_well kind [] b end bytes h = tt
@@ -165,11 +159,6 @@ chunks_well kind (c ∷ cs) b end bytes h =
     let one = chunk_well kind c b p.rest bytes p.is in
     (one.0, chunks_well kind cs p.rest end one.1 p.holds)
 
-open_well : (kind : StringKind) (major : ℕ) (cs : List Chunk) (b : List ℕ) → IsBytes b
-    → OpenThen major b (λ rest. SpellsChunks kind rest cs (break_byte ∷ [])) → AllByRecursion (IsChunk kind) cs
-open_well kind major cs b bytes h = chunks_well kind cs h.0 (break_byte ∷ [])
-    (IsBytes-behind (opening major ∷ []) h.0 (subst IsBytes h.1 bytes)) h.2
-
 float_well : (b : List ℕ) (bits : ℕ) (w : FloatWidth) → SpellsFloat b bits w → FitsFloat w bits
 float_well b bits float_width.Unknown h = absurd h
 float_well b bits w h = h.0
@@ -177,10 +166,9 @@ float_well b bits w h = h.0
 atom_well : (b : List ℕ) (a : Atom) → IsBytes b → SpellsAtom any b a → WellFormedAtom a
 atom_well b (integer n w) bytes h = fits_stated w n h.0
 atom_well b (negative n w) bytes h = fits_stated w n h.0
-atom_well b (string bytes_kind c) bytes h = string_well bytes_kind c b bytes h
-atom_well b (string text_kind c) bytes h = string_well text_kind c b bytes h
-atom_well b (chunked_string bytes_kind cs) bytes h = open_well bytes_kind 2 cs b bytes h
-atom_well b (chunked_string text_kind cs) bytes h = open_well text_kind 3 cs b bytes h
+atom_well b (string kind c) bytes h = (chunk_well kind c b [] bytes h).0
+atom_well b (chunked_string kind cs) bytes h = chunks_well kind cs h.0 (break_byte ∷ [])
+    (IsBytes-behind (opening (major_of kind) ∷ []) h.0 (subst IsBytes h.1 bytes)) h.2
 atom_well b (float bits w) bytes h = float_well b bits w h
 atom_well b (simple n) bytes (inl h) = omega (arith, h.0)
 atom_well b (simple n) bytes (inr h) = h.0

@@ -3,13 +3,11 @@ use Rattle.std.proofs.Common.{ℕ, ◌+◌, ◌≤◌, List, [], ◌∷◌, ◌+
 use Rattle.std.proofs.lemmas.List.{length-append}
 use Rattle.cbor_diag.specs.declared.syntax.IntegerWidth.{IntegerWidth}
 use Rattle.cbor_diag.specs.Item as spec
-use Rattle.cbor_diag.specs.Item.{Chunk, Atom, integer, negative, string, chunked_string}
-use Rattle.cbor_diag.specs.Item.{float, simple, Item, atom, array, tagged, Items, no_items, item, Pairs, no_pairs, pair}
-use Rattle.cbor_diag.specs.Item.{item_count, pair_count}
+use Rattle.cbor_diag.specs.Item.{Chunk, Atom, integer, negative, string, chunked_string, float, simple, Item, atom}
+use Rattle.cbor_diag.specs.Item.{array, tagged, Items, no_items, item, Pairs, no_pairs, pair, item_count, pair_count}
 use Rattle.cbor_diag.specs.Head.{break_byte}
-use Rattle.cbor_diag.specs.Bytes.{any, OpenThen, SpellsChunks, MembersThen, Spells}
-use Rattle.cbor_diag.specs.StringKind.{StringKind, bytes_kind, text_kind}
-use Rattle.cbor_diag.specs.Bytes.{SpellsItems, SpellsPairs}
+use Rattle.cbor_diag.specs.Bytes.{any, OpenThen, SpellsChunks, MembersThen, Spells, SpellsItems, SpellsPairs}
+use Rattle.cbor_diag.specs.StringKind.{StringKind, major_of}
 use Rattle.cbor_diag.specs.Answer.{atom_size, size, items_size, pairs_size}
 use Rattle.cbor_diag.proofs.bytes.Heads.{head_shorter}
 use Rattle.cbor_diag.proofs.bytes.Chunks.{chunk_parts}
@@ -30,8 +28,7 @@ pub one_byte : (level : ℕ) (b : List ℕ) (i : Item) → Spells any level b i 
 one_byte level b i h = let s = spelled_begins level b i h in omega (arith, ap length s.parts)
 
 atom_bound : (level : ℕ) (b : List ℕ) (a : Atom) → Spells any level b (atom a) → atom_size a ≤ length b
-atom_bound level b (chunked_string bytes_kind cs) h = open_bound bytes_kind 2 cs b h.1
-atom_bound level b (chunked_string text_kind cs) h = open_bound text_kind 3 cs b h.1
+atom_bound level b (chunked_string kind cs) h = open_bound kind (major_of kind) cs b h.1
 atom_bound level b a h = one_byte level b (atom a) h
 
 -- members that are no more than the bytes after a container's first

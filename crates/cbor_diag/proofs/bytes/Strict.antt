@@ -1,9 +1,9 @@
 -- The strict spelling of an item is its encoding, and the encoding of an item is the strict spelling of
 -- what it reads as.
 use Rattle.std.proofs.Common.{◌≡◌, ℕ, suc, ◌+◌, ◌^◌, ◌<◌, List, [], ◌∷◌, ◌++◌, length, map, Option, Some, None, inl}
-use Rattle.std.proofs.Common.{inr, refl, sym, ap, ◌∙◌, append_assoc}
+use Rattle.std.proofs.Common.{inr, refl, sym, ap, ◌∙◌, append_assoc, ◌≤◌, nat_lt}
 use Rattle.std.specs.List.{AllByRecursion, flat_map}
-use Rattle.std.proofs.lemmas.Bool.{cases_lt, lt-ltb, le-ltb}
+use Rattle.std.proofs.lemmas.Bool.{cond_both, ltb-false, ltb-true, cases_lt, lt-ltb, le-ltb}
 use Rattle.std.proofs.lemmas.List.{append-nil}
 use Rattle.cbor_diag.specs.declared.syntax.IntegerWidth.{IntegerWidth}
 use Rattle.cbor_diag.specs.declared.syntax.IntegerWidth.TheVariants.{Unknown, Zero, Eight, Sixteen, ThirtyTwo}
@@ -11,16 +11,14 @@ use Rattle.cbor_diag.specs.declared.syntax.IntegerWidth.TheVariants.{SixtyFour}
 use Rattle.cbor_diag.specs.declared.syntax.FloatWidth.{FloatWidth}
 use Rattle.cbor_diag.specs.declared.syntax.FloatWidth.TheVariants as float_width
 use Rattle.cbor_diag.specs.Item as spec
-use Rattle.cbor_diag.specs.Item.{Chunk, Atom, integer, negative, string, chunked_string}
-use Rattle.cbor_diag.specs.Item.{float, simple, Item, atom, array, tagged, Items, no_items, item, Pairs, no_pairs, pair}
-use Rattle.cbor_diag.specs.Item.{item_count, pair_count}
+use Rattle.cbor_diag.specs.Item.{Chunk, Atom, integer, negative, string, chunked_string, float, simple, Item, atom}
+use Rattle.cbor_diag.specs.Item.{array, tagged, Items, no_items, item, Pairs, no_pairs, pair, item_count, pair_count}
 use Rattle.cbor_diag.specs.Head.{FitsWidth, FitsStated, shortest, stated, head, opening, break_byte, HeadThen}
 use Rattle.cbor_diag.specs.WellFormed.{IsChunk, FitsFloat, WellFormedAtom, FitsCount, WellFormed}
 use Rattle.cbor_diag.specs.WellFormed.{WellFormedItems, WellFormedPairs}
-use Rattle.cbor_diag.specs.Bytes.{any, strict, SpellsSimple}
-use Rattle.cbor_diag.specs.StringKind.{StringKind, bytes_kind, text_kind, major_of}
-use Rattle.cbor_diag.specs.Bytes.{SpellsFloat, ChunkThen, SpellsChunks, SpellsAtom, MembersThen, Spells, SpellsItems}
-use Rattle.cbor_diag.specs.Bytes.{SpellsPairs}
+use Rattle.cbor_diag.specs.Bytes.{any, strict, SpellsSimple, SpellsFloat, ChunkThen, SpellsChunks, SpellsAtom}
+use Rattle.cbor_diag.specs.Bytes.{MembersThen, Spells, SpellsItems, SpellsPairs}
+use Rattle.cbor_diag.specs.StringKind.{StringKind, major_of}
 use Rattle.cbor_diag.specs.Written.{encoded_head, encoded_chunk, encoded_float, encoded_simple, encoded_atom}
 use Rattle.cbor_diag.specs.Written.{encoded_open, encoded_close, encoded, encoded_items, encoded_pairs, resolve_chunk}
 use Rattle.cbor_diag.specs.Written.{resolve_float, resolve_atom, resolve_count, resolve, resolve_items, resolve_pairs}
@@ -28,29 +26,24 @@ use Rattle.cbor_diag.proofs.bytes.Chunks.{chunk_parts}
 
 -- ---- widths
 
--- what holds of each width that a number fits holds of the shortest
-shortest_has : (P : IntegerWidth → Type 0) (n : ℕ) → (n < 24 → P Zero) → (n < 2 ^ 8 → P Eight)
-    → (n < 2 ^ 16 → P Sixteen) → (n < 2 ^ 32 → P ThirtyTwo) → P SixtyFour → P (shortest n)
+-- what holds of a width where it is the shortest holds of the shortest
+pub shortest_has : (P : IntegerWidth → Type 0) (n : ℕ) → (n < 24 → P Zero) → (24 ≤ n → n < 2 ^ 8 → P Eight)
+    → (2 ^ 8 ≤ n → n < 2 ^ 16 → P Sixteen) → (2 ^ 16 ≤ n → n < 2 ^ 32 → P ThirtyTwo) → (2 ^ 32 ≤ n → P SixtyFour)
+    → P (shortest n)
 shortest_has P n at0 at8 at16 at32 at64 =
-    elim (cases_lt n 24) [
-      | inl lt ↦ rw (lt-ltb n 24 lt) (at0 lt)
-      | inr le24 ↦ elim (cases_lt n (2 ^ 8)) [
-        | inl lt ↦ rw (le-ltb n 24 le24, lt-ltb n (2 ^ 8) lt) (at8 lt)
-        | inr le8 ↦ elim (cases_lt n (2 ^ 16)) [
-          | inl lt ↦ rw (le-ltb n 24 le24, le-ltb n (2 ^ 8) le8, lt-ltb n (2 ^ 16) lt) (at16 lt)
-          | inr le16 ↦ elim (cases_lt n (2 ^ 32)) [
-            | inl lt ↦ rw (le-ltb n 24 le24, le-ltb n (2 ^ 8) le8, le-ltb n (2 ^ 16) le16, lt-ltb n (2 ^ 32) lt)
-                (at32 lt)
-            | inr le32 ↦ rw (le-ltb n 24 le24, le-ltb n (2 ^ 8) le8, le-ltb n (2 ^ 16) le16, le-ltb n (2 ^ 32) le32)
-                at64
-          ]
-        ]
-      ]
-    ]
+    cond_both (nat_lt n 24) Zero _ P (λ e. at0 (ltb-true n 24 e)) (λ d.
+    let no0 : 24 ≤ n = ltb-false n 24 d in
+    cond_both (nat_lt n (2 ^ 8)) Eight _ P (λ e. at8 no0 (ltb-true n (2 ^ 8) e)) (λ d.
+    let no8 : 2 ^ 8 ≤ n = ltb-false n (2 ^ 8) d in
+    cond_both (nat_lt n (2 ^ 16)) Sixteen _ P (λ e. at16 no8 (ltb-true n (2 ^ 16) e)) (λ d.
+    let no16 : 2 ^ 16 ≤ n = ltb-false n (2 ^ 16) d in
+    cond_both (nat_lt n (2 ^ 32)) ThirtyTwo _ P (λ e. at32 no16 (ltb-true n (2 ^ 32) e))
+    (λ d. at64 (ltb-false n (2 ^ 32) d)))))
 
 -- the width that a number is written in is stated, and the number fits it
 pub stated_fits : (w : IntegerWidth) (n : ℕ) → FitsWidth w n → FitsStated (stated w n) n
-stated_fits Unknown n fits = shortest_has (λ w. FitsStated w n) n (λ h. h) (λ h. h) (λ h. h) (λ h. h) fits
+stated_fits Unknown n fits = shortest_has (λ w. FitsStated w n) n (λ h. h) (λ l h. h) (λ l h. h) (λ l h. h)
+    (λ l. fits)
 stated_fits w n fits = fits
 
 -- a number that fits a stated width fits that width
@@ -64,7 +57,8 @@ stated_is Unknown n fits = absurd fits
 stated_is w n fits = refl
 
 pub stated-stated : (w : IntegerWidth) (n : ℕ) → stated (stated w n) n ≡ stated w n
-stated-stated Unknown n = shortest_has (λ w. stated w n ≡ w) n (λ h. refl) (λ h. refl) (λ h. refl) (λ h. refl) refl
+stated-stated Unknown n = shortest_has (λ w. stated w n ≡ w) n (λ h. refl) (λ l h. refl) (λ l h. refl) (λ l h. refl)
+    (λ l. refl)
 stated-stated w n = refl
 
 head_written : (major n : ℕ) (w : IntegerWidth) → FitsStated w n → head major n w ≡ encoded_head major n w
@@ -171,11 +165,6 @@ chunk_enc kind c b end Rest h is holds = (
   ),
 )
 
-string_enc : (kind : StringKind) (c : Chunk) → IsChunk kind c
-    → ChunkThen kind (resolve_chunk c) (encoded_chunk (major_of kind) c) (λ rest. rest ≡ [])
-string_enc kind c h = chunk_enc kind c (encoded_chunk (major_of kind) c) [] (λ rest. rest ≡ []) h
-    (sym (append-nil (encoded_chunk (major_of kind) c))) refl
-
 chunks_enc : (kind : StringKind) (cs : List Chunk) (end : List ℕ) → AllByRecursion (IsChunk kind) cs
     → SpellsChunks kind (flat_map (encoded_chunk (major_of kind)) cs ++ end) (map resolve_chunk cs) end
 chunks_enc kind [] end h = refl
@@ -203,17 +192,12 @@ head_enc major n w fits = (stated_fits w n fits, [], sym (append-nil (encoded_he
 atom_enc : (a : Atom) → WellFormedAtom a → SpellsAtom strict (encoded_atom a) (resolve_atom a)
 atom_enc (integer n w) h = head_enc 0 n w h
 atom_enc (negative n w) h = head_enc 1 n w h
-atom_enc (string bytes_kind c) h = string_enc bytes_kind c h
-atom_enc (string text_kind c) h = string_enc text_kind c h
-atom_enc (chunked_string bytes_kind cs) h = (
-  flat_map (encoded_chunk 2) cs ++ break_byte ∷ [],
+atom_enc (string kind c) h =
+    chunk_enc kind c _ [] (λ rest. rest ≡ []) h (sym (append-nil (encoded_chunk (major_of kind) c))) refl
+atom_enc (chunked_string kind cs) h = (
+  flat_map (encoded_chunk (major_of kind)) cs ++ break_byte ∷ [],
   refl,
-  chunks_enc bytes_kind cs (break_byte ∷ []) h,
-)
-atom_enc (chunked_string text_kind cs) h = (
-  flat_map (encoded_chunk 3) cs ++ break_byte ∷ [],
-  refl,
-  chunks_enc text_kind cs (break_byte ∷ []) h,
+  chunks_enc kind cs (break_byte ∷ []) h,
 )
 atom_enc (float bits w) h = float_enc bits w h
 atom_enc (simple n) h = simple_enc n h
@@ -300,12 +284,9 @@ simple_only b n (inr h) = rw (le-ltb n 24 h.0) h.2
 atom_only : (b : List ℕ) (a : Atom) → SpellsAtom strict b a → b ≡ encoded_atom a
 atom_only b (integer n w) h = head_only 0 n w b [] h ∙ append-nil (encoded_head 0 n w)
 atom_only b (negative n w) h = head_only 1 n w b [] h ∙ append-nil (encoded_head 1 n w)
-atom_only b (string bytes_kind c) h = chunk_only bytes_kind c b [] h ∙ append-nil (encoded_chunk 2 c)
-atom_only b (string text_kind c) h = chunk_only text_kind c b [] h ∙ append-nil (encoded_chunk 3 c)
-atom_only b (chunked_string bytes_kind cs) h = h.1 ∙ ap (λ (x : List ℕ). opening 2 ∷ x)
-    (chunks_only bytes_kind cs h.0 (break_byte ∷ []) h.2)
-atom_only b (chunked_string text_kind cs) h = h.1 ∙ ap (λ (x : List ℕ). opening 3 ∷ x)
-    (chunks_only text_kind cs h.0 (break_byte ∷ []) h.2)
+atom_only b (string kind c) h = chunk_only kind c b [] h ∙ append-nil (encoded_chunk (major_of kind) c)
+atom_only b (chunked_string kind cs) h = h.1 ∙ ap (λ (x : List ℕ). opening (major_of kind) ∷ x)
+    (chunks_only kind cs h.0 (break_byte ∷ []) h.2)
 atom_only b (float bits w) h = float_only b bits w h
 atom_only b (simple n) h = simple_only b n h
 
@@ -345,17 +326,16 @@ chunks-resolve : (major : ℕ) (cs : List Chunk)
 chunks-resolve major [] = refl
 chunks-resolve major (c ∷ cs) = rw (chunk-resolve major c, chunks-resolve major cs) refl
 
-float-resolve : (bits : ℕ) (w : FloatWidth) → encoded_float bits (resolve_float w) ≡ encoded_float bits w
+pub float-resolve : (bits : ℕ) (w : FloatWidth) → encoded_float bits (resolve_float w) ≡ encoded_float bits w
 float-resolve bits float_width.Unknown = refl
 float-resolve bits w = refl
 
 atom-resolve : (a : Atom) → encoded_atom (resolve_atom a) ≡ encoded_atom a
 atom-resolve (integer n w) = encoded_head-resolve 0 n w
 atom-resolve (negative n w) = encoded_head-resolve 1 n w
-atom-resolve (string bytes_kind c) = chunk-resolve 2 c
-atom-resolve (string text_kind c) = chunk-resolve 3 c
-atom-resolve (chunked_string bytes_kind cs) = ap (λ (x : List ℕ). opening 2 ∷ (x ++ break_byte ∷ [])) (chunks-resolve 2 cs)
-atom-resolve (chunked_string text_kind cs) = ap (λ (x : List ℕ). opening 3 ∷ (x ++ break_byte ∷ [])) (chunks-resolve 3 cs)
+atom-resolve (string kind c) = chunk-resolve (major_of kind) c
+atom-resolve (chunked_string kind cs) = ap (λ (x : List ℕ). opening (major_of kind) ∷ (x ++ break_byte ∷ []))
+    (chunks-resolve (major_of kind) cs)
 atom-resolve (float bits w) = float-resolve bits w
 atom-resolve (simple n) = refl
 

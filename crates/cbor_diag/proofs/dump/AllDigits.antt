@@ -1,9 +1,9 @@
 -- Without comments and blanks the lines of a dump are the encoding of the item, in hex.
-use Rattle.std.proofs.Common.{◌≡◌, ◌≢◌, ℕ, zero, suc, ◌+◌, ◌%◌, ◌==◌, ◌≤◌, true, false, cond, unwrap_or, not, List, []}
+use Rattle.std.proofs.Common.{◌≡◌, ℕ, zero, suc, ◌+◌, ◌%◌, ◌==◌, ◌≤◌, unwrap_or, not, List, []}
 use Rattle.std.proofs.Common.{◌∷◌, ◌++◌, map, length, take, drop, codes, Option, Some, None, inl, inr, refl, sym, ap}
 use Rattle.std.proofs.Common.{subst, ◌∙◌, append-nil, arith}
 use Rattle.std.specs.List.{filter, flat_map}
-use Rattle.std.proofs.lemmas.Bool.{cases_lt, ne_eqb}
+use Rattle.std.proofs.lemmas.Bool.{cond_both, cases_lt, ne_eqb}
 use Rattle.std.proofs.lemmas.List.{take-append-drop}
 use Rattle.std.proofs.lemmas.List.Elements.{filter-append}
 use Rattle.std.proofs.lemmas.Grind.{flat_map-append}
@@ -16,9 +16,8 @@ use Rattle.cbor_notes.proofs.columns.OneLine.{Free, free_hex, from_test}
 use Rattle.cbor_diag.specs.declared.syntax.IntegerWidth.{IntegerWidth}
 use Rattle.cbor_diag.specs.Encoding.{Encoding}
 use Rattle.cbor_diag.specs.Item as spec
-use Rattle.cbor_diag.specs.Item.{Chunk, Atom, integer, negative, string, chunked_string}
-use Rattle.cbor_diag.specs.Item.{float, simple, Item, atom, array, tagged, Items, no_items, item, Pairs, no_pairs, pair}
-use Rattle.cbor_diag.specs.Item.{item_count, pair_count}
+use Rattle.cbor_diag.specs.Item.{Chunk, Atom, integer, negative, string, chunked_string, float, simple, Item, atom}
+use Rattle.cbor_diag.specs.Item.{array, tagged, Items, no_items, item, Pairs, no_pairs, pair, item_count, pair_count}
 use Rattle.cbor_diag.specs.Head.{opening, break_byte}
 use Rattle.cbor_diag.specs.StringKind.{StringKind, bytes_kind, text_kind, major_of}
 use Rattle.cbor_diag.specs.Written.{encoded_head, encoded_chunk, encoded_chunks, encoded_float, encoded_simple}
@@ -46,11 +45,8 @@ keep_all : (xs : List ℕ) → Free 32 xs → shown xs ≡ xs
 keep_all [] free = refl
 keep_all (x ∷ xs) free = rw (ne_eqb x 32 free.0) (ap (λ rest. x ∷ rest) (keep_all xs free.1))
 
-zero_blank : ◌≢◌ {A = ℕ} 0 32
-zero_blank e = cc e
-
 shown_hex : (bytes : List ℕ) → shown (encode_lower bytes) ≡ encode_lower bytes
-shown_hex bytes = keep_all (encode_lower bytes) (free_hex 32 zero_blank (from_test 32 lower_digits refl) bytes)
+shown_hex bytes = keep_all (encode_lower bytes) (free_hex 32 (λ e. cc e) (from_test 32 lower_digits refl) bytes)
 
 hex_both : (xs ys : List ℕ) → encode_lower (xs ++ ys) ≡ encode_lower xs ++ encode_lower ys
 hex_both xs ys = encode_with-append lower_digits xs ys
@@ -148,11 +144,8 @@ sized_are : (depth : ℕ) (encoding : Option Encoding) (t : ℕ) (size : Option 
     → Are (sized_lines depth encoding t size bytes) bytes
 sized_are depth encoding t None bytes small = plain_are depth encoding bytes
 sized_are depth encoding t (Some size) bytes small =
-    elim (length bytes % size == 0) as (λ v. Are
-    (cond v (element_lines depth t size bytes) (bytes_lines depth encoding bytes)) bytes) [
-      | true ↦ elements_are depth t size bytes small.0
-      | false ↦ plain_are depth encoding bytes
-    ]
+    cond_both (length bytes % size == 0) _ _ (λ lines. Are lines bytes) (λ _. elements_are depth t size bytes small.0)
+    (λ _. plain_are depth encoding bytes)
 
 tagged_are : (depth : ℕ) (encoding : Option Encoding) (tag : Option ℕ) (bytes : List ℕ)
     → Are (tagged_lines depth encoding tag bytes) bytes
@@ -196,10 +189,8 @@ close_are depth None = alone depth (break_byte ∷ []) (codes "break")
 atom_are : (p : Context) (a : Atom) → Are (atom_lines p a) (encoded_atom a)
 atom_are p (integer n w) = alone p.depth (encoded_head 0 n w) (unsigned_comment n)
 atom_are p (negative n w) = alone p.depth (encoded_head 1 n w) (negative_comment n)
-atom_are p (string bytes_kind c) = string_are bytes_kind p c
-atom_are p (string text_kind c) = string_are text_kind p c
-atom_are p (chunked_string bytes_kind cs) = all_chunks_are bytes_kind p cs
-atom_are p (chunked_string text_kind cs) = all_chunks_are text_kind p cs
+atom_are p (string kind c) = string_are kind p c
+atom_are p (chunked_string kind cs) = all_chunks_are kind p cs
 atom_are p (float bits w) = alone p.depth (encoded_float bits w) (float_comment (encoded_float bits w))
 atom_are p (simple n) = alone p.depth (encoded_simple n) (simple_comment n)
 

@@ -215,8 +215,4 @@ module _ (level : ℕ) (b : List ℕ) (le : level ≤ 129) (dump : Item → List
   whole_failed refusal.Remaining h =
       ap (whole_note dump) (outcome_reads level (levels_left level) b (spelled h.0 h.1) (omega arith)
       (omega (arith, h.2), h.3)) ∙ rest_failed h.0 (drop h.1 b) (omega (arith, length-drop h.1 b, h.2))
-  whole_failed refusal.Memory h = absurd h
-  whole_failed refusal.OddHex h = absurd h
-  whole_failed refusal.BadHex h = absurd h
-  whole_failed refusal.Notation h = absurd h
-  whole_failed refusal.PastWidth h = absurd h
+  whole_failed _ h = absurd h

@@ -5,7 +5,7 @@ use Rattle.std.proofs.Common.{Some, None, refl, sym, ap, subst, ◌∙◌, arith
 use Rattle.std.specs.List.{AllByRecursion, flat_map}
 use Rattle.std.specs.Str.{IsAscii}
 use Rattle.std.proofs.lemmas.Bool.Decides.{nat_tests}
-use Rattle.std.proofs.lemmas.Bool.{cases_lt}
+use Rattle.std.proofs.lemmas.Bool.{cond_both, cases_lt}
 use Rattle.std.proofs.lemmas.Str.{IsAscii-append}
 use Rattle.std.proofs.lemmas.List.{length-take}
 use Rattle.hex.specs.Hex.{encode_lower, lower_digits}
@@ -24,8 +24,7 @@ use Rattle.cbor_diag.specs.declared.syntax.IntegerWidth.TheVariants as width
 use Rattle.cbor_diag.specs.declared.syntax.FloatWidth.{FloatWidth}
 use Rattle.cbor_diag.specs.declared.syntax.FloatWidth.TheVariants as float_width
 use Rattle.cbor_diag.specs.Encoding.{Encoding}
-use Rattle.cbor_diag.specs.Item.{Chunk, Atom, integer, negative, string, chunked_string}
-use Rattle.cbor_diag.specs.Item.{float, simple}
+use Rattle.cbor_diag.specs.Item.{Chunk, Atom, integer, negative, string, chunked_string, float, simple}
 use Rattle.cbor_diag.specs.Head.{head, stated, opening, break_byte}
 use Rattle.cbor_diag.specs.StringKind.{StringKind, bytes_kind, text_kind, major_of}
 use Rattle.cbor_diag.specs.WellFormed.{deepest}
@@ -48,28 +47,15 @@ pub record IsGood (line : DumpLine) : Type 0 where
   pub fit : IsFit line
   pub plain : IsPlain line
 
-zero_hash : ◌≢◌ {A = ℕ} 0 35
-zero_hash e = cc e
-
-zero_feed : ◌≢◌ {A = ℕ} 0 10
-zero_feed e = cc e
-
-blank_hash : ◌≢◌ {A = ℕ} 32 35
-blank_hash e = cc e
-
 pub blank_feed : ◌≢◌ {A = ℕ} 32 10
 blank_feed e = cc e
 
 ascii_head : (bytes : List ℕ) → IsAscii (head_hex bytes)
 ascii_head bytes =
-    elim (nat_le (length bytes) 1) as (λ v. IsAscii
-    (cond v (encode_lower bytes) ((encode_lower (take 1 bytes) ++ codes " ") ++ encode_lower (drop 1 bytes)))) [
-      | true ↦ IsAscii-encode_lower bytes
-      | false ↦
-          IsAscii-append (encode_lower (take 1 bytes) ++ codes " ") (encode_lower (drop 1 bytes))
-          (IsAscii-append (encode_lower (take 1 bytes)) (codes " ") (IsAscii-encode_lower (take 1 bytes))
-          (IsAscii-from_test (codes " ") refl)) (IsAscii-encode_lower (drop 1 bytes))
-    ]
+    cond_both (nat_le (length bytes) 1) _ _ IsAscii (λ _. IsAscii-encode_lower bytes) (λ _.
+    IsAscii-append (encode_lower (take 1 bytes) ++ codes " ") (encode_lower (drop 1 bytes))
+    (IsAscii-append (encode_lower (take 1 bytes)) (codes " ") (IsAscii-encode_lower (take 1 bytes))
+    (IsAscii-from_test (codes " ") refl)) (IsAscii-encode_lower (drop 1 bytes)))
 
 head_fits : (bytes : List ℕ) → length bytes ≤ 9 → length (head_hex bytes) ≤ 64
 head_fits bytes few =
@@ -84,8 +70,9 @@ pub fit_head : (depth : ℕ) (bytes comment : List ℕ) → depth < 140 → leng
 fit_head depth bytes comment low few said = record {
   fit = record { level = low; short = head_fits bytes few; ascii = ascii_head bytes };
   plain = record {
-    no_hash = lacks_of 35 (head_hex bytes) (free_head 35 zero_hash blank_hash (from_test 35 lower_digits refl) bytes);
-    no_feed = lacks_of 10 (head_hex bytes) (free_head 10 zero_feed blank_feed (from_test 10 lower_digits refl) bytes);
+    no_hash = lacks_of 35 (head_hex bytes)
+        (free_head 35 (λ e. cc e) (λ e. cc e) (from_test 35 lower_digits refl) bytes);
+    no_feed = lacks_of 10 (head_hex bytes) (free_head 10 (λ e. cc e) blank_feed (from_test 10 lower_digits refl) bytes);
     one_line = lacks_of 10 comment said;
   };
 }
@@ -98,25 +85,19 @@ fit_piece : (depth : ℕ) (piece comment : List ℕ) → depth < 140 → length 
 fit_piece depth piece comment low few said = record {
   fit = record { level = low; short = piece_short piece few; ascii = IsAscii-encode_lower piece };
   plain = record {
-    no_hash = lacks_of 35 (encode_lower piece) (free_hex 35 zero_hash (from_test 35 lower_digits refl) piece);
-    no_feed = lacks_of 10 (encode_lower piece) (free_hex 10 zero_feed (from_test 10 lower_digits refl) piece);
+    no_hash = lacks_of 35 (encode_lower piece) (free_hex 35 (λ e. cc e) (from_test 35 lower_digits refl) piece);
+    no_feed = lacks_of 10 (encode_lower piece) (free_hex 10 (λ e. cc e) (from_test 10 lower_digits refl) piece);
     one_line = lacks_of 10 comment said;
   };
 }
 
 pub head_length : (major n : ℕ) (w : IntegerWidth) → length (head major n w) ≤ 9
 head_length major n width.Unknown = omega arith
-head_length major n width.Zero = omega arith
-head_length major n width.Eight = omega arith
-head_length major n width.Sixteen = omega arith
-head_length major n width.ThirtyTwo = omega arith
-head_length major n width.SixtyFour = omega arith
+head_length major n _ = omega arith
 
 float_length : (bits : ℕ) (w : FloatWidth) → length (encoded_float bits w) ≤ 9
 float_length bits float_width.Unknown = omega arith
-float_length bits float_width.Sixteen = omega arith
-float_length bits float_width.ThirtyTwo = omega arith
-float_length bits float_width.SixtyFour = omega arith
+float_length bits _ = omega arith
 
 simple_length : (n : ℕ) → length (encoded_simple n) ≤ 9
 simple_length n = grind (arith, nat_tests)
@@ -190,11 +171,8 @@ sized_fit : (depth : ℕ) (encoding : Option Encoding) (t : ℕ) (size : Option 
     → Small size → AllByRecursion IsGood (sized_lines depth encoding t size bytes)
 sized_fit depth encoding t None bytes low small = plain_fits depth encoding bytes low
 sized_fit depth encoding t (Some size) bytes low small =
-    elim (length bytes % size == 0) as (λ v. AllByRecursion IsGood
-    (cond v (element_lines depth t size bytes) (bytes_lines depth encoding bytes))) [
-      | true ↦ elements_fit depth t size bytes low small.1
-      | false ↦ plain_fits depth encoding bytes low
-    ]
+    cond_both (length bytes % size == 0) _ _ (AllByRecursion IsGood) (λ _. elements_fit depth t size bytes low small.1)
+    (λ _. plain_fits depth encoding bytes low)
 
 tagged_fit : (depth : ℕ) (encoding : Option Encoding) (tag : Option ℕ) (bytes : List ℕ) → depth < 140
     → AllByRecursion IsGood (tagged_lines depth encoding tag bytes)
@@ -254,10 +232,8 @@ atom_fits p (negative n w) low = (
       (negative_line n),
   tt,
 )
-atom_fits p (string bytes_kind c) low = string_fits bytes_kind p c (omega arith)
-atom_fits p (string text_kind c) low = string_fits text_kind p c (omega arith)
-atom_fits p (chunked_string bytes_kind cs) low = all_chunks_fit bytes_kind p cs low
-atom_fits p (chunked_string text_kind cs) low = all_chunks_fit text_kind p cs low
+atom_fits p (string kind c) low = string_fits kind p c (omega arith)
+atom_fits p (chunked_string kind cs) low = all_chunks_fit kind p cs low
 atom_fits p (float bits w) low = (
   fit_head p.depth (encoded_float bits w) _ (omega arith) (float_length bits w)
       (float_line (encoded_float bits w)),

@@ -2,7 +2,6 @@
 use Rattle.std.proofs.Common.{◌≡◌, ℕ, suc, ◌+◌, ◌<◌, ◌≤◌, refl, false, List, [], None, ◌∷◌, ◌++◌, length, drop, get_or}
 use Rattle.std.proofs.Common.{Option, Result, OnOk, sym, ap, subst, append-nil, ◌∙◌, arith}
 use Rattle.std.specs.List.{flat_map}
-use Rattle.std.proofs.lemmas.List.{drop_more}
 use Rattle.cbor_notes.specs.Layout.{DumpLine}
 use Rattle.cbor_diag.specs.declared.syntax.DataItem.{DataItem}
 use Rattle.cbor_diag.specs.declared.syntax.IntegerWidth.{IntegerWidth}
@@ -21,6 +20,7 @@ use Rattle.cbor_diag.specs.Dump.{shared_in_items, shared_in_pairs, top}
 use Rattle.cbor_diag.specs.mirror.Passes.{context_view, writes, CanTake, Took, item_lines, embedded_lines, notes_there}
 use Rattle.cbor_diag.specs.mirror.Passes.{IsUntagged, items_there, pairs_there}
 use Rattle.cbor_diag.proofs.text.Parts.{well_level}
+use Rattle.cbor_diag.proofs.text.Scalars.{drop_here}
 use Rattle.cbor_diag.proofs.dump.NoteSteps.{notes_passed}
 use Rattle.cbor_diag.proofs.dump.Walks.{part_here, part_left, left_then, Left}
 
@@ -170,7 +170,7 @@ module _ (here : DumpContext) (none : IsUntagged here) (members : List DataItem)
     (is : member ≡ get_or members i member) (inside : i < length members) (old now : Pass) (shared : ℕ)
     (all : List DumpLine) (total : ℕ) (left : ItemsLeft here old now shared (drop i members) all total) where
   items_split : drop i members ≡ member ∷ drop (i + 1) members
-  items_split = drop_more members i member inside ∙ ap (λ m. m ∷ drop (i + 1) members) (sym is)
+  items_split = drop_here members i member inside is
 
   abbrev others : List DumpLine
   others = items_there here (shared + shared_in (view member)) (items_view (drop (i + 1) members))
@@ -205,7 +205,7 @@ module _ (here : DumpContext) (none : IsUntagged here) (members : List (DataItem
     (old now : Pass) (shared : ℕ) (all : List DumpLine) (total : ℕ)
     (left : PairsLeft here old now shared (drop i members) all total) where
   pairs_split : drop i members ≡ member ∷ drop (i + 1) members
-  pairs_split = drop_more members i member inside ∙ ap (λ m. m ∷ drop (i + 1) members) (sym is)
+  pairs_split = drop_here members i member inside is
 
   abbrev after_key : ℕ
   after_key = shared + shared_in (view member.0)

@@ -27,8 +27,7 @@ use Rattle.cbor_notes.proofs.columns.OneLine.{escaped_line}
 use Rattle.cbor_diag.proofs.dump.CommentLines.{brackets_line}
 use Rattle.cbor_diag.specs.declared.syntax.IntegerWidth.{IntegerWidth}
 use Rattle.cbor_diag.specs.Comments.{in_brackets}
-use Rattle.cbor_diag.specs.Item.{Chunk, Item, Items, atom, integer, negative, string, float, simple}
-use Rattle.cbor_diag.specs.Item.{array, item}
+use Rattle.cbor_diag.specs.Item.{Chunk, Item, Items, atom, integer, negative, string, float, simple, array, item}
 use Rattle.cbor_diag.specs.StringKind.{bytes_kind, text_kind}
 use Rattle.cbor_diag.specs.Notes.{Note, plain_note, Family, ipv4, ipv6, Zone, no_zone, zone_text, not_zone, null_value}
 use Rattle.cbor_diag.specs.Notes.{word_or, datetime_note, epoch_datetime_note, epoch_date_note, date_note}

@@ -10,11 +10,8 @@ use Rattle.cbor_notes.proofs.texts.HexLemmas.{IsAscii-from_test}
 use Rattle.cbor_notes.proofs.columns.Trees.{all_both}
 use Rattle.cbor_diag.specs.declared.error.Error.{Error}
 use Rattle.cbor_diag.specs.declared.error.Error.TheVariants as refusal
-use Rattle.cbor_diag.specs.Item as spec
-use Rattle.cbor_diag.specs.Item.{Chunk, Atom, integer, negative, string, chunked_string}
-use Rattle.cbor_diag.specs.Item.{float, simple, Item, atom, array, tagged, Items, no_items, item, Pairs, no_pairs, pair}
-use Rattle.cbor_diag.specs.Item.{item_count, pair_count}
-use Rattle.cbor_diag.specs.StringKind.{bytes_kind, text_kind}
+use Rattle.cbor_diag.specs.Item.{string, Item, atom, Items, no_items, item}
+use Rattle.cbor_diag.specs.StringKind.{bytes_kind}
 use Rattle.cbor_diag.specs.WellFormed.{WellFormed, WellFormedItems}
 use Rattle.cbor_diag.specs.Dump.{note_line, note_lines, notes, notes_lines, embedded_note, failed_note, whole_note}
 use Rattle.cbor_diag.specs.Dump.{items_notes, rest_note, sequence_notes, bytes_in, encoded_item_note}
@@ -122,16 +119,7 @@ rest_line (b ∷ rest) (Err e) =
 -- a byte string that is well formed has bytes
 bytes_well : (level : ℕ) (i : Item) → WellFormed level i → IfSome (bytes_in i) AllBytes
 bytes_well level (atom (string bytes_kind c)) well = well.1.bytes
-bytes_well level (atom (integer n w)) well = tt
-bytes_well level (atom (negative n w)) well = tt
-bytes_well level (atom (string text_kind c)) well = tt
-bytes_well level (atom (chunked_string bytes_kind cs)) well = tt
-bytes_well level (atom (chunked_string text_kind cs)) well = tt
-bytes_well level (atom (float bits w)) well = tt
-bytes_well level (atom (simple n)) well = tt
-bytes_well level (array is w) well = tt
-bytes_well level (spec.map ps w) well = tt
-bytes_well level (tagged t w i) well = tt
+bytes_well level i well = tt
 
 -- what is embedded is at a level, and its dump is good
 module _ (level left : ℕ) (levels : level + left ≡ 129) (dump : Item → List DumpLine) (each : (e : Item)

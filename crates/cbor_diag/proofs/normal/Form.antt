@@ -1,7 +1,6 @@
 -- The normal form of a well-formed item is well formed, and its encoding is no longer.
-use Rattle.std.proofs.Common.{◌≡◌, ℕ, ◌^◌, ◌<◌, ◌≤◌, length}
-use Rattle.std.proofs.Common.{inl, inr, refl, ap, arith}
-use Rattle.std.proofs.lemmas.Bool.{cases_lt, lt-ltb, le-ltb}
+use Rattle.std.proofs.Common.{◌≡◌, ℕ, ◌^◌, ◌<◌, ◌≤◌, length, inl, inr, refl, arith, nat_lt}
+use Rattle.std.proofs.lemmas.Bool.{cond_both, cases_lt, lt-ltb, le-ltb}
 use Rattle.cbor_diag.specs.declared.syntax.IntegerWidth.{IntegerWidth}
 use Rattle.cbor_diag.specs.declared.syntax.IntegerWidth.TheVariants.{Unknown, Zero, Eight, Sixteen, ThirtyTwo}
 use Rattle.cbor_diag.specs.declared.syntax.IntegerWidth.TheVariants.{SixtyFour}
@@ -9,10 +8,10 @@ use Rattle.cbor_diag.specs.declared.syntax.FloatWidth.{FloatWidth}
 use Rattle.cbor_diag.specs.declared.syntax.FloatWidth.TheVariants as float_width
 use Rattle.cbor_diag.specs.Head.{FitsWidth, FitsStated, shortest, stated, head}
 use Rattle.cbor_diag.specs.WellFormed.{FitsFloat}
-use Rattle.cbor_diag.specs.Written.{encoded_head, encoded_float}
-use Rattle.cbor_diag.specs.Written.{resolve_float}
+use Rattle.cbor_diag.specs.Written.{encoded_head, resolve_float}
 use Rattle.cbor_diag.specs.Normal.{normal_width}
-use Rattle.cbor_diag.proofs.bytes.Strict.{stated_fits}
+use Rattle.cbor_diag.proofs.bytes.Strict.{shortest_has, stated_fits}
+use Rattle.cbor_diag.proofs.notation.Numbers.{fits_64}
 
 -- ---- lengths of heads
 
@@ -26,55 +25,19 @@ width_len SixtyFour = 9
 
 head_len : (major n : ℕ) (w : IntegerWidth) → FitsStated w n → length (head major n w) ≡ width_len w
 head_len major n Unknown fits = absurd fits
-head_len major n Zero fits = refl
-head_len major n Eight fits = refl
-head_len major n Sixteen fits = refl
-head_len major n ThirtyTwo fits = refl
-head_len major n SixtyFour fits = refl
-
-below8 : (n : ℕ) → n < 2 ^ 8 → width_len (shortest n) ≤ 2
-below8 n lt = elim (cases_lt n 24) [
-  | inl low ↦ rw (lt-ltb n 24 low) (omega arith)
-  | inr high ↦ rw
-      (le-ltb n 24 high, lt-ltb n (2 ^ 8) lt) (omega arith)
-]
-
-below16 : (n : ℕ) → n < 2 ^ 16 → width_len (shortest n) ≤ 3
-below16 n lt =
-    elim (cases_lt n (2 ^ 8)) [
-      | inl low ↦ omega (arith, below8 n low)
-      | inr high ↦ let more : 24 ≤ n = omega arith in rw (le-ltb n 24 more, le-ltb n (2 ^ 8) high, lt-ltb n (2 ^ 16) lt)
-          (omega arith)
-    ]
-
-below32 : (n : ℕ) → n < 2 ^ 32 → width_len (shortest n) ≤ 5
-below32 n lt =
-    elim (cases_lt n (2 ^ 16)) [
-      | inl low ↦ omega (arith, below16 n low)
-      | inr high ↦
-          let more : 24 ≤ n = omega arith in
-          let more8 : 2 ^ 8 ≤ n = omega arith in
-          rw (le-ltb n 24 more, le-ltb n (2 ^ 8) more8, le-ltb n (2 ^ 16) high, lt-ltb n (2 ^ 32) lt) (omega arith)
-    ]
-
-below64 : (n : ℕ) → width_len (shortest n) ≤ 9
-below64 n =
-    elim (cases_lt n (2 ^ 32)) [
-      | inl low ↦ omega (arith, below32 n low)
-      | inr high ↦
-          let more : 24 ≤ n = omega arith in
-          let more8 : 2 ^ 8 ≤ n = omega arith in
-          let more16 : 2 ^ 16 ≤ n = omega arith in
-          rw (le-ltb n 24 more, le-ltb n (2 ^ 8) more8, le-ltb n (2 ^ 16) more16, le-ltb n (2 ^ 32) high) (omega arith)
-    ]
+head_len major n _ fits = refl
 
 shortest_len : (n : ℕ) (w : IntegerWidth) → FitsStated w n → width_len (shortest n) ≤ width_len w
 shortest_len n Unknown fits = absurd fits
 shortest_len n Zero fits = let lt : n < 24 = fits in rw (lt-ltb n 24 lt) (omega arith)
-shortest_len n Eight fits = below8 n fits
-shortest_len n Sixteen fits = below16 n fits
-shortest_len n ThirtyTwo fits = below32 n fits
-shortest_len n SixtyFour fits = below64 n
+shortest_len n Eight fits = let lt : n < 2 ^ 8 = fits in shortest_has (λ v. width_len v ≤ 2) n (λ h. omega arith)
+    (λ l h. omega arith) (λ l h. omega arith) (λ l h. omega arith) (λ l. omega arith)
+shortest_len n Sixteen fits = let lt : n < 2 ^ 16 = fits in shortest_has (λ v. width_len v ≤ 3) n (λ h. omega arith)
+    (λ l h. omega arith) (λ l h. omega arith) (λ l h. omega arith) (λ l. omega arith)
+shortest_len n ThirtyTwo fits = let lt : n < 2 ^ 32 = fits in shortest_has (λ v. width_len v ≤ 5) n (λ h. omega arith)
+    (λ l h. omega arith) (λ l h. omega arith) (λ l h. omega arith) (λ l. omega arith)
+shortest_len n SixtyFour fits = shortest_has (λ v. width_len v ≤ 9) n (λ h. omega arith)
+    (λ l h. omega arith) (λ l h. omega arith) (λ l h. omega arith) (λ l. omega arith)
 
 less_fits : (m n : ℕ) (w : IntegerWidth) → m ≤ n → FitsStated w n → FitsStated w m
 less_fits m n Unknown le fits = absurd fits
@@ -85,12 +48,7 @@ less_fits m n ThirtyTwo le fits = let lt : n < 2 ^ 32 = fits in omega arith
 less_fits m n SixtyFour le fits = let lt : n < 2 ^ 64 = fits in omega arith
 
 pub open_fits : (m n : ℕ) (w : IntegerWidth) → m ≤ n → FitsWidth w n → FitsWidth Unknown m
-open_fits m n Unknown le fits = let lt : n < 2 ^ 64 = fits in omega arith
-open_fits m n Zero le fits = let lt : n < 24 = fits in omega arith
-open_fits m n Eight le fits = let lt : n < 2 ^ 8 = fits in omega arith
-open_fits m n Sixteen le fits = let lt : n < 2 ^ 16 = fits in omega arith
-open_fits m n ThirtyTwo le fits = let lt : n < 2 ^ 32 = fits in omega arith
-open_fits m n SixtyFour le fits = let lt : n < 2 ^ 64 = fits in omega arith
+open_fits m n w le fits = let lt = fits_64 w n fits in omega arith
 
 -- the head of a length that is no greater, in an unstated width, is no longer
 pub head_no_longer : (major m n : ℕ) (w : IntegerWidth) → m ≤ n → FitsWidth w n
@@ -110,33 +68,13 @@ head_no_longer major m n w le fits =
 pub normal_fits : (n : ℕ) (w : IntegerWidth) → FitsWidth w n → FitsWidth (normal_width w n) n
 normal_fits n Unknown fits = elim (cases_lt n 24)
     [ inl low ↦ rw (lt-ltb n 24 low) low | inr high ↦ rw (le-ltb n 24 high) fits ]
-normal_fits n Zero fits = fits
-normal_fits n Eight fits = fits
-normal_fits n Sixteen fits = fits
-normal_fits n ThirtyTwo fits = fits
-normal_fits n SixtyFour fits = fits
+normal_fits n _ fits = fits
 
 pub normal_head : (major n : ℕ) (w : IntegerWidth) → encoded_head major n (normal_width w n) ≡ encoded_head major n w
-normal_head major n Unknown =
-    elim (cases_lt n 24) [
-      | inl low ↦ rw (lt-ltb n 24 low) refl
-      | inr high ↦ let same : normal_width Unknown n ≡ Unknown =
-          rw (le-ltb n 24 high) refl in ap (encoded_head major n) same
-    ]
-normal_head major n Zero = refl
-normal_head major n Eight = refl
-normal_head major n Sixteen = refl
-normal_head major n ThirtyTwo = refl
-normal_head major n SixtyFour = refl
-
-pub normal_float : (bits : ℕ) (w : FloatWidth) → encoded_float bits (resolve_float w) ≡ encoded_float bits w
-normal_float bits float_width.Unknown = refl
-normal_float bits float_width.Sixteen = refl
-normal_float bits float_width.ThirtyTwo = refl
-normal_float bits float_width.SixtyFour = refl
+normal_head major n Unknown = cond_both (nat_lt n 24) Zero Unknown
+    (λ w. encoded_head major n w ≡ encoded_head major n Unknown) (λ low. rw low refl) (λ high. refl)
+normal_head major n _ = refl
 
 pub float_fits : (bits : ℕ) (w : FloatWidth) → FitsFloat w bits → FitsFloat (resolve_float w) bits
 float_fits bits float_width.Unknown fits = fits
-float_fits bits float_width.Sixteen fits = fits
-float_fits bits float_width.ThirtyTwo fits = fits
-float_fits bits float_width.SixtyFour fits = fits
+float_fits bits _ fits = fits

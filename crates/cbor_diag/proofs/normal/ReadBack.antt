@@ -4,7 +4,6 @@ use Rattle.std.proofs.Common.{inr, refl, sym, ap, subst, ◌∙◌, append_assoc
 use Rattle.std.specs.List.{AllByRecursion}
 use Rattle.std.proofs.lemmas.List.{append-nil}
 use Rattle.cbor_notes.specs.Token.{nothing}
-use Rattle.cbor_notes.proofs.tokens.Blanks.{Blank-append}
 use Rattle.cbor_diag.specs.declared.syntax.IntegerWidth.TheVariants.{Unknown}
 use Rattle.cbor_diag.specs.Encoding.{Encoding}
 use Rattle.cbor_diag.specs.Layout.{Content, Layout, Compact, Pretty, Context}
@@ -13,8 +12,7 @@ use Rattle.cbor_diag.specs.ContainerStyle as style
 use Rattle.cbor_diag.specs.Item as spec
 use Rattle.cbor_diag.specs.Item.{Chunk, Atom, integer, negative, string, chunked_string}
 use Rattle.cbor_diag.specs.Item.{float, simple, Item, atom, array, tagged, Items, no_items, item, Pairs, no_pairs, pair}
-use Rattle.cbor_diag.specs.WellFormed.{IsChunk, WellFormedAtom, WellFormed, WellFormedItems}
-use Rattle.cbor_diag.specs.WellFormed.{WellFormedPairs}
+use Rattle.cbor_diag.specs.WellFormed.{IsChunk, WellFormedAtom, WellFormed, WellFormedItems, WellFormedPairs}
 use Rattle.cbor_diag.specs.StringKind.{StringKind, bytes_kind, text_kind}
 use Rattle.cbor_diag.specs.Written.{encoded, encoded_items}
 use Rattle.cbor_diag.specs.Reading.{read_item}
@@ -34,8 +32,10 @@ use Rattle.cbor_diag.proofs.text.Parts.{content_of, well_level}
 use Rattle.cbor_diag.proofs.shared.EmbeddedItems.{embedded_spells, sequence_spells}
 use Rattle.cbor_diag.proofs.bytes.Laws.{AllBytes, bytes_at}
 use Rattle.cbor_diag.proofs.normal.WellFormed.{tag_kind, items_well}
-use Rattle.cbor_diag.proofs.normal.ReadTokens.{one_space, number_read, negative_read, quoted_read, bytes_read}
-use Rattle.cbor_diag.proofs.normal.ReadTokens.{text_read, float_read, simple_read}
+use Rattle.cbor_diag.proofs.notation.sound.Items.{reads_blank}
+use Rattle.cbor_diag.proofs.notation.sound.Pieces.{blanked_more}
+use Rattle.cbor_diag.proofs.normal.ReadTokens.{one_space, number_read, negative_read, quoted_read}
+use Rattle.cbor_diag.proofs.normal.ReadTokens.{string_read, float_read, simple_read}
 use Rattle.cbor_diag.proofs.normal.ReadLists.{Each, opening_of, opens, listed}
 
 -- ---- blanks round a core
@@ -43,28 +43,7 @@ use Rattle.cbor_diag.proofs.normal.ReadLists.{Each, opening_of, opens, listed}
 plain : (Is : List ℕ → Type 0) (core : List ℕ) → Is core → Blanked Is core
 plain Is core h = ([], core, [], sym (append-nil core), nothing, h, nothing)
 
-blank_before : (Is : List ℕ → Type 0) (gap core : List ℕ) → IsBlank gap → Blanked Is core → Blanked Is (gap ++ core)
-blank_before Is gap core b h = (
-  gap ++ h.0,
-  h.1,
-  h.2,
-  ap (λ t. gap ++ t) h.3 ∙ sym (append_assoc gap h.0 (h.1 ++ h.2)),
-  Blank-append b h.4,
-  h.5,
-  h.6,
-)
-
-reads_after : (left : ℕ) (gap t : List ℕ) (i : Item) → IsBlank gap → Reads left t i → Reads left (gap ++ t) i
-unfolding Reads
-reads_after zero gap t i b h = absurd h
-reads_after (suc left) gap t i b h = blank_before (λ core. Core (Reads left) core i) gap t b h
-
 -- ---- chunks
-
-string_core : (kind : StringKind) (Read : List ℕ → Item → Type 0) (e : Encoding) (s : Chunk) → IsChunk kind s
-    → StringOf kind Read (string_text kind e s.bytes) (normal_chunk s)
-string_core bytes_kind Read e s h = bytes_read Read e s.bytes h.bytes
-string_core text_kind Read e s h = text_read Read s.bytes h.content
 
 chunks_each : (kind : StringKind) (Read : List ℕ → Item → Type 0) (e : Encoding) (cs : List Chunk)
     → AllByRecursion (IsChunk kind) cs
@@ -74,7 +53,7 @@ chunks_each kind Read e [] h = tt
 chunks_each kind Read e (s ∷ cs) h =
     let Is : List ℕ → Type 0 = λ core. StringOf kind Read core (normal_chunk s) in
     let one = string_text kind e s.bytes in (
-      λ gap b. blank_before Is gap one b (plain Is one (string_core kind Read e s h.0)),
+      λ gap b. blanked_more Is gap one b (plain Is one (string_read kind Read e s h.0)),
       chunks_each kind Read e cs h.1,
     )
 
@@ -95,8 +74,7 @@ colon_gap _ = codes " "
 
 colon_blank : (l : ContainerStyle) → IsBlank (colon_gap l)
 colon_blank style.Compact = nothing
-colon_blank (style.OneLine k) = one_space
-colon_blank (style.MultiLine k) = one_space
+colon_blank _ = one_space
 
 -- no bytes are no item
 nothing_embedded : (left : ℕ) (e : Item) → embedded_at left [] ≡ Some e → ⊥
@@ -115,8 +93,7 @@ rest_read {Read} c shown bytes (x ∷ rest) first all =
 
 colon_after : (l : ContainerStyle) (value : List ℕ) → colon l ++ value ≡ codes ":" ++ (colon_gap l ++ value)
 colon_after style.Compact value = refl
-colon_after (style.OneLine k) value = refl
-colon_after (style.MultiLine k) value = refl
+colon_after _ value = refl
 
 -- ---- one level: members are read by what reads the level below
 
@@ -131,7 +108,7 @@ module _ (level left : ℕ) (levels : level + left ≡ 129) (reads : IsRead leve
       (list_of (normal_items (normal_at left None) is))
   items_each c no_items h = tt
   items_each c (item i is) h = (
-    λ gap b. reads_after left gap (text_at left (inside c.layout c) i) (normal_at left None i) b
+    λ gap b. reads_blank left gap (text_at left (inside c.layout c) i) (normal_at left None i) b
         (reads (inside c.layout c) None i refl h.0),
     items_each c is h.1,
   )
@@ -148,9 +125,9 @@ module _ (level left : ℕ) (levels : level + left ≡ 129) (reads : IsRead leve
           colon_gap l ++ value,
           sym (append_assoc gap key (colon l ++ value))
               ∙ ap (λ t. (gap ++ key) ++ t) (colon_after l value),
-          reads_after left gap key _ b
+          reads_blank left gap key _ b
               (reads (inside c.layout c) None k refl h.0),
-          reads_after left (colon_gap l) value _ (colon_blank l)
+          reads_blank left (colon_gap l) value _ (colon_blank l)
               (reads (inside c.layout c) None v refl h.1),
         ),
         pairs_each c l ps h.2,
@@ -208,15 +185,10 @@ module _ (level left : ℕ) (levels : level + left ≡ 129) (reads : IsRead leve
       let Shows = λ (x : Content). Joined (Notation (Reads left)) (content_text left (text_at left) x c s.bytes)
       bytes in
       (refl, tt, subst Shows (sym is) (content_read tag c s.bytes h.bytes), tt)
-  atom_read c tag (string text_kind s) is h = text_read (Reads left) s.bytes h.content
-  atom_read c tag (chunked_string bytes_kind []) is h = inl (refl, refl)
-  atom_read c tag (chunked_string bytes_kind (s ∷ cs)) is h =
-      inr (chunks_read bytes_kind (Reads left) c.encoding (item_style c (atom (chunked_string bytes_kind (s ∷ cs)))) s cs h)
-  atom_read c tag (chunked_string text_kind []) is h = inl (refl, refl)
-  atom_read c tag (chunked_string text_kind (s ∷ cs)) is h = inr (
-    omega arith,
-    chunks_read text_kind (Reads left) c.encoding (item_style c (atom (chunked_string text_kind (s ∷ cs)))) s cs h,
-  )
+  atom_read c tag (string text_kind s) is h = string_read text_kind (Reads left) c.encoding s h
+  atom_read c tag (chunked_string kind []) is h = inl (refl, refl)
+  atom_read c tag (chunked_string kind (s ∷ cs)) is h =
+      inr (tt, chunks_read kind (Reads left) c.encoding (item_style c (atom (chunked_string kind (s ∷ cs)))) s cs h)
   atom_read c tag (float n w) is h = float_read n w h
   atom_read c tag (simple n) is h = simple_read n h
 

@@ -1,15 +1,13 @@
 -- What is written of numbers, strings, floats and simple values is read as these.
-use Rattle.std.proofs.Common.{◌≡◌, ℕ, zero, suc, ◌+◌, ◌*◌, ◌/◌, ◌%◌, ◌^◌, ◌<◌, ◌≤◌, Bool, true, false, cond, IsTrue}
+use Rattle.std.proofs.Common.{◌≡◌, ℕ, zero, suc, ◌+◌, ◌*◌, ◌/◌, ◌%◌, ◌^◌, ◌<◌, ◌≤◌, ◌==◌, Bool, true, false, cond}
 use Rattle.std.proofs.Common.{List, [], ◌∷◌, ◌++◌, length, replicate, slice_index, codes, Option, Some, None, ◌⊎◌, inl}
-use Rattle.std.proofs.Common.{inr, refl, sym, ap, subst, ◌∙◌, arith}
-use Rattle.std.proofs.lemmas.Bool.{cases_eq, eq-eqb, ne_eqb, lt-ltb}
+use Rattle.std.proofs.Common.{IsTrue, inr, refl, sym, ap, subst, ◌∙◌, arith}
+use Rattle.std.proofs.lemmas.Bool.{agree_below_at, cond_both, eqb-true, lt-ltb, false≢true}
 use Rattle.std.proofs.lemmas.Nat.{from_be_bytes-to_be_bytes_4, from_be_bytes-to_be_bytes_8}
-use Rattle.std.proofs.lemmas.Bool.{false≢true}
 use Rattle.std.proofs.lemmas.Fmt.{decimal_is_IsNumeral}
 use Rattle.std.specs.List.{AllByRecursion}
 use Rattle.std.specs.Char.{digit_value}
 use Rattle.std.specs.Fmt.{decimal, digits}
-use Rattle.std.specs.Str.{IsUtf8}
 use Rattle.std.specs.Str.Parse.{AllDigits, digits_value_after}
 use Rattle.std.specs.Int.{w16, w32, w64, to_be_bytes}
 use Rattle.hex.specs.Hex.{encode_lower, encode_with, lower_digits}
@@ -27,14 +25,14 @@ use Rattle.cbor_diag.specs.declared.syntax.FloatWidth.TheVariants as float_width
 use Rattle.cbor_diag.specs.Encoding.{Encoding, Base16, Base64, Base64Url}
 use Rattle.cbor_diag.specs.Item.{Chunk, Item}
 use Rattle.cbor_diag.specs.Head.{FitsWidth}
-use Rattle.cbor_diag.specs.WellFormed.{FitsFloat}
-use Rattle.cbor_diag.specs.StringKind.{bytes_kind, text_kind}
+use Rattle.cbor_diag.specs.WellFormed.{FitsFloat, IsChunk}
+use Rattle.cbor_diag.specs.StringKind.{StringKind, bytes_kind, text_kind}
 use Rattle.cbor_diag.specs.Written.{resolve_float}
 use Rattle.cbor_diag.specs.Notation.{NumberOf, NegativeOf, number_width, Notation, in_base16, in_base64, StringOf, one}
-use Rattle.cbor_diag.specs.Notation.{SimpleOf, FloatOf}
-use Rattle.cbor_diag.specs.NotationText.{indicator, number, quoted, text, float_text, simple_text}
-use Rattle.cbor_diag.specs.Normal.{normal_width}
-use Rattle.cbor_diag.proofs.bytes.Laws.{AllBytes}
+use Rattle.cbor_diag.specs.Notation.{SimpleOf, FloatDigits, FloatOf}
+use Rattle.cbor_diag.specs.NotationText.{indicator, number, quoted, string_text, float_text, simple_text}
+use Rattle.cbor_diag.specs.Normal.{normal_width, normal_chunk}
+use Rattle.cbor_diag.proofs.bytes.Laws.{AllBytes, wide_bytes}
 use Rattle.cbor_diag.proofs.normal.Form.{normal_fits}
 
 -- ---- blanks
@@ -77,10 +75,7 @@ is_number v w le = decimal_IsNumber v (indicator w) (indicated w) le (indicates 
 width_is : (n : ℕ) (w : IntegerWidth) → FitsWidth w n → normal_width w n ≡ number_width n (indicated w)
 width_is n Unknown fits = refl
 width_is n Zero fits = let lt : n < 24 = fits in rw (lt-ltb n 24 lt) refl
-width_is n Eight fits = refl
-width_is n Sixteen fits = refl
-width_is n ThirtyTwo fits = refl
-width_is n SixtyFour fits = refl
+width_is n _ fits = refl
 
 below_limit : (n : ℕ) (w : IntegerWidth) → FitsWidth w n → n < 2 ^ 64
 below_limit n Unknown fits = fits
@@ -181,51 +176,26 @@ some_or_none (d ∷ ds) = inr (omega arith)
 pub between : (comments : Bool) (ds : List ℕ) → Digits comments ds → DigitsBetween comments ds ds
 between comments ds h = (spaced comments ds h, some_or_none ds)
 
-bytes_index : (b : List ℕ) → AllBytes b → (i : ℕ) → slice_index b i < 256
-bytes_index b h i = at_index (λ x. x < 256) b h (omega arith) i
-
 pub quoted_read : (Read : List ℕ → Item → Type 0) (e : Encoding) (b : List ℕ) → AllBytes b
     → Notation Read (quoted e b) b
 quoted_read Read Base16 b h = in_base16 (encode_lower b)
     (encode_lower b, refl, between true (encode_lower b) (encoded_digits b))
-    (decode_of-encode_lower b (bytes_index b h))
+    (decode_of-encode_lower b (λ i. at_index (λ x. x < 256) b h (omega arith) i))
 quoted_read Read Base64 b h = in_base64 (standard b) (standard b, refl, between false (standard b) (standard_digits b))
     h (inr refl)
 quoted_read Read Base64Url b h = in_base64 (url_safe b)
     (url_safe b, refl, between false (url_safe b) (url_safe_digits b)) h (inl refl)
 
-abbrev open_chunk : List ℕ → Chunk
-open_chunk b = record { bytes = b; width = Unknown }
-
-pub bytes_read : (Read : List ℕ → Item → Type 0) (e : Encoding) (b : List ℕ) → AllBytes b
-    → StringOf bytes_kind Read (quoted e b) (open_chunk b)
-bytes_read Read e b h = (refl, tt, one (quoted_read Read e b h), tt)
-
-pub text_read : (Read : List ℕ → Item → Type 0) (b : List ℕ) → IsUtf8 b
-    → StringOf text_kind Read (text b) (open_chunk b)
-text_read Read b h = (refl, (in_quotes 34 b ++ 34 ∷ [], refl), one (inl refl), h)
+pub string_read : (kind : StringKind) (Read : List ℕ → Item → Type 0) (e : Encoding) (s : Chunk) → IsChunk kind s
+    → StringOf kind Read (string_text kind e s.bytes) (normal_chunk s)
+string_read bytes_kind Read e s h = (refl, tt, one (quoted_read Read e s.bytes h.bytes), tt)
+string_read text_kind Read e s h = (refl, (in_quotes 34 s.bytes ++ 34 ∷ [], refl), one (inl refl), h.content)
 
 -- ---- floats and simple values
 
 digit_is : (k : ℕ) → k < 16 → digit_value (slice_index lower_digits k) ≡ k
-digit_is zero lt = refl
-digit_is (suc zero) lt = refl
-digit_is (suc (suc zero)) lt = refl
-digit_is (suc (suc (suc zero))) lt = refl
-digit_is (suc (suc (suc (suc zero)))) lt = refl
-digit_is (suc (suc (suc (suc (suc zero))))) lt = refl
-digit_is (suc (suc (suc (suc (suc (suc zero)))))) lt = refl
-digit_is (suc (suc (suc (suc (suc (suc (suc zero))))))) lt = refl
-digit_is (suc (suc (suc (suc (suc (suc (suc (suc zero)))))))) lt = refl
-digit_is (suc (suc (suc (suc (suc (suc (suc (suc (suc zero))))))))) lt = refl
-digit_is (suc (suc (suc (suc (suc (suc (suc (suc (suc (suc zero)))))))))) lt = refl
-digit_is (suc (suc (suc (suc (suc (suc (suc (suc (suc (suc (suc zero))))))))))) lt = refl
-digit_is (suc (suc (suc (suc (suc (suc (suc (suc (suc (suc (suc (suc zero)))))))))))) lt = refl
-digit_is (suc (suc (suc (suc (suc (suc (suc (suc (suc (suc (suc (suc (suc zero))))))))))))) lt = refl
-digit_is (suc (suc (suc (suc (suc (suc (suc (suc (suc (suc (suc (suc (suc (suc zero)))))))))))))) lt = refl
-digit_is (suc (suc (suc (suc (suc (suc (suc (suc (suc (suc (suc (suc (suc (suc (suc zero))))))))))))))) lt = refl
-digit_is (suc (suc (suc (suc (suc (suc (suc (suc (suc (suc (suc (suc (suc (suc (suc (suc k)))))))))))))))) lt =
-    absurd (omega arith)
+digit_is k lt = eqb-true _ k
+    (agree_below_at (λ k. digit_value (slice_index lower_digits k) == k) (λ k. true) 16 k refl lt)
 
 -- the number that bytes are, the first of them the highest
 abbrev number_after : ℕ → List ℕ → ℕ
@@ -250,61 +220,36 @@ hex_all (b ∷ bs) h =
     let lt : b < 256 = h.0 in
     (omega (arith, digit_is (b / 16) (omega arith)), (omega (arith, digit_is (b % 16) (omega arith)), hex_all bs h.1))
 
-wide_number : (n : ℕ) → n < 2 ^ 64 → number_after 0 (to_be_bytes w64 n) ≡ n
-wide_number n lt = omega (arith, from_be_bytes-to_be_bytes_8 n lt)
+module _ (n : ℕ) (w : FloatWidth) (bs : List ℕ) (all : AllBytes bs) (value : number_after 0 bs ≡ n) where
+  float_of : 0 < length (encode_lower bs) → FloatDigits w (length (encode_lower bs))
+      → FloatOf (codes "float'" ++ (encode_lower bs ++ codes "'")) n w
+  float_of some count = (encode_lower bs, refl, (((some, hex_all bs all), sym (hex_value 0 bs all ∙ value)), count))
+
+wide_read : (n : ℕ) → n < 2 ^ 64 → FloatOf (float_text n float_width.SixtyFour) n float_width.SixtyFour
+unfolding encode_with
+wide_read n lt =
+    float_of n float_width.SixtyFour (to_be_bytes w64 n) (wide_bytes n)
+    (omega (arith, from_be_bytes-to_be_bytes_8 n lt)) (omega arith) refl
 
 pub float_read : (n : ℕ) (w : FloatWidth) → FitsFloat w n → FloatOf (float_text n w) n (resolve_float w)
 unfolding encode_with
-float_read n float_width.Unknown fits =
-    let bs = to_be_bytes w64 n in
-    let all : AllBytes bs = (
-      omega arith,
-      (
-        omega arith,
-        (omega arith, (omega arith, (omega arith, (omega arith, (omega arith, (omega arith, tt)))))),
-      ),
-    ) in
-    let lt : n < 2 ^ 64 = fits in
-    (encode_lower bs, refl, (((omega arith, hex_all bs all), sym (hex_value 0 bs all ∙ wide_number n lt)), refl))
+float_read n float_width.Unknown fits = wide_read n fits
 float_read n float_width.Sixteen fits =
-    let bs = to_be_bytes w16 n in
-    let all : AllBytes bs = (omega arith, (omega arith, tt)) in
-    let lt : n < 2 ^ 16 = fits in
-    let value : number_after 0 bs ≡ n = omega arith in
-    (encode_lower bs, refl, (((omega arith, hex_all bs all), sym (hex_value 0 bs all ∙ value)), refl))
+    float_of n float_width.Sixteen (to_be_bytes w16 n) (omega arith, (omega arith, tt)) (omega arith) (omega arith) refl
 float_read n float_width.ThirtyTwo fits =
-    let bs = to_be_bytes w32 n in
-    let all : AllBytes bs = (omega arith, (omega arith, (omega arith, (omega arith, tt)))) in
-    let lt : n < 2 ^ 32 = fits in
-    let value : number_after 0 bs ≡ n = omega (arith, from_be_bytes-to_be_bytes_4 n lt) in
-    (encode_lower bs, refl, (((omega arith, hex_all bs all), sym (hex_value 0 bs all ∙ value)), refl))
-float_read n float_width.SixtyFour fits =
-    let bs = to_be_bytes w64 n in
-    let all : AllBytes bs = (
-      omega arith,
-      (
-        omega arith,
-        (omega arith, (omega arith, (omega arith, (omega arith, (omega arith, (omega arith, tt)))))),
-      ),
-    ) in
-    let lt : n < 2 ^ 64 = fits in
-    (encode_lower bs, refl, (((omega arith, hex_all bs all), sym (hex_value 0 bs all ∙ wide_number n lt)), refl))
+    float_of n float_width.ThirtyTwo (to_be_bytes w32 n)
+    (omega arith, (omega arith, (omega arith, (omega arith, tt))))
+    (omega (arith, from_be_bytes-to_be_bytes_4 n fits)) (omega arith) refl
+float_read n float_width.SixtyFour fits = wide_read n fits
 
 pub simple_read : (n : ℕ) → n < 256 → SimpleOf (simple_text n) n
 simple_read n lt =
-    elim (cases_eq n 20) [
-      | inl e ↦ rw (eq-eqb n 20 e) (inl (inl (refl, e)))
-      | inr a ↦ elim (cases_eq n 21) [
-        | inl e ↦ rw (ne_eqb n 20 a, eq-eqb n 21 e) (inl (inr (inl (refl, e))))
-        | inr b ↦ elim (cases_eq n 22) [
-          | inl e ↦ rw (ne_eqb n 20 a, ne_eqb n 21 b, eq-eqb n 22 e) (inl (inr (inr (inl (refl, e)))))
-          | inr c ↦ elim (cases_eq n 23) [
-            | inl e ↦ rw (ne_eqb n 20 a, ne_eqb n 21 b, ne_eqb n 22 c, eq-eqb n 23 e) (inl (inr (inr (inr (refl, e)))))
-            | inr d ↦
-                let v = decimal_is_IsNumeral n (omega arith) in
-                rw (ne_eqb n 20 a, ne_eqb n 21 b, ne_eqb n 22 c, ne_eqb n 23 d)
-                (inr (decimal n, refl, ((v.0, sym v.1), lt)))
-          ]
-        ]
-      ]
-    ]
+    named_or (n == 20) (codes "false") _ (λ e. inl (inl (refl, eqb-true n 20 e)))
+    (named_or (n == 21) (codes "true") _ (λ e. inl (inr (inl (refl, eqb-true n 21 e))))
+    (named_or (n == 22) (codes "null") _ (λ e. inl (inr (inr (inl (refl, eqb-true n 22 e)))))
+    (named_or (n == 23) (codes "undefined") _ (λ e. inl (inr (inr (inr (refl, eqb-true n 23 e)))))
+    (let v = decimal_is_IsNumeral n (omega arith) in inr (decimal n, refl, ((v.0, sym v.1), lt))))))
+  where
+    named_or : (test : Bool) (name other : List ℕ) → (test ≡ true → SimpleOf name n) → SimpleOf other n
+        → SimpleOf (cond test name other) n
+    named_or test name other this or = cond_both test name other (λ t. SimpleOf t n) this (λ e. or)

@@ -3,8 +3,7 @@
 use Rattle.std.proofs.Common.{◌≡◌, ℕ, zero, suc, ◌+◌, List, [], ◌∷◌, ◌++◌, map, codes, Option, Some, None}
 use Rattle.std.proofs.Common.{refl, ap, arith}
 use Rattle.cbor_diag.specs.declared.syntax.IntegerWidth.{IntegerWidth}
-use Rattle.cbor_diag.specs.declared.syntax.IntegerWidth.TheVariants.{Unknown, Zero, Eight, Sixteen, ThirtyTwo}
-use Rattle.cbor_diag.specs.declared.syntax.IntegerWidth.TheVariants.{SixtyFour}
+use Rattle.cbor_diag.specs.declared.syntax.IntegerWidth.TheVariants.{Unknown}
 use Rattle.cbor_diag.specs.declared.syntax.FloatWidth.{FloatWidth}
 use Rattle.cbor_diag.specs.declared.syntax.FloatWidth.TheVariants as float_width
 use Rattle.cbor_diag.specs.Encoding.{Encoding}
@@ -16,12 +15,10 @@ use Rattle.cbor_diag.specs.Item.{float, simple, Item, atom, array, tagged, Items
 use Rattle.cbor_diag.specs.Head.{FitsStated}
 use Rattle.cbor_diag.specs.WellFormed.{WellFormed, WellFormedItems, WellFormedPairs}
 use Rattle.cbor_diag.specs.Bytes.{any, SpellsAtom, SpellsFloat, Spells, SpellsItems, SpellsPairs}
-use Rattle.cbor_diag.specs.Written.{resolve_chunk, resolve_float, resolve_atom, resolve}
-use Rattle.cbor_diag.specs.Written.{resolve_items, resolve_pairs}
-use Rattle.cbor_diag.specs.StringKind.{bytes_kind, text_kind}
-use Rattle.cbor_diag.specs.NotationText.{number, bracketed, float_text, encoding_below, quoted, text}
-use Rattle.cbor_diag.specs.NotationText.{item_texts, pair_texts}
-use Rattle.cbor_diag.specs.NotationText.{no_chunks, chunks_listed, atom_text, text_with, text_at}
+use Rattle.cbor_diag.specs.Written.{resolve_chunk, resolve_float, resolve_atom, resolve, resolve_items, resolve_pairs}
+use Rattle.cbor_diag.specs.StringKind.{bytes_kind, text_kind, no_chunks}
+use Rattle.cbor_diag.specs.NotationText.{number, bracketed, float_text, encoding_below, item_texts, pair_texts}
+use Rattle.cbor_diag.specs.NotationText.{string_text, chunks_listed, atom_text, text_with, text_at}
 use Rattle.cbor_diag.specs.Normal.{normal_width, normal_chunk, normal_items, normal_pairs}
 use Rattle.cbor_diag.specs.Normal.{normal_atom, normal_with, normal_at}
 use Rattle.cbor_diag.proofs.bytes.Strict.{stated_is}
@@ -87,17 +84,11 @@ mutual
 
 width_kept : (n : ℕ) (w : IntegerWidth) → FitsStated w n → normal_width w n ≡ w
 width_kept n Unknown h = absurd h
-width_kept n Zero h = refl
-width_kept n Eight h = refl
-width_kept n Sixteen h = refl
-width_kept n ThirtyTwo h = refl
-width_kept n SixtyFour h = refl
+width_kept n _ h = refl
 
 float_kept : (w : FloatWidth) → StatedFloat w → resolve_float w ≡ w
 float_kept float_width.Unknown h = absurd h
-float_kept float_width.Sixteen h = refl
-float_kept float_width.ThirtyTwo h = refl
-float_kept float_width.SixtyFour h = refl
+float_kept _ h = refl
 
 module _ (left : ℕ) (into : Option ℕ → Item → Item)
     (keeps : (tag : Option ℕ) (i : Item) → Stated i → Stated (into tag i)) where
@@ -114,10 +105,7 @@ module _ (left : ℕ) (into : Option ℕ → Item → Item)
   normal_atom_stated tag (negative n w) h = rw (width_kept n w h) h
   normal_atom_stated tag (float bits w) h = rw (float_kept w h) h
   normal_atom_stated tag (string bytes_kind c) h = tt
-  normal_atom_stated tag (string text_kind c) h = tt
-  normal_atom_stated tag (chunked_string bytes_kind cs) h = tt
-  normal_atom_stated tag (chunked_string text_kind cs) h = tt
-  normal_atom_stated tag (simple n) h = tt
+  normal_atom_stated tag a h = tt
 
   normal_with_stated : (tag : Option ℕ) (i : Item) → Stated i → Stated (normal_with left into tag i)
   normal_with_stated tag (atom a) h = normal_atom_stated tag a h
@@ -139,10 +127,11 @@ at e tag = record { layout = Compact; encoding = e; content = content_of tag }
 abbrev pub Writer : Type 0
 Writer = Context → Item → List ℕ
 
-bytes_resolved : (f : Chunk → List ℕ) (same : (c : Chunk) → f (resolve_chunk c) ≡ f c) (cs : List Chunk)
-    → map f (map resolve_chunk cs) ≡ map f cs
-bytes_resolved f same [] = refl
-bytes_resolved f same (c ∷ cs) = rw (same c, bytes_resolved f same cs) refl
+-- what a change of the chunks keeps of them
+pub map_kept : {Y : Type 0} (f : Chunk → Y) (g : Chunk → Chunk) → ((c : Chunk) → f (g c) ≡ f c) → (cs : List Chunk)
+    → map f (map g cs) ≡ map f cs
+map_kept f g same [] = refl
+map_kept f g same (c ∷ cs) = rw (same c, map_kept f g same cs) refl
 
 module _ (left : ℕ) (write : Writer)
     (same : (e : Encoding) (tag : Option ℕ) (i : Item) → Stated i → write (at e tag) (resolve i) ≡ write (at e tag) i)
@@ -165,10 +154,8 @@ module _ (left : ℕ) (write : Writer)
     atom_resolved e tag (negative n w) h = ap (λ v. codes "-" ++ number (n + 1) v) (stated_is w n h)
     atom_resolved e tag (string bytes_kind c) h = refl
     atom_resolved e tag (string text_kind c) h = refl
-    atom_resolved e tag (chunked_string bytes_kind cs) h =
-        ap (chunks_listed style.Compact (no_chunks bytes_kind)) (bytes_resolved (λ s. quoted e s.bytes) (λ c. refl) cs)
-    atom_resolved e tag (chunked_string text_kind cs) h =
-        ap (chunks_listed style.Compact (no_chunks text_kind)) (bytes_resolved (λ s. text s.bytes) (λ c. refl) cs)
+    atom_resolved e tag (chunked_string kind cs) h = ap (chunks_listed style.Compact (no_chunks kind))
+        (map_kept (λ s. string_text kind e s.bytes) resolve_chunk (λ c. refl) cs)
     atom_resolved e tag (float bits w) h = ap (float_text bits) (float_kept w h)
     atom_resolved e tag (simple n) h = refl
 
@@ -193,10 +180,6 @@ unfolding text_at
 text_resolved zero e tag i h = refl
 text_resolved (suc left) e tag i h = with_resolved left (text_at left) (text_resolved left) e tag i h
 
-chunks_kept : (cs : List Chunk) → map normal_chunk (map resolve_chunk cs) ≡ map normal_chunk cs
-chunks_kept [] = refl
-chunks_kept (c ∷ cs) = ap (λ ds. normal_chunk c ∷ ds) (chunks_kept cs)
-
 module _ (level left : ℕ) (into : Option ℕ → Item → Item)
     (same : (tag : Option ℕ) (i : Item) → WellFormed level i → Stated i → into tag (resolve i) ≡ into tag i) where
   pub normal_items_resolved : (is : Items) → WellFormedItems level is → StatedItems is
@@ -216,7 +199,8 @@ normal_atom_resolved left into tag (integer n w) h = ap (λ v. integer n (normal
 normal_atom_resolved left into tag (negative n w) h = ap (λ v. negative n (normal_width v n)) (stated_is w n h)
 normal_atom_resolved left into tag (string bytes_kind c) h = refl
 normal_atom_resolved left into tag (string text_kind c) h = refl
-normal_atom_resolved left into tag (chunked_string kind cs) h = ap (chunked_string kind) (chunks_kept cs)
+normal_atom_resolved left into tag (chunked_string kind cs) h =
+    ap (chunked_string kind) (map_kept normal_chunk resolve_chunk (λ c. refl) cs)
 normal_atom_resolved left into tag (float bits w) h = ap (λ v. float bits (resolve_float v)) (float_kept w h)
 normal_atom_resolved left into tag (simple n) h = refl
 

@@ -1,11 +1,10 @@
 -- The text of an item is that of its normal form, and the normal form of a normal form is itself.
-use Rattle.std.proofs.Common.{◌≡◌, ℕ, zero, suc, ◌+◌, ◌≤◌, List, [], ◌∷◌, ◌++◌, length, map, codes, Option, Some, None}
-use Rattle.std.proofs.Common.{◌⊎◌, inl, inr, refl, sym, ap, ◌∙◌, arith}
-use Rattle.std.proofs.lemmas.Bool.{cases_lt, lt-ltb, le-ltb}
+use Rattle.std.proofs.Common.{◌≡◌, ℕ, zero, suc, ◌+◌, ◌≤◌, List, [], ◌∷◌, ◌++◌, length, codes, Option, Some, None, ◌⊎◌}
+use Rattle.std.proofs.Common.{inl, inr, refl, sym, ap, ◌∙◌, arith, nat_lt}
+use Rattle.std.proofs.lemmas.Bool.{cond_both, cases_lt, lt-ltb, le-ltb}
 use Rattle.std.specs.Fmt.{decimal}
 use Rattle.cbor_diag.specs.declared.syntax.IntegerWidth.{IntegerWidth}
-use Rattle.cbor_diag.specs.declared.syntax.IntegerWidth.TheVariants.{Unknown, Zero, Eight, Sixteen, ThirtyTwo}
-use Rattle.cbor_diag.specs.declared.syntax.IntegerWidth.TheVariants.{SixtyFour}
+use Rattle.cbor_diag.specs.declared.syntax.IntegerWidth.TheVariants.{Unknown, Zero}
 use Rattle.cbor_diag.specs.declared.syntax.FloatWidth.{FloatWidth}
 use Rattle.cbor_diag.specs.declared.syntax.FloatWidth.TheVariants as float_width
 use Rattle.cbor_diag.specs.Encoding.{Encoding}
@@ -16,13 +15,12 @@ use Rattle.cbor_diag.specs.Item as spec
 use Rattle.cbor_diag.specs.Item.{Chunk, Atom, integer, negative, string, chunked_string}
 use Rattle.cbor_diag.specs.Item.{float, simple, Item, atom, array, tagged, Items, no_items, item, Pairs, no_pairs, pair}
 use Rattle.cbor_diag.specs.WellFormed.{WellFormedAtom, WellFormed, WellFormedItems, WellFormedPairs}
-use Rattle.cbor_diag.specs.Written.{encoded, encoded_items, resolve_float, resolve}
-use Rattle.cbor_diag.specs.Written.{resolve_items}
+use Rattle.cbor_diag.specs.Written.{encoded, encoded_items, resolve_float, resolve, resolve_items}
 use Rattle.cbor_diag.specs.Embedded.{embedded_at, sequence_at}
-use Rattle.cbor_diag.specs.StringKind.{bytes_kind, text_kind}
-use Rattle.cbor_diag.specs.NotationText.{indicator, bracketed, inside, float_text, encoding_below, quoted, text}
+use Rattle.cbor_diag.specs.StringKind.{bytes_kind, text_kind, no_chunks}
+use Rattle.cbor_diag.specs.NotationText.{indicator, bracketed, inside, float_text, encoding_below}
 use Rattle.cbor_diag.specs.NotationText.{item_texts, pair_texts, embedded_text, rest_text, sequence_text, content_text}
-use Rattle.cbor_diag.specs.NotationText.{no_chunks, chunks_listed, atom_text, text_with, text_at}
+use Rattle.cbor_diag.specs.NotationText.{string_text, chunks_listed, atom_text, text_with, text_at}
 use Rattle.cbor_diag.specs.Normal.{normal_width, normal_chunk, normal_items, normal_pairs, normal_embedded}
 use Rattle.cbor_diag.specs.Normal.{normal_sequence, normal_content, normal_atom, normal_with, normal_at}
 use Rattle.cbor_diag.proofs.bytes.Strict.{strict_any, strict_encoded, items_enc, items_any}
@@ -32,9 +30,9 @@ use Rattle.cbor_diag.proofs.text.Parts.{content_of}
 use Rattle.cbor_diag.proofs.shared.EmbeddedItems.{embedded_spells, spells_embedded, sequence_spells, sequence_again}
 use Rattle.cbor_diag.proofs.bytes.Laws.{AllBytes, bytes_at}
 use Rattle.cbor_diag.proofs.normal.WellFormed.{tag_kind, items_serve, items_well, normal_serves}
-use Rattle.cbor_diag.proofs.normal.Stated.{Stated, StatedItems, spelled_stated, items_stated, normal_items_stated}
-use Rattle.cbor_diag.proofs.normal.Stated.{normal_stated, at, Writer, text_resolved, normal_items_resolved}
-use Rattle.cbor_diag.proofs.normal.Stated.{normal_resolved, items_resolved}
+use Rattle.cbor_diag.proofs.normal.Stated.{map_kept, Stated, StatedItems, spelled_stated, items_stated}
+use Rattle.cbor_diag.proofs.normal.Stated.{normal_items_stated, normal_stated, at, Writer, text_resolved}
+use Rattle.cbor_diag.proofs.normal.Stated.{normal_items_resolved, normal_resolved, items_resolved}
 
 -- ---- embedded items, read again from the bytes of their normal forms
 
@@ -108,22 +106,11 @@ sequences level left levels b all =
 indicator_kept : (n : ℕ) (w : IntegerWidth) → indicator (normal_width w n) ≡ indicator w
 indicator_kept n Unknown = elim (cases_lt n 24)
     [ inl low ↦ rw (lt-ltb n 24 low) refl | inr high ↦ rw (le-ltb n 24 high) refl ]
-indicator_kept n Zero = refl
-indicator_kept n Eight = refl
-indicator_kept n Sixteen = refl
-indicator_kept n ThirtyTwo = refl
-indicator_kept n SixtyFour = refl
+indicator_kept n _ = refl
 
 float_normal_text : (bits : ℕ) (w : FloatWidth) → float_text bits (resolve_float w) ≡ float_text bits w
 float_normal_text bits float_width.Unknown = refl
-float_normal_text bits float_width.Sixteen = refl
-float_normal_text bits float_width.ThirtyTwo = refl
-float_normal_text bits float_width.SixtyFour = refl
-
-bytes_normal : (f : Chunk → List ℕ) (same : (c : Chunk) → f (normal_chunk c) ≡ f c) (cs : List Chunk)
-    → map f (map normal_chunk cs) ≡ map f cs
-bytes_normal f same [] = refl
-bytes_normal f same (c ∷ cs) = rw (same c, bytes_normal f same cs) refl
+float_normal_text bits _ = refl
 
 embedded_text-some : (write : Writer) (c : Context) (b : List ℕ) (e : Item) → 1 ≤ length b
     → embedded_text write c b (Some e) ≡ codes "<<" ++ (write (inside c.layout c) e ++ codes ">>")
@@ -204,10 +191,8 @@ module _ (level left : ℕ) (levels : level + left ≡ 129)
   atom_normal_text e tag (negative n w) h = ap (λ t. codes "-" ++ (decimal (n + 1) ++ t)) (indicator_kept n w)
   atom_normal_text e tag (string bytes_kind c) h = content_normal_text e tag c.bytes h.bytes
   atom_normal_text e tag (string text_kind c) h = refl
-  atom_normal_text e tag (chunked_string bytes_kind cs) h =
-      ap (chunks_listed style.Compact (no_chunks bytes_kind)) (bytes_normal (λ s. quoted e s.bytes) (λ c. refl) cs)
-  atom_normal_text e tag (chunked_string text_kind cs) h =
-      ap (chunks_listed style.Compact (no_chunks text_kind)) (bytes_normal (λ s. text s.bytes) (λ c. refl) cs)
+  atom_normal_text e tag (chunked_string kind cs) h = ap (chunks_listed style.Compact (no_chunks kind))
+      (map_kept (λ s. string_text kind e s.bytes) normal_chunk (λ c. refl) cs)
   atom_normal_text e tag (float bits w) h = float_normal_text bits w
   atom_normal_text e tag (simple n) h = refl
 
@@ -244,26 +229,12 @@ normal_text level (suc left) levels e tag i h =
 
 normal_width_twice : (n : ℕ) (w : IntegerWidth) → normal_width (normal_width w n) n ≡ normal_width w n
 normal_width_twice n Unknown =
-    elim (cases_lt n 24) [
-      | inl low ↦ rw (lt-ltb n 24 low) refl
-      | inr high ↦ let same : normal_width Unknown n ≡ Unknown =
-          rw (le-ltb n 24 high) refl in ap (λ v. normal_width v n) same
-    ]
-normal_width_twice n Zero = refl
-normal_width_twice n Eight = refl
-normal_width_twice n Sixteen = refl
-normal_width_twice n ThirtyTwo = refl
-normal_width_twice n SixtyFour = refl
+    cond_both (nat_lt n 24) Zero Unknown (λ w. normal_width w n ≡ w) (λ low. refl) (λ high. rw high refl)
+normal_width_twice n _ = refl
 
 resolve_float_twice : (w : FloatWidth) → resolve_float (resolve_float w) ≡ resolve_float w
 resolve_float_twice float_width.Unknown = refl
-resolve_float_twice float_width.Sixteen = refl
-resolve_float_twice float_width.ThirtyTwo = refl
-resolve_float_twice float_width.SixtyFour = refl
-
-chunks_twice : (cs : List Chunk) → map normal_chunk (map normal_chunk cs) ≡ map normal_chunk cs
-chunks_twice [] = refl
-chunks_twice (c ∷ cs) = ap (λ ds. normal_chunk c ∷ ds) (chunks_twice cs)
+resolve_float_twice _ = refl
 
 module _ (level left : ℕ) (levels : level + left ≡ 129)
     (same : (tag : Option ℕ) (i : Item) → WellFormed level i → normal_at left tag (normal_at left tag i)
@@ -323,7 +294,8 @@ module _ (level left : ℕ) (levels : level + left ≡ 129)
   atom_twice tag (string bytes_kind c) h =
       ap (λ x. string bytes_kind (record { bytes = x; width = Unknown })) (content_twice tag c.bytes h.bytes)
   atom_twice tag (string text_kind c) h = refl
-  atom_twice tag (chunked_string kind cs) h = ap (chunked_string kind) (chunks_twice cs)
+  atom_twice tag (chunked_string kind cs) h =
+      ap (chunked_string kind) (map_kept normal_chunk normal_chunk (λ c. refl) cs)
   atom_twice tag (float bits w) h = ap (float bits) (resolve_float_twice w)
   atom_twice tag (simple n) h = refl
 

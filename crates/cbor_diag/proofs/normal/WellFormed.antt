@@ -1,20 +1,18 @@
 -- The normal form of a well-formed item is well formed, and its encoding is no longer.
 use Rattle.std.proofs.Common.{◌≡◌, ℕ, zero, suc, ◌+◌, ◌≤◌, List, [], ◌∷◌, ◌++◌, length, map, Option, Some, None, ◌⊎◌}
-use Rattle.std.proofs.Common.{inl, inr, eqb, false, refl, ap, subst, arith}
+use Rattle.std.proofs.Common.{inl, inr, eqb, false, refl, ap, subst, arith, nat_lt}
 use Rattle.std.specs.List.{AllByRecursion, flat_map}
-use Rattle.std.proofs.lemmas.Bool.{cases_lt, lt-ltb, le-ltb, cases_eq, ne_eqb}
+use Rattle.std.proofs.lemmas.Bool.{cond_both, lt-ltb, cases_eq, ne_eqb}
 use Rattle.std.proofs.lemmas.List.{length-append}
 use Rattle.cbor_diag.specs.declared.syntax.IntegerWidth.{IntegerWidth}
 use Rattle.cbor_diag.specs.declared.syntax.IntegerWidth.TheVariants.{Unknown}
 use Rattle.cbor_diag.specs.declared.syntax.FloatWidth.{FloatWidth}
 use Rattle.cbor_diag.specs.declared.syntax.FloatWidth.TheVariants as float_width
 use Rattle.cbor_diag.specs.Item as spec
-use Rattle.cbor_diag.specs.Item.{Chunk, Atom, integer, negative, string, chunked_string}
-use Rattle.cbor_diag.specs.Item.{float, simple, Item, atom, array, tagged, Items, no_items, item, Pairs, no_pairs, pair}
-use Rattle.cbor_diag.specs.Item.{item_count, pair_count}
+use Rattle.cbor_diag.specs.Item.{Chunk, Atom, integer, negative, string, chunked_string, float, simple, Item, atom}
+use Rattle.cbor_diag.specs.Item.{array, tagged, Items, no_items, item, Pairs, no_pairs, pair, item_count, pair_count}
 use Rattle.cbor_diag.specs.Head.{FitsWidth, head, break_byte, HeadThen}
-use Rattle.cbor_diag.specs.WellFormed.{IsChunk, WellFormedAtom, FitsCount, WellFormed, WellFormedItems}
-use Rattle.cbor_diag.specs.WellFormed.{WellFormedPairs}
+use Rattle.cbor_diag.specs.WellFormed.{IsChunk, WellFormedAtom, FitsCount, WellFormed, WellFormedItems, WellFormedPairs}
 use Rattle.cbor_diag.specs.Bytes.{any, ChunkThen, SpellsChunks, SpellsAtom}
 use Rattle.cbor_diag.specs.StringKind.{StringKind, bytes_kind, text_kind, major_of}
 use Rattle.cbor_diag.specs.Bytes.{SpellsFloat, SpellsSimple, MembersThen, Spells, SpellsItems, SpellsPairs}
@@ -24,12 +22,12 @@ use Rattle.cbor_diag.specs.Embedded.{embedded_at, sequence_at}
 use Rattle.cbor_diag.specs.Normal.{normal_width, normal_chunk, normal_count, normal_items, normal_pairs}
 use Rattle.cbor_diag.specs.Normal.{normal_embedded, normal_sequence, normal_content, normal_atom, normal_with}
 use Rattle.cbor_diag.specs.Normal.{normal_at}
-use Rattle.cbor_diag.proofs.bytes.Strict.{stated_is}
+use Rattle.cbor_diag.proofs.bytes.Strict.{float-resolve, stated_is}
 use Rattle.cbor_diag.proofs.bytes.Resolved.{spells_well}
 use Rattle.cbor_diag.proofs.shared.EmbeddedItems.{embedded_spells, sequence_spells}
 use Rattle.cbor_diag.proofs.bytes.Laws.{AllBytes, all_bytes-append, all_bytes-front, all_bytes-rest, bytes_at}
 use Rattle.cbor_diag.proofs.bytes.Laws.{item_bytes, items_bytes}
-use Rattle.cbor_diag.proofs.normal.Form.{open_fits, head_no_longer, normal_fits, normal_head, normal_float, float_fits}
+use Rattle.cbor_diag.proofs.normal.Form.{open_fits, head_no_longer, normal_fits, normal_head, float_fits}
 
 -- ---- the encoding of a spelled item is no longer than its spelling
 
@@ -68,16 +66,10 @@ chunks_spelled kind (c ∷ cs) b end h =
 float_spelled : (b : List ℕ) (bits : ℕ) (w : FloatWidth) → SpellsFloat b bits w
     → length (encoded_float bits w) ≤ length b
 float_spelled b bits float_width.Unknown h = absurd h
-float_spelled b bits float_width.Sixteen h = omega (arith, ap length h.1)
-float_spelled b bits float_width.ThirtyTwo h = omega (arith, ap length h.1)
-float_spelled b bits float_width.SixtyFour h = omega (arith, ap length h.1)
+float_spelled b bits _ h = omega (arith, ap length h.1)
 
 simple_len : (n : ℕ) → length (encoded_simple n) ≤ 2
-simple_len n = elim (cases_lt n 24) [
-  | inl low ↦ rw (lt-ltb n 24 low) (omega arith)
-  | inr high ↦ rw (le-ltb n 24 high)
-      (omega arith)
-]
+simple_len n = cond_both (nat_lt n 24) _ _ (λ (b : List ℕ). length b ≤ 2) (λ _. omega arith) (λ _. omega arith)
 
 simple_spelled : (b : List ℕ) (n : ℕ) → SpellsSimple any b n → length (encoded_simple n) ≤ length b
 simple_spelled b n (inl h) = rw (lt-ltb n 24 h.0) (omega (arith, ap length h.1))
@@ -86,19 +78,12 @@ simple_spelled b n (inr h) = omega (arith, simple_len n, ap length h.1)
 atom_spelled : (b : List ℕ) (a : Atom) → SpellsAtom any b a → length (encoded_atom a) ≤ length b
 atom_spelled b (integer n w) h = omega (arith, head_spelled 0 n w b _ h)
 atom_spelled b (negative n w) h = omega (arith, head_spelled 1 n w b _ h)
-atom_spelled b (string bytes_kind c) h = omega (arith, chunk_spelled bytes_kind c b _ h)
-atom_spelled b (string text_kind c) h = omega (arith, chunk_spelled text_kind c b _ h)
-atom_spelled b (chunked_string bytes_kind cs) h = omega (
+atom_spelled b (string kind c) h = omega (arith, chunk_spelled kind c b _ h)
+atom_spelled b (chunked_string kind cs) h = omega (
   arith,
-  chunks_spelled bytes_kind cs h.0 (break_byte ∷ []) h.2,
+  chunks_spelled kind cs h.0 (break_byte ∷ []) h.2,
   ap length h.1,
-  length-append (flat_map (encoded_chunk 2) cs) (break_byte ∷ []),
-)
-atom_spelled b (chunked_string text_kind cs) h = omega (
-  arith,
-  chunks_spelled text_kind cs h.0 (break_byte ∷ []) h.2,
-  ap length h.1,
-  length-append (flat_map (encoded_chunk 3) cs) (break_byte ∷ []),
+  length-append (flat_map (encoded_chunk (major_of kind)) cs) (break_byte ∷ []),
 )
 atom_spelled b (float bits w) h = float_spelled b bits w h
 atom_spelled b (simple n) h = simple_spelled b n h
@@ -367,9 +352,8 @@ module _ (level left : ℕ) (levels : (level + 1) + left ≡ 129) (into : Option
       )
   atom_serves tag (string text_kind c) h =
       (chunk_serves text_kind c h, string_no_longer 3 c c.bytes h.fits (omega arith))
-  atom_serves tag (chunked_string bytes_kind cs) h = let s = chunks_serve bytes_kind cs h in (s.0, omega (arith, s.1))
-  atom_serves tag (chunked_string text_kind cs) h = let s = chunks_serve text_kind cs h in (s.0, omega (arith, s.1))
-  atom_serves tag (float bits w) h = (float_fits bits w h, omega (arith, ap length (normal_float bits w)))
+  atom_serves tag (chunked_string kind cs) h = let s = chunks_serve kind cs h in (s.0, omega (arith, s.1))
+  atom_serves tag (float bits w) h = (float_fits bits w h, omega (arith, ap length (float-resolve bits w)))
   atom_serves tag (simple n) h = (h, omega arith)
 
   with_serves : (tag : Option ℕ) (i : Item) → WellFormed level i → Serves level i (normal_with left into tag i)

@@ -7,8 +7,7 @@ use Rattle.cbor_diag.specs.Item.{Item, array, Items, Pairs, no_pairs, pair}
 use Rattle.cbor_diag.specs.View.{pairs_of}
 use Rattle.cbor_diag.specs.Reading.{Read}
 use Rattle.cbor_diag.specs.Notation.{Members, Listed, list_of, pairs_list, PairOf, Opens}
-use Rattle.cbor_diag.specs.mirror.NotationReading.{after_byte, read_members, read_pair, length_of, read_array, read_map}
-use Rattle.cbor_diag.specs.mirror.NotationReading.{start_of, read_core}
+use Rattle.cbor_diag.specs.mirror.NotationReading.{after_byte, read_members, read_pair, length_of, start_of, read_core}
 use Rattle.cbor_diag.proofs.notation.Ends.{Ends, begins_append, begins_ends, blank_ends, ends_after_byte, core_starts}
 use Rattle.cbor_diag.proofs.notation.Lists.{ReadsAgain, Stripped, IsClose, follows_further, listed_again}
 use Rattle.cbor_diag.proofs.notation.Pieces.{items_again}
@@ -96,25 +95,19 @@ module _ (Reads : List ℕ → Item → Type 0) (read : List ℕ → Read Item) 
         λ text p is. pair_stripped text p is;
   }
 
-  array_core : (text : List ℕ) → read_core read (91 ∷ text) ≡ read_array read text
-  unfolding read_core start_of
-  array_core text = refl
-
-  map_core : (text : List ℕ) → read_core read (123 ∷ text) ≡ read_map read text
-  unfolding read_core start_of
-  map_core text = refl
-
   pub array_again : (is : Items) (w : Option IntegerWidth) (opening text rest : List ℕ) → Opens (codes "[") w opening
       → Listed Reads opening (codes "]") text (list_of is)
       → read_core read (text ++ rest) ≡ Ok (array is w, rest)
+  unfolding read_core start_of
   array_again is w opening text rest opens listed =
       let l = opened_again Reads read it 93 refl (list_of is) w 91 opening text rest opens listed in
-      ap (read_core read) l.2 ∙ (array_core l.0 ∙ rw (l.3, l.4, items_again is) refl)
+      ap (read_core read) l.2 ∙ rw (l.3, l.4, items_again is) refl
 
   pub map_again : (ps : Pairs) (w : Option IntegerWidth) (opening text rest : List ℕ) → Opens (codes "{") w opening
       → Listed (PairOf Reads) opening (codes "}") text (pairs_list ps)
       → read_core read (text ++ rest) ≡ Ok (spec.map ps w, rest)
+  unfolding read_core start_of
   map_again ps w opening text rest opens listed =
       let l = opened_again (PairOf Reads) (read_pair read) pair_reads 125 refl (pairs_list ps) w 123 opening text rest
       opens listed in
-      ap (read_core read) l.2 ∙ (map_core l.0 ∙ rw (l.3, l.4, pairs_again ps) refl)
+      ap (read_core read) l.2 ∙ rw (l.3, l.4, pairs_again ps) refl

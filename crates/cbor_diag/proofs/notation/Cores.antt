@@ -1,5 +1,5 @@
 -- What reading an item, a string or a piece gives, by what is at the front of the text.
-use Rattle.std.proofs.Common.{◌≡◌, ◌≢◌, ℕ, zero, suc, ◌+◌, ◌-◌, ◌<◌, ◌≤◌, ◌^◌, ◌⊎◌, inl, inr, Bool, true, false, List}
+use Rattle.std.proofs.Common.{◌≡◌, ℕ, zero, suc, ◌+◌, ◌-◌, ◌<◌, ◌≤◌, ◌^◌, ◌⊎◌, inl, inr, Bool, true, false, List}
 use Rattle.std.proofs.Common.{[], ◌∷◌, ◌++◌, length, Option, Some, None, Result, Ok, Err, Vec, Global, refl, sym, ap}
 use Rattle.std.proofs.Common.{subst, ◌∙◌, append_assoc, arith}
 use Rattle.std.specs.List.{AllByRecursion}
@@ -11,16 +11,16 @@ use Rattle.cbor_diag.specs.declared.error.Error.{Error}
 use Rattle.cbor_diag.specs.declared.error.Error.TheVariants as refusal
 use Rattle.cbor_diag.specs.declared.parse.notation.start.Start.{Start}
 use Rattle.cbor_diag.specs.declared.parse.notation.start.Start.TheVariants as start
-use Rattle.cbor_diag.specs.Item.{Chunk, Item, atom, item_count, pair_count}
+use Rattle.cbor_diag.specs.Item.{Chunk, chunked_string, Item, atom, item_count, pair_count}
 use Rattle.cbor_diag.specs.View.{view, items_view, pairs_view}
 use Rattle.cbor_diag.specs.WellFormed.{IsChunk, WellFormed, WellFormedItems, WellFormedPairs, FitsCount}
-use Rattle.cbor_diag.specs.StringKind.{StringKind, bytes_kind, text_kind}
+use Rattle.cbor_diag.specs.StringKind.{StringKind, bytes_kind}
 use Rattle.cbor_diag.specs.Reading.{Read, ◌>>=◌, Fails}
 use Rattle.cbor_diag.specs.mirror.NotationReading.{or_refused, after_byte, skip_blank, read_pair, first_start, rest_of}
 use Rattle.cbor_diag.specs.mirror.NotationReading.{core_of, read_core, read_item, piece_of, read_piece, begins_piece}
-use Rattle.cbor_diag.specs.mirror.NotationReading.{begins_string, read_pieces, content_of, read_content, kind_with}
-use Rattle.cbor_diag.specs.mirror.NotationReading.{checked, with_chunk, read_string, read_chunk, chunks_atom, chunks_of}
-use Rattle.cbor_diag.specs.mirror.NotationReading.{read_members, read_chunks, read_byte_string}
+use Rattle.cbor_diag.specs.mirror.NotationReading.{begins_string, read_pieces, content_of, read_content, kind_from}
+use Rattle.cbor_diag.specs.mirror.NotationReading.{checked, with_chunk, read_string, read_chunk, chunks_of}
+use Rattle.cbor_diag.specs.mirror.NotationReading.{read_members, read_chunks, read_string_item}
 use Rattle.cbor_diag.proofs.bytes.Heads.{bind_ok, ok_is}
 use Rattle.cbor_diag.proofs.notation.ChunkLoops.{Fails-bind, onto, onto_fails}
 use Rattle.cbor_diag.proofs.shared.Views.{view-Array, view-Map, item_count_view, pair_count_view}
@@ -35,7 +35,7 @@ core_by read (b ∷ text) rest s is behind = ap (λ s. core_of read s (b ∷ tex
 -- what bytes begin with
 pub bytes_core : (read : List ℕ → Read Item) (text rest : List ℕ) (s : Start)
     → (s ≡ start.Apostrophe) ⊎ ((s ≡ start.Angle) ⊎ ((s ≡ start.LetterB) ⊎ (s ≡ start.LetterH)))
-    → core_of read s text rest ≡ read_byte_string read text
+    → core_of read s text rest ≡ read_string_item read bytes_kind text
 bytes_core read text rest s (inl e) = rw e refl
 bytes_core read text rest s (inr (inl e)) = rw e refl
 bytes_core read text rest s (inr (inr (inl e))) = rw e refl
@@ -47,27 +47,11 @@ unfolding read_piece
 piece_by read [] rest s is behind = sym (ap (λ s. piece_of read s rest) is)
 piece_by read (b ∷ text) rest s is behind = ap (λ s. piece_of read s text) (sym is) ∙ ap (piece_of read s) (sym behind)
 
--- what begins otherwise is no piece, and no text string
-pub no_piece : (read : List ℕ → Read Item) (rest : List ℕ) (s : Start) → s ≢ start.Quote → s ≢ start.Apostrophe
-    → s ≢ start.Angle → s ≢ start.LetterB → s ≢ start.LetterH → piece_of read s rest ≡ Err refusal.Notation
-no_piece read rest start.Quote q a n b h = absurd (q refl)
-no_piece read rest start.Apostrophe q a n b h = absurd (a refl)
-no_piece read rest start.Angle q a n b h = absurd (n refl)
-no_piece read rest start.LetterB q a n b h = absurd (b refl)
-no_piece read rest start.LetterH q a n b h = absurd (h refl)
-no_piece read rest _ q a n b h = refl
-
-pub content_by : (read : List ℕ → Read Item) (texts : Bool) (text : List ℕ) (t : Bool)
-    → begins_string texts (first_start text) ≡ t → read_content read texts text ≡ content_of read texts text t
-content_by read texts text t e = ap (content_of read texts text) e
+pub content_by : (read : List ℕ → Read Item) (kind : StringKind) (text : List ℕ) (t : Bool)
+    → begins_string kind (first_start text) ≡ t → read_content read kind text ≡ content_of read kind text t
+content_by read kind text t e = ap (content_of read kind text) e
 
 -- a string, from its content
-
-by_texts : (read : List ℕ → Read Item) (texts : Bool) (text : List ℕ) → read_string read (kind_with texts) text
-    ≡ (read_content read texts text >>= λ x. checked (kind_with texts) x.0 >>= λ c. Ok (c, x.1))
-unfolding read_string
-by_texts read false text = refl
-by_texts read true text = refl
 
 no_chunk : (made : Result Chunk Error) (cs : List Chunk) (rest : List ℕ) (e : Error)
     → Fails e (made >>= λ c. Ok (cs ++ c ∷ [])) → Fails e (◌>>=◌ {B = Chunk × List ℕ} made (λ c. Ok (c, rest)))
@@ -75,32 +59,31 @@ no_chunk made cs rest refusal.Memory h = tt
 no_chunk (Err d) cs rest e h = let same : d ≡ e = cc in ap (λ x. Err x) same
 no_chunk (Ok c) cs rest e h = absurd cc
 
-module _ (read : List ℕ → Read Item) (texts : Bool) (text first : List ℕ) (blank : first ≡ skip_blank text) where
-  by_content : read_chunk read (kind_with texts) text
-      ≡ (read_content read texts first >>= λ x. checked (kind_with texts) x.0 >>= λ c. Ok (c, x.1))
-  by_content = ap (read_string read (kind_with texts)) (sym blank) ∙ by_texts read texts first
+module _ (read : List ℕ → Read Item) (kind : StringKind) (text first : List ℕ) (blank : first ≡ skip_blank text) where
+  by_content : read_chunk read kind text
+      ≡ (read_content read kind first >>= λ x. checked kind x.0 >>= λ c. Ok (c, x.1))
+  unfolding read_string
+  by_content = ap (read_string read kind) (sym blank)
 
-  pub no_content : (e : Error) → Fails e (read_content read texts first)
-      → Fails e (read_chunk read (kind_with texts) text)
-  no_content e h = subst (λ r. Fails e r) (sym by_content) (Fails-bind e (read_content read texts first)
-      (λ x. checked (kind_with texts) x.0 >>= λ c. Ok (c, x.1)) h)
+  pub no_content : (e : Error) → Fails e (read_content read kind first) → Fails e (read_chunk read kind text)
+  no_content e h = subst (λ r. Fails e r) (sym by_content) (Fails-bind e (read_content read kind first)
+      (λ x. checked kind x.0 >>= λ c. Ok (c, x.1)) h)
 
-  module _ (content rest : List ℕ) (found : read_content read texts first ≡ Ok (content, rest)) (kind : StringKind)
-      (cs : List Chunk) (same : kind ≡ kind_with texts) where
-    from_content : read_chunk read (kind_with texts) text ≡ (checked kind content >>= λ c. Ok (c, rest))
-    from_content = by_content ∙ ap (λ r. r >>= λ x. checked (kind_with texts) x.0 >>= λ c. Ok (c, x.1)) found
+  module _ (content rest : List ℕ) (found : read_content read kind first ≡ Ok (content, rest)) (held : StringKind)
+      (cs : List Chunk) (same : held ≡ kind) where
+    from_content : read_chunk read kind text ≡ (checked held content >>= λ c. Ok (c, rest))
+    from_content = by_content ∙ ap (λ r. r >>= λ x. checked kind x.0 >>= λ c. Ok (c, x.1)) found
         ∙ ap (λ k. checked k content >>= λ c. Ok (c, rest)) (sym same)
 
     -- a chunk of this content cannot be added
-    pub no_string : (e : Error) → Fails e (with_chunk kind cs content)
-        → Fails e (read_chunk read (kind_with texts) text)
-    no_string e h = subst (λ r. Fails e r) (sym from_content) (no_chunk (checked kind content) cs rest e h)
+    pub no_string : (e : Error) → Fails e (with_chunk held cs content) → Fails e (read_chunk read kind text)
+    no_string e h = subst (λ r. Fails e r) (sym from_content) (no_chunk (checked held content) cs rest e h)
 
     -- a chunk of this content was added
-    pub string_read : (after : List Chunk) → with_chunk kind cs content ≡ Ok after
-        → (c : Chunk) × (after ≡ cs ++ c ∷ []) × (read_chunk read (kind_with texts) text ≡ Ok (c, rest))
+    pub string_read : (after : List Chunk) → with_chunk held cs content ≡ Ok after
+        → (c : Chunk) × (after ≡ cs ++ c ∷ []) × (read_chunk read kind text ≡ Ok (c, rest))
     string_read after e =
-        let made = bind_ok (checked kind content) (λ c. Ok (cs ++ c ∷ [])) after e in (
+        let made = bind_ok (checked held content) (λ c. Ok (cs ++ c ∷ [])) after e in (
           made.0,
           sym (ok_is (cs ++ made.0 ∷ []) after made.2),
           from_content
@@ -109,37 +92,27 @@ module _ (read : List ℕ → Read Item) (texts : Bool) (text first : List ℕ) 
 
 -- an indefinite string, from its chunks
 
-chunks_by : (read : List ℕ → Read Item) (text : List ℕ) (s : Start) (texts : Bool) → texts ≡ begins_string true s
-    → chunks_of read text s ≡ (read_members (read_chunk read (kind_with texts)) 41 text
-    >>= λ cs. Ok (atom (chunks_atom (kind_with texts) cs.0), cs.1))
-chunks_by read text start.Quote texts e = rw e refl
-chunks_by read text _ texts e = rw e refl
-
-module _ (read : List ℕ → Read Item) (text opened first : List ℕ) (texts : Bool)
+module _ (read : List ℕ → Read Item) (text opened first : List ℕ) (kind : StringKind)
     (opens : or_refused (after_byte 95 text) ≡ Ok opened) (blank : first ≡ skip_blank opened)
-    (kind : texts ≡ begins_string true (first_start first)) where
-  by_chunks : read_chunks read text ≡ (read_members (read_chunk read (kind_with texts)) 41 first
-      >>= λ cs. Ok (atom (chunks_atom (kind_with texts) cs.0), cs.1))
-  by_chunks = ap (λ r. r >>= λ o. chunks_of read (skip_blank o) (first_start (skip_blank o))) opens
-      ∙ ap (λ f. chunks_of read f (first_start f)) (sym blank) ∙ chunks_by read first (first_start first) texts kind
+    (begins : kind ≡ kind_from (first_start first)) where
+  by_chunks : read_chunks read text ≡ chunks_of read kind first
+  by_chunks = ap (λ r. r >>= λ o. chunks_of read (kind_from (first_start (skip_blank o))) (skip_blank o)) opens
+      ∙ ap (λ f. chunks_of read (kind_from (first_start f)) f) (sym blank)
+      ∙ ap (λ k. chunks_of read k first) (sym begins)
 
-  pub no_chunks : (e : Error) → Fails e (read_members (read_chunk read (kind_with texts)) 41 first)
-      → Fails e (read_chunks read text)
-  no_chunks e h = subst (λ r. Fails e r) (sym by_chunks) (Fails-bind e
-      (read_members (read_chunk read (kind_with texts)) 41 first)
-      (λ cs. Ok (atom (chunks_atom (kind_with texts) cs.0), cs.1)) h)
+  pub no_chunks : (e : Error) → Fails e (read_members (read_chunk read kind) 41 first) → Fails e (read_chunks read text)
+  no_chunks e h = subst (λ r. Fails e r) (sym by_chunks) (Fails-bind e (read_members (read_chunk read kind) 41 first)
+      (λ cs. Ok (atom (chunked_string kind cs.0), cs.1)) h)
 
   pub chunks_read : (cs : List Chunk) (rest : List ℕ) (i : Item)
-      → read_members (read_chunk read (kind_with texts)) 41 first ≡ Ok (cs, rest)
-      → i ≡ atom (chunks_atom (kind_with texts) cs) → read_chunks read text ≡ Ok (i, rest)
-  chunks_read cs rest i e made = by_chunks
-      ∙ ap (λ r. r >>= λ cs. Ok (atom (chunks_atom (kind_with texts) cs.0), cs.1)) e
+      → read_members (read_chunk read kind) 41 first ≡ Ok (cs, rest)
+      → i ≡ atom (chunked_string kind cs) → read_chunks read text ≡ Ok (i, rest)
+  chunks_read cs rest i e made = by_chunks ∙ ap (λ r. r >>= λ cs. Ok (atom (chunked_string kind cs.0), cs.1)) e
       ∙ ap (λ i. Ok (i, rest)) (sym made)
 
 pub chunks_well : (level : ℕ) (kind : StringKind) (cs : List Chunk) (i : Item) → level ≤ 128
-    → AllByRecursion (IsChunk kind) cs → i ≡ atom (chunks_atom kind cs) → WellFormed level i
-chunks_well level bytes_kind cs i low held made = rw made (low, held)
-chunks_well level text_kind cs i low held made = rw made (low, held)
+    → AllByRecursion (IsChunk kind) cs → i ≡ atom (chunked_string kind cs) → WellFormed level i
+chunks_well level kind cs i low held made = rw made (low, held)
 
 pub item_none : (n : ℕ) (text : List ℕ) → n ≡ 0 → read_item n text ≡ Err refusal.TooDeep
 unfolding read_item
@@ -152,42 +125,43 @@ item_some n m text e = ap (λ k. read_item k text) e
 
 -- ---- the pieces of a string
 
-pub pieces_begin : (read : List ℕ → Read Item) (texts : Bool) (text content : List ℕ) → content ≡ []
-    → (n : ℕ) × (length text < n) × (onto (λ xs. content ++ xs) (read_pieces read texts n text)
-    ≡ read_pieces read texts (suc (length text)) text)
-pieces_begin read texts text content none =
-    (suc (length text), omega arith, rw none (onto_nothing (read_pieces read texts (suc (length text)) text))) where
+pub pieces_begin : (read : List ℕ → Read Item) (kind : StringKind) (text content : List ℕ) → content ≡ []
+    → (n : ℕ) × (length text < n) × (onto (λ xs. content ++ xs) (read_pieces read kind n text)
+    ≡ read_pieces read kind (suc (length text)) text)
+pieces_begin read kind text content none =
+    (suc (length text), omega arith, rw none (onto_nothing (read_pieces read kind (suc (length text)) text))) where
       onto_nothing : (r : Read (List ℕ)) → onto (λ xs. [] ++ xs) r ≡ r
       onto_nothing (Ok r) = refl
       onto_nothing (Err e) = refl
 
-module _ (read : List ℕ → Read Item) (texts : Bool) (front : List ℕ) (n : ℕ) (text : List ℕ) (total : Read (List ℕ))
-    (room : length text < n) (so_far : onto (λ xs. front ++ xs) (read_pieces read texts n text) ≡ total) where
+module _ (read : List ℕ → Read Item) (kind : StringKind) (front : List ℕ) (n : ℕ) (text : List ℕ)
+    (total : Read (List ℕ)) (room : length text < n)
+    (so_far : onto (λ xs. front ++ xs) (read_pieces read kind n text) ≡ total) where
   room_left : (k : ℕ) → length text < k → (m : ℕ) × (k ≡ suc m)
   room_left zero lt = absurd (omega arith)
   room_left (suc m) lt = (m, refl)
 
-  begun : (k m : ℕ) → k ≡ suc m → begins_piece texts (first_start text) ≡ true
-      → read_pieces read texts k text ≡ (read_piece read text >>= λ x. read_pieces read texts m (skip_blank x.1)
+  begun : (k m : ℕ) → k ≡ suc m → begins_piece kind (first_start text) ≡ true
+      → read_pieces read kind k text ≡ (read_piece read text >>= λ x. read_pieces read kind m (skip_blank x.1)
       >>= λ xs. Ok (x.0 ++ xs.0, xs.1))
   unfolding read_pieces
-  begun k m e begins = ap (λ j. read_pieces read texts j text) e ∙ rw (begins, read_pieces) refl
+  begun k m e begins = ap (λ j. read_pieces read kind j text) e ∙ rw (begins, read_pieces) refl
 
-  pub pieces_end : begins_piece texts (first_start text) ≡ false → total ≡ Ok (front, text)
+  pub pieces_end : begins_piece kind (first_start text) ≡ false → total ≡ Ok (front, text)
   unfolding read_pieces
   pieces_end none =
       let left = room_left n room in
-      let here : read_pieces read texts n text ≡ Ok ([], text) = ap (λ j. read_pieces read texts j text) left.1
+      let here : read_pieces read kind n text ≡ Ok ([], text) = ap (λ j. read_pieces read kind j text) left.1
       ∙ rw (none, read_pieces) refl in
       sym so_far ∙ ap (onto (λ xs. front ++ xs)) here ∙ ap (λ xs. Ok (xs, text)) (append-nil front)
 
-  pub piece_fails : (e : Error) → begins_piece texts (first_start text) ≡ true → Fails e (read_piece read text)
+  pub piece_fails : (e : Error) → begins_piece kind (first_start text) ≡ true → Fails e (read_piece read text)
       → Fails e total
   piece_fails e begins h =
       let left = room_left n room in
       let failed = Fails-bind e (read_piece read text)
-      (λ x. read_pieces read texts left.0 (skip_blank x.1) >>= λ xs. Ok (x.0 ++ xs.0, xs.1)) h in
-      onto_fails e (λ xs. front ++ xs) (read_pieces read texts n text) total
+      (λ x. read_pieces read kind left.0 (skip_blank x.1) >>= λ xs. Ok (x.0 ++ xs.0, xs.1)) h in
+      onto_fails e (λ xs. front ++ xs) (read_pieces read kind n text) total
       (subst (λ r. Fails e r) (sym (begun n left.0 left.1 begins)) failed) so_far
 
   joined : (piece : List ℕ) (r : Read (List ℕ))
@@ -195,31 +169,24 @@ module _ (read : List ℕ → Read Item) (texts : Bool) (front : List ℕ) (n : 
   joined piece (Ok r) = ap (λ xs. Ok (xs, r.1)) (sym (append_assoc front piece r.0))
   joined piece (Err e) = refl
 
-  pub piece_more : (piece after rest : List ℕ) → begins_piece texts (first_start text) ≡ true
+  pub piece_more : (piece after rest : List ℕ) → begins_piece kind (first_start text) ≡ true
       → read_piece read text ≡ Ok (piece, after) → rest ≡ skip_blank after → length after < length text
       → length rest ≤ length after
-      → (m : ℕ) × (length rest < m) × (onto (λ xs. (front ++ piece) ++ xs) (read_pieces read texts m rest) ≡ total)
+      → (m : ℕ) × (length rest < m) × (onto (λ xs. (front ++ piece) ++ xs) (read_pieces read kind m rest) ≡ total)
   piece_more piece after rest begins r blank less shorter =
       let left = room_left n room in
       let fewer : length rest < left.0 = omega (arith, left.1) in
-      let many = λ (x : List ℕ × List ℕ). read_pieces read texts left.0 (skip_blank x.1)
+      let many = λ (x : List ℕ × List ℕ). read_pieces read kind left.0 (skip_blank x.1)
       >>= λ xs. Ok (x.0 ++ xs.0, xs.1) in
-      let here : read_pieces read texts n text
-      ≡ (read_pieces read texts left.0 (skip_blank after) >>= λ xs. Ok (piece ++ xs.0, xs.1)) =
+      let here : read_pieces read kind n text
+      ≡ (read_pieces read kind left.0 (skip_blank after) >>= λ xs. Ok (piece ++ xs.0, xs.1)) =
       begun n left.0 left.1 begins ∙ ap (λ o. o >>= many) r in (
         left.0,
         fewer,
-        ap (λ b. onto (λ xs. (front ++ piece) ++ xs) (read_pieces read texts left.0 b))
-            blank ∙ sym (joined piece (read_pieces read texts left.0 (skip_blank after)))
+        ap (λ b. onto (λ xs. (front ++ piece) ++ xs) (read_pieces read kind left.0 b))
+            blank ∙ sym (joined piece (read_pieces read kind left.0 (skip_blank after)))
             ∙ sym (ap (onto (λ xs. front ++ xs)) here) ∙ so_far,
       )
-
--- ---- well formed members
-
-pub items_push : (level : ℕ) (vs : List DataItem) (v : DataItem) → WellFormedItems level (items_view vs)
-    → WellFormed level (view v) → WellFormedItems level (items_view (vs ++ v ∷ []))
-items_push level [] v held well = (well, tt)
-items_push level (w ∷ vs) v held well = (held.0, items_push level vs v held.1 well)
 
 -- ---- a key, `:` and its value, one after the other
 

@@ -5,16 +5,17 @@ use Rattle.std.specs.List.{list_any, position_or_len}
 use Rattle.std.specs.Str.{bytes_eq}
 use Rattle.std.specs.Int.Digits.{AllBelowBase}
 use Rattle.std.proofs.Math.Numerals.{one-add}
-use Rattle.std.proofs.lemmas.Bool.{agree_below_at, or_parts, or_from, eqb-true, cond-true, cond_both}
+use Rattle.std.proofs.lemmas.Bool.{agree_below, agree_below_at, or_parts, or_from, eqb-true, cond-true, cond_both}
 use Rattle.std.proofs.lemmas.List.{append-nil, take_at, take_all}
 use Rattle.std.proofs.lemmas.Slice.Eq.{bytes_eq-Decides}
 use Rattle.base64.specs.Rfc4648.{encode_symbols, padding_len}
 use Rattle.cbor_notes.specs.AreBytes.{AreBytes}
-use Rattle.cbor_notes.specs.Base32.{base32, base32hex}
+use Rattle.cbor_notes.specs.Base32 as base32
+use Rattle.cbor_notes.specs.Base32.{Alphabet, extended_hex, characters, encode}
 use Rattle.cbor_notes.specs.Base64.{standard, url_safe}
 use Rattle.cbor_notes.proofs.bases.Fives.{fives, padding, values_below, group_again, base32_values, base32hex_values}
 use Rattle.cbor_diag.specs.mirror.NotationReading.{if_encoded, either, value_in, from_fives, from_sixes, six_bits}
-use Rattle.cbor_diag.specs.mirror.NotationReading.{unpadded, base32_of, base32hex_of, base64_of}
+use Rattle.cbor_diag.specs.mirror.NotationReading.{unpadded, base32_of, base64_of}
 use Rattle.cbor_diag.proofs.notation.Lists.{position_at}
 
 -- ---- an alphabet: the digit of each value, and the value of each digit
@@ -109,41 +110,36 @@ from_fives_again (a ∷ b ∷ c ∷ d ∷ e ∷ bytes) all =
     ))
     ∙ ap (λ (rest : List ℕ). group ++ rest) (from_fives_again bytes all.1.1.1.1.1)
 
-is_base32 : IsAlphabet 32 (slice_index (codes "ABCDEFGHIJKLMNOPQRSTUVWXYZ234567"))
-    (value_in (codes "ABCDEFGHIJKLMNOPQRSTUVWXYZ234567"))
-is_base32 = record {
-  back = λ v small. eqb-true _ v (agree_below_at
-      (λ v. value_in (codes "ABCDEFGHIJKLMNOPQRSTUVWXYZ234567")
-      (slice_index (codes "ABCDEFGHIJKLMNOPQRSTUVWXYZ234567") v) == v) (λ v. true) 32 v refl small);
-  plain = λ v small. agree_below_at (λ v. slice_index (codes "ABCDEFGHIJKLMNOPQRSTUVWXYZ234567") v == 61) (λ v. false)
-      32 v refl small;
+-- by trying each value
+alphabet_of : (size : ℕ) (symbols : List ℕ) (value : ℕ → ℕ)
+    → agree_below (λ v. value (slice_index symbols v) == v) (λ v. true) size ≡ true
+    → agree_below (λ v. slice_index symbols v == 61) (λ v. false) size ≡ true
+    → IsAlphabet size (slice_index symbols) value
+alphabet_of size symbols value back plain = record {
+  back = λ v small. eqb-true _ v
+      (agree_below_at (λ v. value (slice_index symbols v) == v) (λ v. true) size v back small);
+  plain = λ v small. agree_below_at (λ v. slice_index symbols v == 61) (λ v. false) size v plain small;
 }
 
-is_base32hex : IsAlphabet 32 (slice_index (codes "0123456789ABCDEFGHIJKLMNOPQRSTUV"))
-    (value_in (codes "0123456789ABCDEFGHIJKLMNOPQRSTUV"))
-is_base32hex = record {
-  back = λ v small. eqb-true _ v (agree_below_at
-      (λ v. value_in (codes "0123456789ABCDEFGHIJKLMNOPQRSTUV")
-      (slice_index (codes "0123456789ABCDEFGHIJKLMNOPQRSTUV") v) == v) (λ v. true) 32 v refl small);
-  plain = λ v small. agree_below_at (λ v. slice_index (codes "0123456789ABCDEFGHIJKLMNOPQRSTUV") v == 61) (λ v. false)
-      32 v refl small;
-}
+base32_alphabet : (alphabet : Alphabet)
+    → IsAlphabet 32 (slice_index (characters alphabet)) (value_in (characters alphabet))
+base32_alphabet base32.standard = alphabet_of 32 (characters base32.standard) _ refl refl
+base32_alphabet extended_hex = alphabet_of 32 (characters extended_hex) _ refl refl
 
-pub base32_again : (bytes : List ℕ) → AreBytes bytes → base32_of (base32 bytes) ≡ Some bytes
+encode_values : (alphabet : Alphabet) (bytes : List ℕ)
+    → encode alphabet bytes ≡ map (slice_index (characters alphabet)) (fives bytes) ++ replicate (padding bytes) 61
+encode_values base32.standard bytes = base32_values bytes
+encode_values extended_hex bytes = base32hex_values bytes
+
+pub base32_again : (alphabet : Alphabet) (bytes : List ℕ) → AreBytes bytes
+    → base32_of alphabet (encode alphabet bytes) ≡ Some bytes
 unfolding base32_of
-base32_again bytes all =
-    ap (if_encoded base32 (base32 bytes))
-    (ap from_fives (values_read 32 _ _ is_base32 (fives bytes) (base32 bytes) (padding bytes) (fives_below bytes)
-    (base32_values bytes)) ∙ from_fives_again bytes all)
-    ∙ encoded_is base32 (base32 bytes) bytes refl
-
-pub base32hex_again : (bytes : List ℕ) → AreBytes bytes → base32hex_of (base32hex bytes) ≡ Some bytes
-unfolding base32hex_of
-base32hex_again bytes all =
-    ap (if_encoded base32hex (base32hex bytes))
-    (ap from_fives (values_read 32 _ _ is_base32hex (fives bytes) (base32hex bytes) (padding bytes) (fives_below bytes)
-    (base32hex_values bytes)) ∙ from_fives_again bytes all)
-    ∙ encoded_is base32hex (base32hex bytes) bytes refl
+base32_again alphabet bytes all =
+    let digits : List ℕ = encode alphabet bytes in
+    ap (if_encoded (encode alphabet) digits)
+    (ap from_fives (values_read 32 _ _ (base32_alphabet alphabet) (fives bytes) digits (padding bytes)
+    (fives_below bytes) (encode_values alphabet bytes)) ∙ from_fives_again bytes all)
+    ∙ encoded_is (encode alphabet) digits bytes refl
 
 -- ---- base 64
 
@@ -195,18 +191,10 @@ abbrev standard_symbols : List ℕ
 standard_symbols = codes "ABCDEFGHIJKLMNOPQRSTUVWXYZabcdefghijklmnopqrstuvwxyz0123456789+/"
 
 is_url_safe : IsAlphabet 64 (slice_index url_safe_symbols) six_bits
-is_url_safe = record {
-  back = λ v small. eqb-true _ v (agree_below_at (λ v. six_bits (slice_index url_safe_symbols v) == v) (λ v. true) 64 v
-      refl small);
-  plain = λ v small. agree_below_at (λ v. slice_index url_safe_symbols v == 61) (λ v. false) 64 v refl small;
-}
+is_url_safe = alphabet_of 64 url_safe_symbols six_bits refl refl
 
 is_standard : IsAlphabet 64 (slice_index standard_symbols) six_bits
-is_standard = record {
-  back = λ v small. eqb-true _ v (agree_below_at (λ v. six_bits (slice_index standard_symbols v) == v) (λ v. true) 64 v
-      refl small);
-  plain = λ v small. agree_below_at (λ v. slice_index standard_symbols v == 61) (λ v. false) 64 v refl small;
-}
+is_standard = alphabet_of 64 standard_symbols six_bits refl refl
 
 -- one of two encodings
 first_of : (one other : List ℕ → List ℕ) (digits bytes found : List ℕ) → found ≡ bytes → one bytes ≡ digits

@@ -1,18 +1,21 @@
 -- Digits that are read as bytes are the encoding of these bytes.
 use Rattle.std.proofs.Common.{◌≡◌, ◌≢◌, ℕ, ◌-◌, ◌*◌, ◌/◌, ◌^◌, ◌<◌, ◌==◌, ◌||◌, ◌⊎◌, inl, inr, Bool, true, false}
 use Rattle.std.proofs.Common.{if◌then◌else◌, List, [], ◌∷◌, length, map, take, zero, suc, position, unwrap_or, bytes_eq}
-use Rattle.std.proofs.Common.{codes, Option, Some, None, refl, sym, ap, subst, ◌∙◌, arith, lit<}
+use Rattle.std.proofs.Common.{codes, Vec, Global, Option, Some, None, refl, sym, ap, subst, ◌∙◌, arith, lit<}
 use Rattle.std.specs.Int.Digits.{AllBelowBase, number_from_digits}
+use Rattle.std.specs.Option.{ok_or, IfSome, IfNone}
 use Rattle.std.proofs.lemmas.Slice.Eq.{bytes_eq-Decides}
 use Rattle.cbor_notes.specs.AreBytes.{AreBytes}
-use Rattle.cbor_notes.specs.Base32.{places, base32, base32hex}
+use Rattle.cbor_notes.specs.Base32.{Alphabet, characters, places, encode}
 use Rattle.cbor_notes.specs.Base64.{standard, url_safe}
 use Rattle.cbor_notes.proofs.bases.Base32Encode.{AllBelowBase-append}
 use Rattle.cbor_notes.proofs.dates.Places.{AllBelowBase-places}
 use Rattle.cbor_notes.proofs.tokens.TextPlaces.{first_at}
-use Rattle.cbor_diag.proofs.notation.Decoded.{url_safe_again, standard_again}
-use Rattle.cbor_diag.specs.mirror.NotationReading.{if_encoded, either, value_in, bytes_of_fives, from_fives, from_sixes}
-use Rattle.cbor_diag.specs.mirror.NotationReading.{six_bits, unpadded, base32_of, base32hex_of, base64_of}
+use Rattle.cbor_diag.proofs.notation.Decoded.{base32_again, url_safe_again, standard_again}
+use Rattle.cbor_diag.specs.declared.error.Error.TheVariants as refusal
+use Rattle.cbor_diag.specs.Reading.{Gives}
+use Rattle.cbor_diag.specs.mirror.NotationReading.{or_refused, if_encoded, either, value_in, bytes_of_fives, from_fives}
+use Rattle.cbor_diag.specs.mirror.NotationReading.{from_sixes, six_bits, unpadded, base32_of, base64_of}
 
 -- the answer whose encoding was compared
 encoded_is : (encode : List ℕ → List ℕ) (digits answer bytes : List ℕ) → if_encoded encode digits answer ≡ Some bytes
@@ -44,14 +47,7 @@ unfolding from_fives
 from_fives_are (a ∷ b ∷ c ∷ d ∷ e ∷ f ∷ g ∷ h ∷ values) =
     AllBelowBase-append 256 (bytes_of_fives (a ∷ b ∷ c ∷ d ∷ e ∷ f ∷ g ∷ h ∷ [])) (from_fives values)
     (fives_are (a ∷ b ∷ c ∷ d ∷ e ∷ f ∷ g ∷ h ∷ [])) (from_fives_are values)
-from_fives_are [] = fives_are []
-from_fives_are (a ∷ []) = fives_are (a ∷ [])
-from_fives_are (a ∷ b ∷ []) = fives_are (a ∷ b ∷ [])
-from_fives_are (a ∷ b ∷ c ∷ []) = fives_are (a ∷ b ∷ c ∷ [])
-from_fives_are (a ∷ b ∷ c ∷ d ∷ []) = fives_are (a ∷ b ∷ c ∷ d ∷ [])
-from_fives_are (a ∷ b ∷ c ∷ d ∷ e ∷ []) = fives_are (a ∷ b ∷ c ∷ d ∷ e ∷ [])
-from_fives_are (a ∷ b ∷ c ∷ d ∷ e ∷ f ∷ []) = fives_are (a ∷ b ∷ c ∷ d ∷ e ∷ f ∷ [])
-from_fives_are (a ∷ b ∷ c ∷ d ∷ e ∷ f ∷ g ∷ []) = fives_are (a ∷ b ∷ c ∷ d ∷ e ∷ f ∷ g ∷ [])
+from_fives_are values = fives_are values
 
 from_sixes_are : (values : List ℕ) → AllBelowBase 64 values → AreBytes (from_sixes values)
 unfolding from_sixes
@@ -86,19 +82,12 @@ all_six_bits (d ∷ digits) = (six_bits-lt d, all_six_bits digits)
 
 -- ---- the decoders
 
-pub base32_found : (digits bytes : List ℕ) → base32_of digits ≡ Some bytes → AreBytes bytes × (digits ≡ base32 bytes)
+pub base32_found : (alphabet : Alphabet) (digits bytes : List ℕ) → base32_of alphabet digits ≡ Some bytes
+    → AreBytes bytes × (digits ≡ encode alphabet bytes)
 unfolding base32_of
-base32_found digits bytes e =
-    let values = map (value_in (codes "ABCDEFGHIJKLMNOPQRSTUVWXYZ234567")) (unpadded digits) in
-    let is = encoded_is base32 digits (from_fives values) bytes e in
-    (subst AreBytes is.0 (from_fives_are values), is.1)
-
-pub base32hex_found : (digits bytes : List ℕ) → base32hex_of digits ≡ Some bytes
-    → AreBytes bytes × (digits ≡ base32hex bytes)
-unfolding base32hex_of
-base32hex_found digits bytes e =
-    let values = map (value_in (codes "0123456789ABCDEFGHIJKLMNOPQRSTUV")) (unpadded digits) in
-    let is = encoded_is base32hex digits (from_fives values) bytes e in
+base32_found alphabet digits bytes e =
+    let values = map (value_in (characters alphabet)) (unpadded digits) in
+    let is = encoded_is (encode alphabet) digits (from_fives values) bytes e in
     (subst AreBytes is.0 (from_fives_are values), is.1)
 
 pub base64_found : (digits bytes : List ℕ) → base64_of digits ≡ Some bytes
@@ -130,17 +119,21 @@ none_found : (r : Option (List ℕ)) → ((bytes : List ℕ) → ¬ (r ≡ Some 
 none_found None none = refl
 none_found (Some bytes) none = absurd (none bytes refl)
 
-pub base32_missing : (digits : List ℕ) → ((bytes : List ℕ) → AreBytes bytes → digits ≢ base32 bytes)
-    → base32_of digits ≡ None
-base32_missing digits none = none_found (base32_of digits)
-    (λ bytes e. let found = base32_found digits bytes e in none bytes found.0 found.1)
+base32_missing : (alphabet : Alphabet) (digits : List ℕ)
+    → ((bytes : List ℕ) → AreBytes bytes → digits ≢ encode alphabet bytes) → base32_of alphabet digits ≡ None
+base32_missing alphabet digits none = none_found (base32_of alphabet digits)
+    (λ bytes e. let found = base32_found alphabet digits bytes e in none bytes found.0 found.1)
 
-pub base32hex_missing : (digits : List ℕ) → ((bytes : List ℕ) → AreBytes bytes → digits ≢ base32hex bytes)
-    → base32hex_of digits ≡ None
-base32hex_missing digits none = none_found (base32hex_of digits)
-    (λ bytes e. let found = base32hex_found digits bytes e in none bytes found.0 found.1)
+-- what was found, or why nothing was, is the answer
+pub base32_answer : (alphabet : Alphabet) (digits : List ℕ) (found : Option (Vec ℕ Global))
+    → IfSome found (λ v. AreBytes v.items × (digits ≡ encode alphabet v.items))
+    → IfNone found ((bytes : List ℕ) → AreBytes bytes → digits ≢ encode alphabet bytes)
+    → Gives (λ v. v.items) (ok_or found refusal.Notation) (or_refused (base32_of alphabet digits))
+base32_answer alphabet digits (Some v) is none =
+    ap or_refused (ap (base32_of alphabet) is.1 ∙ base32_again alphabet v.items is.0)
+base32_answer alphabet digits None is none = ap or_refused (base32_missing alphabet digits none)
 
-pub base64_missing : (digits : List ℕ) → ((bytes : List ℕ) → AreBytes bytes
+base64_missing : (digits : List ℕ) → ((bytes : List ℕ) → AreBytes bytes
     → (digits ≢ url_safe bytes) × (digits ≢ standard bytes)) → base64_of digits ≡ None
 base64_missing digits none = none_found (base64_of digits)
     (λ bytes e. let found = base64_found digits bytes e in neither bytes found.0 found.1) where
@@ -148,7 +141,14 @@ base64_missing digits none = none_found (base64_of digits)
       neither bytes are (inl e) = (none bytes are).0 e
       neither bytes are (inr e) = (none bytes are).1 e
 
-pub base64_again : (digits bytes : List ℕ) → AreBytes bytes → (digits ≡ url_safe bytes) ⊎ (digits ≡ standard bytes)
+base64_again : (digits bytes : List ℕ) → AreBytes bytes → (digits ≡ url_safe bytes) ⊎ (digits ≡ standard bytes)
     → base64_of digits ≡ Some bytes
 base64_again digits bytes are (inl e) = ap base64_of e ∙ url_safe_again bytes are
 base64_again digits bytes are (inr e) = ap base64_of e ∙ standard_again bytes are
+
+pub base64_answer : (digits : List ℕ) (found : Option (Vec ℕ Global))
+    → IfSome found (λ v. AreBytes v.items × ((digits ≡ url_safe v.items) ⊎ (digits ≡ standard v.items)))
+    → IfNone found ((bytes : List ℕ) → AreBytes bytes → (digits ≢ url_safe bytes) × (digits ≢ standard bytes))
+    → Gives (λ v. v.items) (ok_or found refusal.Notation) (or_refused (base64_of digits))
+base64_answer digits (Some v) is none = ap or_refused (base64_again digits v.items is.0 is.1)
+base64_answer digits None is none = ap or_refused (base64_missing digits none)

@@ -6,33 +6,33 @@ use Rattle.cbor_notes.specs.Token.{nothing}
 use Rattle.cbor_diag.specs.Item as spec
 use Rattle.cbor_diag.specs.Item.{Chunk, Atom, integer, negative, string, chunked_string}
 use Rattle.cbor_diag.specs.Item.{float, simple, Item, atom, array, tagged}
-use Rattle.cbor_diag.specs.StringKind.{StringKind, bytes_kind, text_kind}
+use Rattle.cbor_diag.specs.StringKind.{StringKind, bytes_kind, text_kind, no_chunks}
 use Rattle.cbor_diag.specs.Reading.{Read}
-use Rattle.cbor_diag.specs.Notation.{IsBlank, Opens, StringOf, ChunksOf, AtomCore, Core, Reads}
-use Rattle.cbor_diag.specs.mirror.NotationReading.{skip_blank, byte_string_of, read_byte_string, text_string_of}
-use Rattle.cbor_diag.specs.mirror.NotationReading.{chunks_atom, read_text_string, read_chunks, start_of, read_core}
-use Rattle.cbor_diag.specs.mirror.NotationReading.{core_of, read_item, notation_of}
+use Rattle.cbor_diag.specs.Notation.{IsBlank, Opens, StringOf, ChunksOf, ShowsKind, AtomCore, Core, Reads}
+use Rattle.cbor_diag.specs.mirror.NotationReading.{skip_blank, string_of, read_string_item}
+use Rattle.cbor_diag.specs.mirror.NotationReading.{start_of, read_core, core_of, read_item, notation_of}
 use Rattle.cbor_diag.proofs.notation.Ends.{Begins, begins_append, begins_more, core_starts, digits, Follows}
 use Rattle.cbor_diag.proofs.notation.Ends.{follows_passed, follows_blank, Starts, starts_passed}
 use Rattle.cbor_diag.proofs.notation.Lists.{ReadsAgain, blanked_parts, blanked_stripped}
-use Rattle.cbor_diag.proofs.notation.Strings.{string_begins, string_starts_core, string_again, string_no_word}
-use Rattle.cbor_diag.proofs.notation.Chunked.{chunks_again, HasKind}
+use Rattle.cbor_diag.proofs.notation.Strings.{string_starts, string_begins, string_starts_core, string_again}
+use Rattle.cbor_diag.proofs.notation.Strings.{string_no_word}
+use Rattle.cbor_diag.proofs.notation.Chunked.{chunks_again}
 use Rattle.cbor_diag.proofs.notation.Numbers.{at_one_of, number_begins, integer_again, negative_again, tag_again}
 use Rattle.cbor_diag.proofs.notation.Words.{simple_again, float_again}
 use Rattle.cbor_diag.proofs.notation.Containers.{array_again, map_again}
 
 -- ---- what a core begins with
 
+no_chunks_start : (kind : StringKind) → Starts (no_chunks kind)
+no_chunks_start bytes_kind = refl
+no_chunks_start text_kind = refl
+
 atom_starts : (Reads : List ℕ → Item → Type 0) (text : List ℕ) (a : Atom) → AtomCore Reads text a → Starts text
 atom_starts Reads text (integer n w) is = begins_more digits core_starts text refl (number_begins text n is.0 is.1)
 atom_starts Reads text (negative n w) is = subst Starts (sym is.2) refl
-atom_starts Reads text (string bytes_kind c) is =
-    string_starts_core bytes_kind text (string_begins Reads bytes_kind text c is)
-atom_starts Reads text (string text_kind c) is = string_starts_core text_kind text (string_begins Reads text_kind text c is)
-atom_starts Reads text (chunked_string bytes_kind cs) (inl is) = subst Starts (sym is.1) refl
-atom_starts Reads text (chunked_string bytes_kind cs) (inr is) = subst Starts (sym is.1) refl
-atom_starts Reads text (chunked_string text_kind cs) (inl is) = subst Starts (sym is.1) refl
-atom_starts Reads text (chunked_string text_kind cs) (inr is) = subst Starts (sym is.1.1) refl
+atom_starts Reads text (string kind c) is = string_starts_core Reads kind text c is
+atom_starts Reads text (chunked_string kind cs) (inl is) = subst Starts (sym is.1) (no_chunks_start kind)
+atom_starts Reads text (chunked_string kind cs) (inr is) = subst Starts (sym is.1.1) refl
 atom_starts Reads text (float bits w) is = subst Starts (sym is.1) refl
 atom_starts Reads text (simple n) (inl (inl is)) = subst Starts (sym is.0) refl
 atom_starts Reads text (simple n) (inl (inr (inl is))) = subst Starts (sym is.0) refl
@@ -62,53 +62,38 @@ abbrev Answers : Read Item → Item → List ℕ → Type 0
 Answers r i rest = (left : List ℕ) × (r ≡ Ok (i, left)) × (skip_blank left ≡ rest)
 
 module _ (Reads : List ℕ → Item → Type 0) (read : List ℕ → Read Item) (it : ReadsAgain Reads read) where
-  bytes_core : (text : List ℕ) → Begins (codes "'<bh") text → read_core read text ≡ read_byte_string read text
+  string_core : (kind : StringKind) (text : List ℕ) → Begins (string_starts kind) text
+      → read_core read text ≡ read_string_item read kind text
   unfolding read_core start_of
-  bytes_core [] begins = absurd begins
-  bytes_core (b ∷ text) begins =
-      at_one_of (λ c. core_of read (start_of c) (b ∷ text) text ≡ read_byte_string read (b ∷ text)) (codes "'<bh") b
-      (refl, (refl, (refl, (refl, tt)))) begins
+  string_core kind [] begins = absurd begins
+  string_core bytes_kind (b ∷ text) begins =
+      at_one_of (λ c. core_of read (start_of c) (b ∷ text) text ≡ read_string_item read bytes_kind (b ∷ text))
+      (codes "'<bh") b (refl, (refl, (refl, (refl, tt)))) begins
+  string_core text_kind (b ∷ text) begins =
+      at_one_of (λ c. core_of read (start_of c) (b ∷ text) text ≡ read_string_item read text_kind (b ∷ text))
+      (codes "\"") b (refl, tt) begins
 
-  text_core : (text : List ℕ) → Begins (codes "\"") text → read_core read text ≡ read_text_string read text
+  no_chunks_again : (kind : StringKind) (rest : List ℕ)
+      → read_core read (no_chunks kind ++ rest) ≡ Ok (atom (chunked_string kind []), rest)
   unfolding read_core start_of
-  text_core [] begins = absurd begins
-  text_core (b ∷ text) begins =
-      at_one_of (λ c. core_of read (start_of c) (b ∷ text) text ≡ read_text_string read (b ∷ text)) (codes "\"") b
-      (refl, tt) begins
+  no_chunks_again bytes_kind rest = refl
+  no_chunks_again text_kind rest = refl
 
-  chunks_core : (text : List ℕ) → read_core read (40 ∷ text) ≡ read_chunks read text
-  unfolding read_core start_of
-  chunks_core text = refl
-
-  no_byte_chunks : (rest : List ℕ) → read_core read (codes "''_" ++ rest) ≡ Ok (atom (chunked_string bytes_kind []), rest)
-  unfolding read_core start_of
-  no_byte_chunks rest = refl
-
-  no_text_chunks : (rest : List ℕ) → read_core read (codes "\"\"_" ++ rest) ≡ Ok (atom (chunked_string text_kind []), rest)
-  unfolding read_core start_of
-  no_text_chunks rest = refl
-
-  byte_string_again : (text after rest : List ℕ) (c : Chunk) → StringOf bytes_kind Reads text c → IsBlank after
-      → Follows rest → read_core read (text ++ (after ++ rest)) ≡ Ok (atom (string bytes_kind c), rest)
-  byte_string_again text after rest c is is_blank follows =
+  string_item_again : (kind : StringKind) (text after rest : List ℕ) (c : Chunk) → StringOf kind Reads text c
+      → IsBlank after → Follows rest → read_core read (text ++ (after ++ rest)) ≡ Ok (atom (string kind c), rest)
+  string_item_again kind text after rest c is is_blank follows =
       let tail : List ℕ = text ++ (after ++ rest) in
-      bytes_core tail (begins_append (codes "'<bh") text (after ++ rest) (string_begins Reads bytes_kind text c is))
-      ∙ (ap (byte_string_of read tail) (string_no_word Reads bytes_kind text after rest c is is_blank follows)
-      ∙ rw (string_again Reads read it bytes_kind text after rest c is is_blank follows) refl)
-
-  text_string_again : (text after rest : List ℕ) (c : Chunk) → StringOf text_kind Reads text c → IsBlank after
-      → Follows rest → read_core read (text ++ (after ++ rest)) ≡ Ok (atom (string text_kind c), rest)
-  text_string_again text after rest c is is_blank follows =
-      let tail : List ℕ = text ++ (after ++ rest) in
-      text_core tail (begins_append (codes "\"") text (after ++ rest) (string_begins Reads text_kind text c is))
-      ∙ (ap (text_string_of read tail) (string_no_word Reads text_kind text after rest c is is_blank follows)
-      ∙ rw (string_again Reads read it text_kind text after rest c is is_blank follows) refl)
+      string_core kind tail
+      (begins_append (string_starts kind) text (after ++ rest) (string_begins Reads kind text c is))
+      ∙ (ap (string_of read kind tail) (string_no_word Reads kind text after rest c is is_blank follows)
+      ∙ rw (string_again Reads read it kind text after rest c is is_blank follows) refl)
 
   chunked_again : (kind : StringKind) (text rest : List ℕ) (cs : List Chunk) → ChunksOf kind Reads text cs
-      → HasKind kind cs → read_core read (text ++ rest) ≡ Ok (atom (chunks_atom kind cs), rest)
-  chunked_again kind text rest cs is some =
-      let c = chunks_again Reads read it kind cs text rest is some in
-      ap (read_core read) c.1 ∙ (chunks_core (95 ∷ c.0) ∙ c.2)
+      → ShowsKind kind cs → read_core read (text ++ rest) ≡ Ok (atom (chunked_string kind cs), rest)
+  unfolding read_core start_of
+  chunked_again kind text rest cs is shows =
+      let c = chunks_again Reads read it kind cs text rest is shows in
+      ap (read_core read) c.1 ∙ c.2
 
   atom_again : (text after rest : List ℕ) (a : Atom) → AtomCore Reads text a → IsBlank after → Follows rest
       → Answers (read_core read (text ++ (after ++ rest))) (atom a) rest
@@ -122,22 +107,14 @@ module _ (Reads : List ℕ → Item → Type 0) (read : List ℕ → Read Item) 
     negative_again read text (after ++ rest) n w is (follows_blank after rest is_blank follows),
     follows_passed after rest is_blank follows,
   )
-  atom_again text after rest (string bytes_kind c) is is_blank follows =
-      (rest, byte_string_again text after rest c is is_blank follows, follows_passed [] rest nothing follows)
-  atom_again text after rest (string text_kind c) is is_blank follows =
-      (rest, text_string_again text after rest c is is_blank follows, follows_passed [] rest nothing follows)
-  atom_again text after rest (chunked_string bytes_kind cs) (inl is) is_blank follows =
-      (after ++ rest, rw (is.0, is.1) (no_byte_chunks (after ++ rest)), follows_passed after rest is_blank follows)
-  atom_again text after rest (chunked_string bytes_kind cs) (inr is) is_blank follows = (
+  atom_again text after rest (string kind c) is is_blank follows =
+      (rest, string_item_again kind text after rest c is is_blank follows, follows_passed [] rest nothing follows)
+  atom_again text after rest (chunked_string kind cs) (inl is) is_blank follows =
+      let again = no_chunks_again kind (after ++ rest) in
+      (after ++ rest, rw (is.0, is.1) again, follows_passed after rest is_blank follows)
+  atom_again text after rest (chunked_string kind cs) (inr is) is_blank follows = (
     after ++ rest,
-    chunked_again bytes_kind text (after ++ rest) cs is tt,
-    follows_passed after rest is_blank follows,
-  )
-  atom_again text after rest (chunked_string text_kind cs) (inl is) is_blank follows =
-      (after ++ rest, rw (is.0, is.1) (no_text_chunks (after ++ rest)), follows_passed after rest is_blank follows)
-  atom_again text after rest (chunked_string text_kind cs) (inr is) is_blank follows = (
-    after ++ rest,
-    chunked_again text_kind text (after ++ rest) cs is.1 is.0,
+    chunked_again kind text (after ++ rest) cs is.1 is.0,
     follows_passed after rest is_blank follows,
   )
   atom_again text after rest (float bits w) is is_blank follows =

@@ -1,5 +1,5 @@
 -- With more levels left, reading answers the same, unless it was TooDeep.
-use Rattle.std.proofs.Common.{◌≡◌, ℕ, zero, suc, ◌+◌, Bool, true, false, List, [], ◌∷◌, length, codes, Option, Some}
+use Rattle.std.proofs.Common.{◌≡◌, ℕ, zero, suc, ◌+◌, Bool, true, false, List, [], ◌∷◌, length, Option, Some}
 use Rattle.std.proofs.Common.{None, Result, Ok, Err, ◌⊎◌, inl, inr, refl, sym, ap, ◌∙◌, subst, arith}
 use Rattle.std.proofs.lemmas.Bool.{cases_Bool}
 use Rattle.cbor_diag.specs.declared.syntax.IntegerWidth.{IntegerWidth}
@@ -8,16 +8,16 @@ use Rattle.cbor_diag.specs.declared.error.Error.TheVariants as refusal
 use Rattle.cbor_diag.specs.declared.parse.notation.start.Start.{Start}
 use Rattle.cbor_diag.specs.declared.parse.notation.start.Start.TheVariants as start
 use Rattle.cbor_diag.specs.Item.{Item}
-use Rattle.cbor_diag.specs.StringKind.{StringKind, bytes_kind, text_kind}
+use Rattle.cbor_diag.specs.StringKind.{StringKind, bytes_kind, text_kind, no_chunks}
 use Rattle.cbor_diag.specs.Reading.{Read, ◌>>=◌}
 use Rattle.cbor_diag.specs.mirror.NotationReading.{or_refused, after_byte, after_word, read_unsigned_number}
 use Rattle.cbor_diag.specs.mirror.NotationReading.{integer_or_tag, read_integer, after_end, more_members, members_from}
 use Rattle.cbor_diag.specs.mirror.NotationReading.{members_or_end, read_members, read_pair, read_length, read_array}
 use Rattle.cbor_diag.specs.mirror.NotationReading.{read_map, read_embedded, piece_of, read_piece, start_of, first_start}
-use Rattle.cbor_diag.specs.mirror.NotationReading.{begins_piece, read_pieces, skip_blank, begins_string, may_have_texts}
+use Rattle.cbor_diag.specs.mirror.NotationReading.{begins_piece, read_pieces, skip_blank, begins_string}
 use Rattle.cbor_diag.specs.mirror.NotationReading.{content_of, read_content, read_string, read_chunk, chunks_of}
-use Rattle.cbor_diag.specs.mirror.NotationReading.{read_chunks, byte_string_of, read_byte_string, text_string_of}
-use Rattle.cbor_diag.specs.mirror.NotationReading.{read_text_string, core_of, read_core, read_item}
+use Rattle.cbor_diag.specs.mirror.NotationReading.{kind_from, read_chunks, string_of, read_string_item}
+use Rattle.cbor_diag.specs.mirror.NotationReading.{core_of, read_core, read_item}
 use Rattle.cbor_diag.proofs.notation.Pieces.{pieces_go, pieces_stop}
 
 -- the first is TooDeep, or both are one answer
@@ -78,10 +78,10 @@ module _ {X : Type 0} (few many : List ℕ → Read X) (grows : (text : List ℕ
 
 -- ---- items
 
-no_pieces : (read : List ℕ → Read Item) (texts : Bool) (text : List ℕ)
-    → read_pieces read texts zero text ≡ Err refusal.Notation
+no_pieces : (read : List ℕ → Read Item) (kind : StringKind) (text : List ℕ)
+    → read_pieces read kind zero text ≡ Err refusal.Notation
 unfolding read_pieces
-no_pieces read texts text = refl
+no_pieces read kind text = refl
 
 module _ (few many : List ℕ → Read Item) (grows : (text : List ℕ) → Grows (few text) (many text)) where
   pair_grows : (text : List ℕ) → Grows (read_pair few text) (read_pair many text)
@@ -112,64 +112,53 @@ module _ (few many : List ℕ → Read Item) (grows : (text : List ℕ) → Grow
   piece_grows [] = inr refl
   piece_grows (b ∷ text) = piece_of_grows (start_of b) text
 
-  pieces_grow : (texts : Bool) (n : ℕ) (text : List ℕ)
-      → Grows (read_pieces few texts n text) (read_pieces many texts n text)
-  pieces_grow texts zero text = inr (no_pieces few texts text ∙ sym (no_pieces many texts text))
-  pieces_grow texts (suc n) text =
-      elim (cases_Bool (begins_piece texts (first_start text))) [
+  pieces_grow : (kind : StringKind) (n : ℕ) (text : List ℕ)
+      → Grows (read_pieces few kind n text) (read_pieces many kind n text)
+  pieces_grow kind zero text = inr (no_pieces few kind text ∙ sym (no_pieces many kind text))
+  pieces_grow kind (suc n) text =
+      elim (cases_Bool (begins_piece kind (first_start text))) [
         | inl e ↦
-            rw (pieces_go few texts n text e, pieces_go many texts n text e)
+            rw (pieces_go few kind n text e, pieces_go many kind n text e)
             (grows_then (read_piece few text) (read_piece many text) _ _ (piece_grows text) (λ x.
-            grows_made (read_pieces few texts n (skip_blank x.1)) (read_pieces many texts n (skip_blank x.1)) _
-            (pieces_grow texts n (skip_blank x.1))))
-        | inr e ↦ inr (pieces_stop few texts n text e ∙ sym (pieces_stop many texts n text e))
+            grows_made (read_pieces few kind n (skip_blank x.1)) (read_pieces many kind n (skip_blank x.1)) _
+            (pieces_grow kind n (skip_blank x.1))))
+        | inr e ↦ inr (pieces_stop few kind n text e ∙ sym (pieces_stop many kind n text e))
       ]
 
-  content_of_grows : (texts : Bool) (text : List ℕ) (begins : Bool)
-      → Grows (content_of few texts text begins) (content_of many texts text begins)
-  content_of_grows texts text false = inr refl
-  content_of_grows texts text true = pieces_grow texts (suc (length text)) text
+  content_of_grows : (kind : StringKind) (text : List ℕ) (begins : Bool)
+      → Grows (content_of few kind text begins) (content_of many kind text begins)
+  content_of_grows kind text false = inr refl
+  content_of_grows kind text true = pieces_grow kind (suc (length text)) text
 
-  content_grows : (texts : Bool) (text : List ℕ) → Grows (read_content few texts text) (read_content many texts text)
-  content_grows texts text = content_of_grows texts text (begins_string texts (first_start text))
+  content_grows : (kind : StringKind) (text : List ℕ) → Grows (read_content few kind text) (read_content many kind text)
+  content_grows kind text = content_of_grows kind text (begins_string kind (first_start text))
 
   string_grows : (kind : StringKind) (text : List ℕ) → Grows (read_string few kind text) (read_string many kind text)
   unfolding read_string
-  string_grows kind text = grows_made (read_content few (may_have_texts kind) text)
-      (read_content many (may_have_texts kind) text) _ (content_grows (may_have_texts kind) text)
+  string_grows kind text = grows_made (read_content few kind text)
+      (read_content many kind text) _ (content_grows kind text)
 
   chunk_grows : (kind : StringKind) (text : List ℕ) → Grows (read_chunk few kind text) (read_chunk many kind text)
   chunk_grows kind text = string_grows kind (skip_blank text)
 
-  chunks_of_grow : (text : List ℕ) (s : Start) → Grows (chunks_of few text s) (chunks_of many text s)
-  chunks_of_grow text start.Quote =
-      grows_made (read_members (read_chunk few text_kind) 41 text) (read_members (read_chunk many text_kind) 41 text) _
-      (members_grow (read_chunk few text_kind) (read_chunk many text_kind) (chunk_grows text_kind) 41 text)
-  chunks_of_grow text _ =
-      grows_made (read_members (read_chunk few bytes_kind) 41 text) (read_members (read_chunk many bytes_kind) 41 text)
-      _ (members_grow (read_chunk few bytes_kind) (read_chunk many bytes_kind) (chunk_grows bytes_kind) 41 text)
+  chunks_of_grow : (kind : StringKind) (text : List ℕ) → Grows (chunks_of few kind text) (chunks_of many kind text)
+  chunks_of_grow kind text =
+      grows_made (read_members (read_chunk few kind) 41 text) (read_members (read_chunk many kind) 41 text) _
+      (members_grow (read_chunk few kind) (read_chunk many kind) (chunk_grows kind) 41 text)
 
   chunks_grow : (text : List ℕ) → Grows (read_chunks few text) (read_chunks many text)
   chunks_grow text = grows_on (or_refused (after_byte 95 text)) _ _
-      (λ opened. chunks_of_grow (skip_blank opened) (first_start (skip_blank opened)))
+      (λ opened. chunks_of_grow (kind_from (first_start (skip_blank opened))) (skip_blank opened))
 
-  byte_string_of_grows : (text : List ℕ) (empty : Option (List ℕ))
-      → Grows (byte_string_of few text empty) (byte_string_of many text empty)
-  byte_string_of_grows text (Some rest) = inr refl
-  byte_string_of_grows text None = grows_made (read_string few bytes_kind text) (read_string many bytes_kind text) _
-      (string_grows bytes_kind text)
+  string_of_grows : (kind : StringKind) (text : List ℕ) (empty : Option (List ℕ))
+      → Grows (string_of few kind text empty) (string_of many kind text empty)
+  string_of_grows kind text (Some rest) = inr refl
+  string_of_grows kind text None = grows_made (read_string few kind text) (read_string many kind text) _
+      (string_grows kind text)
 
-  text_string_of_grows : (text : List ℕ) (empty : Option (List ℕ))
-      → Grows (text_string_of few text empty) (text_string_of many text empty)
-  text_string_of_grows text (Some rest) = inr refl
-  text_string_of_grows text None = grows_made (read_string few text_kind text) (read_string many text_kind text) _
-      (string_grows text_kind text)
-
-  bytes_grow : (text : List ℕ) → Grows (read_byte_string few text) (read_byte_string many text)
-  bytes_grow text = byte_string_of_grows text (after_word (codes "''_") text)
-
-  text_grows : (text : List ℕ) → Grows (read_text_string few text) (read_text_string many text)
-  text_grows text = text_string_of_grows text (after_word (codes "\"\"_") text)
+  string_item_grows : (kind : StringKind) (text : List ℕ)
+      → Grows (read_string_item few kind text) (read_string_item many kind text)
+  string_item_grows kind text = string_of_grows kind text (after_word (no_chunks kind) text)
 
   integer_or_tag_grows : (n : ℕ) (w : IntegerWidth) (text : List ℕ) (inner : Option (List ℕ))
       → Grows (integer_or_tag few n w text inner) (integer_or_tag many n w text inner)
@@ -186,11 +175,11 @@ module _ (few many : List ℕ → Read Item) (grows : (text : List ℕ) → Grow
   core_of_grows start.Bracket text rest = array_grows rest
   core_of_grows start.Brace text rest = map_grows rest
   core_of_grows start.Parenthesis text rest = chunks_grow rest
-  core_of_grows start.Apostrophe text rest = bytes_grow text
-  core_of_grows start.Angle text rest = bytes_grow text
-  core_of_grows start.LetterB text rest = bytes_grow text
-  core_of_grows start.LetterH text rest = bytes_grow text
-  core_of_grows start.Quote text rest = text_grows text
+  core_of_grows start.Apostrophe text rest = string_item_grows bytes_kind text
+  core_of_grows start.Angle text rest = string_item_grows bytes_kind text
+  core_of_grows start.LetterB text rest = string_item_grows bytes_kind text
+  core_of_grows start.LetterH text rest = string_item_grows bytes_kind text
+  core_of_grows start.Quote text rest = string_item_grows text_kind text
   core_of_grows start.Other text rest = inr refl
 
   core_grows : (text : List ℕ) → Grows (read_core few text) (read_core many text)

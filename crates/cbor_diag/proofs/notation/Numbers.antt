@@ -61,11 +61,7 @@ fits_64 SixtyFour n fits = fits
 
 fits_past : (w : IntegerWidth) (n : ℕ) → FitsWidth w n → n < past_width w
 fits_past Unknown n fits = fits
-fits_past Zero n fits = fits
-fits_past Eight n fits = fits
-fits_past Sixteen n fits = fits
-fits_past ThirtyTwo n fits = fits
-fits_past SixtyFour n fits = fits
+fits_past _ n fits = fits
 
 sized_again : (n : ℕ) (indicator : Option ℕ) (w : IntegerWidth) → HasWidth n indicator w
     → with_width n indicator ≡ Ok (n, w)

@@ -3,6 +3,7 @@ use Rattle.std.proofs.Common.{◌≡◌, ◌≢◌, ℕ, zero, suc, ◌<◌, Boo
 use Rattle.std.proofs.Common.{Option, Some, Ok, refl, sym, ap, ◌∙◌, subst, inl, inr, arith}
 use Rattle.std.proofs.lemmas.Bool.{not-true}
 use Rattle.std.proofs.lemmas.List.{append_assoc, append-nil, length-append}
+use Rattle.cbor_notes.specs.Base32.{standard, extended_hex}
 use Rattle.cbor_notes.specs.Token.{in_quotes, DigitsBetween}
 use Rattle.cbor_notes.specs.TokenReading.{unquoted}
 use Rattle.cbor_notes.proofs.tokens.Quoted.{unquoted-in_quotes}
@@ -16,11 +17,11 @@ use Rattle.cbor_diag.specs.Notation.{IsBlank, QuotedBy, DigitsIn, Notation, in_b
 use Rattle.cbor_diag.specs.Notation.{in_base64, as_text, as_items, PieceOf, Joined, one, more, list_of, Listed}
 use Rattle.cbor_diag.specs.mirror.NotationReading.{or_refused, skip_blank, start_of, first_start, begins_piece}
 use Rattle.cbor_diag.specs.mirror.NotationReading.{read_piece, read_pieces, read_decoded, base16_bytes, base16_of}
-use Rattle.cbor_diag.specs.mirror.NotationReading.{base32_of, base32hex_of, base64_of, may_have_texts}
+use Rattle.cbor_diag.specs.mirror.NotationReading.{base32_of, base64_of}
 use Rattle.cbor_diag.proofs.notation.Ends.{holds_of, Begins, begins_append, begins_more, item_ends, core_starts}
 use Rattle.cbor_diag.proofs.notation.Ends.{notation_starts, Follows, follows_passed, Starts, starts_passed}
 use Rattle.cbor_diag.proofs.notation.Lists.{ReadsAgain, listed_again}
-use Rattle.cbor_diag.proofs.notation.Decoded.{base32_again, base32hex_again, url_safe_again, standard_again}
+use Rattle.cbor_diag.proofs.notation.Decoded.{base32_again, url_safe_again, standard_again}
 
 -- ---- one piece
 
@@ -58,36 +59,6 @@ digits_parts comments prefix text digits rest is =
     ∙ ap (λ (t : List ℕ). prefix ++ t) (append_assoc is.0 (codes "'") rest))
 
 module _ (Reads : List ℕ → Item → Type 0) (read : List ℕ → Read Item) (it : ReadsAgain Reads read) where
-  h_again : (content digits bytes rest : List ℕ) → DigitsBetween true content digits → base16_of digits ≡ Some bytes
-      → read_piece read (codes "h'" ++ (content ++ 39 ∷ rest)) ≡ Ok (bytes, rest)
-  unfolding read_piece start_of
-  h_again content digits bytes rest between is = decoded_again true base16_of content digits bytes rest between is
-
-  h32_again : (content digits bytes rest : List ℕ) → DigitsBetween true content digits
-      → base32hex_of digits ≡ Some bytes → read_piece read (codes "h32'" ++ (content ++ 39 ∷ rest)) ≡ Ok (bytes, rest)
-  unfolding read_piece start_of
-  h32_again content digits bytes rest between is = decoded_again true base32hex_of content digits bytes rest between is
-
-  b32_again : (content digits bytes rest : List ℕ) → DigitsBetween true content digits → base32_of digits ≡ Some bytes
-      → read_piece read (codes "b32'" ++ (content ++ 39 ∷ rest)) ≡ Ok (bytes, rest)
-  unfolding read_piece start_of
-  b32_again content digits bytes rest between is = decoded_again true base32_of content digits bytes rest between is
-
-  b64_again : (content digits bytes rest : List ℕ) → DigitsBetween false content digits → base64_of digits ≡ Some bytes
-      → read_piece read (codes "b64'" ++ (content ++ 39 ∷ rest)) ≡ Ok (bytes, rest)
-  unfolding read_piece start_of
-  b64_again content digits bytes rest between is = decoded_again false base64_of content digits bytes rest between is
-
-  apostrophes_again : (content rest : List ℕ)
-      → read_piece read (39 ∷ (in_quotes 39 content ++ 39 ∷ rest)) ≡ Ok (content, rest)
-  unfolding read_piece start_of
-  apostrophes_again content rest = quoted_again 39 content rest apostrophe
-
-  quotes_again : (content rest : List ℕ) → read_piece read (34 ∷ (in_quotes 34 content ++ 34 ∷ rest))
-      ≡ Ok (content, rest)
-  unfolding read_piece start_of
-  quotes_again content rest = quoted_again 34 content rest quotation_mark
-
   embedded_again : (is : Items) (text rest : List ℕ) → Listed Reads (codes "<<") (codes ">>") text (list_of is)
       → read_piece read (text ++ rest) ≡ Ok (encoded_items is, rest)
   unfolding read_piece start_of
@@ -97,32 +68,36 @@ module _ (Reads : List ℕ → Item → Type 0) (read : List ℕ → Read Item) 
 
   notation_again : (text bytes rest : List ℕ) → Notation Reads text bytes
       → read_piece read (text ++ rest) ≡ Ok (bytes, rest)
+  unfolding read_piece start_of
   notation_again text bytes rest (in_base16 digits is decodes) =
       ap (read_piece read) (digits_parts true (codes "h'") text digits rest is)
-      ∙ h_again is.0 digits bytes rest is.2 (ap base16_bytes decodes)
+      ∙ decoded_again true base16_of is.0 digits bytes rest is.2 (ap base16_bytes decodes)
   notation_again text bytes rest (in_base32 digits is all encodes) =
       ap (read_piece read) (digits_parts true (codes "b32'") text digits rest is)
-      ∙ b32_again is.0 digits bytes rest is.2 (ap base32_of encodes ∙ base32_again bytes all)
+      ∙ decoded_again true (base32_of standard) is.0 digits bytes rest is.2
+      (ap (base32_of standard) encodes ∙ base32_again standard bytes all)
   notation_again text bytes rest (in_base32hex digits is all encodes) =
       ap (read_piece read) (digits_parts true (codes "h32'") text digits rest is)
-      ∙ h32_again is.0 digits bytes rest is.2 (ap base32hex_of encodes ∙ base32hex_again bytes all)
+      ∙ decoded_again true (base32_of extended_hex) is.0 digits bytes rest is.2
+      (ap (base32_of extended_hex) encodes ∙ base32_again extended_hex bytes all)
   notation_again text bytes rest (in_base64 digits is all (inl encodes)) =
       ap (read_piece read) (digits_parts false (codes "b64'") text digits rest is)
-      ∙ b64_again is.0 digits bytes rest is.2 (ap base64_of encodes ∙ url_safe_again bytes all)
+      ∙ decoded_again false base64_of is.0 digits bytes rest is.2 (ap base64_of encodes ∙ url_safe_again bytes all)
   notation_again text bytes rest (in_base64 digits is all (inr encodes)) =
       ap (read_piece read) (digits_parts false (codes "b64'") text digits rest is)
-      ∙ b64_again is.0 digits bytes rest is.2 (ap base64_of encodes ∙ standard_again bytes all)
+      ∙ decoded_again false base64_of is.0 digits bytes rest is.2 (ap base64_of encodes ∙ standard_again bytes all)
   notation_again text bytes rest (as_text is) = ap (read_piece read) (quoted_parts 39 text bytes rest is)
-      ∙ apostrophes_again bytes rest
+      ∙ quoted_again 39 bytes rest apostrophe
   notation_again text bytes rest (as_items is listed encodes) = embedded_again is text rest listed
       ∙ ap (λ (b : List ℕ). Ok (b, rest)) (sym encodes)
 
   pub piece_again : (kind : StringKind) (text bytes rest : List ℕ) → PieceOf kind Reads text bytes
       → read_piece read (text ++ rest) ≡ Ok (bytes, rest)
+  unfolding read_piece start_of
   piece_again bytes_kind text bytes rest is = notation_again text bytes rest is
   piece_again text_kind text bytes rest (inr is) = notation_again text bytes rest is
   piece_again text_kind text bytes rest (inl is) = ap (read_piece read) (quoted_parts 34 text bytes rest is)
-      ∙ quotes_again bytes rest
+      ∙ quoted_again 34 bytes rest quotation_mark
 
 -- ---- several pieces
 
@@ -154,9 +129,14 @@ module _ (Reads : List ℕ → Item → Type 0) where
       subst (Begins (piece_starts kind)) (sym text_is)
       (begins_append (piece_starts kind) first (blank ++ rest) (piece_begins kind first bytes_first is))
 
+-- all begin as pieces of texts may
+pub any_piece : (kind : StringKind) (text : List ℕ) → Begins (piece_starts kind) text
+    → Begins (piece_starts text_kind) text
+any_piece bytes_kind text is = begins_more (piece_starts bytes_kind) (piece_starts text_kind) text refl is
+any_piece text_kind text is = is
+
 pub piece_starts_core : (kind : StringKind) (text : List ℕ) → Begins (piece_starts kind) text → Starts text
-piece_starts_core bytes_kind text is = begins_more (piece_starts bytes_kind) core_starts text refl is
-piece_starts_core text_kind text is = begins_more (piece_starts text_kind) core_starts text refl is
+piece_starts_core kind text is = begins_more (piece_starts text_kind) core_starts text refl (any_piece kind text is)
 
 begins_length : (bytes text : List ℕ) → Begins bytes text → 0 < length text
 begins_length bytes [] is = absurd is
@@ -164,47 +144,46 @@ begins_length bytes (b ∷ text) is = omega arith
 
 -- where a piece begins the pieces go on, and before what follows an item they end
 goes_on : (kind : StringKind) (text : List ℕ) → Begins (piece_starts kind) text
-    → begins_piece (may_have_texts kind) (first_start text) ≡ true
+    → begins_piece kind (first_start text) ≡ true
 unfolding start_of
 goes_on kind [] is = absurd is
-goes_on bytes_kind (b ∷ text) is = holds_of (λ c. begins_piece false (start_of c)) (piece_starts bytes_kind) b refl is
-goes_on text_kind (b ∷ text) is = holds_of (λ c. begins_piece true (start_of c)) (piece_starts text_kind) b refl is
+goes_on bytes_kind (b ∷ text) is = holds_of (λ c. begins_piece bytes_kind (start_of c)) (piece_starts bytes_kind) b
+    refl is
+goes_on text_kind (b ∷ text) is = holds_of (λ c. begins_piece text_kind (start_of c)) (piece_starts text_kind) b refl is
 
-ends_there : (texts : Bool) (text : List ℕ) → Follows text → begins_piece texts (first_start text) ≡ false
+ends_there : (kind : StringKind) (text : List ℕ) → Follows text → begins_piece kind (first_start text) ≡ false
 unfolding start_of
-ends_there texts [] follows = refl
-ends_there true (b ∷ text) follows = not-true (begins_piece true (start_of b))
-    (holds_of (λ c. not (begins_piece true (start_of c))) item_ends b refl follows)
-ends_there false (b ∷ text) follows = not-true (begins_piece false (start_of b))
-    (holds_of (λ c. not (begins_piece false (start_of c))) item_ends b refl follows)
+ends_there kind [] follows = refl
+ends_there kind (b ∷ text) follows = not-true (begins_piece kind (start_of b))
+    (holds_of (λ c. not (begins_piece kind (start_of c))) item_ends b refl follows)
 
-pub pieces_go : (read : List ℕ → Read Item) (texts : Bool) (n : ℕ) (text : List ℕ)
-    → begins_piece texts (first_start text) ≡ true
-    → read_pieces read texts (suc n) text ≡ (read_piece read text >>= λ x. read_pieces read texts n (skip_blank x.1)
+pub pieces_go : (read : List ℕ → Read Item) (kind : StringKind) (n : ℕ) (text : List ℕ)
+    → begins_piece kind (first_start text) ≡ true
+    → read_pieces read kind (suc n) text ≡ (read_piece read text >>= λ x. read_pieces read kind n (skip_blank x.1)
     >>= λ xs. Ok (x.0 ++ xs.0, xs.1))
 unfolding read_pieces
-pieces_go read texts n text e = rw (e, read_pieces) refl
+pieces_go read kind n text e = rw (e, read_pieces) refl
 
-pub pieces_stop : (read : List ℕ → Read Item) (texts : Bool) (n : ℕ) (text : List ℕ)
-    → begins_piece texts (first_start text) ≡ false → read_pieces read texts (suc n) text ≡ Ok ([], text)
+pub pieces_stop : (read : List ℕ → Read Item) (kind : StringKind) (n : ℕ) (text : List ℕ)
+    → begins_piece kind (first_start text) ≡ false → read_pieces read kind (suc n) text ≡ Ok ([], text)
 unfolding read_pieces
-pieces_stop read texts n text e = rw (e, read_pieces) refl
+pieces_stop read kind n text e = rw (e, read_pieces) refl
 
 module _ (Reads : List ℕ → Item → Type 0) (read : List ℕ → Read Item) (it : ReadsAgain Reads read) where
   pub joined_again : (kind : StringKind) (n : ℕ) (text bytes after rest : List ℕ) → length text < n → IsBlank after
       → Follows rest → Joined (PieceOf kind Reads) text bytes
-      → read_pieces read (may_have_texts kind) n (text ++ (after ++ rest)) ≡ Ok (bytes, rest)
+      → read_pieces read kind n (text ++ (after ++ rest)) ≡ Ok (bytes, rest)
   joined_again kind zero text bytes after rest lt is_blank follows is = absurd (omega arith)
   joined_again kind (suc zero) text bytes after rest lt is_blank follows is =
       absurd (omega (arith, begins_length (piece_starts kind) text (joined_begins Reads kind text bytes is)))
   joined_again kind (suc (suc n)) text bytes after rest lt is_blank follows (one is) =
       rw (
-        pieces_go read (may_have_texts kind) (suc n) (text ++ (after ++ rest))
+        pieces_go read kind (suc n) (text ++ (after ++ rest))
             (goes_on kind (text ++ (after ++ rest))
             (begins_append (piece_starts kind) text (after ++ rest) (piece_begins Reads kind text bytes is))),
         piece_again Reads read it kind text bytes (after ++ rest) is,
         follows_passed after rest is_blank follows,
-        pieces_stop read (may_have_texts kind) n rest (ends_there (may_have_texts kind) rest follows),
+        pieces_stop read kind n rest (ends_there kind rest follows),
         append-nil bytes,
       ) refl
   joined_again kind (suc (suc n)) text bytes after rest lt is_blank follows
@@ -226,7 +205,7 @@ module _ (Reads : List ℕ → Item → Type 0) (read : List ℕ → Read Item) 
       ) in
       rw (
         whole,
-        pieces_go read (may_have_texts kind) (suc n) (first ++ (blank ++ tail))
+        pieces_go read kind (suc n) (first ++ (blank ++ tail))
             (goes_on kind (first ++ (blank ++ tail)) (begins_append (piece_starts kind) first (blank ++ tail) begins)),
         piece_again Reads read it kind first bytes_first (blank ++ tail) is,
         starts_passed blank tail blank_is starts,

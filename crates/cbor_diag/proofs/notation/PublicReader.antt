@@ -18,15 +18,7 @@ use Rattle.cbor_diag.proofs.notation.sound.Items.{notation_sound}
 -- a refusal that was given is out of memory, or what reading answers
 failed : (e : Error) (read : Result Item Error) → Fails e read → (e ≡ refusal.Memory) ⊎ (read ≡ Err e)
 failed refusal.Memory read h = inl refl
-failed refusal.CutShort read h = inr h
-failed refusal.Head read h = inr h
-failed refusal.Utf8 read h = inr h
-failed refusal.TooDeep read h = inr h
-failed refusal.Remaining read h = inr h
-failed refusal.OddHex read h = inr h
-failed refusal.BadHex read h = inr h
-failed refusal.Notation read h = inr h
-failed refusal.PastWidth read h = inr h
+failed _ read h = inr h
 
 no_both : (i : Item) (e : Error) (read : Result Item Error) → read ≡ Ok i → read ≡ Err e → ⊥
 no_both i e read is other = let never : ◌≡◌ {A = Result Item Error} (Ok i) (Err e) = sym is ∙ other in cc never

@@ -8,19 +8,18 @@ use Rattle.cbor_notes.specs.Token.{in_quotes, escaped_byte}
 use Rattle.cbor_diag.specs.declared.syntax.IntegerWidth.{IntegerWidth}
 use Rattle.cbor_diag.specs.declared.syntax.IntegerWidth.TheVariants.{Unknown}
 use Rattle.cbor_diag.specs.Item.{Chunk, Item}
-use Rattle.cbor_diag.specs.StringKind.{StringKind, bytes_kind, text_kind, IsContent}
+use Rattle.cbor_diag.specs.StringKind.{StringKind, bytes_kind, text_kind, IsContent, no_chunks}
 use Rattle.cbor_diag.specs.Reading.{Read}
 use Rattle.cbor_diag.specs.Notation.{IsBlank, QuotedBy, Notation, in_base16, in_base32, in_base32hex, in_base64}
 use Rattle.cbor_diag.specs.Notation.{as_text, as_items, PieceOf, Joined, one, more, StringOf}
-use Rattle.cbor_diag.specs.mirror.NotationReading.{after_word, start_of, first_start, begins_string, may_have_texts}
+use Rattle.cbor_diag.specs.mirror.NotationReading.{after_word, start_of, first_start, begins_string}
 use Rattle.cbor_diag.specs.mirror.NotationReading.{checked, read_string}
 use Rattle.cbor_diag.proofs.shared.Utf8.{utf8_passes}
-use Rattle.cbor_diag.proofs.notation.Ends.{holds_of, Begins, Ends, begins_append, begins_more, begins_ends, ends_more}
-use Rattle.cbor_diag.proofs.notation.Ends.{blank_ends, core_ends, core_starts, notation_starts, Follows, follows_blank}
-use Rattle.cbor_diag.proofs.notation.Ends.{Starts}
+use Rattle.cbor_diag.proofs.notation.Ends.{holds_of, Begins, Ends, begins_append, begins_ends, ends_more, blank_ends}
+use Rattle.cbor_diag.proofs.notation.Ends.{core_ends, notation_starts, Follows, follows_blank, Starts}
 use Rattle.cbor_diag.proofs.notation.Lists.{ReadsAgain}
 use Rattle.cbor_diag.proofs.notation.Pieces.{apostrophe, quotation_mark, quoted_parts, piece_starts, piece_begins}
-use Rattle.cbor_diag.proofs.notation.Pieces.{joined_begins, joined_again}
+use Rattle.cbor_diag.proofs.notation.Pieces.{any_piece, piece_starts_core, joined_begins, joined_again}
 
 -- what a string of each kind begins with
 abbrev pub string_starts : StringKind → List ℕ
@@ -32,17 +31,17 @@ pub string_begins : (Reads : List ℕ → Item → Type 0) (kind : StringKind) (
 string_begins Reads bytes_kind text c is = joined_begins Reads bytes_kind text c.bytes is.2
 string_begins Reads text_kind text c is = subst (Begins (string_starts text_kind)) (sym is.1.1) refl
 
-pub string_starts_core : (kind : StringKind) (text : List ℕ) → Begins (string_starts kind) text → Starts text
-string_starts_core bytes_kind text is = begins_more (string_starts bytes_kind) core_starts text refl is
-string_starts_core text_kind text is = begins_more (string_starts text_kind) core_starts text refl is
+pub string_starts_core : (Reads : List ℕ → Item → Type 0) (kind : StringKind) (text : List ℕ) (c : Chunk)
+    → StringOf kind Reads text c → Starts text
+string_starts_core Reads kind text c is = piece_starts_core kind text (joined_begins Reads kind text c.bytes is.2)
 
 string_goes : (kind : StringKind) (text : List ℕ) → Begins (string_starts kind) text
-    → begins_string (may_have_texts kind) (first_start text) ≡ true
+    → begins_string kind (first_start text) ≡ true
 unfolding start_of
 string_goes kind [] is = absurd is
-string_goes bytes_kind (b ∷ text) is = holds_of (λ c. begins_string false (start_of c)) (string_starts bytes_kind)
+string_goes bytes_kind (b ∷ text) is = holds_of (λ c. begins_string bytes_kind (start_of c)) (string_starts bytes_kind)
     b refl is
-string_goes text_kind (b ∷ text) is = holds_of (λ c. begins_string true (start_of c)) (string_starts text_kind) b
+string_goes text_kind (b ∷ text) is = holds_of (λ c. begins_string text_kind (start_of c)) (string_starts text_kind) b
     refl is
 
 checked_again : (kind : StringKind) (c : Chunk) → c.width ≡ Unknown → IsContent kind c.bytes
@@ -107,11 +106,6 @@ quoted_no_word quote (c ∷ content) rest other ends =
           (rw (eq-eqb quote quote refl, ne_eqb quote c apart) refl))
     ]
 
--- the quote of each kind
-abbrev pub quote_of : StringKind → ℕ
-quote_of bytes_kind = 39
-quote_of text_kind = 34
-
 module _ (Reads : List ℕ → Item → Type 0) where
   text_or_other : (text bytes : List ℕ) → Notation Reads text bytes → QuotedBy 39 text bytes ⊎ Begins (codes "<bh") text
   text_or_other text bytes (in_base16 digits is decodes) = inr (subst (Begins (codes "<bh")) (sym is.1) refl)
@@ -129,7 +123,7 @@ module _ (Reads : List ℕ → Item → Type 0) where
       other_start 39 (codes "<bh") (text ++ rest) refl (begins_append (codes "<bh") text rest is)
 
   piece_no_word : (kind : StringKind) (text bytes rest : List ℕ) → Ends piece_ends rest → PieceOf kind Reads text bytes
-      → after_word (empty_word (quote_of kind)) (text ++ rest) ≡ None
+      → after_word (no_chunks kind) (text ++ rest) ≡ None
   piece_no_word bytes_kind text bytes rest ends is = notation_no_word text bytes rest ends (text_or_other text bytes is)
   piece_no_word text_kind text bytes rest ends (inl is) =
       ap (after_word (empty_word 34)) (quoted_parts 34 text bytes rest is)
@@ -138,14 +132,8 @@ module _ (Reads : List ℕ → Item → Type 0) where
       other_start 34 notation_starts (text ++ rest) refl
       (begins_append notation_starts text rest (piece_begins Reads bytes_kind text bytes is))
 
-  pieces_follow : (kind : StringKind) (text : List ℕ) → Begins (piece_starts kind) text → Ends (codes "'<bh\"") text
-  pieces_follow bytes_kind text is = begins_ends (codes "'<bh\"") text
-      (begins_more (piece_starts bytes_kind) (codes "'<bh\"") text refl is)
-  pieces_follow text_kind text is = begins_ends (codes "'<bh\"") text
-      (begins_more (piece_starts text_kind) (codes "'<bh\"") text refl is)
-
   joined_no_word : (kind : StringKind) (text bytes rest : List ℕ) → Ends core_ends rest
-      → Joined (PieceOf kind Reads) text bytes → after_word (empty_word (quote_of kind)) (text ++ rest) ≡ None
+      → Joined (PieceOf kind Reads) text bytes → after_word (no_chunks kind) (text ++ rest) ≡ None
   joined_no_word kind text bytes rest ends (one is) =
       piece_no_word kind text bytes rest (ends_more core_ends piece_ends rest refl ends) is
   joined_no_word kind text bytes rest ends (more first blank others bytes_first bytes_rest text_is bytes_is is blank_is
@@ -154,13 +142,13 @@ module _ (Reads : List ℕ → Item → Type 0) where
       let whole : text ++ rest ≡ first ++ (blank ++ tail) = ap (λ (t : List ℕ). t ++ rest) text_is
       ∙ (append_assoc first (blank ++ others) rest
       ∙ ap (λ (t : List ℕ). first ++ t) (append_assoc blank others rest)) in
-      let next = pieces_follow kind tail (begins_append (piece_starts kind) others rest
-      (joined_begins Reads kind others bytes_rest then)) in
-      ap (after_word (empty_word (quote_of kind))) whole
+      let next = begins_ends (codes "'<bh\"") tail (any_piece kind tail (begins_append (piece_starts kind) others rest
+      (joined_begins Reads kind others bytes_rest then))) in
+      ap (after_word (no_chunks kind)) whole
       ∙ piece_no_word kind first bytes_first (blank ++ tail)
       (blank_ends (codes "'<bh\"") piece_ends blank tail refl refl blank_is next) is
 
   pub string_no_word : (kind : StringKind) (text after rest : List ℕ) (c : Chunk) → StringOf kind Reads text c
-      → IsBlank after → Follows rest → after_word (empty_word (quote_of kind)) (text ++ (after ++ rest)) ≡ None
+      → IsBlank after → Follows rest → after_word (no_chunks kind) (text ++ (after ++ rest)) ≡ None
   string_no_word kind text after rest c is is_blank follows =
       joined_no_word kind text c.bytes (after ++ rest) (follows_blank after rest is_blank follows) is.2

@@ -9,8 +9,7 @@ use Rattle.std.proofs.lemmas.List.{take_rest}
 use Rattle.std.proofs.lemmas.Bool.{cond-true, lt-ltb}
 use Rattle.std.proofs.Math.Nat.{pow-le-pow_right}
 use Rattle.cbor_diag.specs.declared.error.Error.TheVariants as refusal
-use Rattle.cbor_notes.specs.Token.{Blank, IsLongest, IsNumber, IsSomeNumber, is_whitespace}
-use Rattle.cbor_notes.specs.Token.{in_quotes, DigitsBetween}
+use Rattle.cbor_notes.specs.Token.{Blank, IsLongest, IsNumber, IsSomeNumber, is_whitespace, in_quotes, DigitsBetween}
 use Rattle.cbor_notes.specs.TokenReading.{after_blank, number_of, unquoted, digits_of}
 use Rattle.cbor_notes.proofs.tokens.Blanks.{after_longest_blank}
 use Rattle.cbor_notes.proofs.tokens.Numbers.{IsNumber-number_of, number_of-longest}

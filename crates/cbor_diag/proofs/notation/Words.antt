@@ -50,22 +50,15 @@ module _ (read : List ℕ → Read Item) where
   named_again text rest n (inr (inr (inl is))) = rw (is.0, is.1) refl
   named_again text rest n (inr (inr (inr is))) = rw (is.0, is.1) refl
 
-  simple_word : (text : List ℕ) → read_core read (codes "simple(" ++ text) ≡ read_simple text
-  unfolding read_core start_of
-  simple_word text = refl
-
-  float_word : (text : List ℕ) → read_core read (codes "float'" ++ text) ≡ read_float text
-  unfolding read_core start_of
-  float_word text = refl
-
   pub simple_again : (text rest : List ℕ) (n : ℕ) → SimpleOf text n
       → read_core read (text ++ rest) ≡ Ok (atom (simple n), rest)
+  unfolding read_core start_of
   simple_again text rest n (inl is) = named_again text rest n is
   simple_again text rest n (inr is) =
       let ds : List ℕ = is.0 in
       let whole : text ++ rest ≡ codes "simple(" ++ (ds ++ 41 ∷ rest) = ap (λ (t : List ℕ). t ++ rest) is.1
       ∙ ap (λ (t : List ℕ). codes "simple(" ++ t) (append_assoc ds (codes ")") rest) in
-      ap (read_core read) whole ∙ (simple_word (ds ++ 41 ∷ rest) ∙ simple_digits ds rest n is.2.0 is.2.1)
+      ap (read_core read) whole ∙ simple_digits ds rest n is.2.0 is.2.1
 
   -- ---- floats
 
@@ -80,9 +73,7 @@ module _ (read : List ℕ → Read Item) where
 
   float_of_again : (w : FloatWidth) (count : ℕ) → FloatDigits w count → float_of count ≡ Some w
   float_of_again float_width.Unknown count is = absurd is
-  float_of_again float_width.Sixteen count is = rw is refl
-  float_of_again float_width.ThirtyTwo count is = rw is refl
-  float_of_again float_width.SixtyFour count is = rw is refl
+  float_of_again _ count is = rw is refl
 
   numeral_again : (base : ℕ) (ds : List ℕ) (n : ℕ) → AreDigits base ds n → numeral base ds ≡ Some n
   numeral_again base [] n are = absurd (omega (arith, are.0.0))
@@ -103,8 +94,9 @@ module _ (read : List ℕ → Read Item) where
 
   pub float_again : (text rest : List ℕ) (bits : ℕ) (w : FloatWidth) → FloatOf text bits w
       → read_core read (text ++ rest) ≡ Ok (atom (float bits w), rest)
+  unfolding read_core start_of
   float_again text rest bits w is =
       let ds : List ℕ = is.0 in
       let whole : text ++ rest ≡ codes "float'" ++ (ds ++ 39 ∷ rest) = ap (λ (t : List ℕ). t ++ rest) is.1
       ∙ ap (λ (t : List ℕ). codes "float'" ++ t) (append_assoc ds (codes "'") rest) in
-      ap (read_core read) whole ∙ (float_word (ds ++ 39 ∷ rest) ∙ float_digits ds rest bits w is.2.0 is.2.1)
+      ap (read_core read) whole ∙ float_digits ds rest bits w is.2.0 is.2.1

@@ -1,7 +1,6 @@
 pub mod Steps
 pub mod Lists
 pub mod Words
-pub mod Digits
 pub mod Strings
 pub mod Pieces
 pub mod Items

@@ -13,7 +13,7 @@ use Rattle.cbor_diag.specs.Reading.{Read, read_item}
 use Rattle.cbor_diag.specs.Embedded.{if_whole, embedded_at, before, and_then, sequence_of, sequence_at, EmbedsExactly}
 use Rattle.cbor_diag.specs.Embedded.{RejectsExactly}
 use Rattle.cbor_diag.specs.Refused.{Cut}
-use Rattle.cbor_diag.specs.WellFormed.{WellFormed, WellFormedItems}
+use Rattle.cbor_diag.specs.WellFormed.{WellFormedItems}
 use Rattle.cbor_diag.proofs.bytes.Heads.{IsBytes, IsBytes-drop, IsBytes-take}
 use Rattle.cbor_diag.proofs.bytes.PublicReaders.{whole_well_formed}
 use Rattle.cbor_diag.proofs.bytes.Sizes.{one_byte}
@@ -22,14 +22,9 @@ use Rattle.cbor_diag.proofs.bytes.FoundAgain.{item_again}
 use Rattle.cbor_diag.proofs.bytes.Refusals.{item_nothing}
 use Rattle.cbor_diag.proofs.bytes.ExactlyOne.{outcome_reads}
 use Rattle.cbor_diag.proofs.notation.ChunkLoops.{joined, joined-none, item_joins}
+use Rattle.cbor_diag.proofs.shared.Views.{items_push}
 
 -- ---- one item
-
-pub whole_item : (level : ℕ) (b : List ℕ) (i : Item) → level ≤ 129 → Spells any level b i
-    → embedded_at (129 - level) b ≡ Some i
-whole_item level b i le s =
-    ap if_whole (ap (read_item (129 - level)) (sym (append-nil b))
-    ∙ item_again level (129 - level) b i [] (omega arith) s)
 
 bytes_after : (i : Item) (r : List ℕ) → r ≢ [] → if_whole (Ok (i, r)) ≡ None
 bytes_after i [] h = absurd (h refl)
@@ -48,11 +43,7 @@ no_whole_item level b refusal.Remaining le h =
     let more : drop h.1 b ≢ [] = λ e. omega (arith, length-drop h.1 b, ap length e, h.2) in
     ap if_whole (outcome_reads level (129 - level) b (spelled h.0 h.1) (omega arith) (omega (arith, h.2), h.3))
     ∙ bytes_after h.0 (drop h.1 b) more
-no_whole_item level b refusal.Memory le h = absurd h
-no_whole_item level b refusal.OddHex le h = absurd h
-no_whole_item level b refusal.BadHex le h = absurd h
-no_whole_item level b refusal.Notation le h = absurd h
-no_whole_item level b refusal.PastWidth le h = absurd h
+no_whole_item level b _ le h = absurd h
 
 -- ---- a sequence
 
@@ -97,11 +88,6 @@ refused_is level b _ other h = h
 
 -- ---- what the loop over a sequence keeps
 
-well_push : (level : ℕ) (vs : List DataItem) (v : DataItem) → WellFormedItems level (items_view vs)
-    → WellFormed level (view v) → WellFormedItems level (items_view (vs ++ v ∷ []))
-well_push level [] v h w = (w, tt)
-well_push level (x ∷ vs) v h w = (h.0, well_push level vs v h.1 w)
-
 -- the items so far and those of the rest are the whole sequence
 pub record SoFar (level : ℕ) (vs : List DataItem) (b : List ℕ) (whole : Items × List ℕ) : Type 0 where
   pub steps : ℕ
@@ -127,7 +113,7 @@ one_more level used vs v b whole le h s =
         enough = more.1;
         same = more.2;
         well_formed =
-            well_push level vs v s.well_formed well;
+            items_push level vs v s.well_formed well;
         bytes = IsBytes-drop used b s.bytes;
       },
       omega (arith, length-drop used b),
@@ -146,12 +132,9 @@ fault_ends level b e le h = outcome_reads level (129 - level) b (fault e) (omega
 
 -- ---- what embedded items are, by the grammar
 
-some_is : (x y : Item) → Some x ≡ Some y → x ≡ y
-some_is x y e = cc
-
 -- The bytes are an item exactly where they spell it.
 if_whole_is : (read : Read Item) (e : Item) → if_whole read ≡ Some e → read ≡ Ok (e, [])
-if_whole_is (Ok (i, [])) e h = ap (λ (x : Item). Ok (x, [])) (some_is i e h)
+if_whole_is (Ok (i, [])) e h = let same : i ≡ e = cc in ap (λ (x : Item). Ok (x, [])) same
 if_whole_is (Ok (i, x ∷ r)) e h = absurd cc
 if_whole_is (Err f) e h = absurd cc
 

@@ -1,17 +1,17 @@
 -- A data item, level by level, beside the item that it is.
-use Rattle.std.proofs.Common.{◌≡◌, ℕ, suc, map, List, [], ◌∷◌, Option, Vec, Global, Box, length, refl, ap, rules}
+use Rattle.std.proofs.Common.{◌≡◌, ℕ, suc, map, List, [], ◌∷◌, ◌++◌, Option, Vec, Global, length, refl, ap, rules}
 use Rattle.cbor_diag.specs.declared.syntax.IntegerWidth.{IntegerWidth}
 use Rattle.cbor_diag.specs.declared.syntax.FloatWidth.{FloatWidth}
-use Rattle.cbor_diag.specs.declared.syntax.Tag as declared
 use Rattle.cbor_diag.specs.declared.syntax.ByteString as byte_string
 use Rattle.cbor_diag.specs.declared.syntax.TextString as text_string
 use Rattle.cbor_diag.specs.declared.syntax.Simple as simple
 use Rattle.cbor_diag.specs.declared.syntax.DataItem.{DataItem, Integer, Negative, ByteString, TextString}
-use Rattle.cbor_diag.specs.declared.syntax.DataItem.{IndefiniteByteString, IndefiniteTextString, Array, Map, Tag, Float}
+use Rattle.cbor_diag.specs.declared.syntax.DataItem.{IndefiniteByteString, IndefiniteTextString, Array, Map, Float}
 use Rattle.cbor_diag.specs.declared.syntax.DataItem.{Simple, the_lemmas}
 use Rattle.cbor_diag.specs.Item as spec
 use Rattle.cbor_diag.specs.Item.{item_count, pair_count}
 use Rattle.cbor_diag.specs.StringKind.{bytes_kind, text_kind}
+use Rattle.cbor_diag.specs.WellFormed.{WellFormed, WellFormedItems}
 use Rattle.cbor_diag.specs.View.{view, items_view, pairs_view, byte_chunk, text_chunk}
 
 pub view-Array : (v : Vec DataItem Global) (w : Option IntegerWidth)
@@ -21,10 +21,6 @@ view-Array v w = search (rules, the_lemmas)
 pub view-Map : (v : Vec (DataItem × DataItem) Global) (w : Option IntegerWidth)
     → view (Map v w) ≡ spec.map (pairs_view v.items) w
 view-Map v w = search (rules, the_lemmas)
-
-pub view-Tag : (t : declared.Tag) (w : IntegerWidth) (v : Box DataItem Global)
-    → view (Tag t w v) ≡ spec.tagged t.0 w (view v.value)
-view-Tag t w v = search (rules, the_lemmas)
 
 pub item_count_view : (vs : List DataItem) → item_count (items_view vs) ≡ length vs
 item_count_view [] = refl
@@ -40,10 +36,12 @@ view-Integer n w = search (rules, the_lemmas)
 pub view-Negative : (n : ℕ) (w : IntegerWidth) → view (Negative n w) ≡ spec.atom (spec.negative n w)
 view-Negative n w = search (rules, the_lemmas)
 
-pub view-ByteString : (s : byte_string.ByteString) → view (ByteString s) ≡ spec.atom (spec.string bytes_kind (byte_chunk s))
+pub view-ByteString : (s : byte_string.ByteString)
+    → view (ByteString s) ≡ spec.atom (spec.string bytes_kind (byte_chunk s))
 view-ByteString s = search (rules, the_lemmas)
 
-pub view-TextString : (s : text_string.TextString) → view (TextString s) ≡ spec.atom (spec.string text_kind (text_chunk s))
+pub view-TextString : (s : text_string.TextString)
+    → view (TextString s) ≡ spec.atom (spec.string text_kind (text_chunk s))
 view-TextString s = search (rules, the_lemmas)
 
 pub view-IndefiniteByteString : (v : Vec byte_string.ByteString Global)
@@ -59,3 +57,9 @@ view-Float n w = search (rules, the_lemmas)
 
 pub view-Simple : (s : simple.Simple) → view (Simple s) ≡ spec.atom (spec.simple s.0)
 view-Simple s = search (rules, the_lemmas)
+
+-- one item more
+pub items_push : (level : ℕ) (vs : List DataItem) (v : DataItem) → WellFormedItems level (items_view vs)
+    → WellFormed level (view v) → WellFormedItems level (items_view (vs ++ v ∷ []))
+items_push level [] v held well = (well, tt)
+items_push level (w ∷ vs) v held well = (held.0, items_push level vs v held.1 well)

@@ -8,7 +8,7 @@ use Rattle.cbor_diag.specs.ContainerStyle.{OneLine, MultiLine}
 use Rattle.cbor_diag.specs.Item as spec
 use Rattle.cbor_diag.specs.Item.{Chunk, integer, negative, string, chunked_string, float}
 use Rattle.cbor_diag.specs.Item.{simple, Item, atom, array, tagged}
-use Rattle.cbor_diag.specs.StringKind.{bytes_kind, text_kind}
+use Rattle.cbor_diag.specs.StringKind.{bytes_kind}
 use Rattle.cbor_diag.specs.Estimate.{estimated_length, one_line_limit}
 use Rattle.cbor_diag.specs.Embedded.{sequence, sequence_at}
 use Rattle.cbor_diag.specs.WellFormed.{levels_left}
@@ -28,17 +28,10 @@ pretty_is : (level indent : ℕ) (e : Encoding) (i : Item) → level ≤ 128
     → pretty e level indent i ≡ laid_out (item_style (in_encoding (Pretty indent) e) i) e level indent i
 pretty_is level indent e (array is w) le = text_opens level (in_encoding (Pretty indent) e) (array is w) le
 pretty_is level indent e (spec.map ps w) le = text_opens level (in_encoding (Pretty indent) e) (spec.map ps w) le
-pretty_is level indent e (atom (chunked_string bytes_kind cs)) le =
-    text_opens level (in_encoding (Pretty indent) e) (atom (chunked_string bytes_kind cs)) le
-pretty_is level indent e (atom (chunked_string text_kind cs)) le =
-    text_opens level (in_encoding (Pretty indent) e) (atom (chunked_string text_kind cs)) le
-pretty_is level indent e (atom (integer n w)) le = refl
-pretty_is level indent e (atom (negative n w)) le = refl
+pretty_is level indent e (atom (chunked_string kind cs)) le =
+    text_opens level (in_encoding (Pretty indent) e) (atom (chunked_string kind cs)) le
 pretty_is level indent e (atom (string bytes_kind c)) le = refl
-pretty_is level indent e (atom (string text_kind c)) le = refl
-pretty_is level indent e (atom (float n w)) le = refl
-pretty_is level indent e (atom (simple n)) le = refl
-pretty_is level indent e (tagged t w i) le = refl
+pretty_is level indent e i le = refl
 
 pub short_is : (level indent : ℕ) (e : Encoding) (i : Item) → level ≤ 128 → estimated_length i < one_line_limit
     → pretty e level indent i ≡ in_one_line e level indent i
@@ -75,3 +68,6 @@ pub long_sequence : (level indent : ℕ) (e : Encoding) (w : IntegerWidth) (b : 
 long_sequence level indent e w b lt many =
     sequence_is level indent e w b lt ∙ ap (λ l. sequence_laid_out l e level indent w b.bytes)
     (tall indent (sequence_size (sequence (level + 2) b.bytes)) many)
+
+-- what a pretty text is by its estimate
+pub ruleset pretty_laws = (short_is, long_is, short_sequence, long_sequence)

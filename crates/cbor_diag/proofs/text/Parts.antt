@@ -1,8 +1,7 @@
 -- The text of an item, put together from its parts.
 use Rattle.std.specs.Prelude.{Result}
 use Rattle.std.proofs.Common.{◌≡◌, ℕ, suc, ◌+◌, ◌<◌, ◌≤◌, List, ◌∷◌, ◌++◌, length, drop, get_or, codes, Option, Some}
-use Rattle.std.proofs.Common.{None}
-use Rattle.std.proofs.Common.{sym, ap, subst, ◌∙◌, append_assoc, arith}
+use Rattle.std.proofs.Common.{None, sym, ap, subst, ◌∙◌, append_assoc, arith}
 use Rattle.cbor_diag.specs.declared.syntax.IntegerWidth.{IntegerWidth}
 use Rattle.cbor_diag.specs.declared.syntax.DataItem.{DataItem}
 use Rattle.cbor_diag.specs.mirror.Appends.{Appends}
@@ -13,9 +12,8 @@ use Rattle.cbor_diag.specs.Item.{Item, Items, Pairs, atom, array, tagged}
 use Rattle.cbor_diag.specs.View.{view, items_view, pairs_view}
 use Rattle.cbor_diag.specs.WellFormed.{levels_left, WellFormed}
 use Rattle.cbor_diag.specs.NotationText.{Writer, number, content_below, below, inside, members_layout, members}
-use Rattle.cbor_diag.specs.NotationText.{last_line, bracketed}
-use Rattle.cbor_diag.specs.NotationText.{item_texts, pair_texts}
-use Rattle.cbor_diag.specs.NotationText.{text_with, text_at, text_at_level, rest_text, sequence_listed}
+use Rattle.cbor_diag.specs.NotationText.{last_line, bracketed, item_texts, pair_texts, text_with, text_at}
+use Rattle.cbor_diag.specs.NotationText.{text_at_level, rest_text, sequence_listed}
 use Rattle.cbor_diag.proofs.text.Scalars.{drop_here}
 
 -- how many levels are left below an item, and what writes an item there

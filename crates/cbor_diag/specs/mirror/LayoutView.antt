@@ -16,8 +16,7 @@ use Rattle.cbor_diag.specs.Item as spec
 use Rattle.cbor_diag.specs.Estimate.{estimated_chunks}
 use Rattle.cbor_diag.specs.WellFormed.{levels_left}
 use Rattle.cbor_diag.specs.NotationText.{indent_of, line, members, members_layout, inside, colon, item_texts}
-use Rattle.cbor_diag.specs.NotationText.{pair_texts}
-use Rattle.cbor_diag.specs.NotationText.{container_style, chunks_text, content_text, text_at_level}
+use Rattle.cbor_diag.specs.NotationText.{pair_texts, container_style, chunks_text, content_text, text_at_level}
 
 abbrev pub content_view : declared_content.Content → content.Content
 content_view code_content.Bytes = content.Bytes

@@ -26,7 +26,7 @@ use Rattle.cbor_diag.specs.Item as spec
 use Rattle.cbor_diag.specs.Item.{Chunk, Atom, integer, negative, string, chunked_string}
 use Rattle.cbor_diag.specs.Item.{float, simple, Item, atom, array, tagged}
 use Rattle.cbor_diag.specs.View.{items_of, pairs_of}
-use Rattle.cbor_diag.specs.StringKind.{StringKind, bytes_kind, text_kind}
+use Rattle.cbor_diag.specs.StringKind.{StringKind, bytes_kind, text_kind, no_chunks}
 use Rattle.cbor_diag.specs.Reading.{Read, ◌>>=◌, checked_chunk}
 use Rattle.cbor_diag.specs.Written.{encoded_items}
 use Rattle.cbor_diag.specs.Notation.{width_of, number_width}
@@ -188,13 +188,9 @@ from_sixes values = []
 abbrev pub unpadded : List ℕ → List ℕ
 unpadded digits = before_first (λ d. d == 61) digits
 
-unfoldable pub base32_of : List ℕ → Option (List ℕ)
-base32_of digits = if_encoded base32.base32 digits
-    (from_fives (map (value_in (codes "ABCDEFGHIJKLMNOPQRSTUVWXYZ234567")) (unpadded digits)))
-
-unfoldable pub base32hex_of : List ℕ → Option (List ℕ)
-base32hex_of digits = if_encoded base32.base32hex digits
-    (from_fives (map (value_in (codes "0123456789ABCDEFGHIJKLMNOPQRSTUV")) (unpadded digits)))
+unfoldable pub base32_of : base32.Alphabet → List ℕ → Option (List ℕ)
+base32_of alphabet digits = if_encoded (base32.encode alphabet) digits
+    (from_fives (map (value_in (base32.characters alphabet)) (unpadded digits)))
 
 -- the value of a digit in either alphabet of base 64
 abbrev pub six_bits : ℕ → ℕ
@@ -235,10 +231,10 @@ either_word None first None second = Err refusal.Notation
 -- `h'..'` or `h32'..'`, and `b32'..'` or `b64'..'`, after the letter
 abbrev pub h_notation : List ℕ → Read (List ℕ)
 h_notation text = either_word (after_word (codes "'") text) (read_decoded true base16_of)
-    (after_word (codes "32'") text) (read_decoded true base32hex_of)
+    (after_word (codes "32'") text) (read_decoded true (base32_of base32.extended_hex))
 
 abbrev pub b_notation : List ℕ → Read (List ℕ)
-b_notation text = either_word (after_word (codes "32'") text) (read_decoded true base32_of)
+b_notation text = either_word (after_word (codes "32'") text) (read_decoded true (base32_of base32.standard))
     (after_word (codes "64'") text) (read_decoded false base64_of)
 
 -- items after the first `<` of `<<`, and their encodings
@@ -269,14 +265,19 @@ abbrev pub rest_of : List ℕ → List ℕ
 rest_of [] = []
 rest_of (b ∷ text) = text
 
--- whether a piece of a string begins so; the flag is whether texts may be pieces
-abbrev pub begins_piece : Bool → Start → Bool
-begins_piece texts start.Quote = texts
-begins_piece texts start.Apostrophe = true
-begins_piece texts start.Angle = true
-begins_piece texts start.LetterB = true
-begins_piece texts start.LetterH = true
-begins_piece texts _ = false
+-- whether texts may be pieces of a string
+abbrev pub takes_texts : StringKind → Bool
+takes_texts bytes_kind = false
+takes_texts text_kind = true
+
+-- whether a piece of a string of this kind begins so
+abbrev pub begins_piece : StringKind → Start → Bool
+begins_piece kind start.Quote = takes_texts kind
+begins_piece kind start.Apostrophe = true
+begins_piece kind start.Angle = true
+begins_piece kind start.LetterB = true
+begins_piece kind start.LetterH = true
+begins_piece kind _ = false
 
 -- a piece of a string, by its first byte and what follows that
 abbrev pub piece_of : (List ℕ → Read Item) → Start → List ℕ → Read (List ℕ)
@@ -293,48 +294,36 @@ read_piece read (b ∷ text) = piece_of read (start_of b) text
 
 -- The pieces from here on, with blanks between them, and the text after the blank after them. The number
 -- bounds them as in `members_from`.
-unfoldable pub read_pieces : (List ℕ → Read Item) → Bool → ℕ → List ℕ → Read (List ℕ)
-read_pieces read texts zero text = Err refusal.Notation
-read_pieces read texts (suc n) text =
-    elim (begins_piece texts (first_start text)) [
-      | true ↦ (read_piece read text >>= λ x. read_pieces read texts n (skip_blank x.1)
+unfoldable pub read_pieces : (List ℕ → Read Item) → StringKind → ℕ → List ℕ → Read (List ℕ)
+read_pieces read kind zero text = Err refusal.Notation
+read_pieces read kind (suc n) text =
+    elim (begins_piece kind (first_start text)) [
+      | true ↦ (read_piece read text >>= λ x. read_pieces read kind n (skip_blank x.1)
           >>= λ xs. Ok (x.0 ++ xs.0, xs.1))
       | false ↦ Ok ([], text)
     ]
 
--- whether a string begins so: with the flag a text string, whose first piece is a text, else a byte string
-abbrev pub begins_string : Bool → Start → Bool
-begins_string false s = begins_piece false s
-begins_string true start.Quote = true
-begins_string true _ = false
-
-abbrev pub may_have_texts : StringKind → Bool
-may_have_texts bytes_kind = false
-may_have_texts text_kind = true
+-- whether a string of this kind begins so: the first piece of a text string is a text
+abbrev pub begins_string : StringKind → Start → Bool
+begins_string bytes_kind s = begins_piece bytes_kind s
+begins_string text_kind start.Quote = true
+begins_string text_kind _ = false
 
 -- the content of a string, which is UTF-8 in a text string
 abbrev pub checked : StringKind → List ℕ → Result Chunk Error
 checked kind content = checked_chunk kind Unknown content
 
-abbrev pub content_of : (List ℕ → Read Item) → Bool → List ℕ → Bool → Read (List ℕ)
-content_of read texts text false = Err refusal.Notation
-content_of read texts text true = read_pieces read texts (suc (length text)) text
+abbrev pub content_of : (List ℕ → Read Item) → StringKind → List ℕ → Bool → Read (List ℕ)
+content_of read kind text false = Err refusal.Notation
+content_of read kind text true = read_pieces read kind (suc (length text)) text
 
 -- the content of a string of definite length, and the text after the blank after it
-abbrev pub read_content : (List ℕ → Read Item) → Bool → List ℕ → Read (List ℕ)
-read_content read texts text = content_of read texts text (begins_string texts (first_start text))
+abbrev pub read_content : (List ℕ → Read Item) → StringKind → List ℕ → Read (List ℕ)
+read_content read kind text = content_of read kind text (begins_string kind (first_start text))
 
 -- a string of definite length
 unfoldable pub read_string : (List ℕ → Read Item) → StringKind → List ℕ → Read Chunk
-read_string read kind text = read_content read (may_have_texts kind) text >>= λ x. checked kind x.0 >>= λ c. Ok (c, x.1)
-
--- the kind of a string, by whether texts may be pieces of it
-abbrev pub kind_with : Bool → StringKind
-kind_with false = bytes_kind
-kind_with true = text_kind
-
-abbrev pub chunks_atom : StringKind → List Chunk → Atom
-chunks_atom kind cs = chunked_string kind cs
+read_string read kind text = read_content read kind text >>= λ x. checked kind x.0 >>= λ c. Ok (c, x.1)
 
 -- one chunk more, of this content
 abbrev pub with_chunk : StringKind → List Chunk → List ℕ → Result (List Chunk) Error
@@ -344,31 +333,27 @@ with_chunk kind cs content = checked kind content >>= λ c. Ok (cs ++ c ∷ [])
 abbrev pub read_chunk : (List ℕ → Read Item) → StringKind → List ℕ → Read Chunk
 read_chunk read kind text = read_string read kind (skip_blank text)
 
-abbrev pub read_byte_chunks : (List ℕ → Read Item) → List ℕ → Read Item
-read_byte_chunks read text = read_members (read_chunk read bytes_kind) 41 text
-    >>= λ cs. Ok (atom (chunked_string bytes_kind cs.0), cs.1)
+abbrev pub chunks_of : (List ℕ → Read Item) → StringKind → List ℕ → Read Item
+chunks_of read kind text = read_members (read_chunk read kind) 41 text
+    >>= λ cs. Ok (atom (chunked_string kind cs.0), cs.1)
 
-abbrev pub read_text_chunks : (List ℕ → Read Item) → List ℕ → Read Item
-read_text_chunks read text = read_members (read_chunk read text_kind) 41 text
-    >>= λ cs. Ok (atom (chunked_string text_kind cs.0), cs.1)
-
--- the kind of an indefinite string, by the first byte of its first chunk
-abbrev pub chunks_of : (List ℕ → Read Item) → List ℕ → Start → Read Item
-chunks_of read text start.Quote = read_text_chunks read text
-chunks_of read text _ = read_byte_chunks read text
+-- the kind of an indefinite string, by what its first chunk begins with
+abbrev pub kind_from : Start → StringKind
+kind_from start.Quote = text_kind
+kind_from _ = bytes_kind
 
 -- an indefinite string after its parenthesis
 abbrev pub read_chunks : (List ℕ → Read Item) → List ℕ → Read Item
 read_chunks read text = or_refused (after_byte 95 text) >>= λ opened. let first =
-    skip_blank opened in chunks_of read first (first_start first)
+    skip_blank opened in chunks_of read (kind_from (first_start first)) first
 
--- an indefinite byte string of no chunks, or a byte string
-abbrev pub byte_string_of : (List ℕ → Read Item) → List ℕ → Option (List ℕ) → Read Item
-byte_string_of read text (Some rest) = Ok (atom (chunked_string bytes_kind []), rest)
-byte_string_of read text None = read_string read bytes_kind text >>= λ c. Ok (atom (string bytes_kind c.0), c.1)
+-- an indefinite string of no chunks, or a string
+abbrev pub string_of : (List ℕ → Read Item) → StringKind → List ℕ → Option (List ℕ) → Read Item
+string_of read kind text (Some rest) = Ok (atom (chunked_string kind []), rest)
+string_of read kind text None = read_string read kind text >>= λ c. Ok (atom (string kind c.0), c.1)
 
-abbrev pub read_byte_string : (List ℕ → Read Item) → List ℕ → Read Item
-read_byte_string read text = byte_string_of read text (after_word (codes "''_") text)
+abbrev pub read_string_item : (List ℕ → Read Item) → StringKind → List ℕ → Read Item
+read_string_item read kind text = string_of read kind text (after_word (no_chunks kind) text)
 
 -- a string of this kind and content, and what follows it
 abbrev pub one_string : StringKind → List ℕ → List ℕ → Read Item
@@ -378,14 +363,6 @@ one_string kind content rest = checked kind content >>= λ c. Ok (atom (string k
 abbrev pub ends_string : List ℕ → Bool
 ends_string [] = false
 ends_string (b ∷ text) = (b == 44) || (b == 58) || (b == 93) || (b == 125)
-
--- an indefinite text string of no chunks, or a text string
-abbrev pub text_string_of : (List ℕ → Read Item) → List ℕ → Option (List ℕ) → Read Item
-text_string_of read text (Some rest) = Ok (atom (chunked_string text_kind []), rest)
-text_string_of read text None = read_string read text_kind text >>= λ c. Ok (atom (string text_kind c.0), c.1)
-
-abbrev pub read_text_string : (List ℕ → Read Item) → List ℕ → Read Item
-read_text_string read text = text_string_of read text (after_word (codes "\"\"_") text)
 
 -- Simple values and floats
 
@@ -439,11 +416,11 @@ core_of read start.Minus text rest = read_negative rest
 core_of read start.Bracket text rest = read_array read rest
 core_of read start.Brace text rest = read_map read rest
 core_of read start.Parenthesis text rest = read_chunks read rest
-core_of read start.Apostrophe text rest = read_byte_string read text
-core_of read start.Angle text rest = read_byte_string read text
-core_of read start.LetterB text rest = read_byte_string read text
-core_of read start.LetterH text rest = read_byte_string read text
-core_of read start.Quote text rest = read_text_string read text
+core_of read start.Apostrophe text rest = read_string_item read bytes_kind text
+core_of read start.Angle text rest = read_string_item read bytes_kind text
+core_of read start.LetterB text rest = read_string_item read bytes_kind text
+core_of read start.LetterH text rest = read_string_item read bytes_kind text
+core_of read start.Quote text rest = read_string_item read text_kind text
 core_of read start.Other text rest = read_word text
 
 unfoldable pub read_core : (List ℕ → Read Item) → List ℕ → Read Item

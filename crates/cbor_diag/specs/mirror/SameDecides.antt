@@ -1,7 +1,6 @@
 -- The test of `specs/Same.antt` holds of two items exactly where they are equal. It is here, since `==` is to
 -- have a proof that it is an equivalence.
-use Rattle.std.proofs.Common.{◌≡◌, Bool, true, ◌&&◌, nat_eq, Some, None, refl, ap}
-use Rattle.std.proofs.Common.{subst}
+use Rattle.std.proofs.Common.{◌≡◌, Bool, true, ◌&&◌, nat_eq, Some, None, refl, ap, subst}
 use Rattle.std.specs.Bool.{Decides}
 use Rattle.std.specs.Cmp.{IsEquivalence, decided}
 use Rattle.std.specs.Cmp.Lexicographic.{pointwise, pointwise_decides, bytes_decides}
@@ -11,9 +10,8 @@ use Rattle.cbor_diag.specs.declared.syntax.IntegerWidth.TheVariants.{Unknown, Ze
 use Rattle.cbor_diag.specs.declared.syntax.IntegerWidth.TheVariants.{SixtyFour}
 use Rattle.cbor_diag.specs.declared.syntax.FloatWidth.TheVariants as float_width
 use Rattle.cbor_diag.specs.Item as spec
-use Rattle.cbor_diag.specs.Item.{Chunk, Atom, integer, negative, string, chunked_string}
-use Rattle.cbor_diag.specs.Item.{float, simple}
-use Rattle.cbor_diag.specs.Item.{Item, atom, array, tagged, Items, no_items, item, Pairs, no_pairs, pair}
+use Rattle.cbor_diag.specs.Item.{Chunk, Atom, integer, negative, string, chunked_string, float, simple, Item, atom}
+use Rattle.cbor_diag.specs.Item.{array, tagged, Items, no_items, item, Pairs, no_pairs, pair}
 use Rattle.cbor_diag.specs.StringKind.{bytes_kind, text_kind}
 use Rattle.cbor_diag.specs.Same.{same_width, same_float_width, same_count, same_chunk, same_atom, same_item}
 use Rattle.cbor_diag.specs.Same.{same_items, same_pairs}
@@ -61,17 +59,11 @@ number_itself n = (Decides-eqb n n).1 refl
 
 width_itself : Holds same_width
 width_itself Unknown = refl
-width_itself Zero = refl
-width_itself Eight = refl
-width_itself Sixteen = refl
-width_itself ThirtyTwo = refl
-width_itself SixtyFour = refl
+width_itself _ = refl
 
 float_width_itself : Holds same_float_width
 float_width_itself float_width.Unknown = refl
-float_width_itself float_width.Sixteen = refl
-float_width_itself float_width.ThirtyTwo = refl
-float_width_itself float_width.SixtyFour = refl
+float_width_itself _ = refl
 
 count_itself : Holds same_count
 count_itself None = refl
@@ -94,8 +86,10 @@ atom_is (negative n v) (negative m w) h =
     λ k. negative (number_is n m p.0 k) (width_is v w p.1 k)
 atom_is (string bytes_kind c) (string bytes_kind d) h = ap (string bytes_kind) (chunk_is c d h)
 atom_is (string text_kind c) (string text_kind d) h = ap (string text_kind) (chunk_is c d h)
-atom_is (chunked_string bytes_kind cs) (chunked_string bytes_kind ds) h = ap (chunked_string bytes_kind) ((pointwise_decides chunk_decides cs ds).0 h)
-atom_is (chunked_string text_kind cs) (chunked_string text_kind ds) h = ap (chunked_string text_kind) ((pointwise_decides chunk_decides cs ds).0 h)
+atom_is (chunked_string bytes_kind cs) (chunked_string bytes_kind ds) h =
+    ap (chunked_string bytes_kind) ((pointwise_decides chunk_decides cs ds).0 h)
+atom_is (chunked_string text_kind cs) (chunked_string text_kind ds) h =
+    ap (chunked_string text_kind) ((pointwise_decides chunk_decides cs ds).0 h)
 atom_is (float n v) (float m w) h =
     let p = and_parts (nat_eq n m) (same_float_width v w) h in
     λ k. float (number_is n m p.0 k) (float_width_is v w p.1 k)

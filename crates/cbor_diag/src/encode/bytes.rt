@@ -12,8 +12,7 @@ ghost use Rattle.cbor_diag.specs.mirror.MajorNumber.{major_number};
 ghost use Rattle.cbor_diag.specs.mirror.Appends.{Appends};
 ghost use Rattle.cbor_diag.specs.StringKind.{major_of};
 ghost use Rattle.cbor_diag.specs.View.{view, items_view, pairs_view};
-ghost use Rattle.cbor_diag.specs.WellFormed.{WellFormed, WellFormedItems, WellFormedPairs};
-ghost use Rattle.cbor_diag.specs.WellFormed.{IsChunk};
+ghost use Rattle.cbor_diag.specs.WellFormed.{WellFormed, WellFormedItems, WellFormedPairs, IsChunk};
 ghost use Rattle.cbor_diag.specs.Facts.{IsItem, IsStrictItem, IsWellFormed};
 ghost use Rattle.cbor_diag.specs.Item as spec;
 ghost use Rattle.cbor_diag.specs.Item.{Item};
@@ -53,7 +52,12 @@ fn push_chunks<S: DefiniteString>(out: &mut Vec<u8>, chunks: &[S]) -> Result<(),
 {
     push_open(out, S::kind().major(), chunks.len(), None)?;
     'chunks: for chunk in chunks {
-        push_string(out, S::kind().major(), chunk.content().as_bytes(), chunk.width())?;
+        push_string(
+            out,
+            S::kind().major(),
+            chunk.content().as_bytes(),
+            chunk.width(),
+        )?;
     }
     push_close(out, None)
 }

@@ -27,9 +27,8 @@ ghost use Rattle.cbor_diag.specs.Facts.{IsWellFormed, diag_of, pretty_of, normal
 ghost use Rattle.cbor_diag.specs.WellFormed.{deepest, WellFormed, WellFormedItems, WellFormedPairs};
 ghost use Rattle.cbor_diag.specs.Layout as shown;
 ghost use Rattle.cbor_diag.specs.mirror.LayoutView.{layout_view, style_view, context_view};
-ghost use Rattle.cbor_diag.specs.mirror.LayoutView.{IsIndented};
-ghost use Rattle.cbor_diag.specs.mirror.LayoutView.{item_text, items_there, pairs_there};
-ghost use Rattle.cbor_diag.specs.mirror.LayoutView.{content_there};
+ghost use Rattle.cbor_diag.specs.mirror.LayoutView.{IsIndented, item_text, items_there};
+ghost use Rattle.cbor_diag.specs.mirror.LayoutView.{pairs_there, content_there};
 ghost use Rattle.cbor_diag.specs.NotationText.{indent_of, style_indent, in_encoding};
 ghost use Rattle.cbor_diag.specs.NotationText.{text_at_level, sequence_size};
 ghost use Rattle.cbor_diag.specs.Embedded.{sequence, EmbedsExactly};
@@ -338,6 +337,7 @@ impl DataItem {
     /// let item = parse_bytes(alloc, b"\x9f\x01\x82\x02\x03\xff")?;
     /// assert_eq!(rt; item.to_diag_pretty(alloc)?.as_str(), "[_ 1, [2, 3]]");
     /// ```
+    #[tactic(auto, using(crate::proofs::text::Forms::pretty_laws))]
     pub fn to_diag_pretty(&self, alloc: Global) -> crate::Result<String>
         requires { IsWellFormed (view self.now) }
         ensures text { IfOk result (λ s. string_bytes s ≡ pretty_of (view self.now)) }

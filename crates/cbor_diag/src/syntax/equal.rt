@@ -81,7 +81,8 @@ impl DataItem {
 
     /// Whether the item is this byte string.
     fn is_byte_string(&self, string: &ByteString) -> bool
-        ensures { IsTrue result ↔ (view self.now ≡ atom (spec.string bytes_kind (byte_chunk string.now))) }
+        ensures { IsTrue result
+            ↔ (view self.now ≡ atom (spec.string bytes_kind (byte_chunk string.now))) }
     {
         match self {
             DataItem::ByteString(own) => own == string,
@@ -91,7 +92,8 @@ impl DataItem {
 
     /// Whether the item is this text string.
     fn is_text_string(&self, string: &TextString) -> bool
-        ensures { IsTrue result ↔ (view self.now ≡ atom (spec.string text_kind (text_chunk string.now))) }
+        ensures { IsTrue result
+            ↔ (view self.now ≡ atom (spec.string text_kind (text_chunk string.now))) }
     {
         match self {
             DataItem::TextString(own) => own == string,
@@ -101,7 +103,8 @@ impl DataItem {
 
     /// Whether the item is the byte string of these chunks.
     fn is_byte_chunks(&self, chunks: &[ByteString]) -> bool
-        ensures { IsTrue result ↔ (view self.now ≡ atom (chunked_string bytes_kind (map byte_chunk chunks.now))) }
+        ensures { IsTrue result
+            ↔ (view self.now ≡ atom (chunked_string bytes_kind (map byte_chunk chunks.now))) }
     {
         match self {
             DataItem::IndefiniteByteString(own) => chunks_equal(own, chunks),
@@ -111,7 +114,8 @@ impl DataItem {
 
     /// Whether the item is the text string of these chunks.
     fn is_text_chunks(&self, chunks: &[TextString]) -> bool
-        ensures { IsTrue result ↔ (view self.now ≡ atom (chunked_string text_kind (map text_chunk chunks.now))) }
+        ensures { IsTrue result
+            ↔ (view self.now ≡ atom (chunked_string text_kind (map text_chunk chunks.now))) }
     {
         match self {
             DataItem::IndefiniteTextString(own) => chunks_equal(own, chunks),

@@ -3,8 +3,7 @@ ghost use Rattle.std.specs.Prelude.{◌↔◌, IsTrue, map};
 ghost use Rattle.std.specs.List.{AllByRecursion};
 ghost use Rattle.cbor_diag.specs.View.{view, items_view, pairs_view};
 ghost use Rattle.cbor_diag.specs.Facts.{IsWellFormed};
-ghost use Rattle.cbor_diag.specs.WellFormed.{WellFormed, WellFormedItems, WellFormedPairs};
-ghost use Rattle.cbor_diag.specs.WellFormed.{IsChunk};
+ghost use Rattle.cbor_diag.specs.WellFormed.{WellFormed, WellFormedItems, WellFormedPairs, IsChunk};
 
 use super::strings::DefiniteString;
 use super::width::count_fits;

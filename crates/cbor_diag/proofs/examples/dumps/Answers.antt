@@ -10,32 +10,14 @@ use Rattle.cbor_diag.specs.Notes.{value_note}
 use Rattle.cbor_diag.specs.Dump.{lines_at}
 use Rattle.cbor_diag.proofs.examples.dumps.Goals as goal
 
-pub returns-clause-chunks : goal.returns-clause-chunks
+pub returns : goal.returns
 unfolding digits encode_with encode_symbols read_wide read_argument head_of read_head read_content parts_from
     counted_item sequence_of element_text value_note lines_at
-returns-clause-chunks c = refl
-
-pub returns-clause-nothing : goal.returns-clause-nothing
-unfolding digits encode_with encode_symbols read_wide read_argument head_of read_head read_content parts_from
-    counted_item sequence_of element_text value_note lines_at
-returns-clause-nothing c = refl
-
-pub returns-clause-pieces : goal.returns-clause-pieces
-unfolding digits encode_with encode_symbols read_wide read_argument head_of read_head read_content parts_from
-    counted_item sequence_of element_text value_note lines_at
-returns-clause-pieces c = refl
-
-pub returns-clause-elements : goal.returns-clause-elements
-unfolding digits encode_with encode_symbols read_wide read_argument head_of read_head read_content parts_from
-    counted_item sequence_of element_text value_note lines_at
-returns-clause-elements c = refl
-
-pub returns-clause-sequence : goal.returns-clause-sequence
-unfolding digits encode_with encode_symbols read_wide read_argument head_of read_head read_content parts_from
-    counted_item sequence_of element_text value_note lines_at
-returns-clause-sequence c = refl
-
-pub returns-clause-shared : goal.returns-clause-shared
-unfolding digits encode_with encode_symbols read_wide read_argument head_of read_head read_content parts_from
-    counted_item sequence_of element_text value_note lines_at
-returns-clause-shared c = refl
+returns c = record {
+  chunks = refl;
+  nothing = refl;
+  pieces = refl;
+  elements = refl;
+  sequence = refl;
+  shared = refl;
+}

@@ -1,80 +1,33 @@
-use Rattle.std.proofs.Common.{codes, refl}
+use Rattle.std.proofs.Common.{◌≡◌, ℕ, true, List, [], ◌∷◌, Result, Ok, Err, refl}
+use Rattle.std.specs.List.{AllByRecursion, list_all}
+use Rattle.std.specs.Result.{is_err}
+use Rattle.std.proofs.lemmas.Bool.{and_parts}
 use Rattle.hex.specs.Hex.{decode_pairs}
 use Rattle.base64.specs.Rfc4648.{encode_symbols}
 use Rattle.cbor_notes.specs.Base32.{encode}
 use Rattle.cbor_diag.specs.mirror.NotationReading.{read_item, read_core, start_of, read_members, members_from}
 use Rattle.cbor_diag.specs.mirror.NotationReading.{read_piece, read_pieces, read_string, from_fives, from_sixes}
-use Rattle.cbor_diag.specs.mirror.NotationReading.{base32_of, base32hex_of, base64_of}
+use Rattle.cbor_diag.specs.declared.error.Error.{Error}
+use Rattle.cbor_diag.specs.Item.{Item}
+use Rattle.cbor_diag.specs.Notation.{ReadsUnder}
+use Rattle.cbor_diag.specs.Examples.{no_items_in_notation}
+use Rattle.cbor_diag.specs.mirror.NotationReading.{base32_of, base64_of, notation_of}
 use Rattle.cbor_diag.proofs.notation.PublicReader.{not_read}
 use Rattle.cbor_diag.proofs.examples.notation_refused.Goals as goal
 
+refused : (text : List ℕ) (r : Result Item Error) → notation_of 128 text ≡ r → is_err r ≡ true
+    → (i : Item) → ¬ (ReadsUnder 128 text i)
+refused text (Err e) is err = not_read 128 text e is
+refused text (Ok i) is err = cc err
+
+all_refused : (texts : List (List ℕ)) → list_all (λ t. is_err (notation_of 128 t)) texts ≡ true
+    → AllByRecursion (λ text. (i : Item) → ¬ (ReadsUnder 128 text i)) texts
+all_refused [] all = tt
+all_refused (t ∷ ts) all =
+    let parts = and_parts (is_err (notation_of 128 t)) (list_all (λ u. is_err (notation_of 128 u)) ts) all in
+    (refused t (notation_of 128 t) refl parts.0, all_refused ts parts.1)
+
 pub returns : goal.returns
 unfolding read_item read_core start_of read_members members_from read_piece read_pieces read_string from_fives
-    from_sixes base32_of base32hex_of base64_of encode encode_symbols decode_pairs
-returns c = (
-  not_read 128 (codes "") _ refl,
-  (
-    not_read 128 (codes "/x") _ refl,
-    (
-      not_read 128 (codes "1_4") _ refl,
-      (
-        not_read 128 (codes "1.5") _ refl,
-        (
-          not_read 128 (codes "-0") _ refl,
-          (
-            not_read 128 (codes "300_0") _ refl,
-            (
-              not_read 128 (codes "18446744073709551616") _ refl,
-              (
-                not_read 128 (codes "32 (1)") _ refl,
-                (
-                  not_read 128 (codes "[1,]") _ refl,
-                  (
-                    not_read 128 (codes "[1,/x/ ]") _ refl,
-                    (
-                      not_read 128 (codes "[,1]") _ refl,
-                      (
-                        not_read 128 (codes "{1}") _ refl,
-                        (
-                          not_read 128 (codes "h' '") _ refl,
-                          (
-                            not_read 128 (codes "h'0'") _ refl,
-                            (
-                              not_read 128 (codes "b32'MZXW7==='") _ refl,
-                              (
-                                not_read 128 (codes "'\\n'") _ refl,
-                                (
-                                  not_read 128 (codes "h'61' \"b\"") _ refl,
-                                  (
-                                    not_read 128 (codes "h''_") _ refl,
-                                    (
-                                      not_read 128 (codes "(_''_)") _ refl,
-                                      (
-                                        not_read 128 (codes "<<1> >") _ refl,
-                                        (
-                                          not_read 128 (codes "simple(256)") _ refl,
-                                          (
-                                            not_read 128 (codes "simple( 1)") _ refl,
-                                            (not_read 128 (codes "float'3c0'") _ refl, (not_read 128 (codes "1 2") _ refl, tt)),
-                                          ),
-                                        ),
-                                      ),
-                                    ),
-                                  ),
-                                ),
-                              ),
-                            ),
-                          ),
-                        ),
-                      ),
-                    ),
-                  ),
-                ),
-              ),
-            ),
-          ),
-        ),
-      ),
-    ),
-  ),
-)
+    from_sixes base32_of base64_of encode encode_symbols decode_pairs
+returns c = all_refused no_items_in_notation refl

@@ -1,5 +1,5 @@
 -- Items: what is read of a text is what the grammar says it is, and a refusal says what is true of it.
-use Rattle.std.proofs.Common.{◌≡◌, ℕ, zero, suc, ◌<◌, true, List, [], ◌∷◌, ◌++◌, codes, length, Option, Some, None, Ok}
+use Rattle.std.proofs.Common.{◌≡◌, ℕ, zero, suc, ◌<◌, true, List, [], ◌∷◌, ◌++◌, length, Option, Some, None, Ok}
 use Rattle.std.proofs.Common.{Err, refl, sym, ap, subst, ◌∙◌, append_assoc, append-nil, length-append, inl, inr, arith}
 use Rattle.cbor_notes.specs.Token.{Blank, nothing, whitespace, comment}
 use Rattle.cbor_notes.proofs.tokens.Blanks.{blank_left, Blank-append, at_whitespace}
@@ -7,18 +7,17 @@ use Rattle.cbor_diag.specs.declared.parse.notation.start.Start.{Start}
 use Rattle.cbor_diag.specs.declared.parse.notation.start.Start.TheVariants as start
 use Rattle.cbor_diag.specs.declared.syntax.IntegerWidth.TheVariants.{Unknown}
 use Rattle.cbor_diag.specs.Item as spec
-use Rattle.cbor_diag.specs.Item.{Chunk, string, chunked_string, Item, atom, array, no_items}
-use Rattle.cbor_diag.specs.Item.{item, no_pairs, pair}
+use Rattle.cbor_diag.specs.Item.{Chunk, string, chunked_string, Item, atom, array, no_items, item, no_pairs, pair}
 use Rattle.cbor_diag.specs.View.{items_of, pairs_of}
-use Rattle.cbor_diag.specs.StringKind.{StringKind, bytes_kind, text_kind}
+use Rattle.cbor_diag.specs.StringKind.{StringKind, bytes_kind, text_kind, no_chunks}
 use Rattle.cbor_diag.specs.Reading.{Read, ◌>>=◌}
-use Rattle.cbor_diag.specs.Notation.{IsBlank, Blanked, Closes, Members, pairs_list, PairOf, StringOf, Core, Reads}
+use Rattle.cbor_diag.specs.Notation.{IsBlank, Blanked, Closes, Members, pairs_list, PairOf, StringOf, ShowsKind, Core}
+use Rattle.cbor_diag.specs.Notation.{Reads}
 use Rattle.cbor_diag.specs.mirror.NotationReading.{or_refused, skip_blank, after_byte, after_word, read_members}
 use Rattle.cbor_diag.specs.mirror.NotationReading.{read_pair, length_of, read_array, read_map, first_start, start_of}
-use Rattle.cbor_diag.specs.mirror.NotationReading.{read_chunk, read_byte_chunks, read_text_chunks, chunks_of}
-use Rattle.cbor_diag.specs.mirror.NotationReading.{read_chunks, byte_string_of, text_string_of, core_of, read_core}
-use Rattle.cbor_diag.specs.mirror.NotationReading.{read_item, whole, notation_of, read_integer, read_negative}
-use Rattle.cbor_diag.specs.mirror.NotationReading.{read_word, read_string}
+use Rattle.cbor_diag.specs.mirror.NotationReading.{read_chunk, chunks_of, kind_from, read_chunks, string_of}
+use Rattle.cbor_diag.specs.mirror.NotationReading.{read_string_item, core_of, read_core, read_item, whole, notation_of}
+use Rattle.cbor_diag.specs.mirror.NotationReading.{read_integer, read_negative, read_word, read_string}
 use Rattle.cbor_diag.specs.NotationRefused.{is_opening, IsAnswered}
 use Rattle.cbor_diag.proofs.notation.sound.Steps.{Sound, moved, moved_in, weaker, weaker_here, sound_then, sound_map}
 use Rattle.cbor_diag.proofs.notation.sound.Steps.{sound_option, after_byte_is, after_word_is}
@@ -77,12 +76,6 @@ quote_empty [] blank end rest z is b closes e =
 quote_empty (c ∷ front) blank end rest z is b closes e =
     let quote : c ≡ 34 = head_is c 34 (front ++ rest) z e in
     quote_blank b end front closes (sym is ∙ ap (λ (d : ℕ). d ∷ front) quote)
-
--- nor does what comes before more
-quote_member : {X : Type 0} (Member : List ℕ → X → Type 0) (front rest z : List ℕ) (xs : List X)
-    → Members Member (41 ∷ []) front xs → front ++ rest ≡ 34 ∷ z → 0 < length xs
-quote_member Member front rest z [] h e = absurd (quote_empty front h.0 h.1 rest z h.2 h.3 h.4 e)
-quote_member Member front rest z (x ∷ xs) h e = omega arith
 
 trailed : (Is : List ℕ → Type 0) (front : List ℕ) → Is front → Trailed Is front
 trailed Is front h = (front, [], sym (append-nil front), h, nothing)
@@ -166,99 +159,72 @@ module _ (left : ℕ) (R : List ℕ → Item → Type 0) (read : List ℕ → Re
   chunks_found kind text = members_sound (suc left) (Chunks kind) 41 (read_chunk read kind)
       (chunk_sound left R read sound blank_more kind) (chunk_blank kind) text
 
-  byte_chunks_sound : (blank first : List ℕ) → IsBlank blank
-      → Sound (suc left) (λ g i. Core R (40 ∷ 95 ∷ (blank ++ g)) i) first (read_byte_chunks read first)
-  byte_chunks_sound blank first is =
-      sound_map (suc left) (Members (Chunks bytes_kind) (41 ∷ [])) (λ g i. Core R (40 ∷ 95 ∷ (blank ++ g)) i) first
-      (read_members (read_chunk read bytes_kind) 41 first) (λ cs. atom (chunked_string bytes_kind cs))
-      (chunks_found bytes_kind first)
-      (λ g cs h. inr (
-        blank ++ g,
-        refl,
-        members_blank (Chunks bytes_kind) (41 ∷ []) blank g cs (chunk_blank bytes_kind)
-            is h,
-      ))
+  first_quote : (first : List ℕ) → first_start first ≡ start.Quote → (z : List ℕ) × (first ≡ 34 ∷ z)
+  first_quote [] e = absurd cc
+  first_quote (b ∷ z) e = (z, ap (λ (c : ℕ). c ∷ z) (subst (λ (s : Start). StartIs s b) e (start_is b)))
 
-  text_chunks_sound : (blank first z : List ℕ) → IsBlank blank → first ≡ 34 ∷ z
-      → Sound (suc left) (λ g i. Core R (40 ∷ 95 ∷ (blank ++ g)) i) first (read_text_chunks read first)
-  text_chunks_sound blank first z is quote =
-      sound_map (suc left) (λ g cs. (0 < length cs) × Members (Chunks text_kind) (41 ∷ []) g cs)
-      (λ g i. Core R (40 ∷ 95 ∷ (blank ++ g)) i) first (read_members (read_chunk read text_kind) 41 first)
-      (λ cs. atom (chunked_string text_kind cs))
-      (weaker_here (suc left) (Members (Chunks text_kind) (41 ∷ []))
-      (λ g cs. (0 < length cs) × Members (Chunks text_kind) (41 ∷ []) g cs) first
-      (read_members (read_chunk read text_kind) 41 first)
-      (λ g rest cs at h. (quote_member (Chunks text_kind) g rest z cs h (sym at ∙ quote), h))
-      (chunks_found text_kind first))
+  -- without a chunk it does not begin with a quote
+  shows_kind : (first : List ℕ) (s : Start) → first_start first ≡ s → (front rest : List ℕ) (cs : List Chunk)
+      → first ≡ front ++ rest → Members (Chunks (kind_from s)) (41 ∷ []) front cs → ShowsKind (kind_from s) cs
+  shows_kind first s e front rest (c ∷ cs) at h = tt
+  shows_kind first start.Quote e front rest [] at h =
+      let q = first_quote first e in
+      absurd (quote_empty front h.0 h.1 rest q.0 h.2 h.3 h.4 (sym at ∙ q.1))
+  shows_kind first _ e front rest [] at h = refl
+
+  chunks_after : (blank first : List ℕ) → IsBlank blank → (kind : StringKind) → ((front rest : List ℕ) (cs : List Chunk)
+      → first ≡ front ++ rest → Members (Chunks kind) (41 ∷ []) front cs → ShowsKind kind cs)
+      → Sound (suc left) (λ g i. Core R (40 ∷ 95 ∷ (blank ++ g)) i) first (chunks_of read kind first)
+  chunks_after blank first is kind shows =
+      sound_map (suc left) (λ g cs. ShowsKind kind cs × Members (Chunks kind) (41 ∷ []) g cs)
+      (λ g i. Core R (40 ∷ 95 ∷ (blank ++ g)) i) first (read_members (read_chunk read kind) 41 first)
+      (λ cs. atom (chunked_string kind cs))
+      (weaker_here (suc left) (Members (Chunks kind) (41 ∷ []))
+      (λ g cs. ShowsKind kind cs × Members (Chunks kind) (41 ∷ []) g cs) first
+      (read_members (read_chunk read kind) 41 first) (λ g rest cs at h. (shows g rest cs at h, h))
+      (chunks_found kind first))
       (λ g cs h. inr (
         h.0,
         (
           blank ++ g,
           refl,
-          members_blank (Chunks text_kind) (41 ∷ []) blank g cs
-              (chunk_blank text_kind) is h.1,
+          members_blank (Chunks kind) (41 ∷ []) blank g cs (chunk_blank kind) is h.1,
         ),
       ))
-
-  first_quote : (first : List ℕ) → first_start first ≡ start.Quote → (z : List ℕ) × (first ≡ 34 ∷ z)
-  first_quote [] e = absurd cc
-  first_quote (b ∷ z) e = (z, ap (λ (c : ℕ). c ∷ z) (subst (λ (s : Start). StartIs s b) e (start_is b)))
-
-  chunks_by : (blank first : List ℕ) → IsBlank blank → (s : Start) → first_start first ≡ s
-      → Sound (suc left) (λ g i. Core R (40 ∷ 95 ∷ (blank ++ g)) i) first (chunks_of read first s)
-  chunks_by blank first is start.Quote e = let q = first_quote first e in text_chunks_sound blank first q.0 is q.1
-  chunks_by blank first is start.Apostrophe e = byte_chunks_sound blank first is
-  chunks_by blank first is start.Parenthesis e = byte_chunks_sound blank first is
-  chunks_by blank first is start.Minus e = byte_chunks_sound blank first is
-  chunks_by blank first is start.Digit e = byte_chunks_sound blank first is
-  chunks_by blank first is start.Angle e = byte_chunks_sound blank first is
-  chunks_by blank first is start.Bracket e = byte_chunks_sound blank first is
-  chunks_by blank first is start.LetterB e = byte_chunks_sound blank first is
-  chunks_by blank first is start.LetterH e = byte_chunks_sound blank first is
-  chunks_by blank first is start.Brace e = byte_chunks_sound blank first is
-  chunks_by blank first is start.Other e = byte_chunks_sound blank first is
 
   chunks_sound : (text : List ℕ) → Sound (suc left) (λ g i. Core R (40 ∷ g) i) text (read_chunks read text)
   chunks_sound text =
       sound_option (suc left) (λ g i. Core R (40 ∷ g) i) text (after_byte 95 text)
-      (λ opened. chunks_of read (skip_blank opened) (first_start (skip_blank opened)))
+      (λ opened. chunks_of read (kind_from (first_start (skip_blank opened))) (skip_blank opened))
       (λ opened e.
       let first = skip_blank opened in
+      let kind = kind_from (first_start first) in
       let blank = blank_left true opened in
-      moved (suc left) (λ g i. Core R (40 ∷ g) i) text (95 ∷ []) opened (chunks_of read first (first_start first))
+      moved (suc left) (λ g i. Core R (40 ∷ g) i) text (95 ∷ []) opened (chunks_of read kind first)
       (after_byte_is 95 text opened e)
-      (moved (suc left) (λ g i. Core R (40 ∷ 95 ∷ g) i) opened blank.0 first (chunks_of read first (first_start first))
-      blank.1
-      (chunks_by blank.0 first blank.2 (first_start first) refl)))
+      (moved (suc left) (λ g i. Core R (40 ∷ 95 ∷ g) i) opened blank.0 first (chunks_of read kind first) blank.1
+      (chunks_after blank.0 first blank.2 kind (shows_kind first (first_start first) refl))))
 
   -- ---- strings
 
   abbrev CoreThen : List ℕ → Item → Type 0
   CoreThen front i = Trailed (λ core. Core R core i) front
 
-  bytes_by : (text : List ℕ) (o : Option (List ℕ)) → after_word (codes "''_") text ≡ o
-      → Sound (suc left) CoreThen text (byte_string_of read text o)
-  bytes_by text (Some rest) e = (
-    codes "''_",
-    after_word_is (codes "''_") text rest e,
-    (codes "''_", [], refl, inl (refl, refl), nothing),
+  string_by : (kind : StringKind) (text : List ℕ) (o : Option (List ℕ)) → after_word (no_chunks kind) text ≡ o
+      → Sound (suc left) CoreThen text (string_of read kind text o)
+  string_by kind text (Some rest) e = (
+    no_chunks kind,
+    after_word_is (no_chunks kind) text rest e,
+    trailed (λ core. Core R core (atom (chunked_string kind []))) (no_chunks kind) (inl (refl, refl)),
   )
-  bytes_by text None e =
-      sound_map (suc left) (λ g c. Trailed (λ core. StringOf bytes_kind R core c) g) CoreThen text
-      (read_string read bytes_kind text) (λ c. atom (string bytes_kind c))
-      (string_sound left R read sound blank_more bytes_kind text) (λ g c h. h)
+  string_by kind text None e =
+      sound_map (suc left) (λ g c. Trailed (λ core. StringOf kind R core c) g) CoreThen text
+      (read_string read kind text) (λ c. atom (string kind c))
+      (string_sound left R read sound blank_more kind text) (λ g c h. h)
 
-  texts_by : (text : List ℕ) (o : Option (List ℕ)) → after_word (codes "\"\"_") text ≡ o
-      → Sound (suc left) CoreThen text (text_string_of read text o)
-  texts_by text (Some rest) e = (
-    codes "\"\"_",
-    after_word_is (codes "\"\"_") text rest e,
-    (codes "\"\"_", [], refl, inl (refl, refl), nothing),
-  )
-  texts_by text None e =
-      sound_map (suc left) (λ g c. Trailed (λ core. StringOf text_kind R core c) g) CoreThen text
-      (read_string read text_kind text) (λ c. atom (string text_kind c))
-      (string_sound left R read sound blank_more text_kind text) (λ g c h. h)
+  string_item_sound : (kind : StringKind) (text : List ℕ)
+      → Sound (suc left) CoreThen text (read_string_item read kind text)
+  string_item_sound kind text = string_by kind text (after_word (no_chunks kind) text) refl
 
   -- ---- cores
 
@@ -281,11 +247,11 @@ module _ (left : ℕ) (R : List ℕ → Item → Type 0) (read : List ℕ → Re
 
   core_by : (b : ℕ) (text : List ℕ) (s : Start) → StartIs s b
       → Sound (suc left) CoreThen (b ∷ text) (core_of read s (b ∷ text) text)
-  core_by b text start.Quote is = texts_by (b ∷ text) (after_word (codes "\"\"_") (b ∷ text)) refl
-  core_by b text start.Apostrophe is = bytes_by (b ∷ text) (after_word (codes "''_") (b ∷ text)) refl
-  core_by b text start.Angle is = bytes_by (b ∷ text) (after_word (codes "''_") (b ∷ text)) refl
-  core_by b text start.LetterB is = bytes_by (b ∷ text) (after_word (codes "''_") (b ∷ text)) refl
-  core_by b text start.LetterH is = bytes_by (b ∷ text) (after_word (codes "''_") (b ∷ text)) refl
+  core_by b text start.Quote is = string_item_sound text_kind (b ∷ text)
+  core_by b text start.Apostrophe is = string_item_sound bytes_kind (b ∷ text)
+  core_by b text start.Angle is = string_item_sound bytes_kind (b ∷ text)
+  core_by b text start.LetterB is = string_item_sound bytes_kind (b ∷ text)
+  core_by b text start.LetterH is = string_item_sound bytes_kind (b ∷ text)
   core_by b text start.Parenthesis is = behind b 40 text (read_chunks read text) is (chunks_sound text)
   core_by b text start.Minus is = behind b 45 text (read_negative text) is (negative_sound left R read sound text)
   core_by b text start.Digit is = alone (b ∷ text) (read_integer read (b ∷ text))
@@ -301,7 +267,7 @@ module _ (left : ℕ) (R : List ℕ → Item → Type 0) (read : List ℕ → Re
 
 -- ---- items
 
-reads_blank : (left : ℕ) (before text : List ℕ) (i : Item) → IsBlank before → Reads left text i
+pub reads_blank : (left : ℕ) (before text : List ℕ) (i : Item) → IsBlank before → Reads left text i
     → Reads left (before ++ text) i
 unfolding Reads
 reads_blank zero before text i is h = absurd h

@@ -2,8 +2,8 @@
 use Rattle.std.proofs.Common.{◌≡◌, ℕ, zero, suc, Bool, true, false, cond, ◌==◌, ◌&&◌, nat_le, List, [], ◌∷◌, ◌++◌}
 use Rattle.std.proofs.Common.{length, Ok, Err, refl, sym, ap, subst, ◌∙◌, append_assoc, append-nil, ◌⊎◌, inl, inr}
 use Rattle.std.proofs.Common.{arith}
-use Rattle.std.specs.Str.{is_utf8, IsUtf8}
-use Rattle.std.proofs.lemmas.Bool.{cases_eq, eq-eqb, ne_eqb}
+use Rattle.std.specs.Str.{is_utf8}
+use Rattle.std.proofs.lemmas.Bool.{cond_both, eqb-true}
 use Rattle.std.proofs.lemmas.List.Sums.{sum_by-cons}
 use Rattle.std.proofs.lemmas.Str.{IsUtf8-from_is_utf8}
 use Rattle.cbor_notes.specs.Token.{in_quotes}
@@ -17,14 +17,14 @@ use Rattle.cbor_diag.specs.declared.parse.notation.start.Start.{Start}
 use Rattle.cbor_diag.specs.declared.parse.notation.start.Start.TheVariants as start
 use Rattle.cbor_diag.specs.Item.{Chunk, Item}
 use Rattle.cbor_diag.specs.View.{items_of}
-use Rattle.cbor_diag.specs.StringKind.{StringKind, bytes_kind, text_kind}
+use Rattle.cbor_diag.specs.StringKind.{StringKind, bytes_kind, text_kind, IsContent}
 use Rattle.cbor_diag.specs.Reading.{Read, ◌>>=◌}
 use Rattle.cbor_diag.specs.Written.{encoded_items}
 use Rattle.cbor_diag.specs.Notation.{IsBlank, Blanked, Members, QuotedBy, Notation, as_text, as_items, PieceOf, Joined}
-use Rattle.cbor_diag.specs.Notation.{one, more, StringOf}
+use Rattle.cbor_diag.specs.Notation.{one, more, BeginsAs, StringOf}
 use Rattle.cbor_diag.specs.mirror.NotationReading.{or_refused, skip_blank, after_byte, read_members, h_notation}
 use Rattle.cbor_diag.specs.mirror.NotationReading.{b_notation, read_embedded, start_of, first_start, begins_piece}
-use Rattle.cbor_diag.specs.mirror.NotationReading.{piece_of, read_piece, read_pieces, begins_string, may_have_texts}
+use Rattle.cbor_diag.specs.mirror.NotationReading.{piece_of, read_piece, read_pieces, begins_string, takes_texts}
 use Rattle.cbor_diag.specs.mirror.NotationReading.{checked, content_of, read_string, read_chunk}
 use Rattle.cbor_diag.specs.NotationRefused.{MayRefuse, HoldsByte}
 use Rattle.cbor_diag.proofs.notation.sound.Steps.{a_test, Sound, moved, moved_in, weaker, sound_then, sound_map}
@@ -50,48 +50,19 @@ StartIs start.Other b = Unit {0}
 pub start_is : (b : ℕ) → StartIs (start_of b) b
 unfolding start_of
 start_is b =
-    elim (cases_eq b 34) [
-      | inl is ↦ rw (eq-eqb b 34 is) is
-      | inr no34 ↦
-          elim (cases_eq b 39) [
-            | inl is ↦ rw (ne_eqb b 34 no34, eq-eqb b 39 is) is
-            | inr no39 ↦
-                elim (cases_eq b 40) [
-                  | inl is ↦ rw (ne_eqb b 34 no34, ne_eqb b 39 no39, eq-eqb b 40 is) is
-                  | inr no40 ↦
-                      elim (cases_eq b 45) [
-                        | inl is ↦ rw (ne_eqb b 34 no34, ne_eqb b 39 no39, ne_eqb b 40 no40, eq-eqb b 45 is) is
-                        | inr no45 ↦
-                            rw (ne_eqb b 34 no34, ne_eqb b 39 no39, ne_eqb b 40 no40, ne_eqb b 45 no45)
-                            (elim (a_test (nat_le 48 b && nat_le b 57)) [
-                              | inl this ↦ rw this tt
-                              | inr no_digit ↦ rw no_digit
-                                  (elim (cases_eq b 60) [
-                                    | inl is ↦ rw (eq-eqb b 60 is) is
-                                    | inr no60 ↦ rw (ne_eqb b 60 no60)
-                                        (elim (cases_eq b 91) [
-                                          | inl is ↦ rw (eq-eqb b 91 is) is
-                                          | inr no91 ↦ rw (ne_eqb b 91 no91)
-                                              (elim (cases_eq b 98) [
-                                                | inl is ↦ rw (eq-eqb b 98 is) is
-                                                | inr no98 ↦ rw (ne_eqb b 98 no98)
-                                                    (elim (cases_eq b 104) [
-                                                      | inl is ↦ rw (eq-eqb b 104 is) is
-                                                      | inr no104 ↦ rw (ne_eqb b 104 no104)
-                                                          (elim (cases_eq b 123) [
-                                                            | inl is ↦ rw (eq-eqb b 123 is) is
-                                                            | inr no123 ↦ rw
-                                                                (ne_eqb b 123 no123) tt
-                                                          ])
-                                                    ])
-                                              ])
-                                        ])
-                                  ])
-                            ])
-                      ]
-                ]
-          ]
-    ]
+    is_or (b == 34) start.Quote _ (eqb-true b 34)
+    (is_or (b == 39) start.Apostrophe _ (eqb-true b 39)
+    (is_or (b == 40) start.Parenthesis _ (eqb-true b 40)
+    (is_or (b == 45) start.Minus _ (eqb-true b 45)
+    (is_or (nat_le 48 b && nat_le b 57) start.Digit _ (λ e. tt)
+    (is_or (b == 60) start.Angle _ (eqb-true b 60)
+    (is_or (b == 91) start.Bracket _ (eqb-true b 91)
+    (is_or (b == 98) start.LetterB _ (eqb-true b 98)
+    (is_or (b == 104) start.LetterH _ (eqb-true b 104)
+    (is_or (b == 123) start.Brace _ (eqb-true b 123) tt)))))))))
+  where
+    is_or : (test : Bool) (s t : Start) → (test ≡ true → StartIs s b) → StartIs t b → StartIs (cond test s t) b
+    is_or test s t this other = cond_both test s t (λ u. StartIs u b) this (λ e. other)
 
 -- such a text, and a blank after it
 abbrev pub Trailed : (List ℕ → Type 0) → List ℕ → Type 0
@@ -134,13 +105,13 @@ module _ (left : ℕ) (R : List ℕ → Item → Type 0) (read : List ℕ → Re
   in_kind bytes_kind g bytes h = h
   in_kind text_kind g bytes h = inr h
 
-  quoted_piece : (kind : StringKind) (g bytes : List ℕ) → may_have_texts kind ≡ true → QuotedBy 34 g bytes
+  quoted_piece : (kind : StringKind) (g bytes : List ℕ) → takes_texts kind ≡ true → QuotedBy 34 g bytes
       → PieceOf kind R g bytes
   quoted_piece bytes_kind g bytes texts h = absurd cc
   quoted_piece text_kind g bytes texts h = inl h
 
   piece_sound : (kind : StringKind) (b : ℕ) (text : List ℕ) (s : Start) → StartIs s b
-      → begins_piece (may_have_texts kind) s ≡ true
+      → begins_piece kind s ≡ true
       → Sound (suc left) (PieceFrom kind b) (b ∷ text) (piece_of read s text)
   piece_sound kind b text start.Quote is begins =
       sound_refused (suc left) (PieceFrom kind b) (b ∷ text) (unquoted 34 false text)
@@ -188,12 +159,7 @@ module _ (left : ℕ) (R : List ℕ → Item → Type 0) (read : List ℕ → Re
       (h_notation text)
       (λ g bytes h. (in_kind kind (b ∷ g) bytes (subst (λ (z : ℕ). Notation R (z ∷ g) bytes) (sym is) h), g, refl))
       (h_sound R (suc left) text))
-  piece_sound kind b text start.Parenthesis is begins = tt
-  piece_sound kind b text start.Minus is begins = tt
-  piece_sound kind b text start.Digit is begins = tt
-  piece_sound kind b text start.Bracket is begins = tt
-  piece_sound kind b text start.Brace is begins = tt
-  piece_sound kind b text start.Other is begins = tt
+  piece_sound kind b text _ is begins = tt
 
   -- ---- pieces
 
@@ -224,43 +190,43 @@ module _ (left : ℕ) (R : List ℕ → Item → Type 0) (read : List ℕ → Re
   -- the pieces from here on, by whether one begins here
   abbrev by_test : StringKind → ℕ → ℕ → List ℕ → Bool → Read (List ℕ)
   by_test kind n b text true = piece_of read (start_of b) text
-      >>= λ x. read_pieces read (may_have_texts kind) n (skip_blank x.1) >>= λ xs. Ok (x.0 ++ xs.0, xs.1)
+      >>= λ x. read_pieces read kind n (skip_blank x.1) >>= λ xs. Ok (x.0 ++ xs.0, xs.1)
   by_test kind n b text false = Ok ([], b ∷ text)
 
   pieces_by_test : (kind : StringKind) (n b : ℕ) (text : List ℕ) (t : Bool)
-      → begins_piece (may_have_texts kind) (start_of b) ≡ t
-      → read_pieces read (may_have_texts kind) (suc n) (b ∷ text) ≡ by_test kind n b text t
+      → begins_piece kind (start_of b) ≡ t
+      → read_pieces read kind (suc n) (b ∷ text) ≡ by_test kind n b text t
   unfolding read_pieces read_piece
   pieces_by_test kind n b text true is = rw (is, read_pieces) refl
   pieces_by_test kind n b text false is = rw (is, read_pieces) refl
 
   some_pieces : (kind : StringKind) (n b : ℕ) (text : List ℕ)
-      → ((rest : List ℕ) → Sound (suc left) (Pieces kind) rest (read_pieces read (may_have_texts kind) n rest))
-      → begins_piece (may_have_texts kind) (start_of b) ≡ true
-      → Sound (suc left) (SomePieces kind b) (b ∷ text) (read_pieces read (may_have_texts kind) (suc n) (b ∷ text))
+      → ((rest : List ℕ) → Sound (suc left) (Pieces kind) rest (read_pieces read kind n rest))
+      → begins_piece kind (start_of b) ≡ true
+      → Sound (suc left) (SomePieces kind b) (b ∷ text) (read_pieces read kind (suc n) (b ∷ text))
   some_pieces kind n b text later begins =
       subst (Sound (suc left) (SomePieces kind b) (b ∷ text)) (sym (pieces_by_test kind n b text true begins))
       (sound_then (suc left) (PieceFrom kind b) (SomePieces kind b) (b ∷ text) (piece_of read (start_of b) text)
-      (λ x. read_pieces read (may_have_texts kind) n (skip_blank x.1) >>= λ xs. Ok (x.0 ++ xs.0, xs.1))
+      (λ x. read_pieces read kind n (skip_blank x.1) >>= λ xs. Ok (x.0 ++ xs.0, xs.1))
       (piece_sound kind b text (start_of b) (start_is b) begins)
       (λ bytes piece rest at p.
       let blank = blank_left true rest in
       moved (suc left) (λ g content. SomePieces kind b (piece ++ g) content) rest blank.0 (skip_blank rest)
-      (read_pieces read (may_have_texts kind) n (skip_blank rest) >>= λ xs. Ok (bytes ++ xs.0, xs.1)) blank.1
+      (read_pieces read kind n (skip_blank rest) >>= λ xs. Ok (bytes ++ xs.0, xs.1)) blank.1
       (sound_map (suc left) (Pieces kind) (λ g content. SomePieces kind b (piece ++ (blank.0 ++ g)) content)
-      (skip_blank rest) (read_pieces read (may_have_texts kind) n (skip_blank rest)) (λ xs. bytes ++ xs)
+      (skip_blank rest) (read_pieces read kind n (skip_blank rest)) (λ xs. bytes ++ xs)
       (later (skip_blank rest))
       (λ g content h. joined_pieces kind b piece blank.0 bytes g content p blank.2 h))))
 
   pieces_sound : (kind : StringKind) (n : ℕ) (text : List ℕ)
-      → Sound (suc left) (Pieces kind) text (read_pieces read (may_have_texts kind) n text)
+      → Sound (suc left) (Pieces kind) text (read_pieces read kind n text)
   unfolding read_pieces
   pieces_sound kind zero text = tt
   pieces_sound kind (suc n) [] = ([], refl, inl (refl, refl))
   pieces_sound kind (suc n) (b ∷ text) =
-      elim (a_test (begins_piece (may_have_texts kind) (start_of b))) [
+      elim (a_test (begins_piece kind (start_of b))) [
         | inl begins ↦ weaker (suc left) (SomePieces kind b) (Pieces kind) (b ∷ text)
-            (read_pieces read (may_have_texts kind) (suc n) (b ∷ text)) (λ front content h. inr (b, h))
+            (read_pieces read kind (suc n) (b ∷ text)) (λ front content h. inr (b, h))
             (some_pieces kind n b text (pieces_sound kind n) begins)
         | inr other ↦
             subst (Sound (suc left) (Pieces kind) (b ∷ text)) (sym (pieces_by_test kind n b text false other))
@@ -270,20 +236,11 @@ module _ (left : ℕ) (R : List ℕ → Item → Type 0) (read : List ℕ → Re
   -- ---- strings
 
   -- a text string begins with a quote
-  quote_start : (s : Start) (b : ℕ) → StartIs s b → begins_string true s ≡ true → b ≡ 34
+  quote_start : (s : Start) (b : ℕ) → StartIs s b → begins_string text_kind s ≡ true → b ≡ 34
   quote_start start.Quote b is h = is
-  quote_start start.Apostrophe b is h = absurd cc
-  quote_start start.Parenthesis b is h = absurd cc
-  quote_start start.Minus b is h = absurd cc
-  quote_start start.Digit b is h = absurd cc
-  quote_start start.Angle b is h = absurd cc
-  quote_start start.Bracket b is h = absurd cc
-  quote_start start.LetterB b is h = absurd cc
-  quote_start start.LetterH b is h = absurd cc
-  quote_start start.Brace b is h = absurd cc
-  quote_start start.Other b is h = absurd cc
+  quote_start _ b is h = absurd cc
 
-  piece_start : (s : Start) → begins_string true s ≡ true → begins_piece true s ≡ true
+  piece_start : (s : Start) → begins_string text_kind s ≡ true → begins_piece text_kind s ≡ true
   piece_start start.Quote h = refl
   piece_start start.Apostrophe h = refl
   piece_start start.Parenthesis h = h
@@ -293,18 +250,24 @@ module _ (left : ℕ) (R : List ℕ → Item → Type 0) (read : List ℕ → Re
   piece_start start.Bracket h = h
   piece_start start.LetterB h = refl
   piece_start start.LetterH h = refl
-  piece_start start.Brace h = h
-  piece_start start.Other h = h
+  piece_start _ h = h
 
-  string_begins : (kind : StringKind) (b : ℕ) → begins_string (may_have_texts kind) (start_of b) ≡ true
-      → begins_piece (may_have_texts kind) (start_of b) ≡ true
+  string_begins : (kind : StringKind) (b : ℕ) → begins_string kind (start_of b) ≡ true
+      → begins_piece kind (start_of b) ≡ true
   string_begins bytes_kind b h = h
   string_begins text_kind b h = piece_start (start_of b) h
 
-  -- its content is UTF-8, or it is refused so
-  utf8_ok : (content : List ℕ) (c : Chunk) → checked text_kind content ≡ Ok c
-      → (c ≡ record { bytes = content; width = Unknown }) × IsUtf8 content
-  utf8_ok content c e =
+  begins_as : (kind : StringKind) (b : ℕ) (core tail : List ℕ) → begins_string kind (start_of b) ≡ true
+      → core ≡ b ∷ tail → BeginsAs kind core
+  begins_as bytes_kind b core tail begins is = tt
+  begins_as text_kind b core tail begins is =
+      (tail, is ∙ ap (λ (z : ℕ). z ∷ tail) (quote_start (start_of b) b (start_is b) begins))
+
+  -- its content is UTF-8 in a text string, or it is refused so
+  checked_is : (kind : StringKind) (content : List ℕ) (c : Chunk) → checked kind content ≡ Ok c
+      → (c ≡ record { bytes = content; width = Unknown }) × IsContent kind content
+  checked_is bytes_kind content c e = (cc, tt)
+  checked_is text_kind content c e =
       elim (a_test (is_utf8 content)) [
         | inl this ↦
             let made : Chunk = record { bytes = content; width = Unknown } in
@@ -314,31 +277,20 @@ module _ (left : ℕ) (R : List ℕ → Item → Type 0) (read : List ℕ → Re
       ]
 
   checked_ok : (kind : StringKind) (b : ℕ) (front content : List ℕ) (c : Chunk)
-      → begins_string (may_have_texts kind) (start_of b) ≡ true
+      → begins_string kind (start_of b) ≡ true
       → SomePieces kind b front content → checked kind content ≡ Ok c → Trailed (λ core. StringOf kind R core c) front
-  checked_ok bytes_kind b front content c begins pieces e =
-      let made : Chunk = record { bytes = content; width = Unknown } in
-      let is : made ≡ c = cc in (
+  checked_ok kind b front content c begins pieces e =
+      let is = checked_is kind content c e in (
         pieces.0,
         pieces.1,
         pieces.3,
-        subst (λ (d : Chunk). StringOf bytes_kind R pieces.0 d) is
-            (refl, tt, pieces.4, tt),
-        pieces.5,
-      )
-  checked_ok text_kind b front content c begins pieces e =
-      let u = utf8_ok content c e in
-      let quote : b ≡ 34 = quote_start (start_of b) b (start_is b) begins in (
-        pieces.0,
-        pieces.1,
-        pieces.3,
-        subst (λ (d : Chunk). StringOf text_kind R pieces.0 d) (sym u.0)
-            (refl, (pieces.2, pieces.6 ∙ ap (λ (z : ℕ). z ∷ pieces.2) quote), pieces.4, u.1),
+        subst (λ (d : Chunk). StringOf kind R pieces.0 d) (sym is.0)
+            (refl, begins_as kind b pieces.0 pieces.2 begins pieces.6, pieces.4, is.1),
         pieces.5,
       )
 
   checked_odd : (kind : StringKind) (b : ℕ) (text content : List ℕ) (e : Error)
-      → begins_string (may_have_texts kind) (start_of b) ≡ true
+      → begins_string kind (start_of b) ≡ true
       → checked kind content ≡ Err e → MayRefuse (suc left) (b ∷ text) e
   checked_odd bytes_kind b text content e begins is = absurd cc
   checked_odd text_kind b text content e begins is =
@@ -351,15 +303,15 @@ module _ (left : ℕ) (R : List ℕ → Item → Type 0) (read : List ℕ → Re
             subst (MayRefuse (suc left) (b ∷ text)) same (subst (λ (z : ℕ). HoldsByte 34 (z ∷ text)) (sym quote) held)
       ]
 
-  of_test : (kind : StringKind) (text : List ℕ) (t : Bool) → begins_string (may_have_texts kind) (first_start text) ≡ t
+  of_test : (kind : StringKind) (text : List ℕ) (t : Bool) → begins_string kind (first_start text) ≡ t
       → Sound (suc left) (λ g c. Trailed (λ core. StringOf kind R core c) g) text
-      (content_of read (may_have_texts kind) text t >>= λ x. checked kind x.0 >>= λ c. Ok (c, x.1))
+      (content_of read kind text t >>= λ x. checked kind x.0 >>= λ c. Ok (c, x.1))
   of_test kind text false is = tt
   of_test bytes_kind [] true is = absurd cc
   of_test text_kind [] true is = absurd cc
   of_test kind (b ∷ text) true is =
       sound_check (suc left) (SomePieces kind b) (λ g c. Trailed (λ core. StringOf kind R core c) g) (b ∷ text)
-      (read_pieces read (may_have_texts kind) (suc (length (b ∷ text))) (b ∷ text)) (checked kind)
+      (read_pieces read kind (suc (length (b ∷ text))) (b ∷ text)) (checked kind)
       (some_pieces kind (length (b ∷ text)) b text (pieces_sound kind (length (b ∷ text))) (string_begins kind b is))
       (λ front content c pieces ok. checked_ok kind b front content c is pieces ok)
       (λ front rest content e at pieces odd. checked_odd kind b text content e is odd)
@@ -367,7 +319,7 @@ module _ (left : ℕ) (R : List ℕ → Item → Type 0) (read : List ℕ → Re
   pub string_sound : (kind : StringKind) (text : List ℕ)
       → Sound (suc left) (λ g c. Trailed (λ core. StringOf kind R core c) g) text (read_string read kind text)
   unfolding read_string
-  string_sound kind text = of_test kind text (begins_string (may_have_texts kind) (first_start text)) refl
+  string_sound kind text = of_test kind text (begins_string kind (first_start text)) refl
 
   -- ---- chunks
 

@@ -25,12 +25,7 @@ may_later levels text front rest refusal.TooDeep is h = rw is (omega (arith, cou
 may_later levels text front rest refusal.PastWidth is h = rw is (omega (arith, count_front (λ b. b == 95) front rest))
 may_later levels text front rest refusal.Utf8 is h = rw is (omega (arith, count_front (λ b. b == 34) front rest))
 may_later levels text front rest refusal.Notation is h = tt
-may_later levels text front rest refusal.Memory is h = absurd h
-may_later levels text front rest refusal.CutShort is h = absurd h
-may_later levels text front rest refusal.Head is h = absurd h
-may_later levels text front rest refusal.Remaining is h = absurd h
-may_later levels text front rest refusal.OddHex is h = absurd h
-may_later levels text front rest refusal.BadHex is h = absurd h
+may_later levels text front rest _ is h = absurd h
 
 -- after an opening one level less is left
 pub may_open : (levels : ℕ) (text front : List ℕ) (b : ℕ) (rest : List ℕ) (e : Error) → text ≡ front ++ b ∷ rest
@@ -44,12 +39,7 @@ may_open levels text front b rest refusal.PastWidth is opens h =
 may_open levels text front b rest refusal.Utf8 is opens h =
     rw is (omega (arith, count_front (λ b. b == 34) front (b ∷ rest), count_front (λ b. b == 34) (b ∷ []) rest))
 may_open levels text front b rest refusal.Notation is opens h = tt
-may_open levels text front b rest refusal.Memory is opens h = absurd h
-may_open levels text front b rest refusal.CutShort is opens h = absurd h
-may_open levels text front b rest refusal.Head is opens h = absurd h
-may_open levels text front b rest refusal.Remaining is opens h = absurd h
-may_open levels text front b rest refusal.OddHex is opens h = absurd h
-may_open levels text front b rest refusal.BadHex is opens h = absurd h
+may_open levels text front b rest _ is opens h = absurd h
 
 -- ---- readers
 

@@ -1,11 +1,9 @@
 -- Strings: notations of bytes, pieces, chunks.
-use Rattle.std.proofs.Common.{◌≡◌, ℕ, Bool, true, false, List, [], ◌∷◌, ◌++◌, codes, map, Option, Some, None, Result}
-use Rattle.std.proofs.Common.{Ok, Err, refl, sym, ap, subst, ◌∙◌, append_assoc, ◌⊎◌, inl, inr}
+use Rattle.std.proofs.Common.{◌≡◌, ℕ, Bool, true, false, List, [], ◌∷◌, ◌++◌, codes, Option, Some, None, Result}
+use Rattle.std.proofs.Common.{Ok, Err, refl, sym, ap, ◌∙◌, append_assoc, inl, inr}
 use Rattle.hex.specs.declared.error.FromHexError.{FromHexError}
 use Rattle.hex.specs.Hex.{decode_of}
-use Rattle.cbor_notes.specs.AreBytes.{AreBytes}
 use Rattle.cbor_notes.specs.Base32 as base32
-use Rattle.cbor_notes.specs.Base64 as base64
 use Rattle.cbor_notes.specs.TokenReading.{digits_of}
 use Rattle.cbor_notes.proofs.tokens.Spaced.{DigitsBetween-digits_of}
 use Rattle.cbor_diag.specs.Item.{Item}
@@ -13,12 +11,10 @@ use Rattle.cbor_diag.specs.View.{items_of}
 use Rattle.cbor_diag.specs.Reading.{Read, ◌>>=◌}
 use Rattle.cbor_diag.specs.Notation.{Closes, Further, Members, list_of, DigitsIn, Notation, in_base16, in_base32}
 use Rattle.cbor_diag.specs.Notation.{in_base32hex, in_base64}
-use Rattle.cbor_diag.specs.mirror.NotationReading.{or_refused, after_word, if_encoded, from_fives, from_sixes, six_bits}
-use Rattle.cbor_diag.specs.mirror.NotationReading.{value_in, unpadded, base32_of, base32hex_of, either, base64_of}
-use Rattle.cbor_diag.specs.mirror.NotationReading.{base16_bytes, base16_of, read_decoded, either_word, h_notation}
-use Rattle.cbor_diag.specs.mirror.NotationReading.{b_notation}
+use Rattle.cbor_diag.specs.mirror.NotationReading.{or_refused, after_word, base32_of, base64_of, base16_bytes}
+use Rattle.cbor_diag.specs.mirror.NotationReading.{base16_of, read_decoded, either_word, h_notation, b_notation}
 use Rattle.cbor_diag.proofs.notation.sound.Steps.{none_some, Sound, moved, sound_option, after_word_is}
-use Rattle.cbor_diag.proofs.notation.sound.Digits.{fives_are_bytes, sixes_are_bytes, encoded_so}
+use Rattle.cbor_diag.proofs.notation.DigitsFound.{base32_found, base64_found}
 
 -- ---- one notation of bytes
 
@@ -76,44 +72,6 @@ module _ (R : List ℕ → Item → Type 0) where
       → Notation R text bytes
   from_base16 text digits bytes within e = in_base16 digits within (base16_so digits bytes (decode_of digits) refl e)
 
-  from_base32 : (text digits bytes : List ℕ) → DigitsIn true (codes "b32'") text digits → base32_of digits ≡ Some bytes
-      → Notation R text bytes
-  unfolding base32_of
-  from_base32 text digits bytes within e =
-      let values = map (value_in (codes "ABCDEFGHIJKLMNOPQRSTUVWXYZ234567")) (unpadded digits) in
-      let so = encoded_so base32.base32 digits (from_fives values) bytes e in
-      in_base32 digits within (subst AreBytes so.0 (fives_are_bytes values)) (sym so.1 ∙ ap base32.base32 so.0)
-
-  from_base32hex : (text digits bytes : List ℕ) → DigitsIn true (codes "h32'") text digits
-      → base32hex_of digits ≡ Some bytes → Notation R text bytes
-  unfolding base32hex_of
-  from_base32hex text digits bytes within e =
-      let values = map (value_in (codes "0123456789ABCDEFGHIJKLMNOPQRSTUV")) (unpadded digits) in
-      let so = encoded_so base32.base32hex digits (from_fives values) bytes e in
-      in_base32hex digits within (subst AreBytes so.0 (fives_are_bytes values)) (sym so.1 ∙ ap base32.base32hex so.0)
-
-  either_so : (digits tried bytes : List ℕ) (first : Option (List ℕ)) → if_encoded base64.url_safe digits tried ≡ first
-      → either first (if_encoded base64.standard digits tried) ≡ Some bytes
-      → (tried ≡ bytes) × ((base64.url_safe tried ≡ digits) ⊎ (base64.standard tried ≡ digits))
-  either_so digits tried bytes (Some out) is e =
-      let so = encoded_so base64.url_safe digits tried bytes (is ∙ e) in
-      (so.0, inl so.1)
-  either_so digits tried bytes None is e =
-      let so = encoded_so base64.standard digits tried bytes e in
-      (so.0, inr so.1)
-
-  from_base64 : (text digits bytes : List ℕ) → DigitsIn false (codes "b64'") text digits → base64_of digits ≡ Some bytes
-      → Notation R text bytes
-  unfolding base64_of
-  from_base64 text digits bytes within e =
-      let tried = from_sixes (map six_bits (unpadded digits)) in
-      let so = either_so digits tried bytes (if_encoded base64.url_safe digits tried) refl e in
-      in_base64 digits within (subst AreBytes so.0 (sixes_are_bytes (unpadded digits)))
-      (elim so.1 [
-        | inl url ↦ inl (sym url ∙ ap base64.url_safe so.0)
-        | inr plain ↦ inr (sym plain ∙ ap base64.standard so.0)
-      ])
-
   -- after the opened quote of a notation
   decoded_sound : (levels : ℕ) (comments : Bool) (decode : List ℕ → Option (List ℕ)) (word : List ℕ)
       → ((text digits bytes : List ℕ) → DigitsIn comments word text digits → decode digits ≡ Some bytes
@@ -148,16 +106,19 @@ module _ (R : List ℕ → Item → Type 0) where
       → Sound levels (λ g bytes. Notation R (104 ∷ g) bytes) text (h_notation text)
   h_sound levels text =
       either_sound levels (λ g bytes. Notation R (104 ∷ g) bytes) text (codes "'") (codes "32'")
-      (read_decoded true base16_of) (read_decoded true base32hex_of)
+      (read_decoded true base16_of) (read_decoded true (base32_of base32.extended_hex))
       (decoded_sound levels true base16_of (codes "h'") from_base16)
-      (decoded_sound levels true base32hex_of (codes "h32'") from_base32hex)
+      (decoded_sound levels true (base32_of base32.extended_hex) (codes "h32'") (λ text digits bytes within e.
+      let found = base32_found base32.extended_hex digits bytes e in in_base32hex digits within found.0 found.1))
       (after_word (codes "'") text) (after_word (codes "32'") text) refl refl
 
   pub b_sound : (levels : ℕ) (text : List ℕ)
       → Sound levels (λ g bytes. Notation R (98 ∷ g) bytes) text (b_notation text)
   b_sound levels text =
       either_sound levels (λ g bytes. Notation R (98 ∷ g) bytes) text (codes "32'") (codes "64'")
-      (read_decoded true base32_of) (read_decoded false base64_of)
-      (decoded_sound levels true base32_of (codes "b32'") from_base32)
-      (decoded_sound levels false base64_of (codes "b64'") from_base64)
+      (read_decoded true (base32_of base32.standard)) (read_decoded false base64_of)
+      (decoded_sound levels true (base32_of base32.standard) (codes "b32'") (λ text digits bytes within e.
+      let found = base32_found base32.standard digits bytes e in in_base32 digits within found.0 found.1))
+      (decoded_sound levels false base64_of (codes "b64'") (λ text digits bytes within e.
+      let found = base64_found digits bytes e in in_base64 digits within found.0 found.1))
       (after_word (codes "32'") text) (after_word (codes "64'") text) refl refl

@@ -1,24 +1,24 @@
 -- Numbers, tags, simple values and floats.
-use Rattle.std.proofs.Common.{◌≡◌, ℕ, zero, suc, ◌+◌, ◌-◌, ◌<◌, ◌^◌, true, not, ◌==◌, ◌&&◌, cond, nat_lt, List, [], ◌∷◌}
+use Rattle.std.proofs.Common.{◌≡◌, ℕ, zero, suc, ◌+◌, ◌-◌, ◌<◌, ◌^◌, true, ◌==◌, ◌&&◌, cond, nat_lt, List, [], ◌∷◌}
 use Rattle.std.proofs.Common.{◌++◌, codes, length, take, drop, Option, Some, None, Result, Ok, Err, refl, sym, ap}
-use Rattle.std.proofs.Common.{subst, ◌∙◌, append_assoc, append-nil, length-append, ◌⊎◌, inl, inr, arith}
-use Rattle.std.specs.List.{prefix_len, position, list_all}
+use Rattle.std.proofs.Common.{Bool, get_or, subst, ◌∙◌, append_assoc, append-nil, length-append, ◌⊎◌, inl, inr, arith}
+use Rattle.std.specs.List.{position, list_all}
 use Rattle.std.specs.Char.{digit_value}
 use Rattle.std.specs.Str.Parse.{AllDigits, digits_value}
 use Rattle.std.proofs.Math.Seq.{take-append_seam}
-use Rattle.std.proofs.lemmas.Bool.{cases_eq, eq-eqb, ne_eqb, and_parts}
-use Rattle.std.proofs.lemmas.List.{length-take-le}
-use Rattle.std.proofs.lemmas.List.Sums.{sum_by-append, sum_by-cons}
+use Rattle.std.proofs.lemmas.Bool.{cond_both, eqb-true, and_parts}
+use Rattle.std.proofs.lemmas.List.{length-take-le, take-append-drop}
+use Rattle.std.proofs.lemmas.List.Sums.{passes_at_first, sum_by-append, sum_by-cons}
 use borrow.Author.Tests.{ltb-true}
 use Rattle.cbor_notes.specs.Token.{IsNumber, AreDigits}
 use Rattle.cbor_notes.specs.TokenReading.{number_of}
 use Rattle.cbor_notes.proofs.tokens.NumberParts.{behind_underscore, decimal_number}
 use Rattle.cbor_notes.proofs.tokens.Numbers.{IsNumber-number_of}
+use Rattle.cbor_notes.proofs.tokens.TextPlaces.{first_at, from_byte}
 use Rattle.cbor_diag.specs.declared.error.Error.{Error}
 use Rattle.cbor_diag.specs.declared.error.Error.TheVariants as refusal
 use Rattle.cbor_diag.specs.declared.syntax.IntegerWidth.{IntegerWidth}
-use Rattle.cbor_diag.specs.declared.syntax.IntegerWidth.TheVariants.{Unknown, Zero, Eight, Sixteen, ThirtyTwo}
-use Rattle.cbor_diag.specs.declared.syntax.IntegerWidth.TheVariants.{SixtyFour}
+use Rattle.cbor_diag.specs.declared.syntax.IntegerWidth.TheVariants.{Unknown}
 use Rattle.cbor_diag.specs.declared.syntax.FloatWidth.{FloatWidth}
 use Rattle.cbor_diag.specs.declared.syntax.FloatWidth.TheVariants as float_width_of
 use Rattle.cbor_diag.specs.Item.{Item, atom, negative, float, simple, tagged}
@@ -45,11 +45,7 @@ SizedSo n indicator (Err e) = OddNumber indicator e
 
 fits_past : (w : IntegerWidth) (n : ℕ) → n < past_width w → FitsWidth w n
 fits_past Unknown n h = h
-fits_past Zero n h = h
-fits_past Eight n h = h
-fits_past Sixteen n h = h
-fits_past ThirtyTwo n h = h
-fits_past SixtyFour n h = h
+fits_past _ n h = h
 
 fits_open : (n : ℕ) → n < 2 ^ 64 → FitsWidth (number_width n None) n
 fits_open n h =
@@ -276,54 +272,27 @@ module _ (left : ℕ) (R : List ℕ → Item → Type 0) (read : List ℕ → Re
 
   float_width : (count : ℕ) (w : FloatWidth) → float_of count ≡ Some w → FloatDigits w count
   float_width count w e =
-      elim (cases_eq count 4) [
-        | inl four ↦ let same : Some float_width_of.Sixteen ≡ Some w =
-            rw (eq-eqb count 4 four) at e in subst (λ (v : FloatWidth). FloatDigits v count)
-            (let is : float_width_of.Sixteen ≡ w = cc in is) four
-        | inr no4 ↦ elim (cases_eq count 8) [
-          | inl eight ↦ let same : Some float_width_of.ThirtyTwo ≡ Some w =
-              rw (ne_eqb count 4 no4, eq-eqb count 8 eight) at e in subst (λ (v : FloatWidth). FloatDigits v count)
-              (let is : float_width_of.ThirtyTwo ≡ w = cc in is) eight
-          | inr no8 ↦ elim (cases_eq count 16) [
-            | inl sixteen ↦ let same : Some float_width_of.SixtyFour ≡ Some w =
-                rw (ne_eqb count 4 no4, ne_eqb count 8 no8, eq-eqb count 16 sixteen) at e in subst
-                (λ (v : FloatWidth). FloatDigits v count) (let is : float_width_of.SixtyFour ≡ w = cc in is) sixteen
-            | inr no16 ↦ absurd (none_some w (rw (ne_eqb count 4 no4, ne_eqb count 8 no8, ne_eqb count 16 no16) at e))
-          ]
-        ]
-      ]
-
-  abbrev before_apostrophe : List ℕ → ℕ
-  before_apostrophe text = prefix_len (λ b. not (b == 39)) text
-
-  at_apostrophe : (text : List ℕ) → before_apostrophe text < length text
-      → text ≡ take (before_apostrophe text) text ++ 39 ∷ drop (before_apostrophe text + 1) text
-  at_apostrophe [] h = absurd (omega arith)
-  at_apostrophe (b ∷ text) h =
-      elim (cases_eq b 39) [
-        | inl is ↦ let e = eq-eqb b 39 is in rw e (ap (λ (z : ℕ). z ∷ text) is)
-        | inr other ↦
-            let e = ne_eqb b 39 other in
-            let n = before_apostrophe text in
-            let later : n < length text = omega (arith, rw e at h) in
-            let one : 1 + n ≡ suc n = omega arith in
-            let two : suc n + 1 ≡ suc (n + 1) = omega arith in
-            rw (e, one, two) (ap (λ (z : List ℕ). b ∷ z) (at_apostrophe text later))
-      ]
+      width_or (count == 4) float_width_of.Sixteen _ (eqb-true count 4)
+      (width_or (count == 8) float_width_of.ThirtyTwo _ (eqb-true count 8)
+      (width_or (count == 16) float_width_of.SixtyFour _ (eqb-true count 16) (λ never. absurd (none_some w never)))) e
+    where
+      width_or : (test : Bool) (v : FloatWidth) (o : Option FloatWidth) → (test ≡ true → FloatDigits v count)
+          → (o ≡ Some w → FloatDigits w count) → cond test (Some v) o ≡ Some w → FloatDigits w count
+      width_or test v o this other = cond_both test (Some v) o (λ r. r ≡ Some w → FloatDigits w count)
+          (λ passes is. let same : v ≡ w = cc in subst (λ (x : FloatWidth). FloatDigits x count) same (this passes))
+          (λ fails. other)
 
   position_is : (text : List ℕ) (count : ℕ) → position (λ b. b == 39) text ≡ Some count
       → (count < length text) × (text ≡ take count text ++ 39 ∷ drop (count + 1) text)
   position_is text count e =
-      let n = before_apostrophe text in
-      elim (a_test (nat_lt n (length text))) [
-        | inl this ↦
-            let few = ltb-true n (length text) this in
-            let same : Some n ≡ Some count = rw this at e in
-            let is : n ≡ count = cc in
-            subst (λ (k : ℕ). (k < length text) × (text ≡ take k text ++ 39 ∷ drop (k + 1) text)) is
-            (few, at_apostrophe text few)
-        | inr other ↦ absurd (none_some count (rw other at e))
-      ]
+      let first = first_at (λ b. b == 39) text (Some count) count (sym e) refl in
+      let found : (get_or text count 0 == 39) ≡ true =
+      rw first.0 (passes_at_first (λ b. b == 39) text 0 (rw first.0 at first.1)) in (
+        first.1,
+        sym (take-append-drop count text)
+            ∙ ap (λ (z : List ℕ). take count text ++ z)
+            (from_byte text count 39 first.1 (eqb-true (get_or text count 0) 39 found)),
+      )
 
   -- after `float'`
   pub float_sound : (text : List ℕ) → Sound (suc left) (λ g i. Core R (codes "float'" ++ g) i) text (read_float text)

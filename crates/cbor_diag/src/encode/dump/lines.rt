@@ -4,13 +4,11 @@ ghost use Rattle.std.specs.List.{AllByRecursion};
 ghost use Rattle.std.specs.Str.{IsCharBoundary};
 ghost use Rattle.cbor_diag.specs.Head.{FitsWidth};
 ghost use Rattle.cbor_diag.specs.mirror.MajorNumber.{major_number};
-ghost use Rattle.cbor_diag.specs.WellFormed.{deepest, FitsCount, FitsFloat};
-ghost use Rattle.cbor_diag.specs.WellFormed.{IsChunk};
+ghost use Rattle.cbor_diag.specs.WellFormed.{deepest, FitsCount, FitsFloat, IsChunk};
 ghost use Rattle.cbor_diag.specs.mirror.StringView.{bytes_of, kind_of};
 ghost use Rattle.cbor_diag.specs.Written.{encoded_head, encoded_float, encoded_simple};
 ghost use Rattle.cbor_diag.specs.Comments.{float_comment, text_comment, simple_comment};
-ghost use Rattle.cbor_diag.specs.Pieces.{text_pieces};
-ghost use Rattle.cbor_diag.specs.Pieces.{text_cut as cut_of};
+ghost use Rattle.cbor_diag.specs.Pieces.{text_pieces, text_cut as cut_of};
 ghost use Rattle.cbor_diag.specs.Dump as spec;
 ghost use Rattle.cbor_diag.specs.mirror.ShownLines.{comment_text, head_comment, major_word};
 ghost use Rattle.cbor_diag.specs.mirror.EncodingView.{in_force};
@@ -299,7 +297,10 @@ impl Lines {
     {
         let content = string.content();
         let length = content.as_bytes().len() as u64;
-        self.number(context.depth, Head::new(S::kind().major(), length, string.width()))?;
+        self.number(
+            context.depth,
+            Head::new(S::kind().major(), length, string.width()),
+        )?;
         self.string_content(context, content)
     }
 

@@ -4,8 +4,7 @@
 //! Each function takes a budget of characters and returns what its part leaves of it: 0 where
 //! the part takes all of it or more. Nothing after that is looked at, so an item is looked at
 //! in steps that the budget bounds, however large it is.
-ghost use Rattle.std.specs.Prelude.{◌≡◌, ◌+◌, ◌-◌, ◌*◌, ◌^◌, ◌≤◌, nat_lt, map};
-ghost use Rattle.std.specs.Prelude.{if◌then◌else◌};
+ghost use Rattle.std.specs.Prelude.{◌≡◌, ◌+◌, ◌-◌, ◌*◌, ◌^◌, ◌≤◌, nat_lt, map, if◌then◌else◌};
 ghost use Rattle.cbor_diag.specs.View.{view, items_view, pairs_view};
 ghost use Rattle.cbor_diag.specs.ContainerStyle as style;
 ghost use Rattle.cbor_diag.specs.mirror.LayoutView.{layout_view, style_view};

@@ -4,21 +4,18 @@
 
 ghost use Rattle.std.specs.Prelude.{◌≡◌, ◌∷◌, [], ◌++◌, ◌<◌, ◌≤◌, ◌^◌, map};
 ghost use Rattle.cbor_diag.specs.mirror.Appends.{AppendsText};
-ghost use Rattle.cbor_diag.specs.StringKind.{StringKind, major_of};
+ghost use Rattle.cbor_diag.specs.StringKind.{no_chunks};
 ghost use Rattle.cbor_diag.specs.WellFormed.{deepest};
+ghost use Rattle.cbor_diag.specs.mirror.StringView.{kind_view};
 ghost use Rattle.cbor_diag.specs.mirror.LayoutView.{style_view, context_view, chunks_there};
-ghost use Rattle.cbor_diag.specs.mirror.LayoutView.{IsIndented};
-ghost use Rattle.cbor_diag.specs.mirror.MajorNumber.{major_number};
-ghost use Rattle.cbor_diag.specs.mirror.LayoutView.{before_member, after_member};
-ghost use Rattle.cbor_diag.specs.NotationText.{line, last_line, opened, colon};
-ghost use Rattle.cbor_diag.specs.NotationText.{style_indent};
-ghost use Rattle.cbor_diag.specs.NotationText.{no_chunks, rest_text};
+ghost use Rattle.cbor_diag.specs.mirror.LayoutView.{IsIndented, before_member, after_member};
+ghost use Rattle.cbor_diag.specs.NotationText.{line, last_line, opened, colon, style_indent};
+ghost use Rattle.cbor_diag.specs.NotationText.{rest_text};
 
 use super::context::{ContainerStyle, Layout, NotationContext};
 use super::scalars::{push_quoted, push_string};
 use crate::syntax::IntegerWidth;
-use crate::syntax::major::Major;
-use crate::syntax::strings::DefiniteString;
+use crate::syntax::strings::{DefiniteString, StringKind};
 use std::alloc::AllocError;
 
 /// A line feed, and as many blanks as are written with it at once.
@@ -140,7 +137,7 @@ pub(crate) fn push_chunks<S: DefiniteString>(
         (chunks_there context.now S.kind (map S.chunk chunks.now)) }
 {
     if chunks.is_empty() {
-        return push_no_chunks(out, S::kind().major());
+        return push_no_chunks(out, S::kind());
     }
     let style = context.layout.chunks_style(chunks);
     push_opening(out, '(', None, style)?;
@@ -154,14 +151,13 @@ pub(crate) fn push_chunks<S: DefiniteString>(
     push_closing(out, style, ')')
 }
 
-/// Writes an indefinite string of no chunks, of this major type.
-fn push_no_chunks(out: &mut String, major: Major) -> Result<(), AllocError>
-    ensures { (kind : StringKind) → major_number major ≡ major_of kind
-        → AppendsText result out.old out.new (no_chunks kind) }
+/// Writes an indefinite string of this kind that has no chunks.
+fn push_no_chunks(out: &mut String, kind: StringKind) -> Result<(), AllocError>
+    ensures { AppendsText result out.old out.new (no_chunks (kind_view kind)) }
 {
-    match major {
-        Major::Text => out.push_str("\"\"_"),
-        _ => out.push_str("''_"),
+    match kind {
+        StringKind::Bytes => out.push_str("''_"),
+        StringKind::Text => out.push_str("\"\"_"),
     }
 }
 

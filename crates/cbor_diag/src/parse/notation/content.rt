@@ -2,10 +2,11 @@
 ghost use Rattle.std.specs.Prelude.{◌≡◌, ◌⊎◌, ◌<◌, length, true, false, option_map, IfOk, IfErr};
 ghost use Rattle.std.specs.Prelude.{IfSome, Some, None, Err, position};
 ghost use Rattle.cbor_diag.specs.Reading.{Gives};
+ghost use Rattle.cbor_notes.specs.Base32.{standard, extended_hex};
 ghost use Rattle.cbor_notes.specs.Token.{is_special};
 ghost use Rattle.cbor_notes.specs.TokenReading.{unquoted, digits_of};
 ghost use Rattle.cbor_diag.specs.mirror.NotationReading.{or_refused, base16_of, base32_of};
-ghost use Rattle.cbor_diag.specs.mirror.NotationReading.{base32hex_of, base64_of, read_decoded};
+ghost use Rattle.cbor_diag.specs.mirror.NotationReading.{base64_of, read_decoded};
 ghost use Rattle.cbor_diag.specs.mirror.NotationReading.{h_notation, b_notation};
 
 use super::scan::{after_byte, after_word};
@@ -93,22 +94,18 @@ fn read_base16(alloc: Global, text: &[u8]) -> Result<(Vec<u8>, &[u8])>
 
 /// The bytes that base 32 digits encode.
 fn base32(alloc: Global, digits: &[u8]) -> Result<Vec<u8>>
-    ensures { Gives (λ x. x.items) result (or_refused (base32_of digits.now)) }
+    ensures { Gives (λ x. x.items) result (or_refused (base32_of standard digits.now)) }
 {
-    match cbor_notes::base32_decode(alloc, digits)? {
-        Some(bytes) => Ok(bytes),
-        None => Err(Error::Notation),
-    }
+    let found = cbor_notes::base32_decode(alloc, digits)?;
+    found.ok_or(Error::Notation)
 }
 
 /// The bytes that digits of base 32 with the extended hex alphabet encode.
 fn base32hex(alloc: Global, digits: &[u8]) -> Result<Vec<u8>>
-    ensures { Gives (λ x. x.items) result (or_refused (base32hex_of digits.now)) }
+    ensures { Gives (λ x. x.items) result (or_refused (base32_of extended_hex digits.now)) }
 {
-    match cbor_notes::base32hex_decode(alloc, digits)? {
-        Some(bytes) => Ok(bytes),
-        None => Err(Error::Notation),
-    }
+    let found = cbor_notes::base32hex_decode(alloc, digits)?;
+    found.ok_or(Error::Notation)
 }
 
 /// The bytes that base 64 digits encode, in the alphabet for URLs without padding or in the
@@ -116,10 +113,8 @@ fn base32hex(alloc: Global, digits: &[u8]) -> Result<Vec<u8>>
 fn base64(alloc: Global, digits: &[u8]) -> Result<Vec<u8>>
     ensures { Gives (λ x. x.items) result (or_refused (base64_of digits.now)) }
 {
-    match cbor_notes::base64_any_decode(alloc, digits)? {
-        Some(bytes) => Ok(bytes),
-        None => Err(Error::Notation),
-    }
+    let found = cbor_notes::base64_any_decode(alloc, digits)?;
+    found.ok_or(Error::Notation)
 }
 
 /// The bytes of `h'..'` or `h32'..'` after the `h`.

@@ -42,10 +42,7 @@ pub(super) fn expect_byte(text: &[u8], byte: u8) -> Result<&[u8]>
     ensures gives { Gives (λ x. x.now) result (or_refused (after_byte byte text.now)) }
     ensures shorter { IfOk result (λ x. length x.now < length text.now) }
 {
-    match after_byte(text, byte) {
-        Some(rest) => Ok(rest),
-        None => Err(Error::Notation),
-    }
+    after_byte(text, byte).ok_or(Error::Notation)
 }
 
 /// The text after this word, if it begins with it.

@@ -1,7 +1,10 @@
 //! What begins with which byte.
 ghost use Rattle.std.specs.Prelude.{◌≡◌, ◌≤◌, length};
 ghost use Rattle.cbor_diag.specs.mirror.NotationReading.{begins_piece, begins_string, first_start};
-ghost use Rattle.cbor_diag.specs.mirror.NotationReading.{rest_of, start_of};
+ghost use Rattle.cbor_diag.specs.mirror.NotationReading.{kind_from, rest_of, start_of};
+ghost use Rattle.cbor_diag.specs.mirror.StringView.{kind_view};
+
+use crate::syntax::strings::StringKind;
 
 /// What an item, or a piece of a string, begins with.
 #[derive(Clone, Copy)]
@@ -73,24 +76,32 @@ impl Start {
         start
     }
 
-    /// Whether a string begins so: a text string if `texts` is set, and a byte string otherwise.
-    /// The first piece of a text string is a text.
-    pub(super) fn begins_string(self, texts: bool) -> bool
-        ensures { result ≡ begins_string texts self }
+    /// The kind of an indefinite string whose first chunk begins so.
+    pub(super) fn kind(self) -> StringKind
+        ensures { kind_view result ≡ kind_from self }
     {
-        if texts {
-            matches!(self, Start::Quote)
-        } else {
-            self.begins_piece(false)
+        match self {
+            Start::Quote => StringKind::Text,
+            _ => StringKind::Bytes,
         }
     }
 
-    /// Whether a piece of a string begins so. A text is one only if `texts` is set.
-    pub(super) fn begins_piece(self, texts: bool) -> bool
-        ensures { result ≡ begins_piece texts self }
+    /// Whether a string of this kind begins so. The first piece of a text string is a text.
+    pub(super) fn begins_string(self, kind: StringKind) -> bool
+        ensures { result ≡ begins_string (kind_view kind) self }
+    {
+        match kind {
+            StringKind::Bytes => self.begins_piece(kind),
+            StringKind::Text => matches!(self, Start::Quote),
+        }
+    }
+
+    /// Whether a piece of a string of this kind begins so. Texts are pieces of text strings only.
+    pub(super) fn begins_piece(self, kind: StringKind) -> bool
+        ensures { result ≡ begins_piece (kind_view kind) self }
     {
         match self {
-            Start::Quote => texts,
+            Start::Quote => matches!(kind, StringKind::Text),
             Start::Apostrophe | Start::Angle | Start::LetterB | Start::LetterH => true,
             Start::Parenthesis
             | Start::Minus

@@ -11,16 +11,14 @@ ghost use Rattle.cbor_diag.specs.View.{view, items_view};
 ghost use Rattle.cbor_diag.specs.WellFormed.{levels_left, WellFormed, WellFormedItems, IsChunk};
 ghost use Rattle.cbor_diag.specs.StringKind.{bytes_kind, text_kind};
 ghost use Rattle.cbor_diag.specs.Written.{encoded_items};
-ghost use Rattle.cbor_diag.specs.Item.{Item, atom};
+ghost use Rattle.cbor_diag.specs.Item.{Item, atom, chunked_string};
 ghost use Rattle.cbor_diag.specs.Reading.{Gives, Read};
-ghost use Rattle.cbor_diag.specs.mirror.NotationReading.{base16_of, read_byte_string};
-ghost use Rattle.cbor_diag.specs.mirror.NotationReading.{read_text_string, checked, read_chunk};
-ghost use Rattle.cbor_diag.specs.mirror.NotationReading.{read_chunks, read_embedded, ends_string};
-ghost use Rattle.cbor_diag.specs.mirror.NotationReading.{read_item, read_members, one_string};
-ghost use Rattle.cbor_diag.specs.mirror.NotationReading.{read_piece, read_pieces, read_string};
-ghost use Rattle.cbor_diag.specs.mirror.NotationReading.{chunks_atom, kind_with, read_content};
-ghost use Rattle.cbor_diag.specs.mirror.NotationReading.{with_chunk};
-ghost use Rattle.cbor_diag.specs.mirror.StringView.{chunk_list, list_kind};
+ghost use Rattle.cbor_diag.specs.mirror.NotationReading.{base16_of, read_string_item, checked};
+ghost use Rattle.cbor_diag.specs.mirror.NotationReading.{read_chunk, read_chunks, read_embedded};
+ghost use Rattle.cbor_diag.specs.mirror.NotationReading.{ends_string, read_item, read_members};
+ghost use Rattle.cbor_diag.specs.mirror.NotationReading.{one_string, read_piece, read_pieces};
+ghost use Rattle.cbor_diag.specs.mirror.NotationReading.{read_string, read_content, with_chunk};
+ghost use Rattle.cbor_diag.specs.mirror.StringView.{chunk_list, kind_view, list_kind};
 
 use super::content::{b_notation, base16, h_notation, read_plain, read_quoted};
 use super::read_items;
@@ -28,7 +26,7 @@ use super::scan::{after_blank, after_byte, after_end, after_word, expect_byte};
 use super::start::Start;
 use crate::encode::push_items;
 use crate::error::Error;
-use crate::syntax::strings::DefiniteString;
+use crate::syntax::strings::{DefiniteString, StringKind};
 use crate::syntax::{ByteString, DataItem, IntegerWidth, TextString};
 use memchr::memchr;
 use std::alloc::{AllocError, Global};
@@ -51,15 +49,14 @@ enum Chunks {
 }
 
 impl Chunks {
-    /// No chunks yet: of a text string if `texts` is set, and of a byte string otherwise.
-    fn new(alloc: Global, texts: bool) -> Chunks
+    /// No chunks yet, of a string of this kind.
+    fn new(alloc: Global, kind: StringKind) -> Chunks
         ensures none { chunk_list result ≡ [] }
-        ensures kind { list_kind result ≡ kind_with texts }
+        ensures kind { list_kind result ≡ kind_view kind }
     {
-        if texts {
-            Chunks::Text(Vec::new(alloc))
-        } else {
-            Chunks::Bytes(Vec::new(alloc))
+        match kind {
+            StringKind::Bytes => Chunks::Bytes(Vec::new(alloc)),
+            StringKind::Text => Chunks::Text(Vec::new(alloc)),
         }
     }
 
@@ -81,7 +78,7 @@ impl Chunks {
 
     /// The string of these chunks.
     fn into_item(self) -> DataItem
-        ensures { view result ≡ atom (chunks_atom (list_kind self) (chunk_list self)) }
+        ensures { view result ≡ atom (chunked_string (list_kind self) (chunk_list self)) }
     {
         match self {
             Chunks::Bytes(chunks) => DataItem::IndefiniteByteString(chunks),
@@ -146,23 +143,23 @@ fn read_piece(alloc: Global, text: &[u8], inner: u8) -> crate::Result<(Vec<u8>, 
     }
 }
 
-/// The pieces from here on, with blanks between them and after them. Texts may be pieces only if
-/// `texts` is set.
+/// The pieces from here on of a string of this kind, with blanks between them and after them.
 #[cycle(diag)]
 fn read_pieces(
     alloc: Global,
-    texts: bool,
+    kind: StringKind,
     text: &[u8],
     inner: u8,
 ) -> crate::Result<(Vec<u8>, &[u8])>
     requires { inner ≤ 129 }
     ensures gives { Gives (λ x. (x.0.items, x.1.now)) result
-        (read_pieces (read_item (levels_left inner)) texts (suc (length text.now)) text.now) }
+        (read_pieces (read_item (levels_left inner)) (kind_view kind)
+        (suc (length text.now)) text.now) }
     ensures shorter { IfOk result (λ x. length x.1.now ≤ length text.now) }
 {
     let mut content = Vec::new(alloc);
     let mut rest = text;
-    'pieces: while Start::of(rest).begins_piece(texts) {
+    'pieces: while Start::of(rest).begins_piece(kind) {
         let (piece, after) = read_piece(alloc, rest, inner)?;
         append(&mut content, piece)?;
         rest = after_blank(after);
@@ -170,25 +167,24 @@ fn read_pieces(
     Ok((content, rest))
 }
 
-/// The content of a string of definite length, with the blank after it. If `texts` is set, it is a
-/// text string, whose first piece is a text; otherwise no piece is one.
+/// The content of a string of this kind and of definite length, with the blank after it.
 #[cycle(diag)]
 #[tactic(auto, using(crate::proofs::notation::Cores::content_by))]
 fn read_content(
     alloc: Global,
-    texts: bool,
+    kind: StringKind,
     text: &[u8],
     inner: u8,
 ) -> crate::Result<(Vec<u8>, &[u8])>
     requires { inner ≤ 129 }
     ensures gives { Gives (λ x. (x.0.items, x.1.now)) result
-        (read_content (read_item (levels_left inner)) texts text.now) }
+        (read_content (read_item (levels_left inner)) (kind_view kind) text.now) }
     ensures shorter { IfOk result (λ x. length x.1.now ≤ length text.now) }
 {
-    if !Start::of(text).begins_string(texts) {
+    if !Start::of(text).begins_string(kind) {
         return Err(Error::Notation);
     }
-    read_pieces(alloc, texts, text, inner)
+    read_pieces(alloc, kind, text, inner)
 }
 
 /// Whether a string ends before this text: a list goes on or closes here. Neither a blank nor a
@@ -204,7 +200,7 @@ fn ends_string(text: &[u8]) -> bool
 fn read_plain_hex(text: &[u8]) -> Option<(&[u8], &[u8])>
     ensures gives { IfSome result (λ x. (read : List ℕ → Read Item) (bytes : List ℕ)
         → base16_of x.0.now ≡ Some bytes
-        → read_byte_string read text.now ≡ one_string bytes_kind bytes x.1.now) }
+        → read_string_item read bytes_kind text.now ≡ one_string bytes_kind bytes x.1.now) }
     ensures shorter { IfSome result (λ x. length x.1.now ≤ length text.now) }
 {
     let inner = after_word(text, b"h'")?;
@@ -228,7 +224,7 @@ pub(super) fn read_byte_item(
     requires low { 1 ≤ inner }
     requires high { inner ≤ 129 }
     ensures gives { Gives (λ x. (view x.0, x.1.now)) result
-        (read_byte_string (read_item (levels_left inner)) text.now) }
+        (read_string_item (read_item (levels_left inner)) bytes_kind text.now) }
     ensures well { IfOk result (λ x. WellFormed (inner - 1) (view x.0)) }
     ensures shorter { IfOk result (λ x. length x.1.now ≤ length text.now) }
 {
@@ -241,7 +237,7 @@ pub(super) fn read_byte_item(
     if let Some(rest) = after_word(text, b"''_") {
         return Ok((DataItem::IndefiniteByteString(Vec::new(alloc)), rest));
     }
-    let (content, rest) = read_content(alloc, false, text, inner)?;
+    let (content, rest) = read_content(alloc, StringKind::Bytes, text, inner)?;
     Ok((DataItem::ByteString(unstated(content)?), rest))
 }
 
@@ -249,7 +245,7 @@ pub(super) fn read_byte_item(
 /// there. `None` otherwise.
 fn read_plain_text(text: &[u8]) -> Option<(&[u8], &[u8])>
     ensures gives { IfSome result (λ x. (read : List ℕ → Read Item)
-        → read_text_string read text.now ≡ one_string text_kind x.0.now x.1.now) }
+        → read_string_item read text_kind text.now ≡ one_string text_kind x.0.now x.1.now) }
     ensures shorter { IfSome result (λ x. length x.1.now ≤ length text.now) }
 {
     let inner = after_byte(text, b'"')?;
@@ -272,7 +268,7 @@ pub(super) fn read_text_item(
     requires low { 1 ≤ inner }
     requires high { inner ≤ 129 }
     ensures gives { Gives (λ x. (view x.0, x.1.now)) result
-        (read_text_string (read_item (levels_left inner)) text.now) }
+        (read_string_item (read_item (levels_left inner)) text_kind text.now) }
     ensures well { IfOk result (λ x. WellFormed (inner - 1) (view x.0)) }
     ensures shorter { IfOk result (λ x. length x.1.now ≤ length text.now) }
 {
@@ -284,34 +280,33 @@ pub(super) fn read_text_item(
     if let Some(rest) = after_word(text, b"\"\"_") {
         return Ok((DataItem::IndefiniteTextString(Vec::new(alloc)), rest));
     }
-    let (content, rest) = read_content(alloc, true, text, inner)?;
+    let (content, rest) = read_content(alloc, StringKind::Text, text, inner)?;
     Ok((DataItem::TextString(unstated(content)?), rest))
 }
 
-/// The chunks of an indefinite string after its opening, up to its closing byte: of a text string
-/// if `texts` is set, and of a byte string otherwise.
+/// The chunks of an indefinite string of this kind after its opening, up to its closing byte.
 #[cycle(diag)]
 fn read_chunk_list(
     alloc: Global,
-    texts: bool,
+    kind: StringKind,
     text: &[u8],
     inner: u8,
 ) -> crate::Result<(Chunks, &[u8])>
     requires { inner ≤ 129 }
     ensures gives { Gives (λ x. (chunk_list x.0, x.1.now)) result
-        (read_members (read_chunk (read_item (levels_left inner)) (kind_with texts)) 41 text.now) }
-    ensures kind { IfOk result (λ x. list_kind x.0 ≡ kind_with texts) }
+        (read_members (read_chunk (read_item (levels_left inner)) (kind_view kind)) 41 text.now) }
+    ensures kind { IfOk result (λ x. list_kind x.0 ≡ kind_view kind) }
     ensures well { IfOk result (λ x.
-        AllByRecursion (IsChunk (kind_with texts)) (chunk_list x.0)) }
+        AllByRecursion (IsChunk (kind_view kind)) (chunk_list x.0)) }
     ensures shorter { IfOk result (λ x. length x.1.now ≤ length text.now) }
 {
-    let mut chunks = Chunks::new(alloc, texts);
+    let mut chunks = Chunks::new(alloc, kind);
     let mut rest = after_blank(text);
     if let Some(after) = after_end(rest, b')') {
         return Ok((chunks, after));
     }
     'chunks: loop {
-        let (content, after) = read_content(alloc, texts, after_blank(rest), inner)?;
+        let (content, after) = read_content(alloc, kind, after_blank(rest), inner)?;
         chunks.push(content)?;
         if let Some(end) = after_end(after, b')') {
             return Ok((chunks, end));
@@ -332,7 +327,7 @@ pub(super) fn read_chunks(alloc: Global, text: &[u8], inner: u8) -> crate::Resul
     ensures shorter { IfOk result (λ x. length x.1.now ≤ length text.now) }
 {
     let first = after_blank(expect_byte(text, b'_')?);
-    let texts = Start::of(first).begins_string(true);
-    let (chunks, rest) = read_chunk_list(alloc, texts, first, inner)?;
+    let kind = Start::of(first).kind();
+    let (chunks, rest) = read_chunk_list(alloc, kind, first, inner)?;
     Ok((chunks.into_item(), rest))
 }

@@ -1,5 +1,6 @@
-use Rattle.std.proofs.Common.{◌≡◌, ℕ, List, ◌++◌, ap, sym, subst, ◌∙◌, append_assoc, arith}
-use Rattle.std.proofs.Common.{rules}
+use Rattle.std.proofs.Common.{◌≡◌, ℕ, List, ◌++◌, subst, ◌∙◌, append_assoc, arith, Option, Result, rules}
+use Rattle.cbor_diag.specs.declared.syntax.IntegerWidth.{IntegerWidth}
+use Rattle.cbor_diag.specs.mirror.Appends.{Appends}
 use Rattle.cbor_diag.specs.Item.{item_count, pair_count}
 use Rattle.cbor_diag.specs.View.{items_view, pairs_view}
 use Rattle.cbor_diag.specs.WellFormed.{WellFormedItems, WellFormedPairs, FitsCount}
@@ -10,10 +11,17 @@ use Rattle.cbor_diag.proofs.shared.Views.{item_count_view, pair_count_view}
 use Rattle.cbor_diag.proofs.text.Scalars.{drop_here}
 use Rattle.cbor_diag.proofs.encode.bytes.+push.Goals as goal
 
-around : (out opening members closing all : List ℕ) → all ≡ (out ++ opening) ++ members
-    → all ++ closing ≡ out ++ (opening ++ (members ++ closing))
-around out opening members closing all e = ap (λ x. x ++ closing) e ∙ append_assoc (out ++ opening) members closing
-    ∙ append_assoc out opening (members ++ closing)
+-- a container between its opening and its close
+module _ (major count counted : ℕ) (same : count ≡ counted) (w : Option IntegerWidth)
+    (out opened filled closed members : List ℕ) (opens : opened ≡ out ++ encoded_open major counted w)
+    (fills : filled ≡ opened ++ members) where
+  whole : filled ++ encoded_close w ≡ out ++ (encoded_open major count w ++ (members ++ encoded_close w))
+  whole = rw (fills, opens, same) (simp append_assoc)
+
+  container : {T E : Type 0} (r : Result T E) → Appends r filled closed (encoded_close w)
+      → Appends r out closed (encoded_open major count w ++ (members ++ encoded_close w))
+  container r closes = appends_last r out filled closed (encoded_close w) _
+      (begins_two out opened (encoded_open major counted w) members filled opens fills) (λ e. e ∙ whole) closes
 
 pub push_array-push_open-requires : goal.push_array-push_open-requires
 push_array-push_open-requires t c =
@@ -24,19 +32,11 @@ push_array-push_open-requires t c =
 pub push_array-returns : goal.push_array-returns
 push_array-returns t c =
     let v = c.args.items.now in
-    let out = c.args.out.now.items in
-    let members = encoded_items (items_view v.items) in
     let counted : item_count (items_view v.items) ≡ c.len.result = omega (arith, item_count_view v.items, v.ok.0) in
-    let opened : c.push_items.new.out.items ≡ (out ++ encoded_open 4 c.len.result c.args.width) ++ members =
-    c.in_ok-push_items.ensures ∙ ap (λ x. x ++ members) c.in_ok-push_open.ensures in
-    let whole = around out (encoded_open 4 c.len.result c.args.width) members (encoded_close c.args.width)
-    c.push_items.new.out.items opened in
-    let spelled = whole ∙ ap (λ n. out ++ (encoded_open 4 n c.args.width ++ (members ++ encoded_close c.args.width)))
-    (sym counted) in
-    let begun = begins_two out c.push_open.new.out.items (encoded_open 4 c.len.result c.args.width) members
-    c.push_items.new.out.items c.in_ok-push_open.ensures c.in_ok-push_items.ensures in
-    appends_last c.push_close.result out c.push_items.new.out.items c.push_close.new.out.items
-    (encoded_close c.args.width) _ begun (λ e. e ∙ spelled) c.push_close.ensures
+    container 4 (item_count (items_view v.items)) c.len.result counted c.args.width c.args.out.now.items
+    c.push_open.new.out.items c.push_items.new.out.items c.push_close.new.out.items
+    (encoded_items (items_view v.items)) c.in_ok-push_open.ensures c.in_ok-push_items.ensures c.push_close.result
+    c.push_close.ensures
 
 pub push_map-push_open-requires : goal.push_map-push_open-requires
 push_map-push_open-requires t c =
@@ -47,26 +47,16 @@ push_map-push_open-requires t c =
 pub push_map-returns : goal.push_map-returns
 push_map-returns t c =
     let v = c.args.pairs.now in
-    let out = c.args.out.now.items in
-    let members = encoded_pairs (pairs_view v.items) in
     let counted : pair_count (pairs_view v.items) ≡ c.len.result = omega (arith, pair_count_view v.items, v.ok.0) in
-    let opened : c.push_pairs.new.out.items ≡ (out ++ encoded_open 5 c.len.result c.args.width) ++ members =
-    c.in_ok-push_pairs.ensures ∙ ap (λ x. x ++ members) c.in_ok-push_open.ensures in
-    let whole = around out (encoded_open 5 c.len.result c.args.width) members (encoded_close c.args.width)
-    c.push_pairs.new.out.items opened in
-    let spelled = whole ∙ ap (λ n. out ++ (encoded_open 5 n c.args.width ++ (members ++ encoded_close c.args.width)))
-    (sym counted) in
-    let begun = begins_two out c.push_open.new.out.items (encoded_open 5 c.len.result c.args.width) members
-    c.push_pairs.new.out.items c.in_ok-push_open.ensures c.in_ok-push_pairs.ensures in
-    appends_last c.push_close.result out c.push_pairs.new.out.items c.push_close.new.out.items
-    (encoded_close c.args.width) _ begun (λ e. e ∙ spelled) c.push_close.ensures
+    container 5 (pair_count (pairs_view v.items)) c.len.result counted c.args.width c.args.out.now.items
+    c.push_open.new.out.items c.push_pairs.new.out.items c.push_close.new.out.items
+    (encoded_pairs (pairs_view v.items)) c.in_ok-push_open.ensures c.in_ok-push_pairs.ensures c.push_close.result
+    c.push_close.ensures
 
 pub push_pairs-push_item-requires-in-pairs : goal.push_pairs-push_item-requires-in-pairs
 push_pairs-push_item-requires-in-pairs t c = (
   search (rules, the_lemmas),
-  let all = c.deref-key-items.result.now in
-      let i = c.pairs.key-index in
-      let here = drop_here all i c.pairs-item.result c.pairs-test.true c.pairs-item.is in
+  let here = drop_here c.deref-key-items.result.now _ _ c.pairs-test.true c.pairs-item.is in
       let well = subst (λ ps. WellFormedPairs c.pairs.invariant.1 (pairs_view ps)) here c.pairs.invariant.2 in
       (c.pairs.invariant.1, well.1),
 )
@@ -88,9 +78,7 @@ push_pairs-returns-in_err-push_item-2 t c =
 pub push_items-push_item-requires : goal.push_items-push_item-requires
 push_items-push_item-requires t c = (
   search (rules, the_lemmas),
-  let all = c.deref-item-items.result.now in
-      let i = c.items.item-index in
-      let here = drop_here all i c.item-item.result c.items-test.true c.item-item.is in
+  let here = drop_here c.deref-item-items.result.now _ _ c.items-test.true c.item-item.is in
       let well = subst (λ vs. WellFormedItems c.items.invariant.1 (items_view vs)) here c.items.invariant.2 in
       (c.items.invariant.1, well.0),
 )
@@ -104,9 +92,7 @@ push_items-returns-in_err-push_item t c =
 pub push_pairs-push_item-requires : goal.push_pairs-push_item-requires
 push_pairs-push_item-requires t c = (
   search (rules, the_lemmas),
-  let all = c.deref-key-items.result.now in
-      let i = c.pairs.key-index in
-      let here = drop_here all i c.pairs-item.result c.pairs-test.true c.pairs-item.is in
+  let here = drop_here c.deref-key-items.result.now _ _ c.pairs-test.true c.pairs-item.is in
       let well = subst (λ ps. WellFormedPairs c.pairs.invariant.1 (pairs_view ps)) here c.pairs.invariant.2 in
       (c.pairs.invariant.1, well.0),
 )

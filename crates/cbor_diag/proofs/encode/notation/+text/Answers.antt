@@ -3,17 +3,15 @@ use Rattle.std.proofs.lemmas.List.{drop_all}
 use Rattle.std.specs.String.{string_bytes}
 use Rattle.cbor_diag.specs.mirror.Appends.{Appends}
 use Rattle.cbor_diag.specs.Item as spec
-use Rattle.cbor_diag.specs.Item.{Items, atom, array, integer, negative, string, chunked_string}
-use Rattle.cbor_diag.specs.Item.{float, simple}
+use Rattle.cbor_diag.specs.Item.{Items, atom, array, integer, negative, string, chunked_string, float, simple}
 use Rattle.cbor_diag.specs.View.{view, items_view, pairs_view, byte_chunk, text_chunk}
 use Rattle.cbor_diag.specs.declared.encode.notation.context.NotationContext.{NotationContext}
 use Rattle.cbor_diag.specs.Layout.{Context}
 use Rattle.cbor_diag.specs.StringKind.{bytes_kind, text_kind}
 use Rattle.cbor_diag.specs.mirror.LayoutView.{style_view, context_view, item_text, content_there, chunks_there}
 use Rattle.cbor_diag.specs.NotationText.{text, inside, members, members_layout, colon, item_texts, pair_texts}
-use Rattle.cbor_diag.specs.NotationText.{rest_text}
-use Rattle.cbor_diag.specs.NotationText.{array_text, map_text, below, sequence_text}
-use Rattle.cbor_diag.specs.NotationText.{sequence_listed, text_at_level}
+use Rattle.cbor_diag.specs.NotationText.{rest_text, array_text, map_text, below, sequence_text, sequence_listed}
+use Rattle.cbor_diag.specs.NotationText.{text_at_level}
 use Rattle.cbor_diag.specs.WellFormed.{WellFormedItems, WellFormedPairs}
 use Rattle.cbor_diag.proofs.shared.Appending.{begins_still, begins_two, begins_after_member, appends_last}
 use Rattle.cbor_diag.proofs.shared.Views.{view-Integer, view-Negative, view-ByteString, view-TextString}
@@ -88,7 +86,8 @@ push_item-returns-in-IndefiniteByteString t c =
     let old = string_bytes c.args.out.now in
     let new = string_bytes c.push_chunks.new.out in
     shown c.push_chunks.result c.args.context.now.level (context_view c.args.context.now) (view c.args.item.now)
-    (atom (chunked_string bytes_kind (map byte_chunk c.in-IndefiniteByteString.chunks.items))) old new c.requires.well_formed seen
+    (atom (chunked_string bytes_kind (map byte_chunk c.in-IndefiniteByteString.chunks.items))) old new
+    c.requires.well_formed seen
     (subst (λ vs. Appends c.push_chunks.result old new (chunks_there c.args.context.now bytes_kind (map byte_chunk vs)))
     c.deref-in-IndefiniteByteString.ensures.value c.push_chunks.ensures)
 
@@ -99,7 +98,8 @@ push_item-returns-in-IndefiniteTextString t c =
     let new = string_bytes c.push_chunks-in-IndefiniteTextString.new.out in
     shown c.push_chunks-in-IndefiniteTextString.result c.args.context.now.level (context_view c.args.context.now)
     (view c.args.item.now)
-    (atom (chunked_string text_kind (map text_chunk c.in-IndefiniteTextString.chunks.items))) old new c.requires.well_formed seen
+    (atom (chunked_string text_kind (map text_chunk c.in-IndefiniteTextString.chunks.items))) old new
+    c.requires.well_formed seen
     (subst (λ vs. Appends c.push_chunks-in-IndefiniteTextString.result old new
     (chunks_there c.args.context.now text_kind (map text_chunk vs)))
     c.deref-in-IndefiniteTextString.ensures.value c.push_chunks-in-IndefiniteTextString.ensures)

@@ -1,5 +1,4 @@
-use Rattle.std.proofs.Common.{◌≡◌, suc, ◌+◌, ◌-◌, ◌≤◌, ◌++◌, ◌∷◌, [], true, Ok, length, map, sym, ap}
-use Rattle.std.proofs.Common.{subst, ◌∙◌, arith}
+use Rattle.std.proofs.Common.{◌≡◌, suc, ◌+◌, ◌-◌, ◌≤◌, ◌++◌, ◌∷◌, [], Ok, length, map, sym, ap, subst, ◌∙◌, arith}
 use Rattle.std.proofs.lemmas.List.{map_push}
 use Rattle.std.proofs.lemmas.Result.{err_from_is_err_and}
 use Rattle.cbor_diag.specs.declared.parse.notation.start.Start.TheVariants as start
@@ -10,17 +9,16 @@ use Rattle.cbor_diag.specs.View.{view, items_of, pairs_of, items_view, pairs_vie
 use Rattle.cbor_diag.specs.Reading.{◌>>=◌, Fails}
 use Rattle.cbor_diag.specs.mirror.NotationReading.{skip_blank, read_negative_number, read_length, read_pair}
 use Rattle.cbor_diag.specs.mirror.NotationReading.{read_chunk, read_item, read_core, read_members, read_pieces}
-use Rattle.cbor_diag.specs.mirror.NotationReading.{begins_piece, begins_string, kind_with, members_from}
-use Rattle.cbor_diag.specs.mirror.StringView.{chunk_list, list_kind}
+use Rattle.cbor_diag.specs.mirror.NotationReading.{begins_piece, kind_from, members_from}
+use Rattle.cbor_diag.specs.mirror.StringView.{kind_view, chunk_list, list_kind}
 use Rattle.cbor_diag.proofs.notation.ChunkLoops.{Fails-bind, onto}
 use Rattle.cbor_diag.proofs.notation.Loops.{members_closed, members_begin, member_fails, member_last, no_comma}
 use Rattle.cbor_diag.proofs.notation.Loops.{member_more}
-use Rattle.cbor_diag.proofs.notation.Cores.{core_by, bytes_core, item_none}
-use Rattle.cbor_diag.proofs.notation.Cores.{no_content, no_string, string_read, no_chunks, chunks_read, chunks_well}
-use Rattle.cbor_diag.proofs.notation.Cores.{item_some, pieces_begin, pieces_end, piece_fails, piece_more, items_push}
-use Rattle.cbor_diag.proofs.notation.Cores.{no_key, no_colon, no_value, pair_read, pair_view, pairs_push}
-use Rattle.cbor_diag.proofs.notation.Cores.{array_well, map_well}
-use Rattle.cbor_diag.proofs.shared.Views.{view-Array, view-Map, view-Negative}
+use Rattle.cbor_diag.proofs.notation.Cores.{core_by, bytes_core, item_none, no_content, no_string, string_read}
+use Rattle.cbor_diag.proofs.notation.Cores.{no_chunks, chunks_read, chunks_well, item_some, pieces_begin, pieces_end}
+use Rattle.cbor_diag.proofs.notation.Cores.{piece_fails, piece_more, no_key, no_colon, no_value, pair_read, pair_view}
+use Rattle.cbor_diag.proofs.notation.Cores.{pairs_push, array_well, map_well}
+use Rattle.cbor_diag.proofs.shared.Views.{items_push, view-Array, view-Map, view-Negative}
 use Rattle.cbor_diag.proofs.parse.notation.+diag.Goals as goal
 
 pub read_items-returns-in-Some-clause-gives : goal.read_items-returns-in-Some-clause-gives
@@ -192,13 +190,13 @@ read_pairs-returns-in-Some-after_end-clause-well t c =
 
 pub strings::read_chunk_list-returns-in-Some-clause-gives : goal.strings::read_chunk_list-returns-in-Some-clause-gives
 strings::read_chunk_list-returns-in-Some-clause-gives t c =
-    members_closed (read_chunk (read_item (129 - c.args.inner)) (kind_with c.args.texts)) 41 c.args.text.now
+    members_closed (read_chunk (read_item (129 - c.args.inner)) (kind_view c.args.kind)) 41 c.args.text.now
     c.after_blank-rest.result.now c.in-Some.after.now (chunk_list c.new-chunks.result) c.new-chunks.ensures.none
     c.after_blank-rest.ensures.gives (sym c.in-Some.ensures.gives)
 
 pub strings::read_chunk_list-chunks-init : goal.strings::read_chunk_list-chunks-init
 strings::read_chunk_list-chunks-init t c =
-    let read = read_chunk (read_item (129 - c.args.inner)) (kind_with c.args.texts) in
+    let read = read_chunk (read_item (129 - c.args.inner)) (kind_view c.args.kind) in
     let begun = members_begin read 41 c.args.text.now c.after_blank-rest.result.now (chunk_list c.new-chunks.result)
     c.new-chunks.ensures.none c.after_blank-rest.ensures.gives (sym c.in_default.ensures.gives) in (
       begun.0,
@@ -214,10 +212,10 @@ pub strings::read_chunk_list-returns-in_err-content-clause-gives :
 strings::read_chunk_list-returns-in_err-content-clause-gives t c =
     let p = err_from_is_err_and c.from_residual.result c.from_residual.ensures.1 in
     let item = read_item (129 - c.args.inner) in
-    let read = read_chunk item (kind_with c.args.texts) in
+    let read = read_chunk item (kind_view c.args.kind) in
     let i = c.chunks.invariant in
     rw (p.1, p.2) (member_fails read 41 (chunk_list c.chunks.chunks) i.0 c.chunks.rest.now (read_members read 41
-    c.args.text.now) i.1 i.2 c.in_err-content.field-0.0 (no_content item c.args.texts c.chunks.rest.now
+    c.args.text.now) i.1 i.2 c.in_err-content.field-0.0 (no_content item (kind_view c.args.kind) c.chunks.rest.now
     c.after_blank.result.now c.after_blank.ensures.gives c.in_err-content.field-0.0 c.in_err-content.ensures.gives))
 
 pub strings::read_chunk_list-returns-in_err-push-clause-gives :
@@ -225,10 +223,10 @@ pub strings::read_chunk_list-returns-in_err-push-clause-gives :
 strings::read_chunk_list-returns-in_err-push-clause-gives t c =
     let p = err_from_is_err_and c.from_residual-in_err-push.result c.from_residual-in_err-push.ensures.1 in
     let item = read_item (129 - c.args.inner) in
-    let read = read_chunk item (kind_with c.args.texts) in
+    let read = read_chunk item (kind_view c.args.kind) in
     let i = c.chunks.invariant in
     rw (p.1, p.2) (member_fails read 41 (chunk_list c.chunks.chunks) i.0 c.chunks.rest.now (read_members read 41
-    c.args.text.now) i.1 i.2 c.in_err-push.field-0.0 (no_string item c.args.texts c.chunks.rest.now
+    c.args.text.now) i.1 i.2 c.in_err-push.field-0.0 (no_string item (kind_view c.args.kind) c.chunks.rest.now
     c.after_blank.result.now c.after_blank.ensures.gives c.in_ok-content.content.items c.in_ok-content.after.now
     c.in_ok-content.ensures.gives (list_kind c.chunks.chunks) (chunk_list c.chunks.chunks) i.5 c.in_err-push.field-0.0
     c.in_err-push.ensures.gives))
@@ -237,10 +235,10 @@ pub strings::read_chunk_list-returns-in-Some-after_end-clause-gives :
     goal.strings::read_chunk_list-returns-in-Some-after_end-clause-gives
 strings::read_chunk_list-returns-in-Some-after_end-clause-gives t c =
     let item = read_item (129 - c.args.inner) in
-    let read = read_chunk item (kind_with c.args.texts) in
+    let read = read_chunk item (kind_view c.args.kind) in
     let i = c.chunks.invariant in
-    let added = string_read item c.args.texts c.chunks.rest.now c.after_blank.result.now c.after_blank.ensures.gives
-    c.in_ok-content.content.items c.in_ok-content.after.now c.in_ok-content.ensures.gives
+    let added = string_read item (kind_view c.args.kind) c.chunks.rest.now c.after_blank.result.now
+    c.after_blank.ensures.gives c.in_ok-content.content.items c.in_ok-content.after.now c.in_ok-content.ensures.gives
     (list_kind c.chunks.chunks) (chunk_list c.chunks.chunks) i.5 (chunk_list c.push.new.self)
     c.in_ok-push.ensures.gives in
     rw added.1 (member_last read 41 (chunk_list c.chunks.chunks) i.0 c.chunks.rest.now
@@ -258,10 +256,10 @@ pub strings::read_chunk_list-returns-in_err-rest-clause-gives :
 strings::read_chunk_list-returns-in_err-rest-clause-gives t c =
     let p = err_from_is_err_and c.from_residual-in_err-rest.result c.from_residual-in_err-rest.ensures.1 in
     let item = read_item (129 - c.args.inner) in
-    let read = read_chunk item (kind_with c.args.texts) in
+    let read = read_chunk item (kind_view c.args.kind) in
     let i = c.chunks.invariant in
-    let added = string_read item c.args.texts c.chunks.rest.now c.after_blank.result.now c.after_blank.ensures.gives
-    c.in_ok-content.content.items c.in_ok-content.after.now c.in_ok-content.ensures.gives
+    let added = string_read item (kind_view c.args.kind) c.chunks.rest.now c.after_blank.result.now
+    c.after_blank.ensures.gives c.in_ok-content.content.items c.in_ok-content.after.now c.in_ok-content.ensures.gives
     (list_kind c.chunks.chunks) (chunk_list c.chunks.chunks) i.5 (chunk_list c.push.new.self)
     c.in_ok-push.ensures.gives in
     rw (p.1, p.2) (no_comma read 41 (chunk_list c.chunks.chunks) i.0 c.chunks.rest.now (read_members read 41
@@ -271,10 +269,10 @@ strings::read_chunk_list-returns-in_err-rest-clause-gives t c =
 pub strings::read_chunk_list-chunks-preserved : goal.strings::read_chunk_list-chunks-preserved
 strings::read_chunk_list-chunks-preserved t c =
     let item = read_item (129 - c.args.inner) in
-    let read = read_chunk item (kind_with c.args.texts) in
+    let read = read_chunk item (kind_view c.args.kind) in
     let i = c.chunks.invariant in
-    let added = string_read item c.args.texts c.chunks.rest.now c.after_blank.result.now c.after_blank.ensures.gives
-    c.in_ok-content.content.items c.in_ok-content.after.now c.in_ok-content.ensures.gives
+    let added = string_read item (kind_view c.args.kind) c.chunks.rest.now c.after_blank.result.now
+    c.after_blank.ensures.gives c.in_ok-content.content.items c.in_ok-content.after.now c.in_ok-content.ensures.gives
     (list_kind c.chunks.chunks) (chunk_list c.chunks.chunks) i.5 (chunk_list c.push.new.self)
     c.in_ok-push.ensures.gives in
     let shorter : length c.in_ok-content.after.now ≤ length c.chunks.rest.now =
@@ -296,21 +294,21 @@ pub strings::read_chunks-returns-in_err-chunks-clause-gives :
 strings::read_chunks-returns-in_err-chunks-clause-gives t c =
     let p = err_from_is_err_and c.from_residual-in_err-chunks.result c.from_residual-in_err-chunks.ensures.1 in
     rw (p.1, p.2) (no_chunks (read_item (129 - c.args.inner)) c.args.text.now c.in_ok-expect_byte.field-0.now
-    c.after_blank-first.result.now c.begins_string-texts.result c.in_ok-expect_byte.ensures.gives
-    c.after_blank-first.ensures.gives (c.begins_string-texts.ensures ∙ ap (begins_string true) c.of.ensures)
+    c.after_blank-first.result.now (kind_view c.kind-kind.result) c.in_ok-expect_byte.ensures.gives
+    c.after_blank-first.ensures.gives (c.kind-kind.ensures ∙ ap kind_from c.of.ensures)
     c.in_err-chunks.field-0.0 c.in_err-chunks.ensures.gives)
 
 pub strings::read_chunks-returns-clause-gives : goal.strings::read_chunks-returns-clause-gives
 strings::read_chunks-returns-clause-gives t c =
     chunks_read (read_item (129 - c.args.inner)) c.args.text.now c.in_ok-expect_byte.field-0.now
-    c.after_blank-first.result.now c.begins_string-texts.result c.in_ok-expect_byte.ensures.gives
-    c.after_blank-first.ensures.gives (c.begins_string-texts.ensures ∙ ap (begins_string true) c.of.ensures)
+    c.after_blank-first.result.now (kind_view c.kind-kind.result) c.in_ok-expect_byte.ensures.gives
+    c.after_blank-first.ensures.gives (c.kind-kind.ensures ∙ ap kind_from c.of.ensures)
     (chunk_list c.in_ok-chunks.chunks) c.in_ok-chunks.rest.now (view c.into_item.result) c.in_ok-chunks.ensures.gives
     (rw c.in_ok-chunks.ensures.kind at c.into_item.ensures)
 
 pub strings::read_chunks-returns-clause-well : goal.strings::read_chunks-returns-clause-well
 strings::read_chunks-returns-clause-well t c =
-    chunks_well (c.args.inner - 1) (kind_with c.begins_string-texts.result) (chunk_list c.in_ok-chunks.chunks)
+    chunks_well (c.args.inner - 1) (kind_view c.kind-kind.result) (chunk_list c.in_ok-chunks.chunks)
     (view c.into_item.result) (omega (arith, c.requires.high)) c.in_ok-chunks.ensures.well
     (rw c.in_ok-chunks.ensures.kind at c.into_item.ensures)
 
@@ -459,8 +457,8 @@ read_item-returns-clause-gives t c =
 
 pub strings::read_pieces-pieces-init : goal.strings::read_pieces-pieces-init
 strings::read_pieces-pieces-init t c =
-    let begun = pieces_begin (read_item (129 - c.args.inner)) c.args.texts c.args.text.now c.new-content.result.items
-    c.new-content.ensures.items in
+    let begun = pieces_begin (read_item (129 - c.args.inner)) (kind_view c.args.kind) c.args.text.now
+    c.new-content.result.items c.new-content.ensures.items in
     (begun.0, begun.1, begun.2, omega arith)
 
 pub strings::read_pieces-returns-in_err-piece-clause-gives : goal.strings::read_pieces-returns-in_err-piece-clause-gives
@@ -468,19 +466,21 @@ strings::read_pieces-returns-in_err-piece-clause-gives t c =
     let p = err_from_is_err_and c.from_residual.result c.from_residual.ensures.1 in
     let read = read_item (129 - c.args.inner) in
     let i = c.pieces.invariant in
-    let begins = sym (c.begins_piece.ensures ∙ ap (begins_piece c.args.texts) c.of.ensures) ∙ c.pieces-test.true in
-    rw (p.1, p.2) (piece_fails read c.args.texts c.pieces.content.items i.0 c.pieces.rest.now
-    (read_pieces read c.args.texts (suc (length c.args.text.now)) c.args.text.now) i.1 i.2 c.in_err-piece.field-0.0
-    begins c.in_err-piece.ensures.gives)
+    let begins = sym (c.begins_piece.ensures ∙ ap (begins_piece (kind_view c.args.kind)) c.of.ensures)
+    ∙ c.pieces-test.true in
+    rw (p.1, p.2) (piece_fails read (kind_view c.args.kind) c.pieces.content.items i.0 c.pieces.rest.now
+    (read_pieces read (kind_view c.args.kind) (suc (length c.args.text.now)) c.args.text.now) i.1 i.2
+    c.in_err-piece.field-0.0 begins c.in_err-piece.ensures.gives)
 
 pub strings::read_pieces-pieces-preserved : goal.strings::read_pieces-pieces-preserved
 strings::read_pieces-pieces-preserved t c =
     let read = read_item (129 - c.args.inner) in
     let i = c.pieces.invariant in
-    let begins = sym (c.begins_piece.ensures ∙ ap (begins_piece c.args.texts) c.of.ensures) ∙ c.pieces-test.true in
-    let next = piece_more read c.args.texts c.pieces.content.items i.0 c.pieces.rest.now
-    (read_pieces read c.args.texts (suc (length c.args.text.now)) c.args.text.now) i.1 i.2 c.in_ok-piece.piece.items
-    c.in_ok-piece.after.now c.after_blank-rest.result.now begins c.in_ok-piece.ensures.gives
+    let begins = sym (c.begins_piece.ensures ∙ ap (begins_piece (kind_view c.args.kind)) c.of.ensures)
+    ∙ c.pieces-test.true in
+    let next = piece_more read (kind_view c.args.kind) c.pieces.content.items i.0 c.pieces.rest.now
+    (read_pieces read (kind_view c.args.kind) (suc (length c.args.text.now)) c.args.text.now) i.1 i.2
+    c.in_ok-piece.piece.items c.in_ok-piece.after.now c.after_blank-rest.result.now begins c.in_ok-piece.ensures.gives
     c.after_blank-rest.ensures.gives c.in_ok-piece.ensures.shorter c.after_blank-rest.ensures.shorter in (
       next.0,
       next.1,
@@ -492,6 +492,6 @@ pub strings::read_pieces-returns-clause-gives : goal.strings::read_pieces-return
 strings::read_pieces-returns-clause-gives t c =
     let read = read_item (129 - c.args.inner) in
     let i = c.pieces.invariant in
-    pieces_end read c.args.texts c.pieces.content.items i.0 c.pieces.rest.now
-    (read_pieces read c.args.texts (suc (length c.args.text.now)) c.args.text.now) i.1 i.2
-    (sym (c.begins_piece.ensures ∙ ap (begins_piece c.args.texts) c.of.ensures) ∙ c.pieces-test.false)
+    pieces_end read (kind_view c.args.kind) c.pieces.content.items i.0 c.pieces.rest.now
+    (read_pieces read (kind_view c.args.kind) (suc (length c.args.text.now)) c.args.text.now) i.1 i.2
+    (sym (c.begins_piece.ensures ∙ ap (begins_piece (kind_view c.args.kind)) c.of.ensures) ∙ c.pieces-test.false)

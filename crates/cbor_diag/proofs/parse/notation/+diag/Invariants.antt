@@ -3,8 +3,8 @@ use Rattle.std.specs.List.{AllByRecursion}
 use Rattle.cbor_diag.specs.View.{view, items_view, pairs_view}
 use Rattle.cbor_diag.specs.WellFormed.{WellFormedItems, WellFormedPairs, IsChunk}
 use Rattle.cbor_diag.specs.mirror.NotationReading.{read_item, read_pair, read_chunk, read_members, members_from}
-use Rattle.cbor_diag.specs.mirror.NotationReading.{kind_with, read_pieces}
-use Rattle.cbor_diag.specs.mirror.StringView.{chunk_list, list_kind}
+use Rattle.cbor_diag.specs.mirror.NotationReading.{read_pieces}
+use Rattle.cbor_diag.specs.mirror.StringView.{kind_view, chunk_list, list_kind}
 use Rattle.cbor_diag.proofs.notation.ChunkLoops.{onto}
 use Rattle.cbor_diag.proofs.parse.notation.+diag.Given as goal
 
@@ -74,15 +74,15 @@ decreases-strings::read_pieces-pieces l = length l.rest
 abbrev pub invariant-strings::read_pieces-pieces : goal.invariant-strings::read_pieces-pieces
 invariant-strings::read_pieces-pieces l =
     let read = read_item (129 - l.inner) in
-    (n : ℕ) × (length l.rest < n) × (onto (λ xs. l.content.items ++ xs) (read_pieces read l.texts n l.rest)
-    ≡ read_pieces read l.texts (suc (length l.text)) l.text) × (length l.rest ≤ length l.text)
+    (n : ℕ) × (length l.rest < n) × (onto (λ xs. l.content.items ++ xs) (read_pieces read (kind_view l.kind) n l.rest)
+    ≡ read_pieces read (kind_view l.kind) (suc (length l.text)) l.text) × (length l.rest ≤ length l.text)
 
 abbrev pub decreases-strings::read_chunk_list-chunks : goal.decreases-strings::read_chunk_list-chunks
 decreases-strings::read_chunk_list-chunks l = length l.rest
 
 abbrev pub invariant-strings::read_chunk_list-chunks : goal.invariant-strings::read_chunk_list-chunks
 invariant-strings::read_chunk_list-chunks l =
-    let kind = kind_with l.texts in
+    let kind = kind_view l.kind in
     let read = read_chunk (read_item (129 - l.inner)) kind in
     (n : ℕ) × (length l.rest < n) × (onto (λ xs. chunk_list l.chunks ++ xs) (members_from read 41 n l.rest)
     ≡ read_members read 41 l.text) × (length l.rest ≤ length l.text)

@@ -7,7 +7,6 @@ use Rattle.cbor_diag.specs.Notation.{Reads}
 use Rattle.cbor_diag.specs.NotationText.{in_encoding}
 use Rattle.cbor_diag.specs.Normal.{normal_at}
 use Rattle.cbor_diag.proofs.normal.ReadBack.{reads_back}
-use Rattle.cbor_diag.proofs.text.Forms.{short_is, long_is, short_sequence, long_sequence}
 use Rattle.cbor_diag.proofs.shared.EmbeddedItems.{embeds_exactly}
 use Rattle.cbor_diag.proofs.syntax.DataItem.to_diag_pretty.Goals as goal
 
@@ -17,31 +16,6 @@ returns-clause-read_back c =
     let written = c.in_ok-push_diag_pretty.ensures.text ∙ ap (λ x. x ++ pretty_of i) c.new-out.ensures.bytes in
     subst (λ x. Reads 128 x (normal_at 128 None i)) (sym written)
     (reads_back 1 128 (omega arith) (in_encoding (Pretty 0) Base16) None i refl c.requires)
-
-pub returns-in_err-push_diag_pretty-clause-one_line : goal.returns-in_err-push_diag_pretty-clause-one_line
-returns-in_err-push_diag_pretty-clause-one_line c = short_is
-
-pub returns-in_err-push_diag_pretty-clause-lines : goal.returns-in_err-push_diag_pretty-clause-lines
-returns-in_err-push_diag_pretty-clause-lines c = long_is
-
-pub returns-clause-one_line : goal.returns-clause-one_line
-returns-clause-one_line c = short_is
-
-pub returns-clause-lines : goal.returns-clause-lines
-returns-clause-lines c = long_is
-
-pub returns-in_err-push_diag_pretty-clause-sequence_one_line :
-    goal.returns-in_err-push_diag_pretty-clause-sequence_one_line
-returns-in_err-push_diag_pretty-clause-sequence_one_line c = short_sequence
-
-pub returns-in_err-push_diag_pretty-clause-sequence_lines : goal.returns-in_err-push_diag_pretty-clause-sequence_lines
-returns-in_err-push_diag_pretty-clause-sequence_lines c = long_sequence
-
-pub returns-clause-sequence_one_line : goal.returns-clause-sequence_one_line
-returns-clause-sequence_one_line c = short_sequence
-
-pub returns-clause-sequence_lines : goal.returns-clause-sequence_lines
-returns-clause-sequence_lines c = long_sequence
 
 pub returns-in_err-push_diag_pretty-clause-embedded : goal.returns-in_err-push_diag_pretty-clause-embedded
 returns-in_err-push_diag_pretty-clause-embedded c = embeds_exactly

@@ -1,13 +1,12 @@
 use Rattle.std.proofs.Common.{◌∙◌, ◌+◌, ap, sym, subst, arith}
 use Rattle.std.specs.List.{AllByRecursion}
-use Rattle.cbor_notes.specs.Columns.{IsColumn, IsPlain, Lacks}
+use Rattle.cbor_notes.specs.Columns.{IsColumn, IsPlain, Lacks, uncommented}
 use Rattle.cbor_notes.specs.Layout.{width_of}
 use Rattle.cbor_notes.proofs.columns.OneColumn.{digits_left, one_column}
 use Rattle.hex.specs.Hex.{decode_of}
 use Rattle.hex.proofs.HexLemmas.{decode_of-encode_lower}
 use Rattle.cbor_diag.specs.Dump.{lines, top}
 use Rattle.cbor_diag.specs.Facts.{IsWellFormed}
-use Rattle.cbor_notes.specs.Columns.{uncommented}
 use Rattle.cbor_diag.specs.Item.{Item}
 use Rattle.cbor_diag.specs.View.{view}
 use Rattle.cbor_diag.specs.Written.{encoded, resolve}

@@ -8,11 +8,12 @@ use Rattle.cbor_notes.specs.Layout.{DumpLine, row, width_of}
 use Rattle.std.specs.declared.alloc.AllocError.{AllocError}
 use Rattle.cbor_diag.specs.declared.error.Error.TheVariants as refusal
 use Rattle.cbor_diag.specs.declared.encode.head.Head.{Head}
+use Rattle.cbor_diag.specs.declared.encode.dump.context.DumpContext.{DumpContext}
 use Rattle.cbor_diag.specs.declared.encode.dump.pass.Pass.{Pass}
 use Rattle.cbor_diag.specs.mirror.MajorNumber.{major_number}
-use Rattle.cbor_diag.specs.StringKind.{bytes_kind, text_kind}
+use Rattle.cbor_diag.specs.StringKind.{StringKind, bytes_kind, text_kind}
 use Rattle.cbor_diag.specs.Written.{encoded_head}
-use Rattle.cbor_diag.specs.Item.{Item, item_count, pair_count}
+use Rattle.cbor_diag.specs.Item.{Chunk, atom, chunked_string, Item, item_count, pair_count}
 use Rattle.cbor_diag.specs.View.{view, items_view, pairs_view, byte_chunk, text_chunk}
 use Rattle.cbor_diag.specs.WellFormed.{levels_left, WellFormed, WellFormedItems, WellFormedPairs, FitsCount}
 use Rattle.cbor_diag.specs.Dump.{Context, head_line, bytes_in, chunks_lines, items_lines}
@@ -45,15 +46,12 @@ dump-dump_item-requires t c =
     let begun = c.in_ok-walk.ensures in
     let deep = well_level level i c.requires.well_formed in
     let wide = subst (λ p. width_of (lines_at_level level top 0 i) ≤ room p) (sym begun.0)
-    (narrow level i c.requires.level c.requires.well_formed) in (
+    (narrow level i c.requires.level c.requires.well_formed) in
+    let takes = starts level i c.requires.level c.requires.well_formed walk.shared begun.1 walk.lines.pass wide in (
       omega (arith, c.decreases),
       (
         (omega (arith, c.requires.level), omega (arith, deep)),
-        (
-          c.requires.well_formed,
-          starts level i c.requires.level c.requires.well_formed walk.shared begun.1
-              walk.lines.pass wide,
-        ),
+        (c.requires.well_formed, takes),
       ),
     )
 
@@ -77,15 +75,12 @@ dump-dump_item-requires-2 t c =
     let measured = found level i c.requires.level c.requires.well_formed c.in_ok-walk.walk.shared first.1
     c.in_ok-walk.walk.lines.pass c.dump_item.new.walk.lines.pass first.0 c.in_ok-dump_item.ensures.took in
     let same = c.new-writer.ensures.width ∙ (c.width.ensures ∙ measured) in
-    let wide = subst (λ p. width_of (lines_at_level level top 0 i) ≤ room p) (sym begun.0) (omega (arith, same)) in (
+    let wide = subst (λ p. width_of (lines_at_level level top 0 i) ≤ room p) (sym begun.0) (omega (arith, same)) in
+    let takes = starts level i c.requires.level c.requires.well_formed walk.shared begun.1 walk.lines.pass wide in (
       omega (arith, c.decreases),
       (
         (omega (arith, c.requires.level), omega (arith, deep)),
-        (
-          c.requires.well_formed,
-          starts level i c.requires.level c.requires.well_formed walk.shared begun.1
-              walk.lines.pass wide,
-        ),
+        (c.requires.well_formed, takes),
       ),
     )
 
@@ -104,30 +99,31 @@ dump-returns t c =
 
 -- ---- items
 
+-- the chunks of an indefinite string, of which the code hands on a slice
+chunks_took : {X T E : Type 0} (r : Result T E) (old new : Pass) (context : DumpContext) (known : ℕ) (i : Item)
+    (kind : StringKind) (chunk : X → Chunk) (held given : List X)
+    → i ≡ atom (chunked_string kind (map chunk held)) → given ≡ held
+    → OnOk r (Took old new (chunks_lines kind (context_view context) (map chunk given)))
+    → OnOk r (Took old new (item_lines context known i))
+chunks_took r old new context known i kind chunk held given seen same took =
+    subst (λ j. OnOk r (Took old new (item_lines context known j))) (sym seen)
+    (subst (λ xs. OnOk r (Took old new (chunks_lines kind (context_view context) (map chunk xs)))) same took)
+
 pub dump_item-returns-in-IndefiniteByteString-clause-took : goal.dump_item-returns-in-IndefiniteByteString-clause-took
 dump_item-returns-in-IndefiniteByteString-clause-took t c =
     let chunks = c.in-IndefiniteByteString.chunks in
-    let seen = ap view c.in-IndefiniteByteString.is ∙ view-IndefiniteByteString chunks in
-    let old = c.args.walk.now.lines.pass in
-    let new = c.chunks.new.self.pass in
-    let took = subst (λ xs. OnOk c.chunks.result
-    (Took old new (chunks_lines bytes_kind (context_view c.args.context.now) (map byte_chunk xs))))
-    c.deref.ensures.value
-    c.chunks.ensures in
-    subst (λ (i : Item). OnOk c.chunks.result
-    (Took old new (item_lines c.args.context.now c.args.walk.now.shared i))) (sym seen) took
+    chunks_took c.chunks.result c.args.walk.now.lines.pass c.chunks.new.self.pass c.args.context.now
+    c.args.walk.now.shared _ bytes_kind byte_chunk chunks.items _
+    (ap view c.in-IndefiniteByteString.is ∙ view-IndefiniteByteString chunks) c.deref.ensures.value c.chunks.ensures
 
 pub dump_item-returns-in-IndefiniteTextString-clause-took : goal.dump_item-returns-in-IndefiniteTextString-clause-took
 dump_item-returns-in-IndefiniteTextString-clause-took t c =
     let chunks = c.in-IndefiniteTextString.chunks in
-    let seen = ap view c.in-IndefiniteTextString.is ∙ view-IndefiniteTextString chunks in
-    let old = c.args.walk.now.lines.pass in
-    let new = c.chunks-in-IndefiniteTextString.new.self.pass in
-    let took = subst (λ xs. OnOk c.chunks-in-IndefiniteTextString.result
-    (Took old new (chunks_lines text_kind (context_view c.args.context.now) (map text_chunk xs))))
-    c.deref-in-IndefiniteTextString.ensures.value c.chunks-in-IndefiniteTextString.ensures in
-    subst (λ (i : Item). OnOk c.chunks-in-IndefiniteTextString.result
-    (Took old new (item_lines c.args.context.now c.args.walk.now.shared i))) (sym seen) took
+    let own = c.chunks-in-IndefiniteTextString in
+    chunks_took own.result c.args.walk.now.lines.pass own.new.self.pass c.args.context.now
+    c.args.walk.now.shared _ text_kind text_chunk chunks.items _
+    (ap view c.in-IndefiniteTextString.is ∙ view-IndefiniteTextString chunks)
+    c.deref-in-IndefiniteTextString.ensures.value own.ensures
 
 -- ---- tags
 

@@ -1,10 +1,11 @@
-use Rattle.std.proofs.Common.{Ok, sym, arith}
+use Rattle.std.proofs.Common.{◌-◌, Ok, sym, arith}
 use Rattle.cbor_diag.proofs.bytes.PublicReaders.{whole_well_formed}
-use Rattle.cbor_diag.proofs.shared.EmbeddedItems.{whole_item, no_whole_item, refused_is}
+use Rattle.cbor_diag.proofs.shared.EmbeddedItems.{spells_embedded, no_whole_item, refused_is}
 use Rattle.cbor_diag.proofs.encode.notation.embedded.embedded.Goals as goal
 
 pub returns-in-Ok-clause-item : goal.returns-in-Ok-clause-item
-returns-in-Ok-clause-item c = sym (whole_item c.args.level c.args.bytes.now _ c.requires.to c.in-Ok.ensures.answer)
+returns-in-Ok-clause-item c =
+    sym (spells_embedded c.args.level (129 - c.args.level) c.args.bytes.now _ (omega arith) c.in-Ok.ensures.answer)
 
 pub returns-in-Ok-clause-well_formed : goal.returns-in-Ok-clause-well_formed
 returns-in-Ok-clause-well_formed c = whole_well_formed c.args.level c.args.bytes.now (Ok c.in-Ok.item)

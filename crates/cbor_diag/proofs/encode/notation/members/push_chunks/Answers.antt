@@ -4,7 +4,8 @@ use Rattle.std.specs.String.{string_bytes}
 use Rattle.cbor_diag.specs.Item.{Chunk}
 use Rattle.cbor_diag.specs.mirror.EncodingView.{encoding_view}
 use Rattle.cbor_diag.specs.mirror.LayoutView.{style_view}
-use Rattle.cbor_diag.specs.NotationText.{string_text, no_chunks, chunks_listed}
+use Rattle.cbor_diag.specs.StringKind.{no_chunks}
+use Rattle.cbor_diag.specs.NotationText.{string_text, chunks_listed}
 use Rattle.cbor_diag.specs.mirror.StringView.{bytes_of}
 use Rattle.cbor_diag.proofs.shared.Appending.{begins_after_member, appends_last}
 use Rattle.cbor_diag.proofs.text.Scalars.{drop_here, member_more, members_end, chunks_written}
