@@ -6,7 +6,8 @@ ghost use Rattle.std.specs.List.{AllByRecursion};
 ghost use Rattle.cbor_diag.specs.declared.error.Error.TheVariants.{Head, Utf8, TooDeep};
 ghost use Rattle.cbor_diag.specs.declared.syntax.IntegerWidth.TheVariants.{Unknown, Zero, Eight};
 ghost use Rattle.cbor_diag.specs.declared.syntax.IntegerWidth.TheVariants.{Sixteen};
-ghost use Rattle.cbor_diag.specs.Item.{atom, array, simple, integer, chunked_string, item, no_items};
+ghost use Rattle.cbor_diag.specs.Item.{atom, array, simple, integer, chunked_string, item};
+ghost use Rattle.cbor_diag.specs.Item.{no_items};
 ghost use Rattle.cbor_diag.specs.Item.{Item, tagged, negative, float};
 ghost use Rattle.cbor_diag.specs.StringKind.{bytes_kind, text_kind};
 ghost use Rattle.cbor_diag.specs.WellFormed.{WellFormed};
@@ -84,10 +85,14 @@ pub(crate) fn hex_text()
     ensures lines { uncommented (codes "82 # two items" ++ 10 ∷ codes "01" ++ 10 ∷ 10
         ∷ codes "# the second"
         ++ 10 ∷ codes "02" ++ 10 ∷ []) ≡ codes "820102" }
-    ensures carriage_return_and_line_feed { uncommented (codes "01" ++ 13 ∷ 10 ∷ codes "02" ++ 13 ∷ 10 ∷ []) ≡ codes "0102" }
-    ensures one_carriage_return_of_two { uncommented (codes "01" ++ 13 ∷ 13 ∷ 10 ∷ codes "02") ≡ codes "01" ++ 13 ∷ codes "02" }
-    ensures carriage_return_at_the_end { uncommented (codes "01" ++ 13 ∷ []) ≡ codes "01" ++ 13 ∷ [] }
-    ensures carriage_return_in_a_comment { uncommented (codes "01 #" ++ 13 ∷ codes "02") ≡ codes "01" }
+    ensures carriage_return_and_line_feed { uncommented (codes "01" ++ 13 ∷ 10 ∷ codes "02"
+        ++ 13 ∷ 10 ∷ []) ≡ codes "0102" }
+    ensures one_carriage_return_of_two { uncommented (codes "01" ++ 13 ∷ 13 ∷ 10 ∷ codes "02")
+        ≡ codes "01" ++ 13 ∷ codes "02" }
+    ensures carriage_return_at_the_end { uncommented (codes "01" ++ 13 ∷ [])
+        ≡ codes "01" ++ 13 ∷ [] }
+    ensures carriage_return_in_a_comment { uncommented (codes "01 #" ++ 13 ∷ codes "02")
+        ≡ codes "01" }
     ensures tab { uncommented (codes "01" ++ 9 ∷ codes "02") ≡ codes "01" ++ 9 ∷ codes "02" }
     ensures spaces { uncommented (codes "  0 1  02 ") ≡ codes "0102" }
     ensures nothing { uncommented [] ≡ [] }

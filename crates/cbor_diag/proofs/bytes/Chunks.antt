@@ -1,7 +1,7 @@
 -- Strings: a content, a chunk or chunks that were read are what the bytes begin with, and the other way round.
-use Rattle.std.proofs.Common.{◌≡◌, ℕ, zero, suc, ◌+◌, ◌*◌, ◌/◌, ◌%◌, ◌<◌, ◌≤◌, ◌≢◌, false, ltb, List, [], ◌∷◌}
-use Rattle.std.proofs.Common.{◌++◌, length, take, drop, Option, Some, None, Ok, Err, ◌⊎◌, inl, inr, refl, sym, ap}
-use Rattle.std.proofs.Common.{subst, ◌∙◌, append_assoc, arith}
+use Rattle.std.proofs.Common.{◌≡◌, ℕ, zero, suc, ◌+◌, ◌*◌, ◌/◌, ◌%◌, ◌<◌, ◌≤◌, ◌≢◌, false, ltb, List, [], ◌∷◌, ◌++◌}
+use Rattle.std.proofs.Common.{length, take, drop, Option, Some, None, Ok, Err, ◌⊎◌, inl, inr, refl, sym, ap, subst, ◌∙◌}
+use Rattle.std.proofs.Common.{append_assoc, arith}
 use Rattle.std.specs.Str.{is_utf8}
 use Rattle.std.proofs.lemmas.Bool.{cases_eq, ltb-false, le-ltb, eq-eqb, ne_eqb}
 use Rattle.std.proofs.lemmas.List.{take_at, drop_at, take-append-drop, length-append, length-take}
@@ -13,12 +13,11 @@ use Rattle.cbor_diag.specs.Item.{Chunk}
 use Rattle.cbor_diag.specs.Head.{break_byte}
 use Rattle.cbor_diag.specs.Bytes.{ChunkThen, SpellsChunks}
 use Rattle.cbor_diag.specs.StringKind.{StringKind, bytes_kind, text_kind, major_of, IsContent}
-use Rattle.cbor_diag.specs.Reading.{checked_chunk, Read, ◌>>=◌, read_argument, split_at}
-use Rattle.cbor_diag.specs.Reading.{read_content, chunk_of, read_chunk, Counted, ◌>>-◌, more_chunks, read_chunks}
+use Rattle.cbor_diag.specs.Reading.{checked_chunk, Read, ◌>>=◌, read_argument, split_at, read_content, chunk_of}
+use Rattle.cbor_diag.specs.Reading.{read_chunk, Counted, more_chunks, read_chunks}
 use Rattle.cbor_diag.proofs.bytes.Heads.{IsBytes, IsBytes-drop, IsBytes-rest, bind_ok, then_ok, guard_ok, guard_held}
-use Rattle.cbor_diag.proofs.bytes.Heads.{ok_is}
-use Rattle.cbor_diag.proofs.bytes.Heads.{head_append, head_front, head_shorter, ArgumentIs, info_takes, head_then}
-use Rattle.cbor_diag.proofs.bytes.Heads.{opened}
+use Rattle.cbor_diag.proofs.bytes.Heads.{ok_is, head_append, head_front, head_shorter, ArgumentIs, info_takes}
+use Rattle.cbor_diag.proofs.bytes.Heads.{head_then, opened}
 
 -- ---- content
 

@@ -1,9 +1,8 @@
 -- Reading answers with a fault exactly where there is one, and a fault is there whatever bytes follow.
-use Rattle.std.proofs.Common.{◌≡◌, ℕ, zero, suc, ◌+◌, ◌≢◌, List, [], ◌∷◌, ◌++◌, Err, inl, inr, refl, ap, ◌-◌, ◌≤◌, ◌∙◌}
-use Rattle.std.proofs.Common.{append_assoc, arith}
+use Rattle.std.proofs.Common.{◌≡◌, ℕ, ◌+◌, ◌≢◌, List, [], ◌∷◌, ◌++◌, Err, refl, ap, ◌-◌, ◌≤◌, ◌∙◌, append_assoc, arith}
 use Rattle.cbor_diag.specs.declared.error.Error.{Error}
 use Rattle.cbor_diag.specs.declared.error.Error.TheVariants as refusal
-use Rattle.cbor_diag.specs.Head.{head, opening, break_byte}
+use Rattle.cbor_diag.specs.Head.{opening, break_byte}
 use Rattle.cbor_diag.specs.StringKind.{StringKind, text_kind}
 use Rattle.cbor_diag.specs.Refused.{BadHead, no_info, no_length, BadText, Next, part, part_or_break, Inside, in_tag}
 use Rattle.cbor_diag.specs.Refused.{in_array, in_map, in_open_array, at_open_key, at_open_value, InsideString, NoChunk}

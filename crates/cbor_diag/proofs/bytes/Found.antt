@@ -1,6 +1,6 @@
 -- An item that was read is spelled by the bytes before the rest.
-use Rattle.std.proofs.Common.{◌≡◌, ℕ, zero, suc, ◌+◌, ◌≤◌, List, [], ◌∷◌, ◌++◌, length, Option, Some, None, Ok}
-use Rattle.std.proofs.Common.{◌⊎◌, inl, inr, refl, sym, ap, subst, ◌∙◌, append_assoc, arith}
+use Rattle.std.proofs.Common.{◌≡◌, ℕ, zero, suc, ◌+◌, ◌≤◌, List, [], ◌∷◌, ◌++◌, length, Option, Some, None, Ok, ◌⊎◌}
+use Rattle.std.proofs.Common.{inl, inr, refl, sym, ap, subst, ◌∙◌, append_assoc, arith}
 use Rattle.std.specs.Int.{w16, w32, w64, to_be_bytes}
 use Rattle.std.proofs.lemmas.Bool.{cases_eq, eq-eqb, ne_eqb}
 use Rattle.std.proofs.lemmas.List.{append-nil}
@@ -16,16 +16,14 @@ use Rattle.cbor_diag.specs.Head.{opening, break_byte, HeadThen}
 use Rattle.cbor_diag.specs.WellFormed.{deepest}
 use Rattle.cbor_diag.specs.StringKind.{StringKind, major_of}
 use Rattle.cbor_diag.specs.Bytes.{any, OpenThen, ChunkThen, SpellsChunks, Spells, SpellsItems, SpellsPairs, MembersThen}
-use Rattle.cbor_diag.specs.Reading.{◌>>=◌, Read, Counted, read_head, read_content, read_chunks, read_atom, Frame}
-use Rattle.cbor_diag.specs.Reading.{items_in}
-use Rattle.cbor_diag.specs.Reading.{pairs_in, value_of, tag_of, tagged_with, opened, after_break, after_members}
-use Rattle.cbor_diag.specs.Reading.{after_end}
-use Rattle.cbor_diag.specs.Reading.{closed, count_width, read_parts, read_body, counted_item, read_item}
+use Rattle.cbor_diag.specs.Reading.{Counted, read_head, read_content, read_chunks, read_atom, Frame, items_in, pairs_in}
+use Rattle.cbor_diag.specs.Reading.{value_of, tag_of, tagged_with, opened, after_break, after_members, after_end}
+use Rattle.cbor_diag.specs.Reading.{closed, count_width, read_body, counted_item, read_item}
 use Rattle.cbor_diag.proofs.bytes.Heads.{IsBytes, IsBytes-rest, bind_ok, then_ok, done, ok_is, ArgumentThen, HeadIs}
 use Rattle.cbor_diag.proofs.bytes.Heads.{head_front, head_takes}
 use Rattle.cbor_diag.proofs.bytes.Chunks.{content_takes, chunks_takes, chunks_front}
 use Rattle.cbor_diag.proofs.bytes.Steps.{Shortens, item_shortens}
-use Rattle.cbor_diag.proofs.bytes.Frames.{Spelled, Finds, and_more, and_none, Held, Halted, parts_halt}
+use Rattle.cbor_diag.proofs.bytes.Frames.{Spelled, Finds, and_more, and_none, Held, parts_halt}
 
 -- members with more bytes after their end
 pub items_append : (level : ℕ) (is : Items) (b end more : List ℕ) → SpellsItems any level b is end
@@ -151,8 +149,11 @@ members_close major n a (number zero w) b r whole end rest Members head is parts
     subst (λ (k : ℕ). HeadThen major k w b (λ x. x ≡ r)) count
     (subst (λ (x : Argument). ArgumentThen major x b r) is head) in
     let t = head_front major n w b rest (λ x. x ≡ r) (λ x. Members x []) its_head
-    (λ x e. (whole, e ∙ parts ∙ ap (λ (y : List ℕ). whole ++ y) same,
-    subst (λ (y : List ℕ). Members y []) (append-nil whole) (members []))) in
+    (λ x e. (
+      whole,
+      e ∙ parts ∙ ap (λ (y : List ℕ). whole ++ y) same,
+      subst (λ (y : List ℕ). Members y []) (append-nil whole) (members []),
+    )) in
     (t.0, t.1, t.2, subst IsBytes same fits)
 members_close major n a (number (suc m) w) b r whole end rest Members head is parts over fits members = absurd cc
 members_close major n a indefinite b r whole end rest Members head is parts over fits members =

@@ -1,32 +1,26 @@
 -- An item that bytes spell is read again, in its turns, whatever follows them.
-use Rattle.std.proofs.Common.{◌≡◌, ◌≢◌, ℕ, zero, suc, ◌+◌, ◌*◌, ◌%◌, ◌<◌, ◌≤◌, List, [], ◌∷◌, ◌++◌, length, Option}
-use Rattle.std.proofs.Common.{Some}
+use Rattle.std.proofs.Common.{◌≡◌, ◌≢◌, ℕ, zero, suc, ◌+◌, ◌%◌, ◌<◌, ◌≤◌, List, [], ◌∷◌, ◌++◌, length, Option, Some}
 use Rattle.std.proofs.Common.{None, Ok, inl, inr, refl, sym, ap, subst, ◌∙◌, append_assoc, arith}
 use Rattle.std.specs.Int.{w16, w32, w64, to_be_bytes}
 use Rattle.std.proofs.lemmas.Bool.{ne_eqb}
-use Rattle.std.proofs.lemmas.List.{length-append}
 use Rattle.cbor_diag.specs.declared.syntax.IntegerWidth.{IntegerWidth}
 use Rattle.cbor_diag.specs.declared.syntax.IntegerWidth.TheVariants.{Zero, Eight, Sixteen, ThirtyTwo, SixtyFour}
 use Rattle.cbor_diag.specs.declared.syntax.FloatWidth.TheVariants as float_width
 use Rattle.cbor_diag.specs.Argument.{Argument, number, indefinite}
 use Rattle.cbor_diag.specs.Item as spec
 use Rattle.cbor_diag.specs.Item.{Chunk, Atom, integer, negative, string, chunked_string, float, simple, Item, atom}
-use Rattle.cbor_diag.specs.Item.{array}
-use Rattle.cbor_diag.specs.Item.{tagged, Items, no_items, item, Pairs, no_pairs, pair, item_count, pair_count}
+use Rattle.cbor_diag.specs.Item.{array, tagged, Items, no_items, item, Pairs, no_pairs, pair, item_count, pair_count}
 use Rattle.cbor_diag.specs.ItemHead as item_head
 use Rattle.cbor_diag.specs.ItemHead.{ItemHead}
 use Rattle.cbor_diag.specs.Head.{head, opening, break_byte, HeadThen}
 use Rattle.cbor_diag.specs.WellFormed.{deepest}
 use Rattle.cbor_diag.specs.StringKind.{StringKind, bytes_kind, text_kind, major_of}
-use Rattle.cbor_diag.specs.Bytes.{any, SpellsSimple, SpellsAtom, ChunkThen, MembersThen, Spells, SpellsItems}
-use Rattle.cbor_diag.specs.Bytes.{SpellsPairs}
+use Rattle.cbor_diag.specs.Bytes.{any, SpellsAtom, ChunkThen, MembersThen, Spells, SpellsItems, SpellsPairs}
 use Rattle.cbor_diag.specs.Turns.{item_turns, items_turns, pairs_turns}
 use Rattle.cbor_diag.specs.Reading.{◌>>=◌, Counted, later, go_on, ◌>>-◌, head_of, read_head, joined, joined_pairs}
-use Rattle.cbor_diag.specs.Reading.{Frame}
-use Rattle.cbor_diag.specs.Reading.{items_in, pairs_in, value_of, tag_of, tagged_with, opened, one_less, count_width}
-use Rattle.cbor_diag.specs.Reading.{put}
-use Rattle.cbor_diag.specs.Reading.{after_break, after_members, after_end, read_parts, read_body, counted_item}
-use Rattle.cbor_diag.specs.Reading.{read_item}
+use Rattle.cbor_diag.specs.Reading.{Frame, items_in, pairs_in, value_of, tag_of, tagged_with, opened, one_less}
+use Rattle.cbor_diag.specs.Reading.{count_width, put, after_break, after_members, after_end, read_parts, read_body}
+use Rattle.cbor_diag.specs.Reading.{counted_item, read_item}
 use Rattle.cbor_diag.proofs.bytes.Heads as heads
 use Rattle.cbor_diag.proofs.bytes.Heads.{head_append, head_again, byte_of, ArgumentThen}
 use Rattle.cbor_diag.proofs.bytes.Chunks.{content_again, chunks_again, chunks_append}

@@ -1,19 +1,12 @@
 -- What was read of an open container is what the bytes before its next part spell, and is read again from them.
-use Rattle.std.proofs.Common.{◌≡◌, ℕ, zero, suc, ◌+◌, ◌*◌, ◌<◌, List, [], ◌∷◌, ◌++◌, length, Option, Some, None, Ok}
-use Rattle.std.proofs.Common.{Err}
-use Rattle.std.proofs.Common.{◌⊎◌, inl, inr, refl, sym, ap, subst, ◌∙◌, append_assoc, append-nil, arith}
-use Rattle.cbor_diag.specs.declared.error.Error.{Error}
-use Rattle.cbor_diag.specs.declared.syntax.IntegerWidth.{IntegerWidth}
+use Rattle.std.proofs.Common.{◌≡◌, ℕ, zero, suc, ◌+◌, ◌<◌, List, [], ◌++◌, length, Option, Some, None, Ok, Err, ◌⊎◌}
+use Rattle.std.proofs.Common.{inl, inr, refl, sym, ap, subst, ◌∙◌, append_assoc, append-nil, arith}
 use Rattle.cbor_diag.specs.Argument.{Argument, number, indefinite}
-use Rattle.cbor_diag.specs.Item as spec
-use Rattle.cbor_diag.specs.Item.{Item, array, tagged, Items, no_items, item, Pairs, no_pairs, pair, item_count}
-use Rattle.cbor_diag.specs.Item.{pair_count}
+use Rattle.cbor_diag.specs.Item.{Item, Items, no_items, item, Pairs, no_pairs, pair, item_count, pair_count}
 use Rattle.cbor_diag.specs.Bytes.{any, Spells, SpellsItems, SpellsPairs}
-use Rattle.cbor_diag.specs.Refused.{SpelledParts}
 use Rattle.cbor_diag.specs.Reading.{Read, Counted, go_on, ◌>>-◌, joined, joined_pairs, Frame, items_in, pairs_in}
-use Rattle.cbor_diag.specs.Reading.{value_of}
-use Rattle.cbor_diag.specs.Reading.{tag_of, tagged_with, one_less, put, after_members, after_end, closed, close_or}
-use Rattle.cbor_diag.specs.Reading.{parts_from}
+use Rattle.cbor_diag.specs.Reading.{value_of, tag_of, tagged_with, one_less, put, after_members, after_end, closed}
+use Rattle.cbor_diag.specs.Reading.{close_or, parts_from}
 use Rattle.cbor_diag.proofs.bytes.Heads.{IsBytes}
 use Rattle.cbor_diag.proofs.bytes.Steps.{Shortens, open_or}
 

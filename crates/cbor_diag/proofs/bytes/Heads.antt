@@ -1,8 +1,7 @@
 -- A head that was read is what the bytes begin with, and what begins with a head is read so.
 use Rattle.std.proofs.Common.{◌≡◌, ℕ, zero, suc, ◌+◌, ◌*◌, ◌/◌, ◌%◌, ◌^◌, ◌<◌, ◌≤◌, ◌≢◌, Bool, true, false, cond, ltb}
-use Rattle.std.proofs.Common.{List}
-use Rattle.std.proofs.Common.{[], ◌∷◌, ◌++◌, length, get_or, take, drop, Result, Ok, Err, ◌⊎◌, inl, inr, refl, sym, ap}
-use Rattle.std.proofs.Common.{subst, ◌∙◌, append_assoc, arith}
+use Rattle.std.proofs.Common.{List, [], ◌∷◌, ◌++◌, length, get_or, take, drop, Result, Ok, Err, ◌⊎◌, inl, inr, refl}
+use Rattle.std.proofs.Common.{sym, ap, subst, ◌∙◌, append_assoc, arith}
 use Rattle.std.specs.Int.{Width, w8, w16, w32, w64, byte_len, from_be_bytes, to_be_bytes}
 use Rattle.std.proofs.lemmas.Bool.{cases_lt, cases_eq, ltb-false, lt-ltb, le-ltb, ne_eqb}
 use Rattle.std.proofs.lemmas.List.{take_at, drop_at, take-append-drop, length-append, length-take, get_or-drop}
@@ -19,7 +18,7 @@ use Rattle.cbor_diag.specs.Argument.{Argument, number, indefinite}
 use Rattle.cbor_diag.specs.ItemHead as item_head
 use Rattle.cbor_diag.specs.ItemHead.{ItemHead}
 use Rattle.cbor_diag.specs.StringKind.{bytes_kind, text_kind, major_of}
-use Rattle.cbor_diag.specs.Head.{FitsStated, head, opening, break_byte, HeadThen}
+use Rattle.cbor_diag.specs.Head.{FitsStated, head, opening, HeadThen}
 use Rattle.cbor_diag.specs.Bytes.{any, SpellsSimple}
 use Rattle.cbor_diag.specs.Reading.{Read, ◌>>=◌, Counted, go_on, ◌>>-◌, read_number, read_wide, read_argument}
 use Rattle.cbor_diag.specs.Reading.{simple_or_float, head_of, read_head}

@@ -1,5 +1,5 @@
 -- What reading refuses is cut or has a fault.
-use Rattle.std.proofs.Common.{◌≡◌, ℕ, zero, suc, ◌+◌, ◌*◌, ◌<◌, ◌≤◌, List, [], ◌∷◌, ◌++◌, Option, Some, None, Ok, Err}
+use Rattle.std.proofs.Common.{◌≡◌, ℕ, zero, suc, ◌+◌, ◌*◌, ◌≤◌, List, [], ◌∷◌, ◌++◌, Option, Some, None, Ok, Err}
 use Rattle.std.proofs.Common.{length, inl, inr, refl, sym, ap, subst, ◌∙◌, append_assoc, append-nil, arith}
 use Rattle.cbor_diag.specs.declared.syntax.IntegerWidth.{IntegerWidth}
 use Rattle.cbor_diag.specs.declared.error.Error.{Error}
@@ -12,22 +12,21 @@ use Rattle.cbor_diag.specs.ItemHead.{ItemHead}
 use Rattle.cbor_diag.specs.Head.{opening, break_byte, HeadThen}
 use Rattle.cbor_diag.specs.Bytes.{any, Spells, SpellsItems, SpellsPairs}
 use Rattle.cbor_diag.specs.WellFormed.{deepest}
-use Rattle.cbor_diag.specs.StringKind.{StringKind, bytes_kind, text_kind, major_of}
+use Rattle.cbor_diag.specs.StringKind.{StringKind, text_kind, major_of}
 use Rattle.cbor_diag.specs.Refused as spelled
 use Rattle.cbor_diag.specs.Refused.{SpelledParts, Next, part, part_or_break, Inside, in_tag, in_array, in_map}
-use Rattle.cbor_diag.specs.Refused.{in_open_array}
-use Rattle.cbor_diag.specs.Refused.{at_open_key, at_open_value, InsideString, Cut, nothing, in_head, in_content}
-use Rattle.cbor_diag.specs.Refused.{in_chunk, in_part, BeginsWithBreak, NoBreakAt, Fault, too_deep, bad_chunk_head}
-use Rattle.cbor_diag.specs.Refused.{bad_chunk_text, bad_part}
-use Rattle.cbor_diag.specs.Reading.{Read, ◌>>=◌, Counted, ◌>>-◌, read_head, read_content, read_chunks, read_atom, Frame}
-use Rattle.cbor_diag.specs.Reading.{items_in, pairs_in, value_of, tag_of, tagged_with, opened, after_break, after_end}
-use Rattle.cbor_diag.specs.Reading.{read_body, no_level_left, counted_item, read_item}
+use Rattle.cbor_diag.specs.Refused.{in_open_array, at_open_key, at_open_value, InsideString, Cut, nothing, in_head}
+use Rattle.cbor_diag.specs.Refused.{in_content, in_chunk, in_part, BeginsWithBreak, NoBreakAt, Fault, too_deep}
+use Rattle.cbor_diag.specs.Refused.{bad_chunk_head, bad_chunk_text, bad_part}
+use Rattle.cbor_diag.specs.Reading.{Counted, read_head, read_content, read_chunks, read_atom, Frame, items_in, pairs_in}
+use Rattle.cbor_diag.specs.Reading.{value_of, tag_of, tagged_with, opened, after_break, after_end, read_body}
+use Rattle.cbor_diag.specs.Reading.{no_level_left, counted_item, read_item}
 use Rattle.cbor_diag.proofs.bytes.Heads.{IsBytes, bind_err, then_err, ArgumentThen, HeadIs, head_takes}
 use Rattle.cbor_diag.proofs.bytes.HeadRefusals.{HeadRefusal, no_head, short_head, bad_head, head_refused}
 use Rattle.cbor_diag.proofs.bytes.StringRefusals.{ContentRefusal, short_content, bad_content, content_refused}
 use Rattle.cbor_diag.proofs.bytes.StringRefusals.{ChunkRefusal, cut_chunk, bad_chunk, bad_text, ChunksStop, chunks_stop}
 use Rattle.cbor_diag.proofs.bytes.Steps.{Shortens, item_shortens}
-use Rattle.cbor_diag.proofs.bytes.Frames.{Finds, and_more, Held, Halted, parts_halt}
+use Rattle.cbor_diag.proofs.bytes.Frames.{Finds, Held, parts_halt}
 use Rattle.cbor_diag.proofs.bytes.Found.{break_ways, OpenedBy, opened_by, opened_held, item_takes}
 
 pub item_nothing : (left : ℕ) → read_item left [] ≡ Err refusal.CutShort
@@ -102,9 +101,14 @@ parts_snoc level zero b y i h s =
     (y, [], i, ap (λ (x : List ℕ). x ++ y) h ∙ sym (append-nil y), s, refl)
 parts_snoc level (suc n) b y i h s =
     let sum : suc (n + 1) ≡ suc n + 1 = omega arith in
-    subst (λ (k : ℕ). SpelledParts level k (b ++ y)) sum
-    (h.0, h.1 ++ y, h.2, ap (λ (x : List ℕ). x ++ y) h.3 ∙ append_assoc h.0 h.1 y, h.4,
-    parts_snoc level n h.1 y i h.5 s)
+    subst (λ (k : ℕ). SpelledParts level k (b ++ y)) sum (
+      h.0,
+      h.1 ++ y,
+      h.2,
+      ap (λ (x : List ℕ). x ++ y) h.3 ∙ append_assoc h.0 h.1 y,
+      h.4,
+      parts_snoc level n h.1 y i h.5 s,
+    )
 
 -- where an open container halts, it is not whole, and something has to follow
 stops : (level : ℕ) (f g : Frame) (b r whole rest : List ℕ) → OpenedBy f b r → r ≡ whole ++ rest

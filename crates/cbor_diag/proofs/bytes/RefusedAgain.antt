@@ -1,6 +1,5 @@
 -- What is cut or has a fault is refused, in the turns of what is whole of it and one for the part that fails.
-use Rattle.std.proofs.Common.{◌≡◌, ℕ, zero, suc, ◌+◌, ◌*◌, ◌<◌, ◌≤◌, List, [], ◌∷◌, ◌++◌, length, Some, None, Ok, Err}
-use Rattle.std.proofs.Common.{inl, inr}
+use Rattle.std.proofs.Common.{◌≡◌, ℕ, zero, suc, ◌+◌, ◌*◌, ◌<◌, List, [], ◌∷◌, ◌++◌, length, Some, None, Ok, Err, inr}
 use Rattle.std.proofs.Common.{refl, sym, ap, ◌∙◌, append_assoc, arith}
 use Rattle.cbor_diag.specs.declared.syntax.IntegerWidth.{IntegerWidth}
 use Rattle.cbor_diag.specs.declared.error.Error.{Error}
@@ -20,7 +19,7 @@ use Rattle.cbor_diag.specs.Turns.{item_turns, parts_turns, front_turns, cut_spen
 use Rattle.cbor_diag.specs.Reading.{◌>>=◌, Counted, later, go_on, ◌>>-◌, head_of, read_head, Frame, items_in, pairs_in}
 use Rattle.cbor_diag.specs.Reading.{value_of, tag_of, tagged_with, opened, put, after_break, after_end, read_parts}
 use Rattle.cbor_diag.specs.Reading.{read_body, counted_item, read_item}
-use Rattle.cbor_diag.proofs.bytes.Heads.{ArgumentThen, head_again}
+use Rattle.cbor_diag.proofs.bytes.Heads.{head_again}
 use Rattle.cbor_diag.proofs.bytes.HeadRefusals.{head_cut, head_bad}
 use Rattle.cbor_diag.proofs.bytes.StringRefusals as strings
 use Rattle.cbor_diag.proofs.bytes.StringRefusals.{ContentRefusal, content_refuses, ChunkRefusal, chunks_refuse}

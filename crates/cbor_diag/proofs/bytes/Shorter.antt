@@ -1,25 +1,23 @@
 -- What is left after an item that was read is shorter than the bytes that it was read from.
 use Rattle.std.proofs.Common.{◌≡◌, ℕ, zero, suc, ◌/◌, ◌%◌, ◌<◌, ◌≤◌, cond, ltb, eqb, List, [], ◌∷◌, length, take, drop}
-use Rattle.std.proofs.Common.{Option, Some, None, Result, Ok, Err, inl, inr, refl, ap, subst, arith}
-use Rattle.std.specs.Int.{Width, w8, w16, w32, w64, byte_len, from_be_bytes}
-use Rattle.std.proofs.lemmas.Bool.{cases_lt, cases_eq, cond_both, lt-ltb, le-ltb, ne_eqb}
+use Rattle.std.proofs.Common.{Option, Some, None, Result, Ok, Err, refl, ap, subst, arith}
+use Rattle.std.specs.Int.{Width, byte_len, from_be_bytes}
+use Rattle.std.proofs.lemmas.Bool.{cond_both}
 use Rattle.std.proofs.lemmas.List.{length-drop}
 use Rattle.cbor_diag.specs.declared.syntax.IntegerWidth.{IntegerWidth}
-use Rattle.cbor_diag.specs.declared.syntax.IntegerWidth.TheVariants.{Eight, Sixteen, ThirtyTwo, SixtyFour}
 use Rattle.cbor_diag.specs.declared.error.Error.{Error}
 use Rattle.cbor_diag.specs.declared.error.Error.TheVariants as refusal
 use Rattle.cbor_diag.specs.Argument.{Argument, number, indefinite}
-use Rattle.cbor_diag.specs.Item.{Chunk, string, chunked_string, Item, atom}
+use Rattle.cbor_diag.specs.Item.{Chunk, string, Item, atom}
 use Rattle.cbor_diag.specs.ItemHead as item_head
 use Rattle.cbor_diag.specs.ItemHead.{ItemHead}
 use Rattle.cbor_diag.specs.Head.{break_byte}
 use Rattle.cbor_diag.specs.StringKind.{StringKind, major_of}
-use Rattle.cbor_diag.specs.Reading.{checked_chunk, Read, ◌>>=◌, read_number, read_wide}
-use Rattle.cbor_diag.specs.Reading.{read_argument, head_of, read_head, split_at, read_content, chunk_of, read_chunk}
-use Rattle.cbor_diag.specs.Reading.{Counted, go_on, ◌>>-◌, more_chunks, read_chunks, read_atom, Frame, items_in}
-use Rattle.cbor_diag.specs.Reading.{pairs_in}
-use Rattle.cbor_diag.specs.Reading.{value_of, tag_of, tagged_with, opened, put, after_break, after_members, after_end}
-use Rattle.cbor_diag.specs.Reading.{closed, close_or, parts_from, read_body, no_level_left, counted_item, read_item}
+use Rattle.cbor_diag.specs.Reading.{checked_chunk, Read, ◌>>=◌, read_number, read_wide, read_argument, head_of}
+use Rattle.cbor_diag.specs.Reading.{read_head, split_at, read_content, chunk_of, read_chunk, Counted, go_on, ◌>>-◌}
+use Rattle.cbor_diag.specs.Reading.{more_chunks, read_chunks, read_atom, Frame, items_in, pairs_in, value_of, tag_of}
+use Rattle.cbor_diag.specs.Reading.{tagged_with, opened, put, after_break, after_members, after_end, closed, close_or}
+use Rattle.cbor_diag.specs.Reading.{parts_from, read_body, counted_item, read_item}
 use Rattle.cbor_diag.proofs.bytes.Heads.{info_way, in_byte, in_bytes, no_number, no_meaning}
 
 -- fewer than n bytes are left where something was read

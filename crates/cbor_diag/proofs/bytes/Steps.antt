@@ -1,7 +1,6 @@
 -- Counted steps, one after the other, and the parts of an open container.
 use Rattle.std.proofs.Common.{◌≡◌, ℕ, zero, suc, ◌+◌, ◌<◌, ◌≤◌, List, length, Option, Some, None, Ok, Err, refl, sym}
-use Rattle.std.proofs.Common.{ap}
-use Rattle.std.proofs.Common.{◌∙◌, arith}
+use Rattle.std.proofs.Common.{ap, ◌∙◌, arith}
 use Rattle.cbor_diag.specs.Item.{Item}
 use Rattle.cbor_diag.specs.Reading.{Read, Counted, later, go_on, ◌>>-◌, Frame, put, after_end, closed, close_or}
 use Rattle.cbor_diag.specs.Reading.{parts_from, read_parts, counted_item}

@@ -1,8 +1,7 @@
 -- Where a string is refused: in its content, or in a chunk of it.
-use Rattle.std.proofs.Common.{Result, ◌≡◌, ℕ, zero, suc, ◌+◌, ◌*◌, ◌/◌, ◌%◌, ◌<◌}
-use Rattle.std.proofs.Common.{◌≤◌, ◌≢◌, false, ltb, List, [], ◌∷◌, ◌++◌}
-use Rattle.std.proofs.Common.{length, take, drop, Option, Some, None, Ok, Err, ◌⊎◌, inl, inr, refl, sym, ap, subst, ◌∙◌}
-use Rattle.std.proofs.Common.{arith}
+use Rattle.std.proofs.Common.{Result, ◌≡◌, ℕ, zero, suc, ◌+◌, ◌*◌, ◌/◌, ◌%◌, ◌<◌, ◌≤◌, ◌≢◌, false, ltb, List, [], ◌∷◌}
+use Rattle.std.proofs.Common.{◌++◌, length, take, drop, Option, Some, None, Ok, Err, ◌⊎◌, inl, inr, refl, sym, ap}
+use Rattle.std.proofs.Common.{subst, ◌∙◌, arith}
 use Rattle.std.specs.Prelude.{IsUtf8}
 use Rattle.std.specs.Str.{is_utf8}
 use Rattle.std.proofs.lemmas.Bool.{cases_lt, cases_eq, lt-ltb, le-ltb, false_from_ne_true, false≢true}
@@ -17,8 +16,8 @@ use Rattle.cbor_diag.specs.Head.{break_byte, HeadThen}
 use Rattle.cbor_diag.specs.Bytes.{SpellsChunks}
 use Rattle.cbor_diag.specs.StringKind.{StringKind, bytes_kind, text_kind, major_of}
 use Rattle.cbor_diag.specs.Refused.{CutHead, cut_head, BadText, CutChunk, NoChunk, no_chunk}
-use Rattle.cbor_diag.specs.Reading.{◌>>=◌, checked_chunk, read_argument, split_at, read_content}
-use Rattle.cbor_diag.specs.Reading.{chunk_of, read_chunk, more_chunks, read_chunks}
+use Rattle.cbor_diag.specs.Reading.{◌>>=◌, checked_chunk, read_argument, split_at, read_content, chunk_of, read_chunk}
+use Rattle.cbor_diag.specs.Reading.{more_chunks, read_chunks}
 use Rattle.cbor_diag.proofs.bytes.Heads.{IsBytes, IsBytes-rest, bind_err, then_err, branch, info_takes, head_then}
 use Rattle.cbor_diag.proofs.bytes.Heads.{opened}
 use Rattle.cbor_diag.proofs.bytes.Chunks.{chunk_ways, chunk_takes, chunk_again, chunk_with, chunk_parts}

@@ -1,7 +1,6 @@
 -- What is still to come in containers, one part after the other.
-use Rattle.std.proofs.Common.{◌≡◌, ℕ, zero, suc, ◌-◌, ◌<◌, ◌≤◌, List, [], ◌∷◌, ◌++◌, length, Option, Some, None, Ok}
-use Rattle.std.proofs.Common.{Err}
-use Rattle.std.proofs.Common.{refl, sym, ap, subst, ◌∙◌, append_assoc, ◌⊎◌, inl, inr, arith}
+use Rattle.std.proofs.Common.{◌≡◌, ℕ, zero, suc, ◌-◌, ◌<◌, List, [], ◌∷◌, ◌++◌, length, Some, None, Ok, Err, refl, sym}
+use Rattle.std.proofs.Common.{ap, subst, ◌∙◌, append_assoc, inl, inr, arith}
 use Rattle.std.specs.Prelude.{option_map}
 use Rattle.std.proofs.lemmas.List.{length-append}
 use Rattle.cbor_diag.specs.declared.syntax.IntegerWidth.{IntegerWidth}
@@ -11,28 +10,24 @@ use Rattle.cbor_diag.specs.declared.error.Error.TheVariants as refusal
 use Rattle.cbor_diag.specs.declared.parse.binary.skip.Stop.{Stop}
 use Rattle.cbor_diag.specs.declared.parse.binary.skip.Stop.TheVariants as stops
 use Rattle.cbor_diag.specs.declared.parse.binary.skip.to_come.ToCome.{ToCome}
-use Rattle.cbor_diag.specs.declared.parse.binary.skip.to_come.ToCome.TheVariants as to_come
 use Rattle.cbor_diag.specs.Argument.{Argument, number, indefinite}
-use Rattle.cbor_diag.specs.Item.{Item, atom, string, chunked_string, no_items, no_pairs}
+use Rattle.cbor_diag.specs.Item.{Item, atom, string, no_items, no_pairs}
 use Rattle.cbor_diag.specs.ItemHead as item_head
 use Rattle.cbor_diag.specs.ItemHead.{ItemHead}
 use Rattle.cbor_diag.specs.Head.{break_byte}
 use Rattle.cbor_diag.specs.StringKind.{StringKind}
 use Rattle.cbor_diag.specs.WellFormed.{deepest}
-use Rattle.cbor_diag.specs.Reading.{Read, ◌>>=◌, Counted, ◌>>-◌, read_content, read_chunks, read_atom, Frame, items_in}
-use Rattle.cbor_diag.specs.Reading.{pairs_in, value_of, tag_of, tagged_with, opened, put, after_break, after_members}
-use Rattle.cbor_diag.specs.Reading.{after_end, closed, close_or, parts_from, read_parts, counted_item, read_item}
-use Rattle.cbor_diag.specs.mirror.Skipping.{Skip, rest_of, here, Goes, StopsSo, skip_content, skip_chunks, skip_item}
-use Rattle.cbor_diag.specs.mirror.Skipping.{any_width}
-use Rattle.cbor_diag.specs.Reading.{one_less}
+use Rattle.cbor_diag.specs.Reading.{◌>>=◌, Counted, ◌>>-◌, read_content, Frame, items_in, pairs_in, value_of, tag_of}
+use Rattle.cbor_diag.specs.Reading.{tagged_with, opened, put, after_break, after_members, after_end, closed, parts_from}
+use Rattle.cbor_diag.specs.Reading.{counted_item, one_less}
+use Rattle.cbor_diag.specs.mirror.Skipping.{Skip, rest_of, here, Goes, StopsSo, skip_content, skip_item, any_width}
 use Rattle.cbor_diag.specs.mirror.Skipping.{skip_body, some_item, emptied, frame_of, skip_frame, skip_parts, begun}
 use Rattle.cbor_diag.specs.mirror.Skipping.{closing, skip_open}
 use Rattle.cbor_diag.proofs.bytes.Heads.{cons_is}
-use Rattle.cbor_diag.proofs.bytes.Steps.{parts_more, parts_end, item_shortens}
+use Rattle.cbor_diag.proofs.bytes.Steps.{parts_more, parts_end, item_shortens, open_or}
 use Rattle.cbor_diag.proofs.bytes.Frames.{end_ways, close_ended}
-use Rattle.cbor_diag.proofs.bytes.Steps.{open_or}
 use Rattle.cbor_diag.proofs.bytes.Found.{break_ways, after_break_is}
-use Rattle.cbor_diag.proofs.skipping.Skips.{goes_here, goes_then, goes_within, bind_here, rest_made, rest_then}
+use Rattle.cbor_diag.proofs.skipping.Skips.{goes_here, goes_then, goes_within, rest_made, rest_then}
 
 -- ---- what was read makes no difference
 
@@ -144,6 +139,7 @@ end_over f b after ends = over f ends
     members (number zero w) is = ([], cc, λ c. refl)
     members (number (suc n) w) is = absurd cc
     members indefinite is = (break_byte ∷ [], after_break_is b after is, λ c. refl)
+
     over : (f : Frame) → after_end f b ≡ Some after
         → (x : List ℕ) × (b ≡ x ++ after) × ((c : List ℕ) → after_end f (x ++ c) ≡ Some c)
     over (items_in is left) e = members left e
@@ -166,6 +162,7 @@ opened_goes left h t b is = goes_here b (λ c. same h c is)
   where
     alike : (f : Frame) (c : List ℕ) → frame_of t ≡ emptied f → skip_frame left f c ≡ skip_parts left t c
     alike f c same = frame_alike left f (frame_of t) c (sym (emptied_twice f) ∙ ap emptied (sym same))
+
     same : (h : ItemHead) (c : List ℕ) → Some (frame_of t) ≡ option_map emptied (opened h)
         → skip_body left h c ≡ begun left (Some t) c
     same (item_head.array a) c is = alike (items_in no_items a) c cc

@@ -20,14 +20,13 @@ use Rattle.cbor_diag.specs.Reading.{Read, ◌>>=◌, read_argument, head_of, rea
 use Rattle.cbor_diag.specs.Reading.{Counted, go_on, ◌>>-◌, more_chunks, read_chunks, opened, read_body, counted_item}
 use Rattle.cbor_diag.specs.mirror.Skipping.{Skip, rest_of, here, Goes, Shows, StopsSo, stop_of, skip_content}
 use Rattle.cbor_diag.specs.mirror.Skipping.{skip_chunks, skip_item, skip_body}
-use Rattle.cbor_diag.proofs.bytes.Heads.{IsBytes, IsBytes-rest, bind_ok, ok_is, cons_is, number_bytes, ArgumentIs}
-use Rattle.cbor_diag.proofs.bytes.Heads.{info_takes, info_again, head_takes}
+use Rattle.cbor_diag.proofs.bytes.Heads.{IsBytes, IsBytes-rest, bind_ok, ok_is, number_bytes, ArgumentIs, info_takes}
+use Rattle.cbor_diag.proofs.bytes.Heads.{info_again}
 use Rattle.cbor_diag.proofs.bytes.Shorter.{Leaves, chunk_leaves}
 use Rattle.cbor_diag.proofs.bytes.Chunks.{content_again, chunk_ways}
 use Rattle.cbor_diag.proofs.bytes.HeadRefusals.{InfoRefusal, cut_info, bad_info, info_refused, info_refuses, info_opens}
-use Rattle.cbor_diag.proofs.bytes.HeadRefusals.{HeadRefusal, no_head, short_head, bad_head, head_refused}
+use Rattle.cbor_diag.proofs.bytes.HeadRefusals.{HeadRefusal, no_head, short_head, bad_head, head_refused, head_bad}
 use Rattle.cbor_diag.proofs.bytes.StringRefusals.{short_content, bad_content, content_refuses}
-use Rattle.cbor_diag.proofs.bytes.HeadRefusals.{head_bad}
 use Rattle.cbor_diag.proofs.bytes.Refusals.{item_nothing}
 use Rattle.cbor_diag.proofs.bytes.Steps.{then_first, first_same}
 

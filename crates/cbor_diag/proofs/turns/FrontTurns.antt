@@ -12,7 +12,7 @@ use Rattle.cbor_diag.specs.Refused.{Cut, Fault}
 use Rattle.cbor_diag.specs.Turns.{item_turns, cut_spent, fault_spent}
 use Rattle.cbor_diag.specs.Answer.{HasOutcome, HasTurns, RefusedSo}
 use Rattle.cbor_diag.specs.Reading.{Fails, Counted, later, counted_item, read_item}
-use Rattle.cbor_diag.specs.mirror.Counting.{Stops, Runs}
+use Rattle.cbor_diag.specs.mirror.Counting.{Stops}
 use Rattle.cbor_diag.proofs.bytes.Heads.{IsBytes}
 use Rattle.cbor_diag.proofs.bytes.Found.{item_takes}
 use Rattle.cbor_diag.proofs.bytes.FoundAgain.{counted_again}

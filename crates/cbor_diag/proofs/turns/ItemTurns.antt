@@ -6,8 +6,7 @@ use Rattle.cbor_diag.specs.declared.syntax.IntegerWidth.{IntegerWidth}
 use Rattle.cbor_diag.specs.declared.error.Error.{Error}
 use Rattle.cbor_diag.specs.Item as spec
 use Rattle.cbor_diag.specs.Item.{Atom, chunked_string, Item, atom, array, tagged, Items, no_items, item, Pairs}
-use Rattle.cbor_diag.specs.Item.{no_pairs}
-use Rattle.cbor_diag.specs.Item.{pair, item_count, pair_count}
+use Rattle.cbor_diag.specs.Item.{no_pairs, pair, item_count, pair_count}
 use Rattle.cbor_diag.specs.Bytes.{any, MembersThen, Spells, SpellsItems, SpellsPairs}
 use Rattle.cbor_diag.specs.StringKind.{major_of}
 use Rattle.cbor_diag.specs.Head.{break_byte}

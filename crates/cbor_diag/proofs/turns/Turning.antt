@@ -10,8 +10,7 @@ use Rattle.cbor_diag.specs.ItemHead as item_head
 use Rattle.cbor_diag.specs.ItemHead.{ItemHead}
 use Rattle.cbor_diag.specs.Answer.{MayWantMemory}
 use Rattle.cbor_diag.specs.Reading.{Fails, Counted, later, go_on, ◌>>-◌, Frame, put, after_end, closed, read_parts}
-use Rattle.cbor_diag.specs.Reading.{opened}
-use Rattle.cbor_diag.specs.Reading.{read_head, read_atom, read_body, no_level_left, counted_item}
+use Rattle.cbor_diag.specs.Reading.{opened, read_head, read_atom, read_body, no_level_left, counted_item}
 use Rattle.cbor_diag.specs.mirror.Counting.{Stops, HoldsContent, read_item_head, closing, pushed, depth_of, resume}
 use Rattle.cbor_diag.specs.mirror.Counting.{deliver, IsStack}
 use Rattle.cbor_diag.proofs.bytes.Heads.{IsBytes}

@@ -1,8 +1,7 @@
 -- Skipping over an item, as the code of `parse/binary/skip.rt` does, in the words of `specs/Reading.antt`:
 -- what reading gives, its value forgotten, and what is still to come in containers that are open. No
 -- public clause names it.
-use Rattle.std.specs.Prelude.{◌≡◌, ◌≢◌, ℕ, zero, suc, ◌-◌, List, [], ◌∷◌, ◌++◌, length, Option, Some, None, Result, Ok}
-use Rattle.std.specs.Prelude.{Err}
+use Rattle.std.specs.Prelude.{◌≡◌, ◌≢◌, ℕ, ◌-◌, List, [], ◌∷◌, ◌++◌, length, Option, Some, None, Result, Ok, Err}
 use Rattle.cbor_diag.specs.declared.syntax.IntegerWidth.{IntegerWidth}
 use Rattle.cbor_diag.specs.declared.syntax.IntegerWidth.TheVariants.{Zero}
 use Rattle.cbor_diag.specs.declared.error.Error.{Error}

@@ -24,7 +24,8 @@ ghost use Rattle.cbor_diag.specs.Turns.{item_turns, cut_spent, fault_spent};
 ghost use Rattle.cbor_diag.specs.Facts.{IsItem, IsStrictItem, BeginsWithItem, IsCut, HasFault};
 ghost use Rattle.cbor_diag.specs.Facts.{IsNoItem, BeginsSo, BeginsInOneWay, IsWellFormed};
 ghost use Rattle.cbor_diag.specs.Reading.{Gives, later, no_level_left, read_atom, counted_item};
-ghost use Rattle.cbor_diag.specs.mirror.Counting.{HoldsContent, Runs, Stops, IsStack, read_item_head};
+ghost use Rattle.cbor_diag.specs.mirror.Counting.{HoldsContent, Runs, Stops, IsStack};
+ghost use Rattle.cbor_diag.specs.mirror.Counting.{read_item_head};
 ghost use Rattle.cbor_diag.specs.mirror.HeadView.{head_view};
 ghost use Rattle.cbor_diag.specs.mirror.Stack.{outer_of, top_of, depth, resumed, resumed_with};
 

@@ -105,10 +105,7 @@ pub(super) fn read_argument(info: u8, bytes: &[u8]) -> Result<(Argument, &[u8])>
     ensures shorter { IfOk result (λ x. length x.1.now ≤ length bytes.now) }
 {
     match info {
-        0..=23 => Ok((
-            Argument::Number(u64::from(info), IntegerWidth::Zero),
-            bytes,
-        )),
+        0..=23 => Ok((Argument::Number(u64::from(info), IntegerWidth::Zero), bytes)),
         24 => {
             let (number, rest) = read_u8(bytes)?;
             Ok((
@@ -167,8 +164,12 @@ impl ItemHead {
             (Major::Text, length) => Ok(ItemHead::String(StringKind::Text, length)),
             (Major::Array, count) => Ok(ItemHead::Array(count)),
             (Major::Map, count) => Ok(ItemHead::Map(count)),
-            (Major::Unsigned, Argument::Number(value, width)) => Ok(ItemHead::Integer(value, width)),
-            (Major::Negative, Argument::Number(value, width)) => Ok(ItemHead::Negative(value, width)),
+            (Major::Unsigned, Argument::Number(value, width)) => Ok(ItemHead::Integer(
+                value, width,
+            )),
+            (Major::Negative, Argument::Number(value, width)) => Ok(ItemHead::Negative(
+                value, width,
+            )),
             (Major::Tag, Argument::Number(tag, width)) => Ok(ItemHead::Tag(tag, width)),
             (Major::Special, Argument::Number(number, width)) => {
                 Ok(ItemHead::simple_or_float(number, width))

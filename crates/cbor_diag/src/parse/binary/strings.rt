@@ -66,10 +66,7 @@ fn read_chunk_length(major: Major, bytes: &[u8]) -> Result<(Option<(u64, Integer
 }
 
 /// The next chunk of an indefinite string, or `None` at its break.
-#[tactic(auto, unfolding(
-    crate::specs::Reading::read_chunk_length,
-    crate::specs::Reading::read_chunk
-))]
+#[tactic(auto, unfolding(crate::specs::Reading::read_chunk_length, crate::specs::Reading::read_chunk))]
 fn read_chunk<S: DefiniteString>(alloc: Global, bytes: &[u8]) -> Result<(Option<S>, &[u8])>
     ensures gives { Gives (λ x. (option_map S.chunk x.0, x.1.now)) result
         (read_chunk S.kind bytes.now) }

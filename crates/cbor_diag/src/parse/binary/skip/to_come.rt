@@ -1,7 +1,8 @@
 //! What is still to come in an open container.
 ghost use Rattle.std.specs.Prelude.{◌≡◌, Some, option_map};
 ghost use Rattle.cbor_diag.specs.Item.{no_items};
-ghost use Rattle.cbor_diag.specs.Reading.{items_in, put, after_members, after_end, one_less, opened};
+ghost use Rattle.cbor_diag.specs.Reading.{items_in, put, after_members, after_end, one_less};
+ghost use Rattle.cbor_diag.specs.Reading.{opened};
 ghost use Rattle.cbor_diag.specs.mirror.HeadView.{argument_view, head_view};
 ghost use Rattle.cbor_diag.specs.mirror.Skipping.{argument_of, any_width, frame_of, emptied};
 ghost use Rattle.cbor_diag.specs.mirror.Skipping.{some_item};

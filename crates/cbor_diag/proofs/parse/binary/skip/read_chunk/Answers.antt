@@ -11,9 +11,8 @@ use Rattle.cbor_diag.specs.mirror.Skipping.{here, Goes, Shows, StopsSo, stop_of,
 use Rattle.cbor_diag.specs.mirror.StringView.{kind_view}
 use Rattle.cbor_diag.proofs.bytes.Heads.{IsBytes, IsBytes-rest}
 use Rattle.cbor_diag.proofs.skipping.Skips.{goes_then, goes_within, stops_then, stops_within, break_goes, chunk_goes}
-use Rattle.cbor_diag.proofs.skipping.Skips.{kind_shows, indefinite_shows, info_stops, no_chunks}
-use Rattle.cbor_diag.proofs.skipping.Skips.{more_keeps, behind_first}
-use Rattle.cbor_diag.proofs.skipping.Skips.{first_is, at_first, fits_first, empty_is}
+use Rattle.cbor_diag.proofs.skipping.Skips.{kind_shows, indefinite_shows, info_stops, no_chunks, more_keeps}
+use Rattle.cbor_diag.proofs.skipping.Skips.{behind_first, first_is, at_first, fits_first, empty_is}
 use Rattle.cbor_diag.proofs.parse.binary.skip.read_chunk.Goals as goal
 
 pub returns-in-empty-clause-stops : goal.returns-in-empty-clause-stops
