@@ -104,37 +104,29 @@ pub(super) fn read_argument(info: u8, bytes: &[u8]) -> Result<(Argument, &[u8])>
     ensures fits { IfOk result (λ x. FitsArgument (argument_view x.0)) }
     ensures shorter { IfOk result (λ x. length x.1.now ≤ length bytes.now) }
 {
-    match info {
-        0..=23 => Ok((Argument::Number(u64::from(info), IntegerWidth::Zero), bytes)),
+    let (number, width, rest) = match info {
+        0..=23 => (u64::from(info), IntegerWidth::Zero, bytes),
         24 => {
             let (number, rest) = read_u8(bytes)?;
-            Ok((
-                Argument::Number(u64::from(number), IntegerWidth::Eight),
-                rest,
-            ))
+            (u64::from(number), IntegerWidth::Eight, rest)
         }
         25 => {
             let (number, rest) = read_u16(bytes)?;
-            Ok((
-                Argument::Number(u64::from(number), IntegerWidth::Sixteen),
-                rest,
-            ))
+            (u64::from(number), IntegerWidth::Sixteen, rest)
         }
         26 => {
             let (number, rest) = read_u32(bytes)?;
-            Ok((
-                Argument::Number(u64::from(number), IntegerWidth::ThirtyTwo),
-                rest,
-            ))
+            (u64::from(number), IntegerWidth::ThirtyTwo, rest)
         }
         27 => {
             let (number, rest) = read_u64(bytes)?;
-            Ok((Argument::Number(number, IntegerWidth::SixtyFour), rest))
+            (number, IntegerWidth::SixtyFour, rest)
         }
-        28..=30 => Err(HeadError::Head),
-        31 => Ok((Argument::Indefinite, bytes)),
+        28..=30 => return Err(HeadError::Head),
+        31 => return Ok((Argument::Indefinite, bytes)),
         _ => unreachable!(),
-    }
+    };
+    Ok((Argument::Number(number, width), rest))
 }
 
 impl ItemHead {
@@ -159,23 +151,20 @@ impl ItemHead {
         requires { FitsArgument (argument_view argument) }
         ensures { Finds head_view result (head_of (major_number major) (argument_view argument)) }
     {
-        match (major, argument) {
-            (Major::Bytes, length) => Ok(ItemHead::String(StringKind::Bytes, length)),
-            (Major::Text, length) => Ok(ItemHead::String(StringKind::Text, length)),
-            (Major::Array, count) => Ok(ItemHead::Array(count)),
-            (Major::Map, count) => Ok(ItemHead::Map(count)),
-            (Major::Unsigned, Argument::Number(value, width)) => Ok(ItemHead::Integer(
-                value, width,
-            )),
-            (Major::Negative, Argument::Number(value, width)) => Ok(ItemHead::Negative(
-                value, width,
-            )),
-            (Major::Tag, Argument::Number(tag, width)) => Ok(ItemHead::Tag(tag, width)),
+        let head = match (major, argument) {
+            (Major::Bytes, length) => ItemHead::String(StringKind::Bytes, length),
+            (Major::Text, length) => ItemHead::String(StringKind::Text, length),
+            (Major::Array, count) => ItemHead::Array(count),
+            (Major::Map, count) => ItemHead::Map(count),
+            (Major::Unsigned, Argument::Number(value, width)) => ItemHead::Integer(value, width),
+            (Major::Negative, Argument::Number(value, width)) => ItemHead::Negative(value, width),
+            (Major::Tag, Argument::Number(tag, width)) => ItemHead::Tag(tag, width),
             (Major::Special, Argument::Number(number, width)) => {
-                Ok(ItemHead::simple_or_float(number, width))
+                ItemHead::simple_or_float(number, width)
             }
-            (_, Argument::Indefinite) => Err(HeadError::Head),
-        }
+            (_, Argument::Indefinite) => return Err(HeadError::Head),
+        };
+        Ok(head)
     }
 }
 
