@@ -11,6 +11,9 @@ OBJCOPY = objcopy
 PYTHON = python3
 CARGO = cargo
 
+# Says what a command of the kit is at.
+PROGRESS = $(CURDIR)/scripts/progress
+
 # The C side of the kit's heap, which the static library takes in.
 KIT = $(shell dirname "$$(rt doc)")
 HEAP = $(KIT)/c/liblibc_c.a
@@ -26,7 +29,7 @@ MANUAL = $(DIST)/share/man/man1/cbor_view.1
 sources = $(shell find $(wildcard $(1:%=crates/%/src) $(1:%=crates/%/specs) $(1:%=crates/%/proofs)) -type f) crates.txt
 BELOW = cbor_notes cbor_diag cbor_convert
 
-.PHONY: all program library install demo quick test check-docs check-bindings compare bench clean
+.PHONY: all program library install demo try quick test planted check-docs check-bindings compare bench clean
 
 all: program library $(MANUAL)
 
@@ -34,13 +37,14 @@ program: $(PROGRAM)
 
 library: $(STATIC) $(SHARED) $(HEADER) $(PKGCONFIG)
 
+# The kit builds a program and runs it. A sequence of no items has no output.
 $(PROGRAM): $(call sources,$(BELOW) cbor_view)
-	cd crates/cbor_view && rt run -- hex bytes < ../../examples/uri.hex > /dev/null
+	cd crates/cbor_view && $(PROGRESS) rt run -- seq bytes < /dev/null
 	install -D -m 755 crates/cbor_view/out/cbor_view $@
 
 # One object, which exports the calls of the header alone.
 $(STATIC): $(call sources,$(BELOW) cbor_diag_c)
-	cd crates/cbor_diag_c && rt lib
+	cd crates/cbor_diag_c && $(PROGRESS) rt lib
 	mkdir -p $(@D)
 	rm -f $@
 	$(LD) -r -o $(DIST)/cbor_diag.o --whole-archive crates/cbor_diag_c/out/libcbor_diag_c.a $(HEAP)
@@ -72,24 +76,34 @@ install: all
 	install -D -m 644 $(PKGCONFIG) $(DESTDIR)$(PREFIX)/lib/pkgconfig/cbor_diag.pc
 	install -D -m 644 $(MANUAL) $(DESTDIR)$(PREFIX)/share/man/man1/cbor_view.1
 
-# The first command of the README.
+# The main job: the dump of an example.
 demo: $(PROGRAM)
-	$(PROGRAM) hex diag < examples/uri.hex
+	$(PROGRAM) hex hex < examples/cose-sign1.hex
+
+# The same before any proof, to see the program without the wait. It shows nothing of what is proved.
+try:
+	@echo "Not proved: the kit runs the code as it stands, and checks it only while it runs. make demo proves it first."
+	cd crates/cbor_view && rt try -- hex hex < ../../examples/cose-sign1.hex
 
 # Checks all crates and runs their tests, without the must-fail edits.
 quick:
-	rt all check
+	$(PROGRESS) rt all check
 	for crate in $$(grep -l -r --include='*.rt' '#\[test\]' crates/*/src | cut -d/ -f2 | sort -u); do \
 	    (cd crates/$$crate && rt test) || exit 1; \
 	done
 
-# The gate.
+# The gate: all proofs, tests and must-fail edits.
 test:
-	rt ci
+	@$(PROGRESS) rt ci
 
-# The links, commands and Rust examples of all pages, and the examples of doc comments. The tests run the latter.
+# The wrong bodies that the gate does not try.
+planted:
+	planted/run
+
+# The links, names, commands and Rust examples of all pages, and the examples of doc comments. The tests run the latter.
 check-docs: $(PROGRAM)
 	docs/check_links
+	docs/check_names
 	docs/check_examples
 	docs/check_commands
 
