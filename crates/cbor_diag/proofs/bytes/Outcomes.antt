@@ -1,7 +1,8 @@
 -- From what reading gives to what an input is.
-use Rattle.std.proofs.Common.{◌≡◌, ◌≢◌, ℕ, ◌+◌, ◌-◌, ◌*◌, ◌/◌, ◌%◌, ◌<◌, ◌≤◌, List, length, take, Ok, Err, refl, ap}
+use Rattle.std.proofs.Common.{◌≡◌, ◌≢◌, ℕ, ◌+◌, ◌-◌, ◌*◌, ◌/◌, ◌%◌, ◌<◌, ◌≤◌, List, [], ◌∷◌, length, take, Ok, Err, refl}
+use Rattle.std.proofs.Common.{ap}
 use Rattle.std.proofs.Common.{◌∙◌, arith, inl, inr}
-use Rattle.std.proofs.lemmas.List.{length-append, take_at}
+use Rattle.std.proofs.lemmas.List.{append-nil, length-append, take_at}
 use Rattle.cbor_diag.specs.declared.error.Error.{Error}
 use Rattle.cbor_diag.specs.declared.error.Error.TheVariants as refusal
 use Rattle.cbor_diag.specs.declared.syntax.IntegerWidth.{IntegerWidth}
@@ -13,11 +14,14 @@ use Rattle.cbor_diag.specs.ItemHead.{ItemHead}
 use Rattle.cbor_diag.specs.StringKind.{bytes_kind, text_kind}
 use Rattle.cbor_diag.specs.Item.{Item}
 use Rattle.cbor_diag.specs.Head.{HeadThen}
+use Rattle.cbor_diag.specs.Bytes.{any, Spells}
 use Rattle.cbor_diag.specs.Refused.{Fault, too_deep, bad_head, bad_text, bad_chunk_head, bad_chunk_text, bad_part}
-use Rattle.cbor_diag.specs.Answer.{spelled, IsOutcome, HasOutcome, HasAnswer, MayWantMemory}
+use Rattle.cbor_diag.specs.Answer.{spelled, IsOutcome, HasOutcome, HasAnswer, IsRefused}
+use Rattle.cbor_diag.specs.Answer.{MayWantMemory}
 use Rattle.cbor_diag.specs.Reading.{Fails, read_head, read_item}
 use Rattle.cbor_diag.specs.mirror.Counting.{HoldsContent}
 use Rattle.cbor_diag.proofs.bytes.Heads.{IsBytes, ArgumentThen, HeadIs, head_takes}
+use Rattle.cbor_diag.proofs.bytes.CutShort.{cut_takes}
 use Rattle.cbor_diag.proofs.bytes.Found.{item_takes}
 use Rattle.cbor_diag.proofs.bytes.Faults.{fault_takes}
 
@@ -101,3 +105,31 @@ front_refusal level b refusal.OddHex h = absurd (fault_kind h)
 front_refusal level b refusal.BadHex h = absurd (fault_kind h)
 front_refusal level b refusal.Notation h = absurd (fault_kind h)
 front_refusal level b refusal.PastWidth h = absurd (fault_kind h)
+
+-- an item that takes all of the input is the one that the input is
+pub whole_found : (level left : ℕ) (b : List ℕ) (i : Item) (rest : List ℕ) → level + left ≡ 129 → IsBytes b
+    → read_item left b ≡ Ok (i, rest) → length rest ≡ 0 → Spells any level b i
+whole_found level left b i [] levels fits e none =
+    let t = item_takes level left b i [] levels fits e in
+    rw (t.parts ∙ append-nil t.front) t.spells
+whole_found level left b i (r ∷ rest) levels fits e none =
+    let no : ⊥ = omega (arith, none) in
+    absurd no
+
+-- bytes remain after an item that does not
+pub more_found : (level left : ℕ) (b : List ℕ) (i : Item) (rest : List ℕ) → level + left ≡ 129 → IsBytes b
+    → read_item left b ≡ Ok (i, rest) → 0 < length rest → IsRefused level b refusal.Remaining
+more_found level left b i rest levels fits e some =
+    let t = item_takes level left b i rest levels fits e in (
+      i,
+      length b - length rest,
+      omega (arith, length-append t.front rest, ap length t.parts),
+      (found_outcome level left b i rest levels fits e).1,
+    )
+
+-- what reading refuses is why the input is not one whole item
+pub whole_refusal : (level left : ℕ) (b : List ℕ) (e : Error) → level + left ≡ 129 → IsBytes b
+    → Fails e (read_item left b) → HasAnswer level b (Err e)
+whole_refusal level left b refusal.CutShort levels fits h = cut_takes level left b levels fits h
+whole_refusal level left b e levels fits h =
+    front_refusal level b e (refusal_outcome level left b e levels fits (λ is. cc) h)

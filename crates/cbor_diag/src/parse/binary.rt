@@ -232,10 +232,11 @@ pub(crate) fn read_whole(alloc: Global, bytes: &[u8], level: u8) -> Result<DataI
     ensures answer { HasAnswer level bytes.now result }
     ensures memory { result ≡ Err Error.Memory → MayWantMemory bytes.now }
 {
-    match read_front(alloc, bytes, level)? {
-        None => Err(Error::CutShort),
-        Some((_, used)) if used < bytes.len() => Err(Error::Remaining),
-        Some((item, _)) => Ok(item),
+    let (item, rest) = read_item(alloc, bytes, level, &mut Turns::new())?;
+    if rest.is_empty() {
+        Ok(item)
+    } else {
+        Err(Error::Remaining)
     }
 }
 
