@@ -25,6 +25,7 @@ mod error;
 mod examples;
 mod laws;
 mod parse;
+mod rewrite;
 mod syntax;
 
 pub use error::{Error, Result};
@@ -32,4 +33,5 @@ pub use parse::{
     Extent, Turns, extent, parse_bytes, parse_bytes_counted, parse_bytes_partial, parse_diag,
     parse_hex,
 };
+pub use rewrite::bytes_to_bytes;
 pub use syntax::{ByteString, DataItem, FloatWidth, IntegerWidth, Simple, Tag, TextString};

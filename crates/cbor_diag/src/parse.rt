@@ -4,7 +4,7 @@ mod hex_text;
 mod notation;
 mod turns;
 
-pub(crate) use binary::{read_front, read_whole};
+pub(crate) use binary::{is_strict, read_front, read_whole};
 pub use binary::{Extent, extent, parse_bytes, parse_bytes_counted, parse_bytes_partial};
 pub use hex_text::parse_hex;
 pub use notation::parse_diag;

@@ -215,7 +215,7 @@ module _ (level : ℕ) (read : List ℕ → Counted Item) (again : FindsAgain le
 -- ---- items
 
 -- a head with the bytes after the item
-head_behind : (major n : ℕ) (w : IntegerWidth) (x rest : List ℕ) → HeadThen major n w x (λ r. r ≡ [])
+pub head_behind : (major n : ℕ) (w : IntegerWidth) (x rest : List ℕ) → HeadThen major n w x (λ r. r ≡ [])
     → HeadThen major n w (x ++ rest) (λ r. r ≡ rest)
 head_behind major n w x rest h = head_append major n w x rest (λ r. r ≡ []) (λ r. r ≡ rest) h
     (λ r e. ap (λ (y : List ℕ). y ++ rest) e)

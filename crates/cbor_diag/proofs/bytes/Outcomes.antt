@@ -93,18 +93,17 @@ fault_kind (bad_chunk_head kind rest le i h) = tt
 fault_kind (bad_chunk_text rest le i h) = tt
 fault_kind (bad_part next rest le i h f) = fault_kind f
 
+-- a fault of the front is a refusal of the whole
+pub fault_refusal : (level : ℕ) (b : List ℕ) (e : Error) → Fault level b e → IsRefused level b e
+fault_refusal level b refusal.Head h = h
+fault_refusal level b refusal.Utf8 h = h
+fault_refusal level b refusal.TooDeep h = h
+fault_refusal level b e h = absurd (fault_kind h)
+
 -- a refusal of the front is one of the whole
 pub front_refusal : (level : ℕ) (b : List ℕ) (e : Error) → HasOutcome level b (Err e) → HasAnswer level b (Err e)
 front_refusal level b refusal.Memory h = tt
-front_refusal level b refusal.Head h = h
-front_refusal level b refusal.Utf8 h = h
-front_refusal level b refusal.TooDeep h = h
-front_refusal level b refusal.CutShort h = absurd (fault_kind h)
-front_refusal level b refusal.Remaining h = absurd (fault_kind h)
-front_refusal level b refusal.OddHex h = absurd (fault_kind h)
-front_refusal level b refusal.BadHex h = absurd (fault_kind h)
-front_refusal level b refusal.Notation h = absurd (fault_kind h)
-front_refusal level b refusal.PastWidth h = absurd (fault_kind h)
+front_refusal level b e h = fault_refusal level b e h
 
 -- an item that takes all of the input is the one that the input is
 pub whole_found : (level left : ℕ) (b : List ℕ) (i : Item) (rest : List ℕ) → level + left ≡ 129 → IsBytes b

@@ -10,6 +10,7 @@ mod frame;
 mod head;
 mod skip;
 mod stack;
+mod strict;
 mod strings;
 
 ghost use Rattle.std.specs.Prelude.{◌≡◌, ◌≢◌, ℕ, ◌+◌, ◌-◌, ◌*◌, ◌^◌, ◌<◌, ◌≤◌, List, ◌++◌, length};
@@ -39,6 +40,7 @@ use head::{ItemHead, read_head};
 pub use skip::{Extent, extent};
 use stack::Stack;
 use std::alloc::Global;
+pub(crate) use strict::is_strict;
 use strings::{read_chunks, read_string};
 
 /// The error below the deepest level: `TooDeep` if there are bytes for an item, otherwise

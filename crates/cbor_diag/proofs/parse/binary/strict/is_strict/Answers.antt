@@ -1,0 +1,7 @@
+use Rattle.std.proofs.Common.{arith}
+use Rattle.cbor_diag.proofs.bytes.StrictHeads.{with_none}
+use Rattle.cbor_diag.proofs.parse.binary.strict.is_strict.Goals as goal
+
+pub returns : goal.returns
+returns c = λ t.
+    c.heads.invariant (with_none c.heads.rest.now (grind (arith, c.is_empty.ensures, c.heads-test.false)))

@@ -1,0 +1,29 @@
+-- Heads one after the other, none of them of a simple value that takes a byte too many.
+use Rattle.std.specs.Prelude.{◌≡◌, ℕ, ◌≤◌, ◌<◌, List, [], ◌∷◌, drop, Ok}
+use Rattle.cbor_diag.specs.Argument.{number}
+use Rattle.cbor_diag.specs.Head.{break_byte}
+use Rattle.cbor_diag.specs.ItemHead as item_head
+use Rattle.cbor_diag.specs.ItemHead.{ItemHead}
+use Rattle.cbor_diag.specs.Reading.{read_head}
+
+-- the bytes begin with a simple value below 24 in two bytes
+abbrev pub LongSimple : List ℕ → Type 0
+LongSimple (first ∷ (n ∷ b)) = (first ≡ 0xf8) × (n < 24)
+LongSimple _ = ⊥
+
+-- the same, of bytes that begin with that head
+abbrev pub IsShort : ItemHead → List ℕ → Type 0
+IsShort (item_head.simple n) (first ∷ b) = first ≡ 0xf8 → 24 ≤ n
+IsShort h b = Unit {0}
+
+-- the bytes after a head, and after the content of a string of definite length
+abbrev pub after_content : ItemHead → List ℕ → List ℕ
+after_content (item_head.string kind (number n w)) b = drop n b
+after_content h b = b
+
+-- The bytes are heads with the content of strings, and breaks.
+pub data StrictHeads : List ℕ → Type 0 where
+  no_head : StrictHeads []
+  a_break : {b : List ℕ} → StrictHeads b → StrictHeads (break_byte ∷ b)
+  a_head : {b rest : List ℕ} {h : ItemHead} → read_head b ≡ Ok (h, rest) → IsShort h b
+      → StrictHeads (after_content h rest) → StrictHeads b

@@ -1,0 +1,74 @@
+//! Finds out whether bytes that are an item are its encoding already: whether no simple value below
+//! 24 takes two bytes. It goes from head to head, and keeps nothing of what is open.
+ghost use Rattle.std.specs.Prelude.{◌≡◌, ◌↔◌, ◌<◌, ℕ, List, length, drop, IsTrue, IfSome};
+ghost use Rattle.cbor_diag.specs.mirror.HeadView.{head_view};
+ghost use Rattle.cbor_diag.specs.mirror.StrictHeads.{LongSimple, StrictHeads, after_content};
+
+use super::argument::{Argument, after_break};
+use super::head::{ItemHead, read_head};
+
+/// Whether the bytes begin with a simple value below 24 in two bytes.
+fn is_long_simple(bytes: &[u8]) -> bool
+    ensures { IsTrue result ↔ LongSimple bytes.now }
+{
+    match bytes {
+        [first, value, ..] => *first == 0xf8 && *value < 24,
+        _ => false,
+    }
+}
+
+/// How many bytes of content follow a head: those of a string of definite length.
+fn content_len(head: ItemHead) -> u64
+    ensures { (b : List ℕ) → after_content (head_view head) b ≡ drop result b }
+{
+    match head {
+        ItemHead::String(_, Argument::Number(count, _)) => count,
+        _ => 0,
+    }
+}
+
+/// The bytes after the head at the front, and after the content of a string of definite length.
+fn after_head(bytes: &[u8]) -> Option<&[u8]>
+    ensures strict { ¬ (LongSimple bytes.now)
+        → IfSome result (λ after. StrictHeads after.now → StrictHeads bytes.now) }
+    ensures shorter { IfSome result (λ after. length after.now < length bytes.now) }
+{
+    let Ok((head, rest)) = read_head(bytes) else {
+        return None;
+    };
+    let count = content_len(head);
+    if count > rest.len() as u64 {
+        return None;
+    }
+    let (_, after) = rest.split_at(count as usize);
+    Some(after)
+}
+
+/// The bytes after the break or the head at the front, unless it takes a byte too many.
+fn after_strict(bytes: &[u8]) -> Option<&[u8]>
+    ensures strict { IfSome result (λ after. StrictHeads after.now → StrictHeads bytes.now) }
+    ensures shorter { IfSome result (λ after. length after.now < length bytes.now) }
+{
+    if let Some(after) = after_break(bytes) {
+        return Some(after);
+    }
+    if is_long_simple(bytes) {
+        return None;
+    }
+    after_head(bytes)
+}
+
+/// Whether the bytes are heads, with the content of strings, none of which takes a byte too many.
+/// An item that they spell is then spelled strictly.
+pub(crate) fn is_strict(bytes: &[u8]) -> bool
+    ensures { IsTrue result → StrictHeads bytes.now }
+{
+    let mut rest = bytes;
+    'heads: while !rest.is_empty() {
+        match after_strict(rest) {
+            Some(after) => rest = after,
+            None => return false,
+        }
+    }
+    true
+}
