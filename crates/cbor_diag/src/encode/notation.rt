@@ -7,6 +7,7 @@
 mod context;
 mod embedded;
 mod estimate;
+mod from_bytes;
 mod members;
 mod scalars;
 
