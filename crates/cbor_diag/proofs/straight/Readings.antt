@@ -1,23 +1,33 @@
 -- What reading gives after a head, and of containers part by part, its turns left aside.
 use Rattle.std.proofs.Common.{◌≡◌, ℕ, suc, ◌+◌, ◌-◌, ◌<◌, ◌≤◌, List, [], Option, Some, None, Result, Ok, Err, refl, sym, ap}
-use Rattle.std.proofs.Common.{subst, ◌∙◌, arith}
+use Rattle.std.proofs.Common.{subst, ◌∙◌, ◌++◌, arith}
 use Rattle.cbor_diag.specs.declared.syntax.IntegerWidth.{IntegerWidth}
+use Rattle.cbor_diag.specs.declared.syntax.FloatWidth.{FloatWidth}
+use Rattle.cbor_diag.specs.declared.syntax.FloatWidth.TheVariants as float_width
 use Rattle.cbor_diag.specs.declared.error.Error.{Error}
 use Rattle.cbor_diag.specs.declared.error.Error.TheVariants as refusal
 use Rattle.cbor_diag.specs.declared.encode.notation.context.NotationContext.{NotationContext}
 use Rattle.cbor_diag.specs.declared.parse.binary.argument.Argument as code_argument
 use Rattle.cbor_diag.specs.declared.parse.binary.argument.Argument.TheVariants.{Number, Indefinite}
+use Rattle.cbor_diag.specs.declared.syntax.strings.StringContent.{StringContent}
 use Rattle.cbor_diag.specs.Argument.{number}
-use Rattle.cbor_diag.specs.Item.{Chunk, Item, Items, no_items, item, Pairs, no_pairs, pair, tagged}
+use Rattle.cbor_diag.specs.Item.{Chunk, string, Item, atom, Items, no_items, item, Pairs, no_pairs, pair, tagged}
+use Rattle.cbor_diag.specs.ItemHead as item_head
 use Rattle.cbor_diag.specs.ItemHead.{ItemHead}
-use Rattle.cbor_diag.specs.Reading.{Read, Fails, Counted, ◌>>=◌, ◌>>-◌, Frame, items_in, pairs_in, value_of, tag_of}
+use Rattle.cbor_diag.specs.NotationText.{text_with}
+use Rattle.cbor_diag.specs.Reading.{Read, Fails, read_content, read_atom, Counted, ◌>>=◌, ◌>>-◌, Frame, items_in, pairs_in, value_of, tag_of}
 use Rattle.cbor_diag.specs.Reading.{tagged_with, opened, joined, joined_pairs, one_less, put, after_members, after_end}
 use Rattle.cbor_diag.specs.Reading.{closed, read_parts, read_body, read_head, no_level_left, counted_item, read_item}
-use Rattle.cbor_diag.specs.WellFormed.{levels_left}
+use Rattle.cbor_diag.specs.StringKind.{StringKind}
+use Rattle.cbor_diag.specs.mirror.StringView.{kind_of, borrowed_chunk}
+use Rattle.cbor_diag.specs.WellFormed.{levels_left, FitsFloat}
 use Rattle.cbor_diag.specs.mirror.Counting.{Stops}
 use Rattle.cbor_diag.specs.mirror.HeadView.{argument_view}
 use Rattle.cbor_diag.specs.mirror.Stack.{left_of}
-use Rattle.cbor_diag.specs.mirror.Straight.{read_there, read_after}
+use Rattle.cbor_diag.specs.mirror.LayoutView.{context_view, item_text}
+use Rattle.cbor_diag.specs.mirror.Straight.{Printed, read_there, read_after}
+use Rattle.cbor_diag.proofs.bytes.Heads.{IsBytes, HeadIs, head_takes}
+use Rattle.cbor_diag.proofs.text.Parts.{left_below, write_below, opened_again}
 use Rattle.cbor_diag.proofs.bytes.Steps.{then_first, parts_end, parts_more, item_shortens}
 use Rattle.cbor_diag.proofs.turns.ChunkLoops.{onto}
 use Rattle.cbor_diag.proofs.turns.Frames.{left_less}
@@ -59,6 +69,29 @@ unfolding counted_item
 head_reads c b h rest le e = ap (λ n. read_item n b) (one_more c.level le)
     ∙ ok_then (1, read_head b) (h, rest) (λ x. read_body (counted_item (levels_left (c.level + 1))) (opened x.0) x.0 x.1)
     e
+
+-- what holds of what reading gives after a head holds of what it gives before
+pub after_head : (P : Read Item → Type 0) (c : NotationContext) (b : List ℕ) (h : ItemHead) (rest : List ℕ)
+    → c.level ≤ 128 → read_head b ≡ Ok (h, rest) → P (read_after c h rest) → P (read_there c b)
+after_head P c b h rest le e holds = subst P (sym (head_reads c b h rest le e)) holds
+
+-- an item that holds none
+pub atom_printed : (c : NotationContext) (b : List ℕ) (h : ItemHead) (rest : List ℕ) (i : Item) (old new : List ℕ)
+    → c.level ≤ 128 → read_head b ≡ Ok (h, rest) → read_after c h rest ≡ Ok (i, rest)
+    → new ≡ old ++ text_with (left_below c.level) (write_below c.level) (context_view c) i
+    → Printed (item_text c) (read_there c b) rest old new
+atom_printed c b h rest i old new le e is written =
+    (i, head_reads c b h rest le e ∙ is, opened_again c.level (context_view c) i old new le written)
+
+fits_so : (bits : ℕ) (w : FloatWidth) (b rest : List ℕ) → HeadIs (item_head.float bits w) b rest → FitsFloat w bits
+fits_so bits float_width.Unknown b rest h = absurd h
+fits_so bits float_width.Sixteen b rest h = h.0
+fits_so bits float_width.ThirtyTwo b rest h = h.0
+fits_so bits float_width.SixtyFour b rest h = h.0
+
+pub float_fits : (b rest : List ℕ) (bits : ℕ) (w : FloatWidth) → IsBytes b
+    → read_head b ≡ Ok (item_head.float bits w, rest) → FitsFloat w bits
+float_fits b rest bits w fits e = fits_so bits w b rest (head_takes b rest (item_head.float bits w) fits e).0
 
 pub head_fails : (c : NotationContext) (b : List ℕ) (e : Error) → c.level ≤ 128 → Fails e (read_head b)
     → Fails e (read_there c b)
@@ -132,3 +165,22 @@ none_before c = go c.0 c.1
     go : (n : ℕ) (r : Read (List Chunk)) → onto [] (n, r) ≡ (n, r)
     go n (Ok x) = let e : n + 0 ≡ n = omega arith in ap (λ k. (k, Ok x)) e
     go n (Err e) = refl
+
+-- ---- strings of definite length
+
+pub content_read : (n : ℕ) (w : IntegerWidth) (s : StringContent) (b rest : List ℕ) (kind : StringKind)
+    → kind_of s ≡ kind → read_content kind n w b ≡ Ok (borrowed_chunk w s, rest)
+    → (read_atom (item_head.string kind (number n w)) b).1
+    ≡ Ok (atom (string (kind_of s) (borrowed_chunk w s)), rest)
+content_read n w s b rest kind same e = ap (λ r. r >>= λ c. Ok (atom (string kind c.0), c.1)) e
+    ∙ ap (λ k. Ok (atom (string k (borrowed_chunk w s)), rest)) (sym same)
+
+-- ---- what is read in a context of that level
+
+pub below_read : (inner : NotationContext) (level : ℕ) (b : List ℕ) (i : Item) (rest : List ℕ) → inner.level ≡ level
+    → read_there inner b ≡ Ok (i, rest) → read_item (levels_left level) b ≡ Ok (i, rest)
+below_read inner level b i rest same e = ap (λ n. read_item (levels_left n) b) (sym same) ∙ e
+
+pub below_fails : (e : Error) (inner : NotationContext) (level : ℕ) (b : List ℕ) → inner.level ≡ level
+    → Fails e (read_there inner b) → Fails e (read_item (levels_left level) b)
+below_fails e inner level b same h = subst (λ n. Fails e (read_item (levels_left n) b)) same h

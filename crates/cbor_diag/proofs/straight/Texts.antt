@@ -7,19 +7,22 @@ use Rattle.std.proofs.Math.Dec.{eqb-suc-zero}
 use Rattle.std.proofs.lemmas.Grind.{flat_map-append}
 use Rattle.cbor_diag.specs.declared.syntax.IntegerWidth.{IntegerWidth}
 use Rattle.cbor_diag.specs.declared.encode.notation.context.NotationContext.{NotationContext}
+use Rattle.cbor_diag.specs.declared.syntax.strings.StringContent.{StringContent}
+use Rattle.cbor_diag.specs.declared.syntax.strings.StringContent.TheVariants as content
 use Rattle.cbor_diag.specs.ContainerStyle as style
 use Rattle.cbor_diag.specs.Encoding.{Encoding}
 use Rattle.cbor_diag.specs.Item as spec
-use Rattle.cbor_diag.specs.Item.{Chunk, chunked_string, Item, atom, array, Items, no_items, item, Pairs, no_pairs, pair, item_count, pair_count}
+use Rattle.cbor_diag.specs.Item.{Chunk, string, chunked_string, Item, atom, array, Items, no_items, item, Pairs, no_pairs, pair, item_count, pair_count}
 use Rattle.cbor_diag.specs.Layout.{Compact, Context}
 use Rattle.cbor_diag.specs.NotationText.{separated, opened, container_style, inside, colon, item_texts, pair_texts}
 use Rattle.cbor_diag.specs.NotationText.{array_text, map_text, string_text, chunks_listed, chunks_text, text_at_level}
 use Rattle.cbor_diag.specs.Reading.{joined, joined_pairs}
-use Rattle.cbor_diag.specs.StringKind.{StringKind, no_chunks}
+use Rattle.cbor_diag.specs.StringKind.{StringKind, bytes_kind, text_kind, no_chunks}
 use Rattle.cbor_diag.specs.Estimate.{estimated_length}
 use Rattle.cbor_diag.specs.mirror.EncodingView.{encoding_view}
 use Rattle.cbor_diag.specs.mirror.LayoutView.{context_view, before_member, item_text}
-use Rattle.cbor_diag.specs.mirror.Straight.{IsCompact, before_chunk, after_chunks}
+use Rattle.cbor_diag.specs.mirror.Straight.{IsCompact, string_there, before_chunk, after_chunks}
+use Rattle.cbor_diag.specs.mirror.StringView.{borrowed_chunk, kind_of}
 use Rattle.cbor_diag.proofs.text.Parts.{write_below, opened_again, bracketed_written}
 
 -- ---- members
@@ -160,7 +163,7 @@ chunk_more kind e cs x held old out started new count p q r =
     simp append_assoc in
     let one : chunk_texts kind e (cs ++ x ∷ []) ≡ ms ++ m ∷ [] =
     map-append (λ (c : Chunk). string_text kind e c.bytes) cs (x ∷ []) in
-    let held_so : length ms ≡ held = length-map (λ (c : Chunk). string_text kind e c.bytes) cs ∙ count in
+    let held_so : length ms ≡ held = length-map cs (λ (c : Chunk). string_text kind e c.bytes) ∙ count in
     r ∙ ap (λ y. y ++ m) (q ∙ ap (λ y. y ++ before_chunk held) p) ∙ joined
     ∙ ap (λ y. old ++ y) (sym (one_more ms m held held_so)) ∙ ap (λ y. old ++ chunks_begun y) (sym one)
 
@@ -176,9 +179,18 @@ pub chunks_printed : (c : NotationContext) (kind : StringKind) (cs : List Chunk)
 chunks_printed c kind cs held old out new level compact count p q =
     let ms : List (List ℕ) = chunk_texts kind (encoding_view c.encoding) cs in
     let held_so : length ms ≡ held =
-    length-map (λ (x : Chunk). string_text kind (encoding_view c.encoding) x.bytes) cs ∙ count in
+    length-map cs (λ (x : Chunk). string_text kind (encoding_view c.encoding) x.bytes) ∙ count in
     opened_again c.level (context_view c) (atom (chunked_string kind cs)) old new level
     (q ∙ ap (λ y. y ++ after_chunks kind held) p ∙ append_assoc old (chunks_begun ms) (after_chunks kind held)
     ∙ ap (λ y. old ++ y) (listed_so kind ms held held_so)
     ∙ ap (λ l. old ++ chunks_text kind (encoding_view c.encoding)
     (container_style l (estimated_length (atom (chunked_string kind cs)))) cs) (sym compact))
+
+-- ---- strings of definite length
+
+pub string_printed : (c : NotationContext) (w : IntegerWidth) (s : StringContent) (old new : List ℕ) → c.level ≤ 128
+    → new ≡ old ++ string_there c s → new ≡ old ++ item_text c (atom (string (kind_of s) (borrowed_chunk w s)))
+string_printed c w (content.Bytes b) old new level h =
+    opened_again c.level (context_view c) (atom (string bytes_kind (borrowed_chunk w (content.Bytes b)))) old new level h
+string_printed c w (content.Text t) old new level h =
+    opened_again c.level (context_view c) (atom (string text_kind (borrowed_chunk w (content.Text t)))) old new level h

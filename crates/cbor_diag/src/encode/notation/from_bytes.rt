@@ -49,16 +49,27 @@ pub(super) fn push_front<'a>(
     }
     let (head, rest) = read_head(bytes)?;
     match head {
-        ItemHead::Integer(value, width) => push_number(out, value, width)?,
-        ItemHead::Negative(value, width) => push_negative(out, value, width)?,
-        ItemHead::String(kind, len) => return push_string_front(out, (kind, len), rest, context),
-        ItemHead::Array(count) => return push_array_front(out, count, rest, context),
-        ItemHead::Map(count) => return push_map_front(out, count, rest, context),
-        ItemHead::Tag(tag, width) => return push_tag_front(out, (tag, width), rest, context),
-        ItemHead::Float(bits, width) => push_float(out, bits, width)?,
-        ItemHead::Simple(value) => push_simple(out, Simple(value))?,
+        ItemHead::Integer(value, width) => {
+            push_number(out, value, width)?;
+            Ok(rest)
+        }
+        ItemHead::Negative(value, width) => {
+            push_negative(out, value, width)?;
+            Ok(rest)
+        }
+        ItemHead::String(kind, len) => push_string_front(out, (kind, len), rest, context),
+        ItemHead::Array(count) => push_array_front(out, count, rest, context),
+        ItemHead::Map(count) => push_map_front(out, count, rest, context),
+        ItemHead::Tag(tag, width) => push_tag_front(out, (tag, width), rest, context),
+        ItemHead::Float(bits, width) => {
+            push_float(out, bits, width)?;
+            Ok(rest)
+        }
+        ItemHead::Simple(value) => {
+            push_simple(out, Simple(value))?;
+            Ok(rest)
+        }
     }
-    Ok(rest)
 }
 
 /// Writes an array after its head, with this count of items.
