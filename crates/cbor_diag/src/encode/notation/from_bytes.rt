@@ -23,9 +23,7 @@ use super::context::{ContainerStyle, Layout, NotationContext};
 use super::members::{push_closing, push_colon, push_no_chunks, push_opening, push_start};
 use super::push_content;
 use super::scalars::{push_float, push_negative, push_number, push_simple, push_string, push_text};
-use crate::parse::{
-    Argument, ItemHead, next_chunk, no_level_left, read_borrowed, read_head,
-};
+use crate::parse::{Argument, ItemHead, next_chunk, no_level_left, read_borrowed, read_head};
 use crate::syntax::strings::{StringContent, StringKind};
 use crate::syntax::{DEEPEST, IntegerWidth, Simple, Tag};
 use std::alloc::AllocError;

@@ -255,8 +255,11 @@ push_map_front-pairs-smaller t c =
     let k = c.in_ok-value.ensures.printed in
     let v = c.in_ok-rest.ensures.printed in
     let left = levels_left c.inside-inner.result.level in
-    omega (arith, item_shorter left c.pairs.rest.now k.0 c.in_ok-value.value.now k.1,
-    item_shorter left c.in_ok-value.value.now v.0 c.in_ok-rest.rest.now v.1)
+    omega (
+      arith,
+      item_shorter left c.pairs.rest.now k.0 c.in_ok-value.value.now k.1,
+      item_shorter left c.in_ok-value.value.now v.0 c.in_ok-rest.rest.now v.1,
+    )
 
 pub push_map_front-pairs-preserved : goal.push_map_front-pairs-preserved
 push_map_front-pairs-preserved t c =
