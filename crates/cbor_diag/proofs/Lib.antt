@@ -5,5 +5,6 @@ pub mod skipping
 pub mod hex
 pub mod normal
 pub mod shared
+pub mod straight
 pub mod text
 pub mod turns

@@ -1,5 +1,5 @@
 -- What a reader returns, out of memory aside.
-use Rattle.std.specs.Prelude.{◌≡◌, ◌≢◌, ℕ, ◌+◌, ◌/◌, ◌%◌, ◌<◌, ◌≤◌, List, [], ◌∷◌, length, take, Option, Some, None}
+use Rattle.std.specs.Prelude.{◌≡◌, ◌≢◌, ℕ, ◌+◌, ◌/◌, ◌%◌, ◌<◌, ◌≤◌, List, [], ◌∷◌, ◌++◌, length, take, Option, Some, None}
 use Rattle.std.specs.Prelude.{Result, Ok, Err, MatchResult, IfErr, ◌⊎◌}
 use Rattle.cbor_diag.specs.declared.error.Error.{Error}
 use Rattle.cbor_diag.specs.declared.error.Error.TheVariants as refusal
@@ -9,6 +9,8 @@ use Rattle.cbor_diag.specs.Item.{Atom, chunked_string, Item, atom, array, tagged
 use Rattle.cbor_diag.specs.Item.{Pairs, no_pairs, pair}
 use Rattle.cbor_diag.specs.View.{view}
 use Rattle.cbor_diag.specs.Bytes.{any, Spells}
+use Rattle.cbor_diag.specs.Compact.{compact}
+use Rattle.cbor_diag.specs.Encoding.{Base16}
 use Rattle.cbor_diag.specs.Refused.{Cut, Fault}
 use Rattle.cbor_diag.specs.Turns.{item_turns, cut_spent, fault_spent}
 
@@ -72,8 +74,15 @@ HasAnswer level b (Err e) = IsRefused level b e
 abbrev pub GaveItem : Result DataItem Error → Item → Type 0
 GaveItem result i = MatchResult result (λ x. view x ≡ i) (λ e. e ≡ refusal.Memory)
 
+-- A printer of the front of an input gave this outcome, and of an item its text after the old one, or memory ran out.
+abbrev pub GavePart : Result (Option ℕ) Error → List ℕ → List ℕ → Outcome → Type 0
+GavePart (Ok (Some n)) old new o = (i : Item) × (o ≡ spelled i n) × (new ≡ old ++ compact Base16 1 i)
+GavePart (Ok None) old new o = o ≡ cut
+GavePart (Err refusal.Memory) old new o = Unit {0}
+GavePart (Err e) old new o = o ≡ fault e
+
 -- A reader refused so, or memory ran out.
-abbrev pub GaveRefusal : Result DataItem Error → Error → Type 0
+abbrev pub GaveRefusal : {X : Type 0} → Result X Error → Error → Type 0
 GaveRefusal result e = MatchResult result (λ _. ⊥) (λ f. (f ≡ e) ⊎ (f ≡ refusal.Memory))
 
 -- an error other than out of memory has this meaning

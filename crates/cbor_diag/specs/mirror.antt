@@ -4,6 +4,7 @@ pub mod Stack
 pub mod Skipping
 pub mod NotationReading
 pub mod Appends
+pub mod Straight
 pub mod Passes
 pub mod ShownLines
 pub mod HeadErrors

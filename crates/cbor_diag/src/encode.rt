@@ -6,3 +6,4 @@ mod head;
 mod notation;
 
 pub(crate) use bytes::push_items;
+pub use notation::{bytes_to_diag, hex_to_diag, push_bytes_to_diag, push_bytes_to_diag_partial};

@@ -28,6 +28,7 @@ mod parse;
 mod rewrite;
 mod syntax;
 
+pub use encode::{bytes_to_diag, hex_to_diag, push_bytes_to_diag, push_bytes_to_diag_partial};
 pub use error::{Error, Result};
 pub use parse::{
     Extent, Turns, extent, parse_bytes, parse_bytes_counted, parse_bytes_partial, parse_diag,

@@ -4,8 +4,12 @@ mod hex_text;
 mod notation;
 mod turns;
 
-pub(crate) use binary::{is_strict, read_front, read_whole};
+pub(crate) use binary::{
+    Argument, ItemHead, is_strict, next_chunk, no_level_left, read_borrowed, read_front, read_head,
+    read_whole,
+};
 pub use binary::{Extent, extent, parse_bytes, parse_bytes_counted, parse_bytes_partial};
 pub use hex_text::parse_hex;
+pub(crate) use hex_text::{decode, uncommented};
 pub use notation::parse_diag;
 pub use turns::Turns;

@@ -45,11 +45,11 @@ pairs_more level (pair j u ps) b y z k v h key value = (
   pairs_more level ps h.2 y z k v h.6 key value,
 )
 
-count_more : (is : Items) (i : Item) → item_count (joined is (item i no_items)) ≡ suc (item_count is)
+pub count_more : (is : Items) (i : Item) → item_count (joined is (item i no_items)) ≡ suc (item_count is)
 count_more no_items i = refl
 count_more (item j is) i = ap suc (count_more is i)
 
-pair_count_more : (ps : Pairs) (k v : Item) → pair_count (joined_pairs ps (pair k v no_pairs)) ≡ suc (pair_count ps)
+pub pair_count_more : (ps : Pairs) (k v : Item) → pair_count (joined_pairs ps (pair k v no_pairs)) ≡ suc (pair_count ps)
 pair_count_more no_pairs k v = refl
 pair_count_more (pair j u ps) k v = ap suc (pair_count_more ps k v)
 

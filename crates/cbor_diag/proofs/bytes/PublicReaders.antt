@@ -37,7 +37,7 @@ found_is b (Err e) h = tt
 pub cut_is : (b : List ℕ) (r : Front) → HasOutcome 1 b r → r ≡ Ok None → Cut 1 b
 cut_is b r h e = subst (λ x. HasOutcome 1 b x) e h
 
-fault_of : (b : List ℕ) (e : Error) → HasOutcome 1 b (Err e) → e ≢ refusal.Memory → Fault 1 b e
+pub fault_of : (b : List ℕ) (e : Error) → HasOutcome 1 b (Err e) → e ≢ refusal.Memory → Fault 1 b e
 fault_of b refusal.Memory h no_memory = absurd (no_memory refl)
 fault_of b _ h no_memory = h
 
@@ -45,7 +45,7 @@ pub fault_is : (b : List ℕ) (r : Front) → HasOutcome 1 b r → RefusedSo r (
 fault_is b (Ok x) h = tt
 fault_is b (Err e) h = fault_of b e h
 
-same : (b : List ℕ) (o p : Outcome) → OneOutcome 1 b → IsOutcome 1 b o → IsOutcome 1 b p → p ≡ o
+pub same : (b : List ℕ) (o p : Outcome) → OneOutcome 1 b → IsOutcome 1 b o → IsOutcome 1 b p → p ≡ o
 same b o p one h k = one.only p k ∙ sym (one.only o h)
 
 gave_refusal : (b : List ℕ) (e : Error) → HasOutcome 1 b (Err e) → OneOutcome 1 b → (o : Outcome) → IsOutcome 1 b o
@@ -99,23 +99,23 @@ front_of level b refusal.BadHex h = absurd h
 front_of level b refusal.Notation h = absurd h
 front_of level b refusal.PastWidth h = absurd h
 
-whole_outcome : (level : ℕ) (b : List ℕ) (i : Item) → Spells any level b i → IsOutcome level b (spelled i (length b))
+pub whole_outcome : (level : ℕ) (b : List ℕ) (i : Item) → Spells any level b i → IsOutcome level b (spelled i (length b))
 whole_outcome level b i s = (omega arith, rw (take_all (length b) b (omega arith)) s)
 
-no_refused_item : (level : ℕ) (b : List ℕ) (i : Item) (e : Error) → OneOutcome level b → Spells any level b i
+pub no_refused_item : (level : ℕ) (b : List ℕ) (i : Item) (e : Error) → OneOutcome level b → Spells any level b i
     → IsRefused level b e → ⊥
 no_refused_item level b i e one s h =
     let f = front_of level b e h in
     f.3 i (one.only f.0 f.1 ∙ sym (one.only (spelled i (length b)) (whole_outcome level b i s)))
 
-one_refusal : (level : ℕ) (b : List ℕ) (e f : Error) → OneOutcome level b → IsRefused level b e → IsRefused level b f
+pub one_refusal : (level : ℕ) (b : List ℕ) (e f : Error) → OneOutcome level b → IsRefused level b e → IsRefused level b f
     → e ≡ f
 one_refusal level b e f one h k =
     let x = front_of level b e h in
     let y = front_of level b f k in
     sym x.2 ∙ ap refusal_for (one.only x.0 x.1 ∙ sym (one.only y.0 y.1)) ∙ y.2
 
-refused_of : (level : ℕ) (b : List ℕ) (e : Error) → HasAnswer level b (Err e) → e ≢ refusal.Memory → IsRefused level b e
+pub refused_of : (level : ℕ) (b : List ℕ) (e : Error) → HasAnswer level b (Err e) → e ≢ refusal.Memory → IsRefused level b e
 refused_of level b refusal.Memory h no_memory = absurd (no_memory refl)
 refused_of level b _ h no_memory = h
 
@@ -130,7 +130,7 @@ refusal_is level b (Ok x) h = tt
 refusal_is level b (Err e) h = refused_of level b e h
 
 -- out of memory, or another refusal
-memory_or : (e : Error) → (e ≡ refusal.Memory) ⊎ (e ≢ refusal.Memory)
+pub memory_or : (e : Error) → (e ≡ refusal.Memory) ⊎ (e ≢ refusal.Memory)
 memory_or refusal.Memory = inl refl
 memory_or _ = inr (λ e. absurd cc)
 

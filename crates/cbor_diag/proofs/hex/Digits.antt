@@ -9,7 +9,6 @@ use Rattle.hex.specs.declared.error.FromHexError.TheVariants.{OutOfMemory}
 use Rattle.hex.proofs.HexLemmas.{decode_of-err, decode_of-odd, decode_of-ok, decode_of-same}
 use Rattle.cbor_diag.specs.declared.error.Error.{Error}
 use Rattle.cbor_diag.specs.declared.error.Error.TheVariants as refusal
-use Rattle.cbor_diag.specs.declared.syntax.DataItem.{DataItem}
 use Rattle.cbor_diag.specs.Answer.{GaveRefusal, IsRefused}
 use Rattle.cbor_notes.specs.Columns.{uncommented}
 use Rattle.cbor_diag.specs.HexText.{IsHexRefused}
@@ -76,7 +75,7 @@ digits_refused text f refusal.BadHex (inr (inr w)) bad = inl w.0
 digits_refused text f e r w = inr (digits_want_memory (uncommented text) w.0 f r w.1)
 
 -- for a text whose digits have bytes, each error is the bytes'
-pub bytes_refused : (text b : List ℕ) (result : Result DataItem Error) → decode_of (uncommented text) ≡ Ok b
+pub bytes_refused : {X : Type 0} (text b : List ℕ) (result : Result X Error) → decode_of (uncommented text) ≡ Ok b
     → ((e : Error) → IsRefused 1 b e → GaveRefusal result e) → (e : Error) → IsHexRefused text e → GaveRefusal result e
 bytes_refused text b result h gave refusal.OddHex odd = let even =
     (decode_of-ok (uncommented text) b h).0 in absurd (omega (arith, odd))

@@ -3,6 +3,7 @@
 use Rattle.std.specs.Prelude.{ℕ, List, map}
 use Rattle.cbor_diag.specs.declared.parse.notation.strings.Chunks.{Chunks}
 use Rattle.cbor_diag.specs.declared.parse.notation.strings.Chunks.TheVariants as chunks
+use Rattle.cbor_diag.specs.declared.syntax.IntegerWidth.{IntegerWidth}
 use Rattle.cbor_diag.specs.declared.syntax.strings.StringKind as code
 use Rattle.cbor_diag.specs.declared.syntax.strings.StringKind.TheVariants as code_kind
 use Rattle.cbor_diag.specs.declared.syntax.strings.StringContent.{StringContent}
@@ -23,6 +24,10 @@ kind_of (content.Text text) = text_kind
 abbrev pub bytes_of : StringContent → List ℕ
 bytes_of (content.Bytes bytes) = bytes.now
 bytes_of (content.Text text) = text.now
+
+-- the chunk that a string is where it is in the bytes, its length of that width
+abbrev pub borrowed_chunk : IntegerWidth → StringContent → Chunk
+borrowed_chunk w content = record { bytes = bytes_of content; width = w }
 
 abbrev pub list_kind : Chunks → StringKind
 list_kind (chunks.Bytes v) = bytes_kind

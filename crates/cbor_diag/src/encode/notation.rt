@@ -7,8 +7,10 @@
 mod context;
 mod embedded;
 mod estimate;
+mod from_bytes;
 mod members;
 mod scalars;
+mod straight;
 
 ghost use Rattle.std.specs.Prelude.{◌≡◌, ◌↔◌, ◌+◌, ◌*◌, ◌<◌, ◌≤◌, ◌++◌, ℕ, OnOk, OnErr, IfOk};
 ghost use Rattle.std.specs.Prelude.{IfErr};
@@ -43,6 +45,7 @@ use members::{
 pub(crate) use scalars::push_quoted;
 use scalars::{push_float, push_negative, push_number, push_simple, push_text};
 use std::alloc::{AllocError, Global};
+pub use straight::{bytes_to_diag, hex_to_diag, push_bytes_to_diag, push_bytes_to_diag_partial};
 
 /// Writes an item.
 ///

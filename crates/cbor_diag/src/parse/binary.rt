@@ -6,6 +6,7 @@
 //! trusted: memory is reserved for the bytes and members that are there, and for a few members at
 //! once.
 mod argument;
+mod borrowed;
 mod frame;
 mod head;
 mod skip;
@@ -34,9 +35,10 @@ use crate::error::{Error, Result};
 use crate::parse::turns::Turns;
 use crate::syntax::strings::StringKind;
 use crate::syntax::{ByteString, DEEPEST, DataItem, Simple, TextString};
-use argument::Argument;
+pub(crate) use argument::Argument;
+pub(crate) use borrowed::{next_chunk, read_borrowed};
 use frame::Frame;
-use head::{ItemHead, read_head};
+pub(crate) use head::{ItemHead, read_head};
 pub use skip::{Extent, extent};
 use stack::Stack;
 use std::alloc::Global;
@@ -45,7 +47,7 @@ use strings::{read_chunks, read_string};
 
 /// The error below the deepest level: `TooDeep` if there are bytes for an item, otherwise
 /// `CutShort`.
-fn no_level_left(bytes: &[u8]) -> Error
+pub(crate) fn no_level_left(bytes: &[u8]) -> Error
     ensures gives { result ≡ no_level_left bytes.now }
     ensures memory { result ≢ Error.Memory }
 {

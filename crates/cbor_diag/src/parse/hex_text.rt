@@ -111,7 +111,7 @@ fn push_unspaced(out: &mut Vec<u8>, line: &[u8]) -> Result<(), AllocError>
 
 /// What is kept of all lines. Decoding finds out whether these bytes are hex digits. Memory is
 /// reserved at first for a fourth of the text: most dumps keep less.
-fn uncommented(alloc: Global, text: &str) -> Result<Vec<u8>, AllocError>
+pub(crate) fn uncommented(alloc: Global, text: &str) -> Result<Vec<u8>, AllocError>
     ensures { IfOk result (λ digits. digits.items ≡ uncommented text.now) }
 {
     let mut digits = Vec::with_capacity(alloc, text.len() / 4)?;
@@ -126,7 +126,7 @@ fn uncommented(alloc: Global, text: &str) -> Result<Vec<u8>, AllocError>
 
 /// Decodes hex digits, two of either case for each byte. Returns `OddHex` if their number is odd,
 /// and otherwise `BadHex` if a byte is not a digit.
-fn decode(alloc: Global, digits: Vec<u8>) -> crate::Result<Vec<u8>>
+pub(crate) fn decode(alloc: Global, digits: Vec<u8>) -> crate::Result<Vec<u8>>
     ensures bytes { IfOk result (λ bytes. decode_of digits.items ≡ Ok bytes.items) }
     ensures refused { IfErr result (λ e. (e ≡ Error.Memory)
         ⊎ (e ≡ Error.OddHex) × (length digits.items % 2 ≡ 1)

@@ -1,6 +1,7 @@
 //! What byte strings and text strings have in common.
 ghost use Rattle.std.proofs.Common.{rules};
 ghost use Rattle.std.specs.Prelude.{◌≡◌, ◌↔◌, length, IsTrue, IfErr, IfOk, IsUtf8};
+ghost use Rattle.cbor_diag.specs.declared.syntax.IntegerWidth.{IntegerWidth};
 ghost use Rattle.cbor_diag.specs.Head.{FitsWidth};
 ghost use Rattle.cbor_diag.specs.Item.{Chunk};
 ghost use Rattle.cbor_diag.specs.Reading.{Gives, checked_chunk};
@@ -9,7 +10,7 @@ ghost use Rattle.cbor_diag.specs.StringKind.{major_of, IsContent};
 ghost use Rattle.cbor_diag.specs.View.{byte_chunk, text_chunk};
 ghost use Rattle.cbor_diag.specs.WellFormed.{IsChunk};
 ghost use Rattle.cbor_diag.specs.mirror.MajorNumber.{major_number};
-ghost use Rattle.cbor_diag.specs.mirror.StringView.{bytes_of, kind_of, kind_view};
+ghost use Rattle.cbor_diag.specs.mirror.StringView.{borrowed_chunk, bytes_of, kind_of, kind_view};
 
 use super::major::Major;
 use super::{ByteString, IntegerWidth, TextString};
@@ -57,6 +58,22 @@ impl StringKind {
         match self {
             StringKind::Bytes => true,
             StringKind::Text => is_text(content),
+        }
+    }
+
+    /// The content of a string of this kind, where it may have it.
+    #[tactic(auto, using(crate::proofs::shared::Utf8::utf8_fails, crate::proofs::shared::Utf8::utf8_passes))]
+    pub(crate) fn content(self, content: &[u8]) -> Result<StringContent<'_>>
+        ensures gives { (w : IntegerWidth) → Gives (borrowed_chunk w) result
+            (checked_chunk (kind_view self) w content.now) }
+        ensures kind { IfOk result (λ x. kind_of x ≡ kind_view self) }
+    {
+        match self {
+            StringKind::Bytes => Ok(StringContent::Bytes(content)),
+            StringKind::Text => match simdutf8::basic::from_utf8(content) {
+                Ok(text) => Ok(StringContent::Text(text)),
+                Err(_) => Err(Error::Utf8),
+            },
         }
     }
 }

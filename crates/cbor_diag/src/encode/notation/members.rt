@@ -152,7 +152,7 @@ pub(crate) fn push_chunks<S: DefiniteString>(
 }
 
 /// Writes an indefinite string of this kind that has no chunks.
-fn push_no_chunks(out: &mut String, kind: StringKind) -> Result<(), AllocError>
+pub(crate) fn push_no_chunks(out: &mut String, kind: StringKind) -> Result<(), AllocError>
     ensures { AppendsText result out.old out.new (no_chunks (kind_view kind)) }
 {
     match kind {

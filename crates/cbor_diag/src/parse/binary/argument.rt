@@ -8,7 +8,7 @@ use crate::syntax::IntegerWidth;
 /// What a head says beside its major type, in its five bits of info and the bytes that they ask
 /// for.
 #[derive(Clone, Copy)]
-pub(super) enum Argument {
+pub(crate) enum Argument {
     /// A number, and the width that it was written in.
     Number(u64, IntegerWidth),
     /// No number: an indefinite length, or a break.
@@ -27,7 +27,7 @@ pub(super) fn after_break(bytes: &[u8]) -> Option<&[u8]>
 
 impl Argument {
     /// The width of a count, where there is one.
-    pub(super) fn width(self) -> Option<IntegerWidth>
+    pub(crate) fn width(self) -> Option<IntegerWidth>
         ensures { (held : ℕ) → result ≡ count_width (left_of self held) }
     {
         match self {
@@ -38,7 +38,7 @@ impl Argument {
 
     /// The bytes after a container of that length which holds `held` members, if it ends here: the
     /// same bytes if it needs no more members, or those after the break.
-    pub(super) fn after_end(self, held: usize, bytes: &[u8]) -> Option<&[u8]>
+    pub(crate) fn after_end(self, held: usize, bytes: &[u8]) -> Option<&[u8]>
         ensures { option_map (λ x. x.now) result ≡ after_members (left_of self held) bytes.now }
     {
         match self {

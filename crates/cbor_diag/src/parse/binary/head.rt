@@ -16,7 +16,7 @@ use crate::syntax::{FloatWidth, IntegerWidth};
 
 /// Why a head is not read.
 #[derive(Clone, Copy)]
-pub(super) enum HeadError {
+pub(crate) enum HeadError {
     /// The bytes end before the head does.
     CutShort,
     /// No item has this head.
@@ -38,7 +38,7 @@ impl From<HeadError> for Error {
 
 /// What a head opens.
 #[derive(Clone, Copy)]
-pub(super) enum ItemHead {
+pub(crate) enum ItemHead {
     Integer(u64, IntegerWidth),
     Negative(u64, IntegerWidth),
     /// A string of that many bytes, or one in chunks.
@@ -170,7 +170,7 @@ impl ItemHead {
 
 /// The head at the front.
 #[tactic(auto, unfolding(crate::specs::Reading::read_head))]
-pub(super) fn read_head(bytes: &[u8]) -> Result<(ItemHead, &[u8])>
+pub(crate) fn read_head(bytes: &[u8]) -> Result<(ItemHead, &[u8])>
     ensures gives { Finds (λ x. (head_view x.0, x.1.now)) result (read_head bytes.now) }
     ensures shorter { IfOk result (λ x. length x.1.now < length bytes.now) }
 {

@@ -15,7 +15,7 @@ use crate::syntax::strings::DefiniteString;
 use std::alloc::Global;
 
 /// The first `count` bytes.
-fn split_at(bytes: &[u8], count: u64) -> Result<(&[u8], &[u8])>
+pub(super) fn split_at(bytes: &[u8], count: u64) -> Result<(&[u8], &[u8])>
     ensures gives { Gives (λ x. (x.0.now, x.1.now)) result (split_at count bytes.now) }
     ensures shorter { IfOk result (λ x. length x.1.now ≤ length bytes.now) }
 {
@@ -45,7 +45,10 @@ pub(super) fn read_string<S: DefiniteString>(
 /// The length of the next chunk of an indefinite string of that major type, or `None` at its break.
 /// The first byte decides whether a chunk begins here, before more of its head is read.
 #[tactic(auto, unfolding(crate::specs::Reading::read_chunk_length))]
-fn read_chunk_length(major: Major, bytes: &[u8]) -> Result<(Option<(u64, IntegerWidth)>, &[u8])>
+pub(super) fn read_chunk_length(
+    major: Major,
+    bytes: &[u8],
+) -> Result<(Option<(u64, IntegerWidth)>, &[u8])>
     ensures gives { Gives (λ x. (x.0, x.1.now)) result
         (read_chunk_length (major_number major) bytes.now) }
     ensures shorter { IfOk result (λ x. length x.1.now < length bytes.now) }

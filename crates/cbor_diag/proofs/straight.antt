@@ -1,0 +1,3 @@
+pub mod PublicCalls
+pub mod Readings
+pub mod Texts

@@ -1,0 +1,43 @@
+-- What is printed from bytes, in one pass with their reading.
+use Rattle.std.specs.Prelude.{◌≡◌, ℕ, zero, suc, ◌+◌, List, ◌++◌, codes, Ok}
+use Rattle.cbor_diag.specs.declared.encode.notation.context.NotationContext.{NotationContext}
+use Rattle.cbor_diag.specs.declared.syntax.strings.StringContent.{StringContent}
+use Rattle.cbor_diag.specs.declared.syntax.strings.StringContent.TheVariants as content
+use Rattle.cbor_diag.specs.Item.{Item}
+use Rattle.cbor_diag.specs.ItemHead.{ItemHead}
+use Rattle.cbor_diag.specs.Layout.{Compact}
+use Rattle.cbor_diag.specs.NotationText.{text}
+use Rattle.cbor_diag.specs.StringKind.{StringKind, no_chunks}
+use Rattle.cbor_diag.specs.Reading.{Read, opened, read_body, counted_item, read_item}
+use Rattle.cbor_diag.specs.WellFormed.{levels_left}
+use Rattle.cbor_diag.specs.mirror.LayoutView.{layout_view, context_view, content_there}
+
+-- Reading gives an item before the rest, and its text is written after the old one.
+abbrev pub Printed : (Item → List ℕ) → Read Item → List ℕ → List ℕ → List ℕ → Type 0
+Printed text read rest old new = (i : Item) × (read ≡ Ok (i, rest)) × (new ≡ old ++ text i)
+
+-- what reading gives at this level
+abbrev pub read_there : NotationContext → List ℕ → Read Item
+read_there c b = read_item (levels_left c.level) b
+
+-- the same after a head
+abbrev pub read_after : NotationContext → ItemHead → List ℕ → Read Item
+read_after c h b = (read_body (counted_item (levels_left (c.level + 1))) (opened h) h b).1
+
+-- all is on one line
+abbrev pub IsCompact : NotationContext → Type 0
+IsCompact c = layout_view c.layout ≡ Compact
+
+-- the text of a string of definite length there
+abbrev pub string_there : NotationContext → StringContent → List ℕ
+string_there c (content.Bytes bytes) = content_there c (context_view c).content bytes.now
+string_there c (content.Text t) = text t.now
+
+-- what is written before a chunk after so many others, and after the last
+abbrev pub before_chunk : ℕ → List ℕ
+before_chunk zero = codes "(_"
+before_chunk (suc held) = codes ","
+
+abbrev pub after_chunks : StringKind → ℕ → List ℕ
+after_chunks kind zero = no_chunks kind
+after_chunks kind (suc held) = codes ")"

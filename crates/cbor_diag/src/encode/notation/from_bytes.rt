@@ -1,0 +1,262 @@
+//! Writes an item straight from its bytes, on one line: each part is written as soon as it is read,
+//! and no item is built.
+//!
+//! Each function takes the remaining bytes and returns those after what it wrote. What was written
+//! before an error stays.
+#![tactic(auto, using(crate::proofs::shared::Appending::appending_steps))]
+
+ghost use Rattle.std.specs.Prelude.{◌≡◌, ◌+◌, ◌≤◌, IfOk, IfErr, OnErr};
+ghost use Rattle.std.specs.Io.{StartsWith};
+ghost use Rattle.std.specs.String.{string_bytes};
+ghost use Rattle.cbor_diag.specs.ItemHead as item_head;
+ghost use Rattle.cbor_diag.specs.Reading.{Fails};
+ghost use Rattle.cbor_diag.specs.WellFormed.{deepest};
+ghost use Rattle.cbor_diag.specs.mirror.Appends.{AppendsText};
+ghost use Rattle.cbor_diag.specs.mirror.HeadView.{argument_view};
+ghost use Rattle.cbor_diag.specs.mirror.LayoutView.{IsIndented, item_text};
+ghost use Rattle.cbor_diag.specs.mirror.Straight.{IsCompact, Printed, read_there, read_after};
+ghost use Rattle.cbor_diag.specs.mirror.Straight.{string_there, before_chunk, after_chunks};
+ghost use Rattle.cbor_diag.specs.mirror.StringView.{kind_view};
+ghost use Rattle.cbor_diag.specs.Argument.{indefinite};
+
+use super::context::{ContainerStyle, Layout, NotationContext};
+use super::members::{push_closing, push_colon, push_no_chunks, push_opening, push_start};
+use super::push_content;
+use super::scalars::{push_float, push_negative, push_number, push_simple, push_string, push_text};
+use crate::parse::{Argument, ItemHead, next_chunk, no_level_left, read_borrowed, read_head};
+use crate::syntax::strings::{StringContent, StringKind};
+use crate::syntax::{DEEPEST, IntegerWidth, Simple, Tag};
+use std::alloc::AllocError;
+
+/// Writes the item at the front.
+#[cycle(straight)]
+pub(super) fn push_front<'a>(
+    out: &mut String,
+    bytes: &'a [u8],
+    context: &NotationContext,
+) -> crate::Result<&'a [u8]>
+    requires level { context.now.level ≤ deepest + 1 }
+    requires compact { IsCompact context.now }
+    ensures printed { IfOk result (λ rest. Printed (item_text context.now)
+        (read_there context.now bytes.now) rest.now (string_bytes out.old) (string_bytes out.new)) }
+    ensures refused { IfErr result (λ e. Fails e (read_there context.now bytes.now)) }
+    ensures begun { OnErr result (StartsWith (string_bytes out.new) (string_bytes out.old)) }
+{
+    if context.level > DEEPEST {
+        return Err(no_level_left(bytes));
+    }
+    let (head, rest) = read_head(bytes)?;
+    match head {
+        ItemHead::Integer(value, width) => {
+            push_number(out, value, width)?;
+            Ok(rest)
+        }
+        ItemHead::Negative(value, width) => {
+            push_negative(out, value, width)?;
+            Ok(rest)
+        }
+        ItemHead::String(kind, len) => push_string_front(out, (kind, len), rest, context),
+        ItemHead::Array(count) => push_array_front(out, count, rest, context),
+        ItemHead::Map(count) => push_map_front(out, count, rest, context),
+        ItemHead::Tag(tag, width) => push_tag_front(out, (tag, width), rest, context),
+        ItemHead::Float(bits, width) => {
+            push_float(out, bits, width)?;
+            Ok(rest)
+        }
+        ItemHead::Simple(value) => {
+            push_simple(out, Simple(value))?;
+            Ok(rest)
+        }
+    }
+}
+
+/// Writes an array after its head, with this count of items.
+#[cycle(straight)]
+#[inline(never)]
+fn push_array_front<'a>(
+    out: &mut String,
+    count: Argument,
+    bytes: &'a [u8],
+    context: &NotationContext,
+) -> crate::Result<&'a [u8]>
+    requires level { context.now.level ≤ deepest }
+    requires compact { IsCompact context.now }
+    ensures printed { IfOk result (λ rest. Printed (item_text context.now)
+        (read_after context.now (item_head.array (argument_view count)) bytes.now) rest.now
+        (string_bytes out.old) (string_bytes out.new)) }
+    ensures refused { IfErr result (λ e. Fails e
+        (read_after context.now (item_head.array (argument_view count)) bytes.now)) }
+    ensures begun { OnErr result (StartsWith (string_bytes out.new) (string_bytes out.old)) }
+{
+    let inner = context.inside(Layout::Compact);
+    push_opening(out, '[', count.width(), ContainerStyle::Compact)?;
+    let mut rest = bytes;
+    let mut held = 0;
+    'items: loop {
+        if let Some(after) = count.after_end(held, rest) {
+            push_closing(out, ContainerStyle::Compact, ']')?;
+            return Ok(after);
+        }
+        push_start(out, ContainerStyle::Compact, held == 0)?;
+        rest = push_front(out, rest, &inner)?;
+        held += 1;
+    }
+}
+
+/// Writes a map after its head, with this count of pairs.
+#[cycle(straight)]
+#[inline(never)]
+fn push_map_front<'a>(
+    out: &mut String,
+    count: Argument,
+    bytes: &'a [u8],
+    context: &NotationContext,
+) -> crate::Result<&'a [u8]>
+    requires level { context.now.level ≤ deepest }
+    requires compact { IsCompact context.now }
+    ensures printed { IfOk result (λ rest. Printed (item_text context.now)
+        (read_after context.now (item_head.map (argument_view count)) bytes.now) rest.now
+        (string_bytes out.old) (string_bytes out.new)) }
+    ensures refused { IfErr result (λ e. Fails e
+        (read_after context.now (item_head.map (argument_view count)) bytes.now)) }
+    ensures begun { OnErr result (StartsWith (string_bytes out.new) (string_bytes out.old)) }
+{
+    let inner = context.inside(Layout::Compact);
+    push_opening(out, '{', count.width(), ContainerStyle::Compact)?;
+    let mut rest = bytes;
+    let mut held = 0;
+    'pairs: loop {
+        if let Some(after) = count.after_end(held, rest) {
+            push_closing(out, ContainerStyle::Compact, '}')?;
+            return Ok(after);
+        }
+        push_start(out, ContainerStyle::Compact, held == 0)?;
+        let value = push_front(out, rest, &inner)?;
+        push_colon(out, ContainerStyle::Compact)?;
+        rest = push_front(out, value, &inner)?;
+        held += 1;
+    }
+}
+
+/// Writes a tag after its head, by its number and the width of that, and the item below it.
+#[cycle(straight)]
+#[inline(never)]
+fn push_tag_front<'a>(
+    out: &mut String,
+    head: (u64, IntegerWidth),
+    bytes: &'a [u8],
+    context: &NotationContext,
+) -> crate::Result<&'a [u8]>
+    requires level { context.now.level ≤ deepest }
+    requires compact { IsCompact context.now }
+    ensures printed { IfOk result (λ rest. Printed (item_text context.now)
+        (read_after context.now (item_head.tag head.0 head.1) bytes.now) rest.now
+        (string_bytes out.old) (string_bytes out.new)) }
+    ensures refused { IfErr result (λ e. Fails e
+        (read_after context.now (item_head.tag head.0 head.1) bytes.now)) }
+    ensures begun { OnErr result (StartsWith (string_bytes out.new) (string_bytes out.old)) }
+{
+    let (tag, width) = head;
+    push_number(out, tag, width)?;
+    out.push('(')?;
+    let rest = push_front(out, bytes, &context.below(Tag(tag)))?;
+    out.push(')')?;
+    Ok(rest)
+}
+
+/// Writes a string after its head, with this length.
+fn push_string_front<'a>(
+    out: &mut String,
+    head: (StringKind, Argument),
+    bytes: &'a [u8],
+    context: &NotationContext,
+) -> crate::Result<&'a [u8]>
+    requires level { context.now.level ≤ deepest }
+    requires compact { IsCompact context.now }
+    ensures printed { IfOk result (λ rest. Printed (item_text context.now) (read_after context.now
+        (item_head.string (kind_view head.0) (argument_view head.1)) bytes.now) rest.now
+        (string_bytes out.old) (string_bytes out.new)) }
+    ensures refused { IfErr result (λ e. Fails e (read_after context.now
+        (item_head.string (kind_view head.0) (argument_view head.1)) bytes.now)) }
+    ensures begun { OnErr result (StartsWith (string_bytes out.new) (string_bytes out.old)) }
+{
+    let (kind, len) = head;
+    match len {
+        Argument::Number(count, _) => {
+            let (content, rest) = read_borrowed(kind, count, bytes)?;
+            push_definite(out, content, context)?;
+            Ok(rest)
+        }
+        Argument::Indefinite => push_chunks_front(out, kind, bytes, context),
+    }
+}
+
+/// Writes a string of definite length.
+fn push_definite(
+    out: &mut String,
+    content: StringContent<'_>,
+    context: &NotationContext,
+) -> Result<(), AllocError>
+    requires level { context.now.level ≤ deepest }
+    requires compact { IsCompact context.now }
+    ensures { AppendsText result out.old out.new (string_there context.now content.entry) }
+{
+    match content {
+        StringContent::Bytes(bytes) => push_content(out, bytes, context),
+        StringContent::Text(text) => push_text(out, text),
+    }
+}
+
+/// Writes an indefinite string after its opening byte.
+#[inline(never)]
+fn push_chunks_front<'a>(
+    out: &mut String,
+    kind: StringKind,
+    bytes: &'a [u8],
+    context: &NotationContext,
+) -> crate::Result<&'a [u8]>
+    requires level { context.now.level ≤ deepest }
+    requires compact { IsCompact context.now }
+    ensures printed { IfOk result (λ rest. Printed (item_text context.now)
+        (read_after context.now (item_head.string (kind_view kind) indefinite) bytes.now) rest.now
+        (string_bytes out.old) (string_bytes out.new)) }
+    ensures refused { IfErr result (λ e. Fails e
+        (read_after context.now (item_head.string (kind_view kind) indefinite) bytes.now)) }
+    ensures begun { OnErr result (StartsWith (string_bytes out.new) (string_bytes out.old)) }
+{
+    let mut rest = bytes;
+    let mut held = 0;
+    'chunks: loop {
+        let (chunk, after) = next_chunk(kind, rest)?;
+        let Some((content, _)) = chunk else {
+            push_chunks_end(out, kind, held)?;
+            return Ok(after);
+        };
+        push_chunk_start(out, held)?;
+        push_string(out, content, context.encoding)?;
+        rest = after;
+        held += 1;
+    }
+}
+
+/// Writes what is before a chunk, after `held` others.
+fn push_chunk_start(out: &mut String, held: usize) -> Result<(), AllocError>
+    ensures { AppendsText result out.old out.new (before_chunk held) }
+{
+    if held == 0 {
+        push_opening(out, '(', None, ContainerStyle::Compact)
+    } else {
+        push_start(out, ContainerStyle::Compact, false)
+    }
+}
+
+/// Writes what is after the last of `held` chunks. A string without chunks keeps its kind.
+fn push_chunks_end(out: &mut String, kind: StringKind, held: usize) -> Result<(), AllocError>
+    ensures { AppendsText result out.old out.new (after_chunks (kind_view kind) held) }
+{
+    if held == 0 {
+        push_no_chunks(out, kind)
+    } else {
+        push_closing(out, ContainerStyle::Compact, ')')
+    }
+}
