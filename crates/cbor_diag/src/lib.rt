@@ -34,5 +34,5 @@ pub use parse::{
     Extent, Turns, extent, parse_bytes, parse_bytes_counted, parse_bytes_partial, parse_diag,
     parse_hex,
 };
-pub use rewrite::bytes_to_bytes;
+pub use rewrite::{bytes_to_bytes, hex_to_bytes};
 pub use syntax::{ByteString, DataItem, FloatWidth, IntegerWidth, Simple, Tag, TextString};

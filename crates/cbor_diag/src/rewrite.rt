@@ -1,13 +1,14 @@
 //! Encodes items anew, from their bytes: the bytes themselves, but where a simple value below 24
 //! takes two of them.
-ghost use Rattle.std.specs.Prelude.{◌≡◌, IfOk, IfErr, IsTrue};
+ghost use Rattle.std.specs.Prelude.{◌≡◌, ◌<◌, ℕ, slice_index, IfOk, IfErr, IsTrue, MatchResult};
 ghost use Rattle.cbor_diag.specs.Item.{Item};
-ghost use Rattle.cbor_diag.specs.Answer.{RefusedSo};
+ghost use Rattle.cbor_diag.specs.Answer.{GaveRefusal, RefusedSo};
 ghost use Rattle.cbor_diag.specs.Facts.{IsItem, IsNoItem};
+ghost use Rattle.cbor_diag.specs.HexText.{IsHexOf, IsHexRefused};
 ghost use Rattle.cbor_diag.specs.Written.{encoded};
 
 use crate::error::{Error, Result};
-use crate::parse::{Extent, extent, is_strict, parse_bytes};
+use crate::parse::{Extent, decode, extent, is_strict, parse_bytes, uncommented};
 use std::alloc::Global;
 
 /// Whether the bytes, which are to be one item, are known to be its encoding. The errors are those
@@ -16,6 +17,7 @@ fn is_encoding(bytes: &[u8]) -> Result<bool>
     ensures known { IfOk result (λ yes. IsTrue yes
         → (i : Item) × IsItem bytes.now i × (bytes.now ≡ encoded i)) }
     ensures refused { IfErr result (IsNoItem bytes.now) }
+    ensures bytes { (i : ℕ) → slice_index bytes.now i < 256 }
 {
     match extent(bytes) {
         Extent::Item(len) => {
@@ -29,12 +31,25 @@ fn is_encoding(bytes: &[u8]) -> Result<bool>
     }
 }
 
+/// The encoding of the item that the bytes are.
+fn encoding_of(alloc: Global, bytes: Vec<u8>) -> Result<Vec<u8>>
+    ensures ok { IfOk result (λ out.
+        (i : Item) × IsItem bytes.items i × (out.items ≡ encoded i)) }
+    ensures refused { RefusedSo result (IsNoItem bytes.items) }
+    ensures bytes { (i : ℕ) → slice_index bytes.items i < 256 }
+{
+    if is_encoding(&bytes)? {
+        Ok(bytes)
+    } else {
+        parse_bytes(alloc, &bytes)?.to_bytes(alloc)
+    }
+}
+
 /// Reads one item from all of the bytes, and returns its encoding: what [`parse_bytes`] and
-/// [`DataItem::to_bytes`] together return, without building the item.
+/// [`DataItem::to_bytes`] return one after the other, the errors of [`parse_bytes`] included.
 ///
-/// These are the bytes that were given, in their memory, unless a simple value below 24 takes two
-/// bytes: it takes one in the encoding, and then memory is allocated. The errors are those of
-/// [`parse_bytes`].
+/// The result is the bytes themselves, in their memory, unless a simple value below 24 takes two
+/// bytes in them. It takes one in the encoding. Only then is an item built, and memory allocated.
 ///
 /// ```rust
 /// use cbor_diag::bytes_to_bytes;
@@ -45,13 +60,41 @@ fn is_encoding(bytes: &[u8]) -> Result<bool>
 ///
 /// [`DataItem::to_bytes`]: crate::DataItem::to_bytes
 pub fn bytes_to_bytes(alloc: Global, bytes: Vec<u8>) -> Result<Vec<u8>>
+    // The encoding of the item that the bytes are, exactly if they are one.
     ensures ok { IfOk result (λ out.
         (i : Item) × IsItem bytes.items i × (out.items ≡ encoded i)) }
+    ensures every_item { (i : Item) → IsItem bytes.items i
+        → MatchResult result (λ out. out.items ≡ encoded i) (λ e. e ≡ Error.Memory) }
+
+    // Each error, exactly if it is true.
     ensures refused { RefusedSo result (IsNoItem bytes.items) }
+    ensures every_refusal { (e : Error) → IsNoItem bytes.items e → GaveRefusal result e }
 {
-    if is_encoding(&bytes)? {
-        Ok(bytes)
-    } else {
-        parse_bytes(alloc, &bytes)?.to_bytes(alloc)
-    }
+    encoding_of(alloc, bytes)
+}
+
+/// Reads one item from hex with comments, and returns its encoding: what [`parse_hex`] and
+/// [`DataItem::to_bytes`] return one after the other, the errors of [`parse_hex`] included. An item
+/// is built only where [`bytes_to_bytes`] builds one.
+///
+/// ```rust
+/// use cbor_diag::hex_to_bytes;
+///
+/// let bytes = hex_to_bytes(alloc, "82 # array(2)\n f8 14 19 00 05")?;
+/// assert_eq!(rt; bytes.as_slice(), b"\x82\xf4\x19\x00\x05".as_slice());
+/// ```
+///
+/// [`parse_hex`]: crate::parse_hex
+/// [`DataItem::to_bytes`]: crate::DataItem::to_bytes
+pub fn hex_to_bytes(alloc: Global, hex: &str) -> Result<Vec<u8>>
+    ensures ok { IfOk result (λ out.
+        (i : Item) × IsHexOf hex.now i × (out.items ≡ encoded i)) }
+    ensures every_item { (i : Item) → IsHexOf hex.now i
+        → MatchResult result (λ out. out.items ≡ encoded i) (λ e. e ≡ Error.Memory) }
+    ensures refused { RefusedSo result (IsHexRefused hex.now) }
+    ensures every_refusal { (e : Error) → IsHexRefused hex.now e → GaveRefusal result e }
+{
+    let digits = uncommented(alloc, hex)?;
+    let bytes = decode(alloc, digits)?;
+    bytes_to_bytes(alloc, bytes)
 }

@@ -67,12 +67,11 @@ one_item b i j one s t =
     ∙ sym (one.only _ (whole_outcome 1 b j t)) in
     cc
 
-pub every_text : {T : Type 0} (b : List ℕ) (r : Result T Error) (text : T → List ℕ) (old : List ℕ) → OneOutcome 1 b
-    → IfOk r (λ x. (i : Item) × Spells any 1 b i × (text x ≡ old ++ diag_of i)) → RefusedSo r (IsRefused 1 b)
-    → (i : Item) → Spells any 1 b i → MatchResult r (λ x. text x ≡ old ++ diag_of i) (λ e. e ≡ refusal.Memory)
-every_text b (Ok x) text old one ok refused i s =
-    ok.2 ∙ ap (λ j. old ++ diag_of j) (one_item b ok.0 i one ok.1 s)
-every_text b (Err e) text old one ok refused i s =
+pub every_shown : {T : Type 0} (b : List ℕ) (r : Result T Error) (Shows : T → Item → Type 0) → OneOutcome 1 b
+    → IfOk r (λ x. (i : Item) × Spells any 1 b i × Shows x i) → RefusedSo r (IsRefused 1 b)
+    → (i : Item) → Spells any 1 b i → MatchResult r (λ x. Shows x i) (λ e. e ≡ refusal.Memory)
+every_shown b (Ok x) Shows one ok refused i s = subst (λ j. Shows x j) (one_item b ok.0 i one ok.1 s) ok.2
+every_shown b (Err e) Shows one ok refused i s =
     elim (memory_or e) [
       | inl m ↦ m
       | inr no_memory ↦ absurd (no_refused_item 1 b i e one s (refused no_memory))

@@ -2,13 +2,13 @@ use Rattle.std.proofs.Common.{◌≡◌, ◌++◌, refl, arith}
 use Rattle.std.specs.String.{string_bytes}
 use Rattle.cbor_diag.specs.Facts.{diag_of}
 use Rattle.cbor_diag.proofs.bytes.ExactlyOne.{one_outcome}
-use Rattle.cbor_diag.proofs.straight.PublicCalls.{every_text, every_refusal}
+use Rattle.cbor_diag.proofs.straight.PublicCalls.{every_shown, every_refusal}
 use Rattle.cbor_diag.proofs.encode.notation.straight.push_bytes_to_diag.Goals as goal
 
 pub returns-clause-every_item : goal.returns-clause-every_item
 returns-clause-every_item c =
-    every_text c.args.bytes.now c.push_whole.result (λ _. string_bytes c.push_whole.new.out)
-    (string_bytes c.args.out.now)
+    every_shown c.args.bytes.now c.push_whole.result
+    (λ _ i. string_bytes c.push_whole.new.out ≡ string_bytes c.args.out.now ++ diag_of i)
     (one_outcome 1 128 c.args.bytes.now refl (λ i. omega (arith, c.type_inv.bytes i))) c.push_whole.ensures.ok
     c.push_whole.ensures.refused
 
