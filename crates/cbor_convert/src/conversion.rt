@@ -1,13 +1,14 @@
 //! Converts the bytes of an input to the bytes of its output.
-ghost use Rattle.std.specs.Prelude.{◌≡◌, [], ◌∷◌, ◌++◌, Ok, Err, IfOk, IfErr};
+ghost use Rattle.std.specs.Prelude.{◌≡◌, [], ◌∷◌, ◌++◌, Ok, Err, IfOk, IfErr, IfSome};
 ghost use Rattle.std.specs.String.{string_bytes};
 ghost use Rattle.cbor_diag.specs.View.{view};
-ghost use Rattle.cbor_diag.specs.Facts.{IsWellFormed};
+ghost use Rattle.cbor_diag.specs.Facts.{IsWellFormed, diag_of};
+ghost use Rattle.cbor_diag.specs.Item.{Item};
 ghost use Rattle.cbor_diag.specs.Answer.{RefusedSo};
 ghost use Rattle.cbor_convert.specs.Output.{Reads, Refuses, output_of, IsOutput};
 
 use crate::form::{Source, To};
-use cbor_diag::{DataItem, Error, parse_bytes, parse_diag, parse_hex};
+use cbor_diag::{DataItem, Error, bytes_to_diag, hex_to_diag, parse_bytes, parse_diag, parse_hex};
 use std::alloc::Global;
 
 /// Reads one item from `input` in the form `from`, and returns it in the form `to`.
@@ -18,8 +19,30 @@ pub fn convert(alloc: Global, from: Source, to: To, input: &[u8]) -> Result<Vec<
     ensures ok { IfOk result (λ output. IsOutput from to input.now (Ok output.items)) }
     ensures refused { RefusedSo result (λ e. IsOutput from to input.now (Err e)) }
 {
+    if let To::Diag = to {
+        if let Some(text) = straight_to_diag(alloc, from, input)? {
+            return ended_line(text);
+        }
+    }
     let item = read_item(alloc, from, input)?;
     write_item(alloc, to, &item, Vec::new(alloc))
+}
+
+/// Returns the notation of an input in bytes or hex, for which no item is built, and `None` for one
+/// in notation. Its errors are those of [`convert`].
+fn straight_to_diag(alloc: Global, from: Source, input: &[u8]) -> Result<Option<String>, Error>
+    ensures text { IfOk result (λ o. IfSome o (λ s. (i : Item) × Reads from input.now i
+        × (string_bytes s ≡ diag_of i))) }
+    ensures refused { RefusedSo result (Refuses from input.now) }
+{
+    match from {
+        Source::Bytes => Ok(Some(bytes_to_diag(alloc, input)?)),
+        Source::Hex => match str::from_utf8(input) {
+            Ok(text) => Ok(Some(hex_to_diag(alloc, text)?)),
+            Err(_) => Err(Error::Utf8),
+        },
+        Source::Diag => Ok(None),
+    }
 }
 
 /// Reads one item from `input` in the form `from`. Its errors are those of [`convert`].

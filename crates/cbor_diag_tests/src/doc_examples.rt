@@ -2,7 +2,8 @@
 // Items and their notation are examples of RFC 7049, appendix A; the dump was written by hand from
 // docs/DUMP.md.
 
-use cbor_diag::{Error, Extent, extent, parse_bytes, parse_bytes_partial, parse_diag, parse_hex};
+use cbor_diag::{Error, Extent, bytes_to_diag, extent, hex_to_diag, parse_bytes};
+use cbor_diag::{parse_bytes_partial, parse_diag, parse_hex, push_bytes_to_diag_partial};
 use std::alloc::Global;
 use std::process::Abort;
 use std::test::Fail;
@@ -70,6 +71,27 @@ fn of_pretty_text(rt: &impl Abort, alloc: Global) -> Result<(), Fail> {
     Ok(())
 }
 
+fn of_shown_bytes(rt: &impl Abort, alloc: Global) -> Result<(), Fail> {
+    assert_eq!(rt; bytes_to_diag(alloc, b"\x82\x01\x61a")?.as_str(), "[1,\"a\"]");
+    assert_eq!(rt; bytes_to_diag(alloc, b"\x82\x01").err(), Some(Error::CutShort));
+    Ok(())
+}
+
+fn of_shown_parts(rt: &impl Abort, alloc: Global) -> Result<(), Fail> {
+    // An array, and after it an integer that is cut.
+    let mut out = String::new(alloc);
+    assert_eq!(rt; push_bytes_to_diag_partial(alloc, b"\x81\x01\x19", &mut out)?, Some(2));
+    assert_eq!(rt; push_bytes_to_diag_partial(alloc, b"\x19", &mut out)?, None);
+    assert_eq!(rt; out.as_str(), "[1]");
+    Ok(())
+}
+
+fn of_shown_hex(rt: &impl Abort, alloc: Global) -> Result<(), Fail> {
+    let text = hex_to_diag(alloc, "83       # array(3)\n   01 02 03\n")?;
+    assert_eq!(rt; text.as_str(), "[1,2,3]");
+    Ok(())
+}
+
 fn of_extents(rt: &impl Abort) {
     assert_eq!(rt; extent(b"\x82\x01\x02\xff"), Extent::Item(3));
     assert_eq!(rt; extent(b"\x82\x01"), Extent::Cut);
@@ -91,6 +113,9 @@ fn examples_of_doc_comments(rt: HostRuntime) -> Result<(), Fail> {
     of_a_dump(&rt, rt.alloc())?;
     of_compact_text(&rt, rt.alloc())?;
     of_pretty_text(&rt, rt.alloc())?;
+    of_shown_bytes(&rt, rt.alloc())?;
+    of_shown_parts(&rt, rt.alloc())?;
+    of_shown_hex(&rt, rt.alloc())?;
     of_extents(&rt);
     Ok(())
 }

@@ -41,6 +41,8 @@ mod samples;
 #[cfg(test)]
 mod standard;
 #[cfg(test)]
+mod straight;
+#[cfg(test)]
 mod tags;
 #[cfg(test)]
 mod turns;

@@ -2,8 +2,9 @@
 
 use crate::samples::{SAMPLES, Sample, embedded_digits, embedded_text};
 use cbor_diag::{
-    ByteString, DataItem, Error, IntegerWidth, Result, TextString, Turns, parse_bytes,
-    parse_bytes_counted, parse_bytes_partial, parse_diag, parse_hex,
+    ByteString, DataItem, Error, IntegerWidth, Result, TextString, Turns, bytes_to_diag,
+    hex_to_diag, parse_bytes, parse_bytes_counted, parse_bytes_partial, parse_diag, parse_hex,
+    push_bytes_to_diag, push_bytes_to_diag_partial,
 };
 use std::alloc::Global;
 use std::io::Print;
@@ -17,6 +18,10 @@ enum Call {
     ParseBytesCounted,
     ParseHex,
     ParseDiag,
+    BytesToDiag,
+    PushBytesToDiag,
+    PushBytesToDiagPartial,
+    HexToDiag,
     ToBytes,
     PushBytes,
     ToHex,
@@ -37,6 +42,10 @@ const CALLS: &[Call] = &[
     Call::ParseBytesCounted,
     Call::ParseHex,
     Call::ParseDiag,
+    Call::BytesToDiag,
+    Call::PushBytesToDiag,
+    Call::PushBytesToDiagPartial,
+    Call::HexToDiag,
     Call::ToBytes,
     Call::PushBytes,
     Call::ToDiag,
@@ -83,6 +92,25 @@ fn read(alloc: Global, call: Call, sample: &Sample) -> Result<String> {
         Call::ParseDiag => digits_of(alloc, &parse_diag(alloc, sample.diag)?),
         _ => digits_of(alloc, &parse_bytes(alloc, &bytes)?),
     }
+}
+
+/// The result of a printer of bytes or hex on a sample.
+fn print_straight(alloc: Global, call: Call, sample: &Sample) -> Result<String> {
+    let Ok(bytes) = hex::decode(alloc, sample.digits) else {
+        return Err(Error::Memory);
+    };
+    let mut text = String::new(alloc);
+    match call {
+        Call::BytesToDiag => return bytes_to_diag(alloc, &bytes),
+        Call::HexToDiag => return hex_to_diag(alloc, sample.dump),
+        Call::PushBytesToDiag => push_bytes_to_diag(alloc, &bytes, &mut text)?,
+        _ => {
+            if push_bytes_to_diag_partial(alloc, &bytes, &mut text)? != Some(bytes.len()) {
+                text.push_str(" is not all")?;
+            }
+        }
+    }
+    Ok(text)
 }
 
 /// The result of a printer on a sample.
@@ -132,6 +160,10 @@ fn answer(alloc: Global, call: Call, sample: &Sample) -> Result<String> {
         | Call::ParseBytesCounted
         | Call::ParseHex
         | Call::ParseDiag => read(alloc, call, sample),
+        Call::BytesToDiag
+        | Call::PushBytesToDiag
+        | Call::PushBytesToDiagPartial
+        | Call::HexToDiag => print_straight(alloc, call, sample),
         Call::Clone | Call::CloneByteString | Call::CloneTextString => copy(alloc, call, sample),
         _ => print(alloc, call, sample),
     }
@@ -142,7 +174,12 @@ fn expected<'a>(call: Call, sample: &Sample<'a>) -> &'a str {
     match call {
         Call::ParseDiag => sample.normal,
         Call::ToHex => sample.dump,
-        Call::ToDiag | Call::PushDiag => sample.diag,
+        Call::BytesToDiag
+        | Call::PushBytesToDiag
+        | Call::PushBytesToDiagPartial
+        | Call::HexToDiag
+        | Call::ToDiag
+        | Call::PushDiag => sample.diag,
         Call::ToDiagPretty | Call::PushDiagPretty => sample.pretty,
         _ => sample.digits,
     }

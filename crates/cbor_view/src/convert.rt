@@ -7,8 +7,8 @@ use cbor_convert::{Source, To, read_item, write_item};
 use cbor_diag::Error;
 use std::alloc::Global;
 
-/// Returns the output for an input, in the memory of the input if it can: that was used already,
-/// and fresh memory takes longer.
+/// Returns the output for an input. What is written of an item is written in the memory of the input
+/// if it can be: that was used already, and fresh memory takes longer.
 ///
 /// The item is not dropped. Only the writing of the output comes after it, and to free its many
 /// small blocks one by one takes long.
@@ -16,6 +16,11 @@ pub(crate) fn convert(alloc: Global, from: Source, to: To, input: Vec<u8>) -> Re
     ensures ok { IfOk result (λ output. IsOutput from to input.items (Ok output.items)) }
     ensures refused { RefusedSo result (λ e. IsOutput from to input.items (Err e)) }
 {
+    if let To::Diag = to {
+        if let Source::Bytes | Source::Hex = from {
+            return cbor_convert::convert(alloc, from, to, &input);
+        }
+    }
     let item = read_item(alloc, from, &input)?;
     let output = write_item(alloc, to, &item, input);
     std::mem::forget(item);
