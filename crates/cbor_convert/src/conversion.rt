@@ -2,13 +2,13 @@
 ghost use Rattle.std.specs.Prelude.{◌≡◌, [], ◌∷◌, ◌++◌, Ok, Err, IfOk, IfErr, IfSome};
 ghost use Rattle.std.specs.String.{string_bytes};
 ghost use Rattle.cbor_diag.specs.View.{view};
-ghost use Rattle.cbor_diag.specs.Facts.{IsWellFormed, diag_of};
-ghost use Rattle.cbor_diag.specs.Item.{Item};
+ghost use Rattle.cbor_diag.specs.Facts.{IsWellFormed};
 ghost use Rattle.cbor_diag.specs.Answer.{RefusedSo};
 ghost use Rattle.cbor_convert.specs.Output.{Reads, Refuses, output_of, IsOutput};
 
 use crate::form::{Source, To};
-use cbor_diag::{DataItem, Error, bytes_to_diag, hex_to_diag, parse_bytes, parse_diag, parse_hex};
+use cbor_diag::{DataItem, Error, bytes_to_bytes, bytes_to_diag, hex_to_bytes, hex_to_diag};
+use cbor_diag::{parse_bytes, parse_diag, parse_hex};
 use std::alloc::Global;
 
 /// Reads one item from `input` in the form `from`, and returns it in the form `to`.
@@ -19,29 +19,44 @@ pub fn convert(alloc: Global, from: Source, to: To, input: &[u8]) -> Result<Vec<
     ensures ok { IfOk result (λ output. IsOutput from to input.now (Ok output.items)) }
     ensures refused { RefusedSo result (λ e. IsOutput from to input.now (Err e)) }
 {
-    if let To::Diag = to {
-        if let Some(text) = straight_to_diag(alloc, from, input)? {
-            return ended_line(text);
-        }
+    let straight = match from {
+        Source::Bytes => from_bytes(alloc, to, input)?,
+        Source::Hex => from_hex(alloc, to, input)?,
+        Source::Diag => None,
+    };
+    if let Some(output) = straight {
+        return Ok(output);
     }
     let item = read_item(alloc, from, input)?;
     write_item(alloc, to, &item, Vec::new(alloc))
 }
 
-/// Returns the notation of an input in bytes or hex, for which no item is built, and `None` for one
-/// in notation. Its errors are those of [`convert`].
-fn straight_to_diag(alloc: Global, from: Source, input: &[u8]) -> Result<Option<String>, Error>
-    ensures text { IfOk result (λ o. IfSome o (λ s. (i : Item) × Reads from input.now i
-        × (string_bytes s ≡ diag_of i))) }
-    ensures refused { RefusedSo result (Refuses from input.now) }
+/// Returns the output for an input in bytes, and `None` where an item has to be built for it.
+fn from_bytes(alloc: Global, to: To, input: &[u8]) -> Result<Option<Vec<u8>>, Error>
+    ensures ok { IfOk result (λ o. IfSome o (λ output.
+        IsOutput Source.Bytes to input.now (Ok output.items))) }
+    ensures refused { RefusedSo result (Refuses Source.Bytes input.now) }
 {
-    match from {
-        Source::Bytes => Ok(Some(bytes_to_diag(alloc, input)?)),
-        Source::Hex => match str::from_utf8(input) {
-            Ok(text) => Ok(Some(hex_to_diag(alloc, text)?)),
-            Err(_) => Err(Error::Utf8),
-        },
-        Source::Diag => Ok(None),
+    match to {
+        To::Bytes => Ok(Some(bytes_to_bytes(alloc, Vec::from_slice(alloc, input)?)?)),
+        To::Diag => Ok(Some(ended_line(bytes_to_diag(alloc, input)?)?)),
+        To::Hex | To::Pretty => Ok(None),
+    }
+}
+
+/// The same for an input in hex.
+fn from_hex(alloc: Global, to: To, input: &[u8]) -> Result<Option<Vec<u8>>, Error>
+    ensures ok { IfOk result (λ o. IfSome o (λ output.
+        IsOutput Source.Hex to input.now (Ok output.items))) }
+    ensures refused { RefusedSo result (Refuses Source.Hex input.now) }
+{
+    let Ok(text) = str::from_utf8(input) else {
+        return Err(Error::Utf8);
+    };
+    match to {
+        To::Bytes => Ok(Some(hex_to_bytes(alloc, text)?)),
+        To::Diag => Ok(Some(ended_line(hex_to_diag(alloc, text)?)?)),
+        To::Hex | To::Pretty => Ok(None),
     }
 }
 

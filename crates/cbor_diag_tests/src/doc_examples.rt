@@ -2,7 +2,8 @@
 // Items and their notation are examples of RFC 7049, appendix A; the dump was written by hand from
 // docs/DUMP.md.
 
-use cbor_diag::{Error, Extent, bytes_to_diag, extent, hex_to_diag, parse_bytes};
+use cbor_diag::{Error, Extent, bytes_to_bytes, bytes_to_diag, extent, hex_to_bytes, hex_to_diag};
+use cbor_diag::parse_bytes;
 use cbor_diag::{parse_bytes_partial, parse_diag, parse_hex, push_bytes_to_diag_partial};
 use std::alloc::Global;
 use std::process::Abort;
@@ -92,6 +93,14 @@ fn of_shown_hex(rt: &impl Abort, alloc: Global) -> Result<(), Fail> {
     Ok(())
 }
 
+fn of_encodings(rt: &impl Abort, alloc: Global) -> Result<(), Fail> {
+    let bytes = bytes_to_bytes(alloc, Vec::from_slice(alloc, b"\x82\xf8\x14\x19\x00\x05")?)?;
+    assert_eq!(rt; bytes.as_slice(), b"\x82\xf4\x19\x00\x05".as_slice());
+    let bytes = hex_to_bytes(alloc, "82 # array(2)\n f8 14 19 00 05")?;
+    assert_eq!(rt; bytes.as_slice(), b"\x82\xf4\x19\x00\x05".as_slice());
+    Ok(())
+}
+
 fn of_extents(rt: &impl Abort) {
     assert_eq!(rt; extent(b"\x82\x01\x02\xff"), Extent::Item(3));
     assert_eq!(rt; extent(b"\x82\x01"), Extent::Cut);
@@ -116,6 +125,7 @@ fn examples_of_doc_comments(rt: HostRuntime) -> Result<(), Fail> {
     of_shown_bytes(&rt, rt.alloc())?;
     of_shown_parts(&rt, rt.alloc())?;
     of_shown_hex(&rt, rt.alloc())?;
+    of_encodings(&rt, rt.alloc())?;
     of_extents(&rt);
     Ok(())
 }
