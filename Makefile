@@ -37,7 +37,8 @@ COMPLETIONS = $(PROGRAMS:%=$(DIST)/share/bash-completion/completions/%)
 sources = $(shell find $(wildcard $(1:%=crates/%/src) $(1:%=crates/%/specs) $(1:%=crates/%/proofs)) -type f) crates.txt
 BELOW = cbor_notes cbor_diag cbor_convert
 
-.PHONY: all program library install demo try quick test planted check-docs check-bindings compare bench clean
+.PHONY: all program library install demo try quick test planted check-docs check-bindings check-packages tarball \
+    deb wheel release compare bench clean
 
 all: program library $(MANUALS) $(COMPLETIONS)
 
@@ -125,7 +126,30 @@ check-docs: $(PROGRAM)
 	docs/check_commands
 
 check-bindings: library
+	packages/version
 	CC='$(CC)' PYTHON='$(PYTHON)' CARGO='$(CARGO)' bindings/check
+
+# Packages, for whoever has no kit. Their files have the date of the last commit, so they are the same byte for byte.
+PACKAGES = $(DIST)/packages
+export SOURCE_DATE_EPOCH ?= $(shell git log -1 --format=%ct 2> /dev/null || date +%s)
+
+tarball: all
+	packages/tarball $(PACKAGES)
+
+deb: all
+	packages/deb $(PACKAGES)
+
+wheel: library
+	mkdir -p $(PACKAGES)
+	cd bindings/python && $(PYTHON) -c 'import backend; print(backend.build_wheel("$(abspath $(PACKAGES))"))'
+
+# Installs each package outside of the repository, runs the commands of its pages, and removes it again.
+check-packages: tarball deb wheel
+	CC='$(CC)' CARGO='$(CARGO)' packages/check $(PACKAGES)
+
+release: check-packages
+	packages/version
+	cd $(PACKAGES) && sha256sum *$(VERSION)* > SHA256SUMS && cat SHA256SUMS
 
 compare: $(PROGRAM)
 	compare/run
