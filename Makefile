@@ -119,7 +119,7 @@ planted:
 	planted/run
 
 # The links, names, commands and Rust examples of all pages, and the examples of doc comments. The tests run the latter.
-check-docs: $(PROGRAM)
+check-docs: program
 	docs/check_links
 	docs/check_names
 	docs/check_examples
