@@ -8,8 +8,8 @@
 The library libcbor_diag does the work. It is searched for at the path in the environment variable CBOR_DIAG_LIBRARY,
 then beside this module, then in this repository's dist/lib, then where the system looks for libraries.
 
-Data is read where it is, without a copy. A call on data that cannot change, such as `bytes`, releases the interpreter's
-lock, and may be made from any number of threads. A call on data that can change, such as a `bytearray`, holds the lock.
+Data is read where it is, without a copy. Calls may be made from any number of threads. A call on `str`, `bytes` or a
+part of `bytes` releases the interpreter's lock. A call on other data holds it, so that no thread changes the data.
 """
 from __future__ import annotations
 
@@ -185,10 +185,11 @@ def _on_bytes(data: Data, call: Callable[..., _Result], *arguments: Any) -> _Res
     if not isinstance(data, bytes):
         given = memoryview(data)
         if given.c_contiguous:
+            library = _releasing if isinstance(given.obj, bytes) else _holding
             view = _View()
             _get_buffer(given, view, 0)
             try:
-                return call(_releasing if view.readonly else _holding, view.buf or b"", view.len, *arguments)
+                return call(library, view.buf or b"", view.len, *arguments)
             finally:
                 _release_buffer(view)
         data = given.tobytes()
