@@ -141,7 +141,7 @@ deb: all
 
 wheel: library
 	mkdir -p $(PACKAGES)
-	cd bindings/python && $(PYTHON) -c 'import backend; print(backend.build_wheel("$(abspath $(PACKAGES))"))'
+	cd bindings/python && $(PYTHON) -B -c 'import backend; print(backend.build_wheel("$(abspath $(PACKAGES))"))'
 
 # Installs each package outside of the repository, runs the commands of its pages, and removes it again.
 check-packages: tarball deb wheel

@@ -150,6 +150,27 @@ class Conversions(unittest.TestCase):
 
 
 class Copies(unittest.TestCase):
+    def test_no_thread_changes_data_during_a_call(self):
+        # an array of 100,000 ones, which another thread makes twos and ones again
+        head, ones, twos = b"\x9a\x00\x01\x86\xa0", b"\x01" * 100000, b"\x02" * 100000
+        data = bytearray(head + ones)
+        ended = threading.Event()
+
+        def changing():
+            while not ended.is_set():
+                data[5:] = twos
+                data[5:] = ones
+
+        thread = threading.Thread(target=changing)
+        thread.start()
+        try:
+            for given in (data, memoryview(data), memoryview(data).toreadonly()):
+                for _ in range(20):
+                    self.assertIn(cbor_diag.convert(Form.BYTES, Form.BYTES, given)[5:], (ones, twos))
+        finally:
+            ended.set()
+            thread.join()
+
     def test_a_view_is_not_copied(self):
         # A sparse gigabyte: to copy it for each call would take minutes.
         with mmap.mmap(-1, 2**30) as mapped:

@@ -8,8 +8,8 @@
 The library libcbor_diag does the work. It is searched for at the path in the environment variable CBOR_DIAG_LIBRARY,
 then beside this module, then in this repository's dist/lib, then where the system looks for libraries.
 
-Data is read where it is, without a copy. A call on data that cannot change, such as `bytes`, releases the interpreter's
-lock, and may be made from any number of threads. A call on data that can change, such as a `bytearray`, holds the lock.
+Data is read where it is, without a copy. Calls may be made from any number of threads. A call on `str`, `bytes` or a
+part of `bytes` releases the interpreter's lock. A call on other data holds it, so that no thread changes the data.
 """
 from __future__ import annotations
 
@@ -173,8 +173,9 @@ _release_buffer.restype = None
 _release_buffer.argtypes = [ctypes.POINTER(_View)]
 
 
-def _on_bytes(data: Data, call: Callable[[_Library, Any, int], _Result]) -> _Result:
-    """Returns what `call` does of the library, of where the bytes of the data are, and of how many they are.
+def _on_bytes(data: Data, call: Callable[..., _Result], *arguments: Any) -> _Result:
+    """Returns what `call` does of the library, of where the bytes of the data are, of how many they are, and of the
+    other arguments.
 
     Raises `TypeError` for data that has no bytes, such as an `int`. Data whose bytes are not one after the other is
     copied.
@@ -184,14 +185,15 @@ def _on_bytes(data: Data, call: Callable[[_Library, Any, int], _Result]) -> _Res
     if not isinstance(data, bytes):
         given = memoryview(data)
         if given.c_contiguous:
+            library = _releasing if isinstance(given.obj, bytes) else _holding
             view = _View()
             _get_buffer(given, view, 0)
             try:
-                return call(_releasing if view.readonly else _holding, view.buf or b"", view.len)
+                return call(library, view.buf or b"", view.len, *arguments)
             finally:
                 _release_buffer(view)
         data = given.tobytes()
-    return call(_releasing, data, len(data))
+    return call(_releasing, data, len(data), *arguments)
 
 
 def _form_number(form: Form) -> int:
@@ -202,28 +204,31 @@ def _form_number(form: Form) -> int:
     return number
 
 
+def _converted(library: _Library, given: Any, length: int, source: int, target: int) -> bytes:
+    # Enough for most outputs. If it is not, the first call returns the length.
+    room = (8 if target == Form.HEX else 3) * length + 64
+    for _ in range(2):
+        output = ctypes.create_string_buffer(room)
+        wanted = library.convert(source, target, given, length, output, room)
+        if wanted < 0:
+            raise CborDiagError(Error(-wanted))
+        if wanted <= room:
+            return ctypes.string_at(output, wanted)
+        room = wanted
+    raise AssertionError("the length of an output changed")
+
+
 def convert(source: Form, target: Form, data: Data) -> bytes:
     """Converts an item from the form `source` to the form `target`.
 
     A `str` is taken as its UTF-8. An output in notation ends with a line feed. Raises `CborDiagError` if the input is
     not an item in its form, and `TypeError` if it has no bytes.
     """
-    source_number, target_number = _form_number(source), _form_number(target)
+    return _on_bytes(data, _converted, _form_number(source), _form_number(target))
 
-    def converted(library: _Library, given: Any, length: int) -> bytes:
-        # Enough for most outputs. If it is not, the first call returns the length.
-        room = 8 * length + 64 if target_number == Form.HEX else 3 * length + 64
-        for _ in range(2):
-            output = ctypes.create_string_buffer(room)
-            wanted = library.convert(source_number, target_number, given, length, output, room)
-            if wanted < 0:
-                raise CborDiagError(Error(-wanted))
-            if wanted <= room:
-                return ctypes.string_at(output, wanted)
-            room = wanted
-        raise AssertionError("the length of an output changed")
 
-    return _on_bytes(data, converted)
+def _found(library: _Library, given: Any, length: int, end: ctypes.c_size_t) -> int:
+    return library.extent(given, length, ctypes.byref(end))
 
 
 def extent(data: Data) -> int:
@@ -233,7 +238,7 @@ def extent(data: Data) -> int:
     may complete it. With any other error, no item begins with these bytes, whatever follows them.
     """
     end = ctypes.c_size_t()
-    found = _on_bytes(data, lambda library, given, length: library.extent(given, length, ctypes.byref(end)))
+    found = _on_bytes(data, _found, end)
     if found < 0:
         raise CborDiagError(Error(-found), end.value)
     return found
