@@ -1,9 +1,15 @@
 # Builds, installs, checks and measures. What builds or proves needs a Rattle kit (`rt` on the path); what is in dist/
 # needs none.
 
-VERSION = 0.1.0
+VERSION := $(shell cat VERSION)
 PREFIX = /usr/local
+LIBDIR = lib
 DESTDIR =
+
+# The programs that are built, installed and packed. Each is the crate of its name, with the manual page of that name in
+# man/ and the completion in completions/. RUN_name has the arguments of the run that the kit makes to build it.
+PROGRAMS = cbor_view
+RUN_cbor_view = seq bytes
 
 CC = cc
 LD = ld
@@ -24,23 +30,27 @@ STATIC = $(DIST)/lib/libcbor_diag.a
 SHARED = $(DIST)/lib/libcbor_diag.so.0
 HEADER = $(DIST)/include/cbor_diag.h
 PKGCONFIG = $(DIST)/lib/pkgconfig/cbor_diag.pc
-MANUAL = $(DIST)/share/man/man1/cbor_view.1
+PROGRAM_FILES = $(PROGRAMS:%=$(DIST)/bin/%)
+MANUALS = $(PROGRAMS:%=$(DIST)/share/man/man1/%.1)
+COMPLETIONS = $(PROGRAMS:%=$(DIST)/share/bash-completion/completions/%)
 
 sources = $(shell find $(wildcard $(1:%=crates/%/src) $(1:%=crates/%/specs) $(1:%=crates/%/proofs)) -type f) crates.txt
 BELOW = cbor_notes cbor_diag cbor_convert
 
-.PHONY: all program library install demo try quick test planted check-docs check-bindings compare bench clean
+.PHONY: all program library install demo try quick test planted check-docs check-bindings check-packages tarball \
+    deb wheel release compare bench clean
 
-all: program library $(MANUAL)
+all: program library $(MANUALS) $(COMPLETIONS)
 
-program: $(PROGRAM)
+program: $(PROGRAM_FILES)
 
 library: $(STATIC) $(SHARED) $(HEADER) $(PKGCONFIG)
 
 # The kit builds a program and runs it. A sequence of no items has no output.
-$(PROGRAM): $(call sources,$(BELOW) cbor_view)
-	cd crates/cbor_view && $(PROGRESS) rt run -- seq bytes < /dev/null
-	install -D -m 755 crates/cbor_view/out/cbor_view $@
+.SECONDEXPANSION:
+$(PROGRAM_FILES): $(DIST)/bin/%: $$(call sources,$$(BELOW) $$*)
+	cd crates/$* && $(PROGRESS) rt run -- $(RUN_$*) < /dev/null
+	install -D -m 755 crates/$*/out/$* $@
 
 # One object, which exports the calls of the header alone.
 $(STATIC): $(call sources,$(BELOW) cbor_diag_c)
@@ -60,21 +70,29 @@ $(SHARED): $(STATIC) bindings/c/cbor_diag.map
 $(HEADER): bindings/c/cbor_diag.h
 	install -D -m 644 $< $@
 
-$(PKGCONFIG): bindings/c/cbor_diag.pc.in Makefile
+$(PKGCONFIG): bindings/c/cbor_diag.pc.in VERSION Makefile
+	mkdir -p $(@D)
+	sed 's|@VERSION@|$(VERSION)|; s|@LIBDIR@|lib|; s|@UP@|../..|' $< > $@
+
+$(MANUALS): $(DIST)/share/man/man1/%: man/% VERSION
 	mkdir -p $(@D)
 	sed 's|@VERSION@|$(VERSION)|' $< > $@
 
-$(MANUAL): man/cbor_view.1
+$(COMPLETIONS): $(DIST)/share/bash-completion/completions/%: completions/%
 	install -D -m 644 $< $@
 
+# The pkg-config file finds the rest from where it is itself.
 install: all
-	install -D -m 755 $(PROGRAM) $(DESTDIR)$(PREFIX)/bin/cbor_view
-	install -D -m 644 $(STATIC) $(DESTDIR)$(PREFIX)/lib/libcbor_diag.a
-	install -D -m 755 $(SHARED) $(DESTDIR)$(PREFIX)/lib/libcbor_diag.so.0
-	ln -sf libcbor_diag.so.0 $(DESTDIR)$(PREFIX)/lib/libcbor_diag.so
-	install -D -m 644 $(HEADER) $(DESTDIR)$(PREFIX)/include/cbor_diag.h
-	install -D -m 644 $(PKGCONFIG) $(DESTDIR)$(PREFIX)/lib/pkgconfig/cbor_diag.pc
-	install -D -m 644 $(MANUAL) $(DESTDIR)$(PREFIX)/share/man/man1/cbor_view.1
+	install -D -m 755 -t $(DESTDIR)$(PREFIX)/bin $(PROGRAM_FILES)
+	install -D -m 644 -t $(DESTDIR)$(PREFIX)/$(LIBDIR) $(STATIC) $(SHARED)
+	ln -sf libcbor_diag.so.0 $(DESTDIR)$(PREFIX)/$(LIBDIR)/libcbor_diag.so
+	install -D -m 644 -t $(DESTDIR)$(PREFIX)/include $(HEADER)
+	mkdir -p $(DESTDIR)$(PREFIX)/$(LIBDIR)/pkgconfig
+	sed 's|@VERSION@|$(VERSION)|; s|@LIBDIR@|$(LIBDIR)|; s|@UP@|$(shell realpath -m \
+	    --relative-to=/p/$(LIBDIR)/pkgconfig /p)|' bindings/c/cbor_diag.pc.in \
+	    > $(DESTDIR)$(PREFIX)/$(LIBDIR)/pkgconfig/cbor_diag.pc
+	install -D -m 644 -t $(DESTDIR)$(PREFIX)/share/man/man1 $(MANUALS)
+	install -D -m 644 -t $(DESTDIR)$(PREFIX)/share/bash-completion/completions $(COMPLETIONS)
 
 # The main job: the dump of an example.
 demo: $(PROGRAM)
@@ -101,14 +119,37 @@ planted:
 	planted/run
 
 # The links, names, commands and Rust examples of all pages, and the examples of doc comments. The tests run the latter.
-check-docs: $(PROGRAM)
+check-docs: program
 	docs/check_links
 	docs/check_names
 	docs/check_examples
 	docs/check_commands
 
 check-bindings: library
+	packages/version
 	CC='$(CC)' PYTHON='$(PYTHON)' CARGO='$(CARGO)' bindings/check
+
+# Packages, for whoever has no kit. Their files have the date of the last commit, so they are the same byte for byte.
+PACKAGES = $(DIST)/packages
+export SOURCE_DATE_EPOCH ?= $(shell git log -1 --format=%ct 2> /dev/null || date +%s)
+
+tarball: all
+	packages/tarball $(PACKAGES)
+
+deb: all
+	packages/deb $(PACKAGES)
+
+wheel: library
+	mkdir -p $(PACKAGES)
+	cd bindings/python && $(PYTHON) -B -c 'import backend; print(backend.build_wheel("$(abspath $(PACKAGES))"))'
+
+# Installs each package outside of the repository, runs the commands of its pages, and removes it again.
+check-packages: tarball deb wheel
+	CC='$(CC)' CARGO='$(CARGO)' packages/check $(PACKAGES)
+
+release: check-packages
+	packages/version
+	cd $(PACKAGES) && sha256sum *$(VERSION)* > SHA256SUMS && cat SHA256SUMS
 
 compare: $(PROGRAM)
 	compare/run

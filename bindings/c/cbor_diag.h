@@ -10,9 +10,10 @@
  * Link with -lcbor_diag. The library needs malloc, realloc, free, memcpy, memmove and memset, and nothing else
  * of the system.
  *
- * The library keeps nothing between calls: any number of threads may call it at once. It frees all memory that
- * it takes before a call returns. Do not call it from a signal handler, nor in the forked child of a process
- * that has threads, since it calls malloc. CBOR_DIAG_STACK_SIZE bytes of stack are enough for each call.
+ * The library keeps nothing between calls: any number of threads may call it at once. Nobody may change an input, or
+ * use an output, during a call. It frees all memory that it takes before a call returns. Do not call it from a signal
+ * handler, nor in the forked child of a process that has threads, since it calls malloc. CBOR_DIAG_STACK_SIZE bytes of
+ * stack are enough for each call.
  */
 #ifndef CBOR_DIAG_H
 #define CBOR_DIAG_H
@@ -34,20 +35,26 @@ extern "C" {
 enum cbor_diag_form {
     CBOR_DIAG_FORM_BYTES = 0, /* the bytes of an item */
     CBOR_DIAG_FORM_HEX = 1,   /* hex with comments from # to the end of the line; the output is a dump */
-    CBOR_DIAG_FORM_DIAG = 2,  /* diagnostic notation; the output is on one line, and a line feed ends it */
-    CBOR_DIAG_FORM_PRETTY = 3 /* diagnostic notation; the output may have several lines, each with a line feed */
+    CBOR_DIAG_FORM_DIAG = 2,  /* diagnostic notation; the output has no line breaks of its own; a line feed ends it */
+    CBOR_DIAG_FORM_PRETTY = 3 /* diagnostic notation; the output may have several lines; a line feed ends it */
 };
+
+/*
+ * In both outputs in notation a text string is shown as it is, with its line feeds and control characters: of hostile
+ * input, a line is not one item, and a terminal obeys what it is sent. A dump escapes them.
+ */
 
 /* Errors. A call returns minus one of these. */
 enum cbor_diag_error {
-    CBOR_DIAG_ERROR_MEMORY = 1,      /* out of memory */
+    CBOR_DIAG_ERROR_MEMORY = 1,      /* out of memory; it says nothing of the input */
     CBOR_DIAG_ERROR_CUT_SHORT = 2,   /* the item is cut short: more bytes are needed */
     CBOR_DIAG_ERROR_HEAD = 3,        /* no item can have this head */
     CBOR_DIAG_ERROR_UTF8 = 4,        /* a text is not UTF-8, or the hex or notation of the input is not */
     CBOR_DIAG_ERROR_TOO_DEEP = 5,    /* nested deeper than 128 levels */
     CBOR_DIAG_ERROR_REMAINING = 6,   /* bytes remain after the item */
-    CBOR_DIAG_ERROR_ODD_HEX = 7,     /* an odd number of hex digits */
-    CBOR_DIAG_ERROR_BAD_HEX = 8,     /* not a hex digit */
+    CBOR_DIAG_ERROR_ODD_HEX = 7,     /* an odd number of bytes in hex, whatever they are, not counting comments, spaces
+                                        and line ends */
+    CBOR_DIAG_ERROR_BAD_HEX = 8,     /* an even number of them, and one is no hex digit */
     CBOR_DIAG_ERROR_NOTATION = 9,    /* not diagnostic notation */
     CBOR_DIAG_ERROR_PAST_WIDTH = 10, /* a number does not fit its width */
     CBOR_DIAG_ERROR_NO_FORM = 11     /* no such form: `from` or `to` is not an enum cbor_diag_form */

@@ -1,5 +1,11 @@
 """Tests of the Python module. Expected values are worked out by hand from RFC 7049 and the documents in docs/."""
+import array
+import mmap
+import os
+import pathlib
 import pickle
+import subprocess
+import sys
 import threading
 import unittest
 
@@ -65,6 +71,30 @@ class Conversions(unittest.TestCase):
         for data in (b"\x01", bytearray(b"\x01"), memoryview(b"\x00\x01\x02")[1:2]):
             self.assertEqual(cbor_diag.convert(Form.BYTES, Form.DIAG, data), b"1\n")
         self.assertEqual(cbor_diag.convert(Form.DIAG, Form.BYTES, '"\u00fc"'), b"\x62\xc3\xbc")
+        # each other byte, which is a copy; numbers of two bytes, in their bytes; memory of the system; none
+        self.assertEqual(cbor_diag.bytes_to_diag(memoryview(b"\x82\xff\x01\xff\x02\xff")[::2]), "[1,2]")
+        self.assertEqual(cbor_diag.bytes_to_diag(array.array("H", b"\x81\x01")), "[1]")
+        with mmap.mmap(-1, 3) as mapped:
+            mapped[:] = b"\x82\x01\x02"
+            self.assertEqual(cbor_diag.bytes_to_diag(mapped), "[1,2]")
+        for data in (bytearray(), memoryview(b""), memoryview(bytearray(b"\x01"))[1:]):
+            with self.assertRaises(CborDiagError) as raised:
+                cbor_diag.extent(data)
+            self.assertIs(raised.exception.error, Error.CUT_SHORT)
+
+    def test_what_has_no_bytes(self):
+        for data in (1, 0, None, 1.0, [1], (1,), object()):
+            with self.subTest(data=data):
+                self.assertRaises(TypeError, cbor_diag.bytes_to_diag, data)
+                self.assertRaises(TypeError, cbor_diag.extent, data)
+
+    def test_data_can_change_after_a_call(self):
+        data = bytearray(b"\x01")
+        self.assertEqual(cbor_diag.bytes_to_diag(data), "1")
+        with self.assertRaises(CborDiagError):
+            cbor_diag.bytes_to_diag(memoryview(data)[:0])
+        data.extend(b"\x02")
+        self.assertEqual(data, b"\x01\x02")
 
     def test_bytes_of_zero_are_kept(self):
         self.assertEqual(cbor_diag.diag_to_bytes("[0,0,h'0000']"), b"\x83\x00\x00\x42\x00\x00")
@@ -119,6 +149,40 @@ class Conversions(unittest.TestCase):
         self.assertEqual(wrong, [])
 
 
+class Copies(unittest.TestCase):
+    def test_no_thread_changes_data_during_a_call(self):
+        # an array of 100,000 ones, which another thread makes twos and ones again
+        head, ones, twos = b"\x9a\x00\x01\x86\xa0", b"\x01" * 100000, b"\x02" * 100000
+        data = bytearray(head + ones)
+        ended = threading.Event()
+
+        def changing():
+            while not ended.is_set():
+                data[5:] = twos
+                data[5:] = ones
+
+        thread = threading.Thread(target=changing)
+        thread.start()
+        try:
+            for given in (data, memoryview(data), memoryview(data).toreadonly()):
+                for _ in range(20):
+                    self.assertIn(cbor_diag.convert(Form.BYTES, Form.BYTES, given)[5:], (ones, twos))
+        finally:
+            ended.set()
+            thread.join()
+
+    def test_a_view_is_not_copied(self):
+        # A sparse gigabyte: to copy it for each call would take minutes.
+        with mmap.mmap(-1, 2**30) as mapped:
+            mapped[0] = 0x01
+            view = memoryview(mapped)
+            for kind in (view, view.toreadonly()):
+                for _ in range(2000):
+                    self.assertEqual(cbor_diag.extent(kind), 1)
+            kind.release()
+            view.release()
+
+
 class Extents(unittest.TestCase):
     def test_items(self):
         for data, length in ((b"\x01", 1), (b"\x01\x02", 1), (b"\x82\x01\x02\x03", 3), (b"\x9f\x01\xff\xff", 3)):
@@ -152,10 +216,14 @@ class Errors(unittest.TestCase):
                     self.assertIsNone(raised.exception.end)
 
     def test_no_form(self):
-        for source, target in ((4, 0), (0, 4), (2**32 - 1, 0)):
-            with self.assertRaises(CborDiagError) as raised:
-                cbor_diag.convert(source, target, b"\x01")
-            self.assertIs(raised.exception.error, Error.NO_FORM)
+        for number in (4, 2**32 - 1, 2**32, 2**32 + 2, 2**64, -1, -(2**32)):
+            for source, target in ((number, 0), (0, number)):
+                with self.subTest(source=source, target=target):
+                    with self.assertRaises(CborDiagError) as raised:
+                        cbor_diag.convert(source, target, b"\x01")
+                    self.assertIs(raised.exception.error, Error.NO_FORM)
+        for form in ("hex", 1.0, None):
+            self.assertRaises(TypeError, cbor_diag.convert, form, Form.HEX, b"\x01")
 
     def test_texts(self):
         self.assertEqual(set(TEXTS), set(Error))
@@ -169,9 +237,18 @@ class Errors(unittest.TestCase):
         self.assertEqual(str(error), TEXTS[Error.HEAD])
 
 
-class Version(unittest.TestCase):
+class Library(unittest.TestCase):
     def test_version(self):
-        self.assertEqual(cbor_diag.library_version(), (0, 1, 0))
+        version = pathlib.Path(__file__).parents[2].joinpath("VERSION").read_text(encoding="utf-8")
+        self.assertEqual(cbor_diag.library_version(), tuple(map(int, version.split("."))))
+
+    def test_a_library_that_is_missing(self):
+        given = {**os.environ, "CBOR_DIAG_LIBRARY": "/nowhere/libcbor_diag.so"}
+        run = subprocess.run([sys.executable, "-c", "import cbor_diag"], cwd=os.path.dirname(os.path.abspath(__file__)),
+                             env=given, stderr=subprocess.PIPE, text=True, check=False)
+        self.assertEqual(run.returncode, 1)
+        self.assertRegex(run.stderr, r"\nImportError: cannot load the library .*/nowhere/libcbor_diag.so.*"
+                                     r"CBOR_DIAG_LIBRARY")
 
 
 if __name__ == "__main__":

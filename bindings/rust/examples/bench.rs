@@ -17,7 +17,7 @@ fn main() -> Result<(), Box<dyn Error>> {
     for _ in 0..rounds.parse::<u32>()? {
         let begin = Instant::now();
         for item in items.chunks_exact(size) {
-            black_box(cbor_diag::bytes_to_diag(item)?);
+            black_box(semphluk::bytes_to_diag(item)?);
         }
         let count = items.len() / size;
         least = least.min(begin.elapsed().as_nanos() as f64 / count as f64);

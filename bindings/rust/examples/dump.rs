@@ -6,6 +6,6 @@ use std::{env, fs};
 fn main() -> Result<(), Box<dyn Error>> {
     let path = env::args_os().nth(1).ok_or("usage: dump FILE")?;
     let item = fs::read(path)?;
-    print!("{}", cbor_diag::bytes_to_hex(&item)?);
+    print!("{}", semphluk::bytes_to_hex(&item)?);
     Ok(())
 }

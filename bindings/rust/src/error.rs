@@ -6,7 +6,7 @@ use std::fmt;
 #[derive(Clone, Copy, PartialEq, Eq, Hash, Debug)]
 #[non_exhaustive]
 pub enum Error {
-    /// Out of memory.
+    /// Out of memory. It says nothing of the input.
     Memory,
     /// The input ends before the item does.
     CutShort,
@@ -18,9 +18,9 @@ pub enum Error {
     TooDeep,
     /// Bytes follow the item.
     Remaining,
-    /// The number of hex digits is odd.
+    /// Without comments, spaces and line ends, the hex has an odd number of bytes, whatever they are.
     OddHex,
-    /// A character that is not a hex digit, where one is expected.
+    /// The number is even, and one of them is no hex digit.
     BadHex,
     /// The text is not diagnostic notation.
     Notation,

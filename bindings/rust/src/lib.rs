@@ -12,9 +12,9 @@ pub enum Form {
     Bytes,
     /// Hex with comments from `#` to the end of the line. As an output it is a dump.
     Hex,
-    /// Diagnostic notation. As an output it is on one line, and a line feed ends it.
+    /// Diagnostic notation. As an output it has no line feed but those in its texts, and one that ends it.
     Diag,
-    /// Diagnostic notation. As an output it may have several lines, each with a line feed.
+    /// Diagnostic notation. As an output it may have several lines, and a line feed ends it.
     Pretty,
 }
 
@@ -131,7 +131,7 @@ pub fn bytes_to_hex(bytes: &[u8]) -> Result<String> {
     text(Form::Bytes, Form::Hex, bytes)
 }
 
-/// An item in diagnostic notation, on one line without a line feed.
+/// An item in diagnostic notation, without a line feed but those in its texts.
 pub fn bytes_to_diag(bytes: &[u8]) -> Result<String> {
     notation(Form::Bytes, Form::Diag, bytes)
 }
@@ -146,7 +146,7 @@ pub fn hex_to_bytes(hex: &str) -> Result<Vec<u8>> {
     convert(Form::Hex, Form::Bytes, hex.as_bytes())
 }
 
-/// An item in hex in diagnostic notation, on one line without a line feed.
+/// An item in hex in diagnostic notation, without a line feed but those in its texts.
 pub fn hex_to_diag(hex: &str) -> Result<String> {
     notation(Form::Hex, Form::Diag, hex.as_bytes())
 }

@@ -1,6 +1,6 @@
 //! Expected values are worked out by hand from RFC 7049 and the documents in docs/.
 
-use cbor_diag::{convert, extent, Error, Extent, Form};
+use semphluk::{convert, extent, Error, Extent, Form};
 use std::thread;
 
 const FORMS: [Form; 4] = [Form::Bytes, Form::Hex, Form::Diag, Form::Pretty];
@@ -36,14 +36,14 @@ fn each_pair_of_forms() {
 fn named_conversions() {
     let item = [0x81, 0x01];
     let dump = "81    # array(1)\n   01 #   unsigned(1)\n";
-    assert_eq!(cbor_diag::bytes_to_hex(&item).as_deref(), Ok(dump));
-    assert_eq!(cbor_diag::bytes_to_diag(&item).as_deref(), Ok("[1]"));
-    assert_eq!(cbor_diag::bytes_to_diag_pretty(&item).as_deref(), Ok("[1]"));
-    assert_eq!(cbor_diag::hex_to_bytes(dump).as_deref(), Ok(&item[..]));
-    assert_eq!(cbor_diag::hex_to_diag(dump).as_deref(), Ok("[1]"));
-    assert_eq!(cbor_diag::hex_to_diag_pretty(dump).as_deref(), Ok("[1]"));
-    assert_eq!(cbor_diag::diag_to_bytes("[1]").as_deref(), Ok(&item[..]));
-    assert_eq!(cbor_diag::diag_to_hex("[1]").as_deref(), Ok(dump));
+    assert_eq!(semphluk::bytes_to_hex(&item).as_deref(), Ok(dump));
+    assert_eq!(semphluk::bytes_to_diag(&item).as_deref(), Ok("[1]"));
+    assert_eq!(semphluk::bytes_to_diag_pretty(&item).as_deref(), Ok("[1]"));
+    assert_eq!(semphluk::hex_to_bytes(dump).as_deref(), Ok(&item[..]));
+    assert_eq!(semphluk::hex_to_diag(dump).as_deref(), Ok("[1]"));
+    assert_eq!(semphluk::hex_to_diag_pretty(dump).as_deref(), Ok("[1]"));
+    assert_eq!(semphluk::diag_to_bytes("[1]").as_deref(), Ok(&item[..]));
+    assert_eq!(semphluk::diag_to_hex("[1]").as_deref(), Ok(dump));
 }
 
 #[test]
@@ -145,7 +145,7 @@ fn texts_of_errors() {
 #[test]
 fn an_output_far_longer_than_its_input() {
     // 120 arrays, one in the other: each has a line of its own, three blanks deeper than the one around it.
-    let dump = cbor_diag::bytes_to_hex(&[b"\x81".repeat(119), vec![0x80]].concat()).unwrap();
+    let dump = semphluk::bytes_to_hex(&[b"\x81".repeat(119), vec![0x80]].concat()).unwrap();
     let lines: Vec<_> = dump.lines().collect();
     assert_eq!(lines.len(), 120);
     assert!(
@@ -183,5 +183,5 @@ fn four_threads_at_once() {
 
 #[test]
 fn version() {
-    assert_eq!(cbor_diag::library_version(), (0, 1, 0));
+    assert_eq!(semphluk::library_version(), (0, 1, 0));
 }

@@ -18,8 +18,8 @@ pub enum To {
     Bytes,
     /// The bytes of the item in hex, each line with a comment.
     Hex,
-    /// Diagnostic notation on one line, and a line feed.
+    /// Diagnostic notation without line breaks, and a line feed. One in a text is kept.
     Diag,
-    /// Diagnostic notation over several lines, and a line feed.
+    /// Diagnostic notation over several lines where it is long, and a line feed.
     Pretty,
 }

@@ -38,10 +38,12 @@ impl Read for Dripping<'_> {
     }
 }
 
-/// Takes one byte a call, and fails at one of its calls, counted from 1, or takes nothing then.
+/// Takes at most so many bytes a call, and fails at one of its calls, counted from 1, or takes
+/// nothing then.
 #[derive(Drop)]
 pub(crate) struct Sipping {
     pub(crate) bytes: Vec<u8>,
+    pub(crate) most: usize,
     pub(crate) calls: usize,
     pub(crate) failing: usize,
     pub(crate) kind: Option<ErrorKind>,
@@ -56,7 +58,7 @@ impl Write for Sipping {
                 None => Ok(0),
             };
         }
-        let most = buf.len().min(1);
+        let most = buf.len().min(self.most);
         self.bytes.write(&buf[..most])
     }
 

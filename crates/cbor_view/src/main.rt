@@ -7,10 +7,10 @@
 //! ```
 //!
 //! FROM is `bytes`, the bytes of the item, `hex`, its bytes in hex with comments, or `diag`,
-//! diagnostic notation. TO is `bytes`, `hex`, `diag`, diagnostic notation on one line, or `pretty`,
-//! the same over several lines. If FROM is `seq`, the input is the bytes of items one after the
-//! other (RFC 8742), and each is written in the form TO, in order. Their outputs are written in
-//! blocks.
+//! diagnostic notation. TO is `bytes`, `hex`, `diag`, diagnostic notation without line breaks, or
+//! `pretty`, the same over several lines; both show a line feed in a text as it is. If FROM is
+//! `seq`, the input is the bytes of items one after the other (RFC 8742), and each is written in
+//! the form TO, in order. Their outputs are written in blocks.
 //!
 //! The exit status is 0 if the output was written. It is 1 if the input is not valid or cannot be
 //! read, if the output cannot be written, or if memory runs out. Invalid input produces no output;

@@ -2,25 +2,30 @@
 //! take nothing: each pair of words, sequences among them.
 use crate::counted::Counted;
 use crate::error::ViewError;
-use crate::fakes::{COMMENTED, Dripping, ITEM, Sipping, first_difference};
+use crate::fakes::{Dripping, Sipping, first_difference};
 use crate::run;
 use crate::run_seq::run_seq;
-use crate::tests_seq::repeated;
+use crate::tests_seq::{long_string, repeated};
 use crate::words::{Source, To};
 use std::alloc::Global;
 use std::io::{ErrorKind, Read, Write};
 use std::process::Abort;
 use std::test::Fail;
 
+/// A short item: a run for each of its bytes and calls takes long where nothing is proved yet.
+const ITEM: [u8; 2] = [0x18, 0x64];
+
+const DUMP: &str = "18 64 # unsigned(100)\n";
+
+const NOTATION: &str = "100_0";
+
+const LINE: &str = "100_0\n";
+
 /// Three items: a false in two bytes, an empty array, and an integer.
 const ITEMS: [u8; 5] = [0xf8, 0x14, 0x80, 0x18, 0x64];
 
 /// What is written of them as bytes.
 const WRITTEN: [u8; 4] = [0xf4, 0x80, 0x18, 0x64];
-
-const NOTATION: &str = "32_0(\"https://example.com\")";
-
-const LINE: &str = "32_0(\"https://example.com\")\n";
 
 const DUMPS: &str = "f4 # false, simple(20)\n80 # array(0)\n18 64 # unsigned(100)\n";
 
@@ -46,7 +51,8 @@ fn row<'a>(from: Option<Source>, to: To, input: &'a [u8], output: &'a [u8]) -> P
 
 /// An item from each form to each, and items one after the other to each.
 fn pairs() -> [Pair<'static>; 16] {
-    let (bytes, dump, notation) = (ITEM.as_slice(), COMMENTED, NOTATION.as_bytes());
+    let (bytes, dump) = (ITEM.as_slice(), DUMP.as_bytes());
+    let notation = NOTATION.as_bytes();
     let (line, items, lines) = (LINE.as_bytes(), ITEMS.as_slice(), LINES.as_bytes());
     let (from_bytes, from_hex) = (Some(Source::Bytes), Some(Source::Hex));
     let from_diag = Some(Source::Diag);
@@ -107,17 +113,19 @@ fn check_read(rt: &impl Abort, alloc: Global, pair: &Pair, failing: usize, kind:
 }
 
 /// A run ends at a write that fails or takes nothing: it makes no further call, and all before was
-/// written.
+/// written, `most` bytes by each call.
 fn check_write(
     rt: &impl Abort,
     alloc: Global,
     pair: &Pair,
+    most: usize,
     failing: usize,
     kind: Option<ErrorKind>,
 ) {
     let mut input = Counted::new(pair.input);
     let mut output = Counted::new(Sipping {
         bytes: Vec::new(alloc),
+        most,
         calls: 0,
         failing,
         kind,
@@ -132,7 +140,8 @@ fn check_write(
     assert_eq!(rt; output.failures(), kind.is_some() as u64);
     let written = output.into_inner();
     assert_eq!(rt; written.calls, failing);
-    assert_eq!(rt; written.bytes.len(), failing.saturating_sub(1));
+    let before = failing.saturating_sub(1).saturating_mul(most);
+    assert_eq!(rt; written.bytes.len(), before);
     let wanted = pair.output.get(..written.bytes.len());
     assert_eq!(rt;
         wanted.and_then(|wanted| first_difference(&written.bytes, wanted)),
@@ -159,7 +168,7 @@ fn ends_at_each_write_that_fails_or_takes_nothing(rt: HostRuntime) {
     for pair in &pairs() {
         for failing in 1..=pair.output.len() {
             for kind in [Some(ErrorKind::Interrupted), Some(ErrorKind::Other), None] {
-                check_write(&rt, rt.alloc(), pair, failing, kind);
+                check_write(&rt, rt.alloc(), pair, 1, failing, kind);
             }
         }
     }
@@ -177,6 +186,7 @@ fn converts_what_comes_and_goes_byte_by_byte(rt: HostRuntime) {
         });
         let mut output = Counted::new(Sipping {
             bytes: Vec::new(rt.alloc()),
+            most: 1,
             calls: 0,
             failing: 0,
             kind: None,
@@ -188,21 +198,20 @@ fn converts_what_comes_and_goes_byte_by_byte(rt: HostRuntime) {
     }
 }
 
-/// Runs over a sequence of 70 strings, of 1,000 bytes each, that this follows. The first block is
-/// the first 66,000 bytes of the output.
+/// Runs over a sequence of 70 strings, of 1,000 bytes each, that this follows, and a writer that
+/// takes 1,000 bytes a call. The first block is the first 66 strings.
 fn check_blocks(
     rt: &(impl Abort + AllocGlobal),
     behind: &[u8],
     kind: Option<ErrorKind>,
 ) -> Result<(), Fail> {
-    let mut string = b"\x59\x03\xe5".to_vec(rt.alloc())?;
-    string.resize(1_000, 7)?;
+    let string = long_string(rt.alloc())?;
     let output = repeated(rt.alloc(), &string, 70)?;
     let mut input = repeated(rt.alloc(), &string, 70)?;
     input.extend_from_slice(behind)?;
     let pair = row(None, To::Bytes, &input, &output);
-    for failing in [1, 2, 40_000, 65_999, 66_000, 66_001, 66_002, 70_000] {
-        check_write(rt, rt.alloc(), &pair, failing, kind);
+    for failing in [1, 2, 40, 65, 66, 67, 68, 70] {
+        check_write(rt, rt.alloc(), &pair, 1_000, failing, kind);
     }
     Ok(())
 }

@@ -56,19 +56,33 @@ pub(crate) fn repeated(alloc: Global, piece: &[u8], count: usize) -> Result<Vec<
     Ok(bytes)
 }
 
-/// The number 256 in two bytes. Their length does not divide that of a block.
-const NUMBER: [u8; 3] = [0x19, 0x01, 0x00];
+/// A byte string of 1,000 bytes, its head among them. Their number does not divide that of a block.
+pub(crate) fn long_string(alloc: Global) -> Result<Vec<u8>, AllocError> {
+    let mut string = b"\x59\x03\xe5".to_vec(alloc)?;
+    string.resize(1_000, 7)?;
+    Ok(string)
+}
 
-/// How many of these numbers, as bytes, fill a block: 65,538 bytes are the first whole outputs that
+/// What is written of this string as notation.
+fn long_line(alloc: Global) -> Result<Vec<u8>, AllocError> {
+    let mut line = b"h'".to_vec(alloc)?;
+    for _ in 0..997 {
+        line.extend_from_slice(b"07")?;
+    }
+    line.extend_from_slice(b"'\n")?;
+    Ok(line)
+}
+
+/// How many of these strings, as bytes, fill a block: 66,000 bytes are the first whole outputs that
 /// are no shorter than 65,536.
-const IN_A_BLOCK: usize = 21_846;
+const IN_A_BLOCK: usize = 66;
 
 /// Counts of items that end just before a block, with it, after it, and in others.
 const COUNTS: &[usize] = &[
     IN_A_BLOCK - 1,
     IN_A_BLOCK,
     IN_A_BLOCK + 1,
-    30_000,
+    90,
     2 * IN_A_BLOCK,
 ];
 
@@ -82,14 +96,13 @@ const BEHIND: &[(&[u8], &str)] = &[
 
 #[test]
 fn writes_all_items_before_a_fault_in_any_block(rt: HostRuntime) -> Result<(), Fail> {
+    let string = long_string(rt.alloc())?;
+    let line = long_line(rt.alloc())?;
     for &count in COUNTS {
         for &(behind, wanted_text) in BEHIND {
-            let mut input = repeated(rt.alloc(), &NUMBER, count)?;
+            let mut input = repeated(rt.alloc(), &string, count)?;
             input.extend_from_slice(behind)?;
-            for (to, piece) in [
-                ("bytes", NUMBER.as_slice()),
-                ("diag", b"256_1\n".as_slice()),
-            ] {
+            for (to, piece) in [("bytes", string.as_slice()), ("diag", line.as_slice())] {
                 let wanted = repeated(rt.alloc(), piece, count)?;
                 let (output, text) = outcome(rt.alloc(), "seq", to, &input);
                 let differs = first_difference(&output, &wanted);
@@ -107,13 +120,14 @@ fn writes_all_items_before_a_fault_in_any_block(rt: HostRuntime) -> Result<(), F
 // No clause says how many calls a sequence takes.
 #[test]
 fn writes_a_block_by_one_call(rt: HostRuntime) -> Result<(), Fail> {
-    let bytes = repeated(rt.alloc(), &NUMBER, 2 * IN_A_BLOCK + 1)?;
+    let string = long_string(rt.alloc())?;
+    let bytes = repeated(rt.alloc(), &string, 2 * IN_A_BLOCK + 1)?;
     let mut input = Counted::new(bytes.as_slice());
     let mut output = Counted::new(Noting::new(rt.alloc()));
     let end = run_seq(rt.alloc(), To::Bytes, &mut input, &mut output);
     assert_eq!(rt; end, Ok(()));
     let noted = output.into_inner();
-    assert_eq!(rt; noted.asked.as_slice(), [65_538, 65_538, 3].as_slice());
+    assert_eq!(rt; noted.asked.as_slice(), [66_000, 66_000, 1_000].as_slice());
     assert_eq!(rt; first_difference(&noted.written, &bytes), None);
     Ok(())
 }
