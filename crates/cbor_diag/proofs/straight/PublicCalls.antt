@@ -1,6 +1,6 @@
 -- From what reading gives to the clauses of the calls that print from bytes.
-use Rattle.std.proofs.Common.{◌≡◌, ◌≢◌, ℕ, ◌-◌, ◌<◌, ◌≤◌, List, [], ◌∷◌, ◌++◌, length, take, Option, Some, None, Result}
-use Rattle.std.proofs.Common.{Ok, Err, OnOk, IfOk, IfSome, refl, sym, ap, subst, ◌∙◌, arith, ◌⊎◌, inl, inr}
+use Rattle.std.proofs.Common.{◌≡◌, ◌≢◌, ℕ, ◌-◌, ◌<◌, List, [], ◌++◌, length, Some, Result}
+use Rattle.std.proofs.Common.{Ok, Err, IfOk, refl, sym, ap, subst, ◌∙◌, arith, inl, inr}
 use Rattle.std.specs.Prelude.{MatchResult}
 use Rattle.std.proofs.lemmas.List.{append-nil}
 use Rattle.cbor_diag.specs.declared.error.Error.{Error}
@@ -8,11 +8,10 @@ use Rattle.cbor_diag.specs.declared.error.Error.TheVariants as refusal
 use Rattle.cbor_diag.specs.Item.{Item}
 use Rattle.cbor_diag.specs.Bytes.{any, Spells}
 use Rattle.cbor_diag.specs.Refused.{Cut, Fault}
-use Rattle.cbor_diag.specs.Answer.{Outcome, spelled, cut, fault, IsOutcome, OneOutcome, HasOutcome, IsRefused, RefusedSo}
+use Rattle.cbor_diag.specs.Answer.{Outcome, spelled, fault, IsOutcome, OneOutcome, IsRefused, RefusedSo}
 use Rattle.cbor_diag.specs.Answer.{GavePart, GaveRefusal}
 use Rattle.cbor_diag.specs.Facts.{BeginsWithItem, diag_of}
 use Rattle.cbor_diag.specs.Reading.{Fails, read_item}
-use Rattle.cbor_diag.specs.mirror.Straight.{Printed}
 use Rattle.cbor_diag.proofs.bytes.Heads.{IsBytes}
 use Rattle.cbor_diag.proofs.bytes.CutShort.{cut_takes}
 use Rattle.cbor_diag.proofs.bytes.Found.{item_takes}

@@ -1,6 +1,6 @@
 -- Texts on one line that are written as their parts are read.
-use Rattle.std.proofs.Common.{◌≡◌, ℕ, zero, suc, ◌+◌, ◌≤◌, eqb, List, [], ◌∷◌, ◌++◌, length, map, codes, Option, refl}
-use Rattle.std.proofs.Common.{sym, ap, ◌∙◌, append_assoc, arith}
+use Rattle.std.proofs.Common.{◌≡◌, ℕ, ◌+◌, ◌≤◌, eqb, List, [], ◌∷◌, ◌++◌, length, map, codes, Option, refl}
+use Rattle.std.proofs.Common.{sym, ap, ◌∙◌, append_assoc}
 use Rattle.std.specs.List.{flat_map}
 use Rattle.std.proofs.lemmas.List.{append-nil, map-append, length-map}
 use Rattle.std.proofs.Math.Dec.{eqb-suc-zero}
@@ -14,7 +14,7 @@ use Rattle.cbor_diag.specs.Encoding.{Encoding}
 use Rattle.cbor_diag.specs.Item as spec
 use Rattle.cbor_diag.specs.Item.{Chunk, string, chunked_string, Item, atom, array, Items, no_items, item, Pairs, no_pairs, pair, item_count, pair_count}
 use Rattle.cbor_diag.specs.Layout.{Compact, Context}
-use Rattle.cbor_diag.specs.NotationText.{separated, opened, container_style, inside, colon, item_texts, pair_texts}
+use Rattle.cbor_diag.specs.NotationText.{separated, opened, container_style, inside, item_texts, pair_texts}
 use Rattle.cbor_diag.specs.NotationText.{array_text, map_text, string_text, chunks_listed, chunks_text, text_at_level}
 use Rattle.cbor_diag.specs.Reading.{joined, joined_pairs}
 use Rattle.cbor_diag.specs.StringKind.{StringKind, bytes_kind, text_kind, no_chunks}

@@ -1,4 +1,4 @@
-use Rattle.std.proofs.Common.{◌≡◌, ◌+◌, ◌++◌, [], ◌∷◌, codes, Some, IfOk, IfErr, refl, ap, sym, subst, ◌∙◌, arith}
+use Rattle.std.proofs.Common.{◌+◌, ◌++◌, codes, Some, IfOk, IfErr, refl, ap, sym, subst, ◌∙◌, arith}
 use Rattle.std.proofs.lemmas.List.{append-nil}
 use Rattle.std.proofs.lemmas.Result.{err_from_is_err_and}
 use Rattle.std.specs.String.{string_bytes}
@@ -7,10 +7,9 @@ use Rattle.cbor_diag.specs.Item as spec
 use Rattle.cbor_diag.specs.Item.{atom, integer, negative, float, simple, array, tagged, no_items, item, no_pairs, pair}
 use Rattle.cbor_diag.specs.ItemHead as item_head
 use Rattle.cbor_diag.specs.NotationText.{opened, below}
-use Rattle.cbor_diag.specs.Reading.{Fails, items_in, pairs_in, tag_of, joined, joined_pairs, count_width, read_item}
+use Rattle.cbor_diag.specs.Reading.{Fails, items_in, pairs_in, tag_of, joined, joined_pairs, count_width}
 use Rattle.cbor_diag.specs.Reading.{read_head, no_level_left}
 use Rattle.cbor_diag.specs.WellFormed.{levels_left}
-use Rattle.cbor_diag.specs.mirror.HeadErrors.{head_error}
 use Rattle.cbor_diag.specs.mirror.HeadView.{argument_view}
 use Rattle.cbor_diag.specs.mirror.LayoutView.{context_view, item_text}
 use Rattle.cbor_diag.specs.mirror.Stack.{left_of}

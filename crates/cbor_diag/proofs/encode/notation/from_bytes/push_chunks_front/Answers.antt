@@ -1,4 +1,4 @@
-use Rattle.std.proofs.Common.{◌≡◌, ℕ, ◌+◌, List, [], ◌∷◌, ◌++◌, length, refl, ap, sym, ◌∙◌, arith}
+use Rattle.std.proofs.Common.{◌+◌, List, [], ◌∷◌, ◌++◌, length, refl, ap, sym, ◌∙◌, arith}
 use Rattle.std.proofs.lemmas.List.{append-nil, length-append}
 use Rattle.std.proofs.lemmas.Result.{err_from_is_err_and}
 use Rattle.std.specs.String.{string_bytes}
@@ -6,7 +6,7 @@ use Rattle.cbor_diag.specs.Item.{Chunk, atom, chunked_string}
 use Rattle.cbor_diag.specs.Reading.{Counted, read_chunks}
 use Rattle.cbor_diag.specs.NotationText.{string_text}
 use Rattle.cbor_diag.specs.mirror.EncodingView.{encoding_view}
-use Rattle.cbor_diag.specs.mirror.StringView.{kind_view, borrowed_chunk, bytes_of}
+use Rattle.cbor_diag.specs.mirror.StringView.{kind_view, borrowed_chunk}
 use Rattle.cbor_diag.proofs.bytes.Steps.{later_none}
 use Rattle.cbor_diag.proofs.straight.Readings.{fails_then, fails_stopped, ok_then, none_before}
 use Rattle.cbor_diag.proofs.straight.Texts.{chunk_more, chunks_printed}

@@ -1,7 +1,5 @@
-use Rattle.std.proofs.Common.{ap, ◌∙◌}
 use Rattle.std.specs.String.{string_bytes}
 use Rattle.cbor_diag.specs.Item.{atom, string}
-use Rattle.cbor_diag.specs.Reading.{◌>>=◌, read_content}
 use Rattle.cbor_diag.specs.mirror.StringView.{kind_of, borrowed_chunk}
 use Rattle.cbor_diag.proofs.straight.Readings.{content_read}
 use Rattle.cbor_diag.proofs.straight.Texts.{string_printed}
