@@ -13,4 +13,5 @@ pub mod LayoutView
 pub mod MajorNumber
 pub mod StringView
 pub mod NotesView
+pub mod HexPlaces
 pub mod SameDecides

@@ -2,7 +2,10 @@
 // Items and their notation are examples of RFC 7049, appendix A; the dump was written by hand from
 // docs/DUMP.md.
 
-use cbor_diag::{Error, Extent, extent, parse_bytes, parse_bytes_partial, parse_diag, parse_hex};
+use cbor_diag::{
+    Error, Extent, extent, hex_fault, hex_place, parse_bytes, parse_bytes_partial, parse_diag,
+    parse_hex,
+};
 use std::alloc::Global;
 use std::process::Abort;
 use std::test::Fail;
@@ -77,6 +80,15 @@ fn of_extents(rt: &impl Abort) {
     assert_eq!(rt; extent(b"\x82\x01\x1f\x00"), Extent::Fault { error, end });
 }
 
+fn of_places_in_hex(rt: &impl Abort) {
+    assert_eq!(rt; hex_fault("82 01 # one\n0x"), Some((Error::BadHex, 13)));
+    assert_eq!(rt; hex_fault("82 01 0 # half"), Some((Error::OddHex, 6)));
+    assert_eq!(rt; hex_fault("82 01 # one"), None);
+    // The byte 02 is number 2.
+    assert_eq!(rt; hex_place("82 01 # one\n02 # two", 2), Some(12));
+    assert_eq!(rt; hex_place("82 01 # one\n02 # two", 3), None);
+}
+
 #[test]
 fn examples_of_doc_comments(rt: HostRuntime) -> Result<(), Fail> {
     assert_eq!(rt;
@@ -92,5 +104,6 @@ fn examples_of_doc_comments(rt: HostRuntime) -> Result<(), Fail> {
     of_compact_text(&rt, rt.alloc())?;
     of_pretty_text(&rt, rt.alloc())?;
     of_extents(&rt);
+    of_places_in_hex(&rt);
     Ok(())
 }
