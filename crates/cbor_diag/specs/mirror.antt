@@ -2,6 +2,8 @@
 pub mod Counting
 pub mod Stack
 pub mod Skipping
+pub mod Scanning
+pub mod Scanned
 pub mod NotationReading
 pub mod Appends
 pub mod Passes

@@ -80,6 +80,11 @@ abbrev pub after_chunk : StringKind → Chunk → List ℕ → Skip
 after_chunk kind chunks.Content b = skip_chunks kind b
 after_chunk kind chunks.Break b = here b
 
+-- the same after its length, or after the break
+abbrev pub after_chunk_length : StringKind → Option ℕ → List ℕ → Skip
+after_chunk_length kind (Some n) b = skip_content kind n Zero b >>= skip_chunks kind
+after_chunk_length kind None b = here b
+
 -- ---- what is still to come
 
 -- any item: which one was read makes no difference to what is still to come
