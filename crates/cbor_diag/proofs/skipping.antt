@@ -4,3 +4,4 @@ pub mod Extents
 pub mod Scans
 pub mod ScannedParts
 pub mod Progresses
+pub mod ScanAnswers

@@ -29,7 +29,7 @@ mod syntax;
 
 pub use error::{Error, Result};
 pub use parse::{
-    Extent, Turns, extent, hex_fault, hex_place, parse_bytes, parse_bytes_counted,
+    Extent, Scanner, Turns, extent, hex_fault, hex_place, parse_bytes, parse_bytes_counted,
     parse_bytes_partial, parse_diag, parse_hex,
 };
 pub use syntax::{ByteString, DataItem, FloatWidth, IntegerWidth, Simple, Tag, TextString};

@@ -1,6 +1,8 @@
 -- What is still to be skipped after the bytes that came, as the code of `parse/binary/skip/progress.rt` keeps it. No
 -- public clause names it.
-use Rattle.std.specs.Prelude.{◌≡◌, ℕ, List, length}
+use Rattle.std.specs.Prelude.{◌≡◌, ℕ, ◌-◌, List, length, Result, Ok, Err}
+use Rattle.cbor_diag.specs.declared.parse.binary.skip.answer.Extent.{Extent}
+use Rattle.cbor_diag.specs.declared.parse.binary.skip.answer.Extent.TheVariants as extent
 use Rattle.cbor_diag.specs.declared.parse.binary.skip.Stop.{Stop}
 use Rattle.cbor_diag.specs.declared.parse.binary.skip.Stop.TheVariants as stops
 use Rattle.cbor_diag.specs.declared.parse.binary.skip.progress.Progress.{Progress}
@@ -19,3 +21,9 @@ EndsSo from b after = (rest : List ℕ) × Goes from here b rest × (length rest
 abbrev pub StopsAt : Progress → (List ℕ → Skip) → List ℕ → Stop → Type 0
 StopsAt p from b stops.Cut = Waits from (skip_rest p) b p.held
 StopsAt p from b (stops.Fault error after) = Shows from b error after
+
+-- the answer for so many bytes, of how many follow the item or why there is none
+abbrev pub answer_of : ℕ → Result ℕ Stop → Extent
+answer_of fed (Ok after) = extent.Item (fed - after)
+answer_of fed (Err stops.Cut) = extent.Cut
+answer_of fed (Err (stops.Fault error after)) = extent.Fault error (fed - after)

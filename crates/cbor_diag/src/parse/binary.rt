@@ -36,7 +36,7 @@ use crate::syntax::{ByteString, DEEPEST, DataItem, Simple, TextString};
 use argument::Argument;
 use frame::Frame;
 use head::{ItemHead, read_head};
-pub use skip::{Extent, extent};
+pub use skip::{Extent, Scanner, extent};
 use stack::Stack;
 use std::alloc::Global;
 use strings::{read_chunks, read_string};

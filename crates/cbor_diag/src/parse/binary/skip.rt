@@ -9,6 +9,7 @@ mod due;
 mod held;
 mod outer;
 mod progress;
+mod scanner;
 mod to_come;
 
 ghost use Rattle.std.specs.Prelude.{◌≡◌, ◌≢◌, ℕ, ◌+◌, ◌-◌, ◌<◌, ◌≤◌, List, ◌++◌, length, take, ◌↔◌};
@@ -35,6 +36,7 @@ use crate::syntax::DEEPEST;
 use crate::syntax::strings::StringKind;
 pub use answer::Extent;
 use outer::Outer;
+pub use scanner::Scanner;
 use to_come::ToCome;
 
 /// Why there is no complete item.
