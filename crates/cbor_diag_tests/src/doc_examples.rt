@@ -3,8 +3,8 @@
 // docs/DUMP.md.
 
 use cbor_diag::{
-    Error, Extent, extent, hex_fault, hex_place, parse_bytes, parse_bytes_partial, parse_diag,
-    parse_hex,
+    Error, Extent, Scanner, extent, hex_fault, hex_place, parse_bytes, parse_bytes_partial,
+    parse_diag, parse_hex,
 };
 use std::alloc::Global;
 use std::process::Abort;
@@ -80,6 +80,13 @@ fn of_extents(rt: &impl Abort) {
     assert_eq!(rt; extent(b"\x82\x01\x1f\x00"), Extent::Fault { error, end });
 }
 
+fn of_pieces(rt: &impl Abort) {
+    let mut scanner = Scanner::new();
+    assert_eq!(rt; scanner.feed(b"\x82\x19\x03"), Extent::Cut);
+    assert_eq!(rt; scanner.feed(b"\xe8\x02\xff"), Extent::Item(5));
+    assert_eq!(rt; scanner.feed(b"\x00"), Extent::Item(5));
+}
+
 fn of_places_in_hex(rt: &impl Abort) {
     assert_eq!(rt; hex_fault("82 01 # one\n0x"), Some((Error::BadHex, 13)));
     assert_eq!(rt; hex_fault("82 01 0 # half"), Some((Error::OddHex, 6)));
@@ -104,6 +111,7 @@ fn examples_of_doc_comments(rt: HostRuntime) -> Result<(), Fail> {
     of_compact_text(&rt, rt.alloc())?;
     of_pretty_text(&rt, rt.alloc())?;
     of_extents(&rt);
+    of_pieces(&rt);
     of_places_in_hex(&rt);
     Ok(())
 }

@@ -9,7 +9,7 @@ use super::answer::Extent;
 use super::progress::Progress;
 
 /// Reports how bytes begin, as [`extent`] does, where they come in pieces, as from a socket. It
-/// looks at each piece once, allocates nothing, and takes less than 2 KB.
+/// looks at each piece once and allocates nothing.
 ///
 /// ```rust
 /// use cbor_diag::{Extent, Scanner};
