@@ -5,3 +5,4 @@ pub mod Scans
 pub mod ScannedParts
 pub mod Progresses
 pub mod ScanAnswers
+pub mod OpenStacks

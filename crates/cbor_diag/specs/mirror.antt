@@ -2,6 +2,7 @@
 pub mod Counting
 pub mod Stack
 pub mod Skipping
+pub mod OpenStack
 pub mod Scanning
 pub mod Scanned
 pub mod NotationReading
