@@ -5,9 +5,7 @@ mod notation;
 mod turns;
 
 pub(crate) use binary::{read_front, read_whole};
-pub use binary::{
-    Extent, Scanner, extent, parse_bytes, parse_bytes_counted, parse_bytes_partial,
-};
+pub use binary::{Extent, Scanner, extent, parse_bytes, parse_bytes_counted, parse_bytes_partial};
 pub use hex_text::{hex_fault, hex_place, parse_hex};
 pub use notation::parse_diag;
 pub use turns::Turns;

@@ -20,7 +20,11 @@ fn check_pieces_of(rt: &impl Abort, bytes: &[u8], len: usize) {
     let mut end = 0;
     for piece in bytes.chunks(len.max(1)) {
         end += piece.len();
-        assert_eq!(rt; scanner.feed(piece), extent(front(bytes, end)), "{end} {bytes:?}");
+        assert_eq!(rt;
+            scanner.feed(piece),
+            extent(front(bytes, end)),
+            "{end} {bytes:?}"
+        );
     }
 }
 
@@ -30,7 +34,11 @@ fn check_two_pieces(rt: &impl Abort, bytes: &[u8]) {
         let mut scanner = Scanner::new();
         let before = front(bytes, place);
         assert_eq!(rt; scanner.feed(before), extent(before), "{place} {bytes:?}");
-        assert_eq!(rt; scanner.feed(behind(bytes, place)), extent(bytes), "{place} {bytes:?}");
+        assert_eq!(rt;
+            scanner.feed(behind(bytes, place)),
+            extent(bytes),
+            "{place} {bytes:?}"
+        );
     }
 }
 
@@ -46,7 +54,11 @@ fn check_answer(rt: &impl Abort, bytes: &[u8], answer: Extent) {
     for place in 0..bytes.len() {
         let mut scanner = Scanner::new();
         scanner.feed(front(bytes, place));
-        assert_eq!(rt; scanner.feed(behind(bytes, place)), answer, "{place} {bytes:?}");
+        assert_eq!(rt;
+            scanner.feed(behind(bytes, place)),
+            answer,
+            "{place} {bytes:?}"
+        );
         if answer != Extent::Cut {
             assert_eq!(rt; scanner.feed(b"\xff\x00"), answer, "{place} {bytes:?}");
         }
@@ -170,7 +182,11 @@ fn long_texts(rt: HostRuntime) -> Result<(), Fail> {
         }
         let mut scanner = Scanner::new();
         assert_eq!(rt; scanner.feed(front(&bad, 4097)), Extent::Cut, "{place}");
-        assert_eq!(rt; scanner.feed(front(behind(&bad, 4097), 3405)), Extent::Cut, "{place}");
+        assert_eq!(rt;
+            scanner.feed(front(behind(&bad, 4097), 3405)),
+            Extent::Cut,
+            "{place}"
+        );
         let error = Error::Utf8;
         let fault = Extent::Fault { error, end: 7503 };
         assert_eq!(rt; scanner.feed(behind(&bad, 7502)), fault, "{place}");

@@ -391,8 +391,12 @@ steps_shorter rest to some k =
 -- more bytes are kept than are kept before a place
 pub place_count : (text : List ℕ) (place : ℕ) → IsKeptAt text place
     → length (uncommented (take place text)) < length (uncommented text)
-place_count text place k = omega (arith, ap length k.kept, length-append (uncommented (take place text))
-    (get_or text place 0 ∷ uncommented (drop (place + 1) text)))
+place_count text place k = omega (
+  arith,
+  ap length k.kept,
+  length-append (uncommented (take place text))
+      (get_or text place 0 ∷ uncommented (drop (place + 1) text)),
+)
 
 pub same_digits : (b : ℕ) → is_ascii_hexdigit b ≡ is_hex_digit b
 same_digits b = grind (arith, nat_tests)
@@ -421,8 +425,12 @@ bad_not_all text place k bad all =
 pub last_kept : (text : List ℕ) (n place : ℕ) → IsKeptByte text n place → length (uncommented text) ≡ n + 1
     → uncommented (drop (place + 1) text) ≡ []
 last_kept text n place k count =
-    nothing (uncommented (drop (place + 1) text)) (omega (arith, ap length k.here.kept, k.before,
-    length-append (uncommented (take place text)) (get_or text place 0 ∷ uncommented (drop (place + 1) text))))
+    nothing (uncommented (drop (place + 1) text)) (omega (
+      arith,
+      ap length k.here.kept,
+      k.before,
+      length-append (uncommented (take place text)) (get_or text place 0 ∷ uncommented (drop (place + 1) text)),
+    ))
   where
     nothing : (x : List ℕ) → length x ≡ 0 → x ≡ []
     nothing [] none = refl

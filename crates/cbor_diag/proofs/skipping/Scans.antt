@@ -335,4 +335,3 @@ pub chunked_shows : (chunked : Bool) (kind : StringKind) (left : ℕ) (b : List 
 chunked_shows false kind left b e after s = s
 chunked_shows true kind left b e after s = stops_within (skip_content kind left Zero) b (stops.Fault e after)
     (λ r. r >>= skip_chunks kind) (more_keeps kind) s
-

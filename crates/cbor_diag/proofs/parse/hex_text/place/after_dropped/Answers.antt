@@ -13,7 +13,6 @@ pub returns-in-35-clause-over : goal.returns-in-35-clause-over
 returns-in-35-clause-over c = comment_here c.args.text.now c.after_line.result.now c.in-len1-up.len_at_least c.in-35.is
     c.after_line.ensures
 
-
 pub returns-in-13-clause-over : goal.returns-in-13-clause-over
 returns-in-13-clause-over c = IfSome_then c.after_feed.result c.after_feed.ensures.some (λ rest is.
     return_here c.args.text.now rest.now c.in-len1-up.len_at_least c.in-13.is is)

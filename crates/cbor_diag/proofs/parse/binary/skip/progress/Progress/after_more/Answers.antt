@@ -47,16 +47,28 @@ pub overflow_add-result : goal.overflow_add-result
 overflow_add-result c =
     let b = c.as_slice.result.now in
     let whole = c.in-Ok.ensures.whole in
-    omega (arith, ends_within b c.in-Ok.over whole, behind_within c.held.rest.now, c.held.invariant.within,
-    ap length (c.as_slice.ensures ∙ c.with-held.ensures), length-append c.held.self.held (get_or c.held.rest.now 0 0 ∷ []))
+    omega (
+      arith,
+      ends_within b c.in-Ok.over whole,
+      behind_within c.held.rest.now,
+      c.held.invariant.within,
+      ap length (c.as_slice.ensures ∙ c.with-held.ensures),
+      length-append c.held.self.held (get_or c.held.rest.now 0 0 ∷ []),
+    )
 
 pub overflow_add-after : goal.overflow_add-after
 overflow_add-after c =
     let b = c.as_slice.result.now in
     let i = c.in-Err-Fault in
     let shown = rw i.field-0-is at i.ensures.stops in
-    omega (arith, shows_within b i.error i.after shown, behind_within c.held.rest.now, c.held.invariant.within,
-    ap length (c.as_slice.ensures ∙ c.with-held.ensures), length-append c.held.self.held (get_or c.held.rest.now 0 0 ∷ []))
+    omega (
+      arith,
+      shows_within b i.error i.after shown,
+      behind_within c.held.rest.now,
+      c.held.invariant.within,
+      ap length (c.as_slice.ensures ∙ c.with-held.ensures),
+      length-append c.held.self.held (get_or c.held.rest.now 0 0 ∷ []),
+    )
 
 pub returns-clause-whole : goal.returns-clause-whole
 returns-clause-whole c = λ fed w.
