@@ -1,3 +1,4 @@
 pub mod Lines
 pub mod Search
 pub mod Digits
+pub mod Kept

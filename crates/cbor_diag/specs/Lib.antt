@@ -32,4 +32,5 @@ pub mod Normal
 pub mod Facts
 pub mod NotationRefused
 pub mod Extent
+pub mod Scanning
 pub mod mirror

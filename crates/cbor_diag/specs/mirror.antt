@@ -2,6 +2,9 @@
 pub mod Counting
 pub mod Stack
 pub mod Skipping
+pub mod OpenStack
+pub mod Scanning
+pub mod Scanned
 pub mod NotationReading
 pub mod Appends
 pub mod Straight
@@ -15,4 +18,5 @@ pub mod MajorNumber
 pub mod StringView
 pub mod NotesView
 pub mod StrictHeads
+pub mod HexPlaces
 pub mod SameDecides

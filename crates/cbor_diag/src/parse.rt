@@ -8,8 +8,8 @@ pub(crate) use binary::{
     Argument, ItemHead, is_strict, next_chunk, no_level_left, read_borrowed, read_front, read_head,
     read_whole,
 };
-pub use binary::{Extent, extent, parse_bytes, parse_bytes_counted, parse_bytes_partial};
-pub use hex_text::parse_hex;
+pub use binary::{Extent, Scanner, extent, parse_bytes, parse_bytes_counted, parse_bytes_partial};
 pub(crate) use hex_text::{decode, uncommented};
+pub use hex_text::{hex_fault, hex_place, parse_hex};
 pub use notation::parse_diag;
 pub use turns::Turns;

@@ -3,8 +3,9 @@
 // docs/DUMP.md.
 
 use cbor_diag::{
-    Error, Extent, bytes_to_bytes, bytes_to_diag, extent, hex_to_bytes, hex_to_diag, parse_bytes,
-    parse_bytes_partial, parse_diag, parse_hex, push_bytes_to_diag_partial,
+    Error, Extent, Scanner, bytes_to_bytes, bytes_to_diag, extent, hex_fault, hex_place,
+    hex_to_bytes, hex_to_diag, parse_bytes, parse_bytes_partial, parse_diag, parse_hex,
+    push_bytes_to_diag_partial,
 };
 use std::alloc::Global;
 use std::process::Abort;
@@ -118,6 +119,22 @@ fn of_extents(rt: &impl Abort) {
     assert_eq!(rt; extent(b"\x82\x01\x1f\x00"), Extent::Fault { error, end });
 }
 
+fn of_pieces(rt: &impl Abort) {
+    let mut scanner = Scanner::new();
+    assert_eq!(rt; scanner.feed(b"\x82\x19\x03"), Extent::Cut);
+    assert_eq!(rt; scanner.feed(b"\xe8\x02\xff"), Extent::Item(5));
+    assert_eq!(rt; scanner.feed(b"\x00"), Extent::Item(5));
+}
+
+fn of_places_in_hex(rt: &impl Abort) {
+    assert_eq!(rt; hex_fault("82 01 # one\n0x"), Some((Error::BadHex, 13)));
+    assert_eq!(rt; hex_fault("82 01 0 # half"), Some((Error::OddHex, 6)));
+    assert_eq!(rt; hex_fault("82 01 # one"), None);
+    // The byte 02 is number 2.
+    assert_eq!(rt; hex_place("82 01 # one\n02 # two", 2), Some(12));
+    assert_eq!(rt; hex_place("82 01 # one\n02 # two", 3), None);
+}
+
 #[test]
 fn examples_of_doc_comments(rt: HostRuntime) -> Result<(), Fail> {
     assert_eq!(rt;
@@ -137,5 +154,7 @@ fn examples_of_doc_comments(rt: HostRuntime) -> Result<(), Fail> {
     of_shown_hex(&rt, rt.alloc())?;
     of_encodings(&rt, rt.alloc())?;
     of_extents(&rt);
+    of_pieces(&rt);
+    of_places_in_hex(&rt);
     Ok(())
 }

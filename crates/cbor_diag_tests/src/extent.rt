@@ -9,7 +9,7 @@ use std::process::Abort;
 use std::test::Fail;
 
 /// Errors, and how many first bytes show each.
-const FAULTS: [(&[u8], Error, usize); 22] = [
+pub(crate) const FAULTS: [(&[u8], Error, usize); 22] = [
     // info 28 to 30, and 31 where it means nothing
     (b"\x1c", Error::Head, 1),
     (b"\x82\x01\x1f\x00", Error::Head, 3),
@@ -43,7 +43,7 @@ const FAULTS: [(&[u8], Error, usize); 22] = [
 ];
 
 /// Items, each with a byte after it, and how many bytes the item takes.
-const ITEMS: [(&[u8], usize); 10] = [
+pub(crate) const ITEMS: [(&[u8], usize); 10] = [
     (b"\x17\xff", 1),
     (b"\x1b\xff\xff\xff\xff\xff\xff\xff\xff\xff", 9),
     (b"\x62\xc3\xa9\xff", 3),
@@ -57,7 +57,7 @@ const ITEMS: [(&[u8], usize); 10] = [
 ];
 
 /// Bytes that end before their item does, however long they claim to be.
-const CUTS: [&[u8]; 9] = [
+pub(crate) const CUTS: [&[u8]; 9] = [
     b"",
     b"\x19\x01",
     b"\x5b\xff\xff\xff\xff\xff\xff\xff\xff\x00",
@@ -70,7 +70,7 @@ const CUTS: [&[u8]; 9] = [
 ];
 
 /// What replaces a byte: heads of each kind, the break, and bytes of no UTF-8.
-const CHANGES: [u8; 10] = [0x00, 0x1c, 0x41, 0x5f, 0x61, 0x7f, 0x82, 0xbf, 0xc3, 0xff];
+pub(crate) const CHANGES: [u8; 10] = [0x00, 0x1c, 0x41, 0x5f, 0x61, 0x7f, 0x82, 0xbf, 0xc3, 0xff];
 
 /// The least number of first bytes that have an error.
 fn end_of_fault(alloc: Global, bytes: &[u8]) -> Result<usize, Error> {
@@ -103,7 +103,7 @@ fn check_as_read(rt: &impl Abort, alloc: Global, bytes: &[u8]) -> Result<(), Err
 }
 
 /// The first `count` bytes, or all if there are fewer.
-fn front(bytes: &[u8], count: usize) -> &[u8] {
+pub(crate) fn front(bytes: &[u8], count: usize) -> &[u8] {
     bytes.get(..count).unwrap_or(bytes)
 }
 

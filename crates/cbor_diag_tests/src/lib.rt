@@ -39,6 +39,8 @@ mod refused_memory;
 #[cfg(test)]
 mod samples;
 #[cfg(test)]
+mod scanner;
+#[cfg(test)]
 mod standard;
 #[cfg(test)]
 mod straight;

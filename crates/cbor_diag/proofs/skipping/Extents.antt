@@ -115,11 +115,11 @@ item_is b (extent.Item n) h = h
 item_is b extent.Cut h = tt
 item_is b (extent.Fault e end) h = tt
 
-has_fault : (b : List ℕ) (e : Error) (end : ℕ) → IsExtent b (extent.Fault e end) → Fault 1 b e
+pub has_fault : (b : List ℕ) (e : Error) (end : ℕ) → IsExtent b (extent.Fault e end) → Fault 1 b e
 has_fault b e end h = subst (λ (x : List ℕ). Fault 1 x e) (take-append-drop end b)
     (fault_append 1 (take end b) (drop end b) e h.0.2)
 
-same : (b : List ℕ) → OneOutcome 1 b → (o p : Outcome) → IsOutcome 1 b o → IsOutcome 1 b p → o ≡ p
+pub same : (b : List ℕ) → OneOutcome 1 b → (o p : Outcome) → IsOutcome 1 b o → IsOutcome 1 b p → o ≡ p
 same b one o p h k = one.only o h ∙ sym (one.only p k)
 
 pub every_item : (b : List ℕ) (x : Extent) → OneOutcome 1 b → IsExtent b x → (i : Item) (n : ℕ) → BeginsWithItem b i n

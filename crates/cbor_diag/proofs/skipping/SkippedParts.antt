@@ -190,10 +190,10 @@ closing_err left [] e = refl
 closing_err left (t ∷ ts) e = ap (λ q. q >>= skip_parts left t) (closing_err (left - 1) ts e)
 
 -- an error of a part is one of all that is open
-abbrev wanted : List ToCome → ToCome → Skip → Skip
+abbrev pub wanted : List ToCome → ToCome → Skip → Skip
 wanted outer top r = closing deepest outer (r >>= skip_frame (deepest - length outer) (put (frame_of top) some_item))
 
-wanted_err : (outer : List ToCome) (top : ToCome) (e : Error) → wanted outer top (Err e) ≡ Err e
+pub wanted_err : (outer : List ToCome) (top : ToCome) (e : Error) → wanted outer top (Err e) ≡ Err e
 wanted_err outer top e = closing_err deepest outer e
 
 wanted_same : (outer : List ToCome) (top : ToCome) (b : List ℕ) → after_end (frame_of top) b ≡ None
@@ -298,7 +298,7 @@ part_stops outer top b (stops.Fault e after) none s =
 abbrev pub Next : ToCome → ToCome → Type 0
 Next top next = frame_of next ≡ emptied (put (frame_of top) some_item)
 
-next_same : (left : ℕ) (top next : ToCome) (c : List ℕ) → Next top next
+pub next_same : (left : ℕ) (top next : ToCome) (c : List ℕ) → Next top next
     → skip_frame left (put (frame_of top) some_item) c ≡ skip_parts left next c
 next_same left top next c is = frame_alike left (put (frame_of top) some_item) (frame_of next) c
     (sym (emptied_twice (put (frame_of top) some_item)) ∙ ap emptied (sym is))

@@ -11,7 +11,8 @@ use Rattle.cbor_diag.specs.declared.parse.binary.skip.Stop.TheVariants as stops
 use Rattle.cbor_diag.specs.declared.parse.binary.skip.Chunk.{Chunk}
 use Rattle.cbor_diag.specs.declared.parse.binary.skip.Chunk.TheVariants as chunks
 use Rattle.cbor_diag.specs.declared.parse.binary.skip.to_come.ToCome.{ToCome}
-use Rattle.cbor_diag.specs.declared.parse.binary.skip.to_come.ToCome.TheVariants as to_come
+use Rattle.cbor_diag.specs.declared.parse.binary.skip.to_come.Parts.{Parts}
+use Rattle.cbor_diag.specs.declared.parse.binary.skip.to_come.Parts.TheVariants as parts
 use Rattle.cbor_diag.specs.Item.{Item, atom, simple, no_items, no_pairs}
 use Rattle.cbor_diag.specs.ItemHead.{ItemHead}
 use Rattle.cbor_diag.specs.WellFormed.{deepest}
@@ -80,6 +81,11 @@ abbrev pub after_chunk : StringKind → Chunk → List ℕ → Skip
 after_chunk kind chunks.Content b = skip_chunks kind b
 after_chunk kind chunks.Break b = here b
 
+-- the same after its length, or after the break
+abbrev pub after_chunk_length : StringKind → Option ℕ → List ℕ → Skip
+after_chunk_length kind (Some n) b = skip_content kind n Zero b >>= skip_chunks kind
+after_chunk_length kind None b = here b
+
 -- ---- what is still to come
 
 -- any item: which one was read makes no difference to what is still to come
@@ -103,10 +109,16 @@ emptied (value_of ps k left) = value_of no_pairs some_item (any_width left)
 emptied (tag_of t w) = items_in no_items (number 1 Zero)
 emptied (tagged_with t w i) = items_in no_items (number 0 Zero)
 
+abbrev pub frame_with : Parts → ℕ → Frame
+frame_with parts.Items n = items_in no_items (argument_of (Some n))
+frame_with parts.Pairs n = pairs_in no_pairs (argument_of (Some n))
+frame_with parts.Value n = value_of no_pairs some_item (argument_of (Some n))
+frame_with parts.ItemsToBreak n = items_in no_items (argument_of None)
+frame_with parts.PairsToBreak n = pairs_in no_pairs (argument_of None)
+frame_with parts.ValueToBreak n = value_of no_pairs some_item (argument_of None)
+
 abbrev pub frame_of : ToCome → Frame
-frame_of (to_come.Items left) = items_in no_items (argument_of left)
-frame_of (to_come.Pairs left) = pairs_in no_pairs (argument_of left)
-frame_of (to_come.Value left) = value_of no_pairs some_item (argument_of left)
+frame_of t = frame_with t.parts t.count
 
 -- the parts, with `left` levels left for each
 abbrev pub skip_frame : ℕ → Frame → List ℕ → Skip

@@ -39,7 +39,7 @@ pub(crate) use argument::Argument;
 pub(crate) use borrowed::{next_chunk, read_borrowed};
 use frame::Frame;
 pub(crate) use head::{ItemHead, read_head};
-pub use skip::{Extent, extent};
+pub use skip::{Extent, Scanner, extent};
 use stack::Stack;
 use std::alloc::Global;
 pub(crate) use strict::is_strict;

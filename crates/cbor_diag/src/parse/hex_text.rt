@@ -2,6 +2,8 @@
 //!
 //! The text is read once, line by line: comments are skipped, and what is kept is gathered and then
 //! decoded.
+mod place;
+
 ghost use Rattle.std.specs.Prelude.{◌≡◌, ◌≢◌, ◌<◌, ◌≤◌, ◌++◌, ◌%◌, ◌⊎◌, ◌==◌, length, take, drop};
 ghost use Rattle.std.specs.Prelude.{slice_index, IfOk, IfErr, OnOk, Ok};
 ghost use Rattle.std.specs.List.{AllPass, after_first};
@@ -19,6 +21,7 @@ use crate::error::Error;
 use crate::syntax::DataItem;
 use hex::FromHexError;
 use memchr::{memchr, memchr2};
+pub use place::{hex_fault, hex_place};
 use std::alloc::{AllocError, Global};
 
 /// What the first line has before its first `#` or its end, and what follows that line.

@@ -4,7 +4,12 @@
 //! Each private function takes the remaining bytes and returns those after what it skips, or why it
 //! stops.
 mod answer;
+mod containers;
+mod due;
+mod held;
 mod outer;
+mod progress;
+mod scanner;
 mod to_come;
 
 ghost use Rattle.std.specs.Prelude.{◌≡◌, ◌≢◌, ℕ, ◌+◌, ◌-◌, ◌<◌, ◌≤◌, List, ◌++◌, length, take, ◌↔◌};
@@ -21,7 +26,7 @@ ghost use Rattle.cbor_diag.specs.ItemHead.{string};
 ghost use Rattle.cbor_diag.specs.mirror.HeadView.{argument_view, head_view};
 ghost use Rattle.cbor_diag.specs.mirror.StringView.{kind_view};
 ghost use Rattle.cbor_diag.specs.mirror.Skipping.{here, Goes, StopsSo, stop_of};
-ghost use Rattle.cbor_diag.specs.mirror.Skipping.{skip_content, skip_chunks, after_chunk};
+ghost use Rattle.cbor_diag.specs.mirror.Skipping.{skip_content, skip_chunks, after_chunk, after_chunk_length};
 ghost use Rattle.cbor_diag.specs.mirror.Skipping.{skip_item, skip_body, begun};
 
 use super::argument::Argument;
@@ -31,6 +36,7 @@ use crate::syntax::DEEPEST;
 use crate::syntax::strings::StringKind;
 pub use answer::Extent;
 use outer::Outer;
+pub use scanner::Scanner;
 use to_come::ToCome;
 
 /// Why there is no complete item.
@@ -86,16 +92,18 @@ fn after_content(kind: StringKind, count: u64, bytes: &[u8]) -> Result<&[u8], St
     Err(Stop::Fault { error, after })
 }
 
-/// The next chunk of an indefinite string, or its break, and the bytes after it.
-fn read_chunk(kind: StringKind, bytes: &[u8]) -> Result<(Chunk, &[u8]), Stop>
-    ensures goes { IfOk result (λ x.
-        Goes (skip_chunks (kind_view kind)) (after_chunk (kind_view kind) x.0) bytes.now x.1.now) }
+/// The length of the next chunk of an indefinite string, or `None` at its break, and the bytes
+/// after this head.
+fn read_chunk_length(kind: StringKind, bytes: &[u8]) -> Result<(Option<u64>, &[u8]), Stop>
+    ensures goes { IfOk result (λ x. Goes (skip_chunks (kind_view kind))
+        (after_chunk_length (kind_view kind) x.0) bytes.now x.1.now) }
     ensures stops { IfErr result (λ stop. StopsSo (skip_chunks (kind_view kind)) bytes.now stop) }
     ensures shorter { IfOk result (λ x. length x.1.now < length bytes.now) }
+    ensures few { IfErr result (λ stop. stop ≡ Stop.Cut → length bytes.now ≤ 8) }
 {
     match bytes {
         [] => Err(Stop::Cut),
-        [0xff, rest @ ..] => Ok((Chunk::Break, rest)),
+        [0xff, rest @ ..] => Ok((None, rest)),
         [first, rest @ ..] => {
             let after = rest.len();
             let error = Error::Head;
@@ -103,15 +111,27 @@ fn read_chunk(kind: StringKind, bytes: &[u8]) -> Result<(Chunk, &[u8]), Stop>
                 return Err(Stop::Fault { error, after });
             }
             match read_argument(*first % 32, rest) {
-                Ok((Argument::Number(count, _), rest)) => {
-                    let rest = after_content(kind, count, rest)?;
-                    Ok((Chunk::Content, rest))
-                }
+                Ok((Argument::Number(count, _), rest)) => Ok((Some(count), rest)),
                 Ok((Argument::Indefinite, _)) => Err(Stop::Fault { error, after }),
                 Err(error) => Err(Stop::new(error, after)),
             }
         }
     }
+}
+
+/// The next chunk of an indefinite string, or its break, and the bytes after it.
+fn read_chunk(kind: StringKind, bytes: &[u8]) -> Result<(Chunk, &[u8]), Stop>
+    ensures goes { IfOk result (λ x.
+        Goes (skip_chunks (kind_view kind)) (after_chunk (kind_view kind) x.0) bytes.now x.1.now) }
+    ensures stops { IfErr result (λ stop. StopsSo (skip_chunks (kind_view kind)) bytes.now stop) }
+    ensures shorter { IfOk result (λ x. length x.1.now < length bytes.now) }
+{
+    let (len, rest) = read_chunk_length(kind, bytes)?;
+    let Some(count) = len else {
+        return Ok((Chunk::Break, rest));
+    };
+    let rest = after_content(kind, count, rest)?;
+    Ok((Chunk::Content, rest))
 }
 
 /// The bytes after the break of an indefinite string; its opening byte is read already.
@@ -138,6 +158,7 @@ fn read_item_head(bytes: &[u8], levels: usize) -> Result<(ItemHead, &[u8]), Stop
     ensures stops { IfErr result (λ stop. StopsSo (skip_item levels) bytes.now stop) }
     ensures shorter { IfOk result (λ x. length x.1.now < length bytes.now) }
     ensures level { IfOk result (λ x. 0 < levels) }
+    ensures few { IfErr result (λ stop. stop ≡ Stop.Cut → length bytes.now ≤ 8) }
 {
     let [_, after_first @ ..] = bytes else {
         return Err(Stop::Cut);

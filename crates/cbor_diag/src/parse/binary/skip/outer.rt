@@ -2,7 +2,7 @@
 ghost use Rattle.std.specs.Prelude.{◌≡◌, ◌<◌, ◌≤◌, [], ◌∷◌, ◌++◌, length, IfSome, Some, None};
 ghost use Rattle.cbor_diag.specs.WellFormed.{deepest};
 
-use super::to_come::ToCome;
+use super::to_come::{Parts, ToCome};
 use crate::syntax::DEEPEST;
 use std::marker::Model;
 
@@ -12,19 +12,21 @@ const CAPACITY: usize = DEEPEST as usize;
 /// The open containers around the innermost one, the outermost first.
 #[derive(Drop)]
 pub(super) struct Outer {
-    open: [ToCome; CAPACITY],
+    parts: [Parts; CAPACITY],
+    counts: [u64; CAPACITY],
     len: usize,
 }
 
 impl Model for Outer {
     ghost use Rattle.std.specs.Prelude.{◌≡◌, ◌≤◌, List, length, take};
     ghost use Rattle.cbor_diag.specs.declared.parse.binary.skip.to_come.ToCome.{ToCome};
+    ghost use Rattle.cbor_diag.specs.mirror.OpenStack.{with_counts};
 
     ghost Value = { List ToCome };
 
-    ghost view = { λ s. take s.len s.«open» };
+    ghost view = { λ s. with_counts (take s.len s.parts) (take s.len s.counts) };
 
-    ghost invariant = { λ s. (s.len ≤ 128) × (length s.«open» ≡ 128) };
+    ghost invariant = { λ s. (s.len ≤ 128) × (length s.parts ≡ 128) × (length s.counts ≡ 128) };
 }
 
 impl Outer {
@@ -33,7 +35,8 @@ impl Outer {
         ensures { result ≡ [] }
     {
         Outer {
-            open: [ToCome::one(); CAPACITY],
+            parts: [Parts::Items; CAPACITY],
+            counts: [0; CAPACITY],
             len: 0,
         }
     }
@@ -47,11 +50,12 @@ impl Outer {
     }
 
     /// Opens one more, the innermost of them.
-    pub(super) fn push(&mut self, parts: ToCome)
+    pub(super) fn push(&mut self, open: ToCome)
         requires { length self.old < deepest }
-        ensures { self.new ≡ self.old ++ parts ∷ [] }
+        ensures { self.new ≡ self.old ++ «open» ∷ [] }
     {
-        self.open[self.len] = parts;
+        self.parts[self.len] = open.parts;
+        self.counts[self.len] = open.count;
         self.len += 1;
     }
 
@@ -64,6 +68,8 @@ impl Outer {
             return None;
         }
         self.len -= 1;
-        Some(self.open[self.len])
+        let parts = self.parts[self.len];
+        let count = self.counts[self.len];
+        Some(ToCome { parts, count })
     }
 }

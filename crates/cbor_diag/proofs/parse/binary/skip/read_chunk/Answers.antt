@@ -1,100 +1,22 @@
-use Rattle.std.proofs.Common.{◌≡◌, ◌≢◌, ℕ, ◌/◌, ◌%◌, ◌≤◌, List, ◌∷◌, get_or, length, Ok, subst, ap, sym, ◌∙◌, arith}
 use Rattle.std.proofs.lemmas.Result.{err_from_is_err_and}
-use Rattle.cbor_diag.specs.declared.syntax.IntegerWidth.{IntegerWidth}
-use Rattle.cbor_diag.specs.declared.error.Error.TheVariants.{Head}
-use Rattle.cbor_diag.specs.Argument.{number}
-use Rattle.cbor_diag.specs.Head.{break_byte}
-use Rattle.cbor_diag.specs.StringKind.{StringKind, major_of}
-use Rattle.cbor_diag.specs.Reading.{◌>>=◌, read_argument}
-use Rattle.cbor_diag.specs.mirror.HeadErrors.{head_error}
-use Rattle.cbor_diag.specs.mirror.Skipping.{here, Goes, Shows, StopsSo, stop_of, skip_content, skip_chunks}
+use Rattle.cbor_diag.specs.declared.syntax.IntegerWidth.TheVariants.{Zero}
+use Rattle.cbor_diag.specs.Reading.{◌>>=◌}
+use Rattle.cbor_diag.specs.mirror.Skipping.{skip_content, skip_chunks}
 use Rattle.cbor_diag.specs.mirror.StringView.{kind_view}
-use Rattle.cbor_diag.proofs.bytes.Heads.{IsBytes, IsBytes-rest}
-use Rattle.cbor_diag.proofs.skipping.Skips.{goes_then, goes_within, stops_then, stops_within, break_goes, chunk_goes}
-use Rattle.cbor_diag.proofs.skipping.Skips.{kind_shows, indefinite_shows, info_stops, no_chunks, more_keeps}
-use Rattle.cbor_diag.proofs.skipping.Skips.{behind_first, first_is, at_first, fits_first, empty_is}
+use Rattle.cbor_diag.proofs.skipping.Skips.{goes_then, goes_within, stops_then, stops_within, more_keeps}
 use Rattle.cbor_diag.proofs.parse.binary.skip.read_chunk.Goals as goal
 
-pub returns-in-empty-clause-stops : goal.returns-in-empty-clause-stops
-returns-in-empty-clause-stops c =
-    ap (skip_chunks (kind_view c.args.kind)) (empty_is c.args.bytes.now c.in-empty.len_below)
-    ∙ no_chunks (kind_view c.args.kind)
-
-pub returns-in-255-clause-goes : goal.returns-in-255-clause-goes
-returns-in-255-clause-goes c =
-    let b = c.args.bytes.now in
-    let first : get_or b 0 0 ≡ break_byte = omega arith in
-    let parts = first_is b c.in-255.len_at_least ∙ ap (λ (x : ℕ). x ∷ behind_first b) first in
-    subst (λ (x : List ℕ). Goes (skip_chunks (kind_view c.args.kind)) here x (behind_first b)) (sym parts)
-    (break_goes (kind_view c.args.kind) (behind_first b))
-
-pub returns-then-first-number-clause-stops : goal.returns-then-first-number-clause-stops
-returns-then-first-number-clause-stops c =
-    let b = c.args.bytes.now in
+pub returns-in_err-rest-clause-stops : goal.returns-in_err-rest-clause-stops
+returns-in_err-rest-clause-stops c =
     let kind = kind_view c.args.kind in
-    let no_break : get_or b 0 0 ≢ break_byte = λ is. omega arith in
-    let other : get_or b 0 0 / 32 ≢ major_of kind = λ is. omega arith in
-    at_first (λ (x : List ℕ). Shows (skip_chunks kind) x Head (length (behind_first b))) b c.in-len1-up.len_at_least
-    (kind_shows kind (get_or b 0 0) (behind_first b) no_break other)
+    let head = rw c.in-Some.is at c.in_ok-len.ensures.goes in
+    let p = err_from_is_err_and c.from_residual-in_err-rest.result c.from_residual-in_err-rest.ensures.1 in
+    let stop = c.in_err-rest.field-0.0 in
+    rw (p.1, p.2) (stops_then stop head (stops_within (skip_content kind c.in-Some.count Zero) c.in_ok-len.rest.now stop
+    (λ r. r >>= skip_chunks kind) (more_keeps kind) (c.in_err-rest.ensures.stops Zero)))
 
--- a chunk's head, with its content and more chunks after it
-head_goes : (kind : StringKind) (n : ℕ) (w : IntegerWidth) (b rest : List ℕ) → 1 ≤ length b → IsBytes b
-    → get_or b 0 0 ≢ break_byte → get_or b 0 0 / 32 ≡ major_of kind
-    → read_argument (get_or b 0 0 % 32) (behind_first b) ≡ Ok (number n w, rest)
-    → Goes (skip_chunks kind) (λ c. skip_content kind n w c >>= skip_chunks kind) b rest
-head_goes kind n w b rest some fits no_break major read =
-    let behind = IsBytes-rest (get_or b 0 0) (behind_first b) (fits_first b some fits) in
-    at_first (λ (x : List ℕ). Goes (skip_chunks kind) (λ c. skip_content kind n w c >>= skip_chunks kind) x rest) b some
-    (chunk_goes kind (get_or b 0 0) n w (behind_first b) rest behind no_break major read)
-
-pub returns-in_err-rest-in-Ok-Number-default-clause-stops : goal.returns-in_err-rest-in-Ok-Number-default-clause-stops
-returns-in_err-rest-in-Ok-Number-default-clause-stops c =
-    let b = c.args.bytes.now in
+pub returns-clause-goes : goal.returns-clause-goes
+returns-clause-goes c =
     let kind = kind_view c.args.kind in
-    let i = c.in-Ok-Number-default in
-    let width = i.field-0-0-1 in
-    let fits : IsBytes b = λ i. omega (arith, c.type_inv.bytes i) in
-    let no_break : get_or b 0 0 ≢ break_byte = λ is. omega arith in
-    let read = rw i.field-0-0-is at i.ensures.gives in
-    let head = head_goes kind i.count width b i.rest.now c.in-len1-up.len_at_least fits no_break (omega arith) read in
-    let p = err_from_is_err_and c.from_residual.result c.from_residual.ensures.1 in
-    let stop = c.in_err-rest-in-Ok-Number-default.field-0.0 in
-    rw (p.1, p.2) (stops_then stop head (stops_within (skip_content kind i.count width) i.rest.now stop
-    (λ r. r >>= skip_chunks kind) (more_keeps kind) (c.in_err-rest-in-Ok-Number-default.ensures.stops width)))
-
-pub returns-in_ok-rest-in-Ok-Number-default-clause-goes : goal.returns-in_ok-rest-in-Ok-Number-default-clause-goes
-returns-in_ok-rest-in-Ok-Number-default-clause-goes c =
-    let b = c.args.bytes.now in
-    let kind = kind_view c.args.kind in
-    let i = c.in-Ok-Number-default in
-    let width = i.field-0-0-1 in
-    let fits : IsBytes b = λ i. omega (arith, c.type_inv.bytes i) in
-    let no_break : get_or b 0 0 ≢ break_byte = λ is. omega arith in
-    let read = rw i.field-0-0-is at i.ensures.gives in
-    let head = head_goes kind i.count width b i.rest.now c.in-len1-up.len_at_least fits no_break (omega arith) read in
-    goes_then head (goes_within (λ r. r >>= skip_chunks kind) (c.in_ok-rest-in-Ok-Number-default.ensures.goes width))
-
-pub returns-in-Ok-Indefinite-default-clause-stops : goal.returns-in-Ok-Indefinite-default-clause-stops
-returns-in-Ok-Indefinite-default-clause-stops c =
-    let b = c.args.bytes.now in
-    let kind = kind_view c.args.kind in
-    let some = c.in-len1-up.len_at_least in
-    let fits : IsBytes (behind_first b) = IsBytes-rest (get_or b 0 0) (behind_first b)
-    (fits_first b some (λ i. omega (arith, c.type_inv.bytes i))) in
-    let no_break : get_or b 0 0 ≢ break_byte = λ is. omega arith in
-    let major : get_or b 0 0 / 32 ≡ major_of kind = omega arith in
-    let i = c.in-Ok-Indefinite-default in
-    let read = rw i.field-0-0-is at i.ensures.gives in
-    at_first (λ (x : List ℕ). Shows (skip_chunks kind) x Head (length (behind_first b))) b some
-    (indefinite_shows kind (get_or b 0 0) (behind_first b) i.field-0-1.now fits no_break major read)
-
-pub returns-in-Err-clause-stops : goal.returns-in-Err-clause-stops
-returns-in-Err-clause-stops c =
-    let b = c.args.bytes.now in
-    let kind = kind_view c.args.kind in
-    let no_break : get_or b 0 0 ≢ break_byte = λ is. omega arith in
-    let major : get_or b 0 0 / 32 ≡ major_of kind = omega arith in
-    let error = head_error c.in-Err.error in
-    rw c.new.ensures (at_first (λ (x : List ℕ). StopsSo (skip_chunks kind) x (stop_of error (length (behind_first b))))
-    b c.in-len1-up.len_at_least (info_stops kind (get_or b 0 0) (behind_first b) error no_break major
-    c.in-Err.ensures.gives))
+    let head = rw c.in-Some.is at c.in_ok-len.ensures.goes in
+    goes_then head (goes_within (λ r. r >>= skip_chunks kind) (c.in_ok-rest.ensures.goes Zero))

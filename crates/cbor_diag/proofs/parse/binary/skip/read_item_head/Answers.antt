@@ -1,4 +1,4 @@
-use Rattle.std.proofs.Common.{◌-◌, ℕ, List, get_or, length, ap, sym, ◌∙◌, arith}
+use Rattle.std.proofs.Common.{◌-◌, ℕ, List, get_or, length, Err, ap, sym, ◌∙◌, arith}
 use Rattle.cbor_diag.specs.declared.error.Error.TheVariants.{TooDeep}
 use Rattle.cbor_diag.specs.Reading.{read_head}
 use Rattle.cbor_diag.specs.mirror.HeadErrors.{head_error}
@@ -6,6 +6,7 @@ use Rattle.cbor_diag.specs.mirror.HeadView.{head_view}
 use Rattle.cbor_diag.specs.mirror.Skipping.{Goes, Shows, StopsSo, stop_of, skip_item, skip_body}
 use Rattle.cbor_diag.proofs.skipping.Skips.{head_goes, head_stops, deep_shows, no_item, behind_first}
 use Rattle.cbor_diag.proofs.skipping.Skips.{first_is, at_first, fits_first, empty_is}
+use Rattle.cbor_diag.proofs.skipping.Scans.{head_few, stop_few}
 use Rattle.cbor_diag.proofs.parse.binary.skip.read_item_head.Goals as goal
 
 pub returns-in_default-clause-stops : goal.returns-in_default-clause-stops
@@ -38,3 +39,10 @@ returns-in-Err-clause-stops c =
     rw c.new.ensures (at_first (λ (x : List ℕ). StopsSo (skip_item c.args.levels) x
     (stop_of error (length (behind_first b)))) b some
     (head_stops c.args.levels (get_or b 0 0) (behind_first b) error (omega arith) fits is))
+
+pub returns-in-Err-clause-few : goal.returns-in-Err-clause-few
+returns-in-Err-clause-few c = λ cut.
+    let b = c.args.bytes.now in
+    let error = head_error c.in-Err.error in
+    let is = stop_few error (length (behind_first b)) (sym c.new.ensures ∙ cut) in
+    head_few b (λ i. omega (arith, c.type_inv.bytes i)) (c.in-Err.ensures.gives ∙ ap (λ e. Err e) is)

@@ -1,0 +1,41 @@
+use Rattle.std.proofs.Common.{List, ℕ, sym, subst}
+use Rattle.std.proofs.lemmas.Result.{err_from_is_err_and}
+use Rattle.cbor_diag.specs.declared.parse.binary.skip.to_come.ToCome.{ToCome}
+use Rattle.cbor_diag.specs.mirror.Skipping.{here, Goes, skip_open}
+use Rattle.cbor_diag.proofs.skipping.Skips.{goes_then}
+use Rattle.cbor_diag.proofs.skipping.SkippedParts.{last_ends, open_ends}
+use Rattle.cbor_diag.proofs.skipping.ScannedParts.{pauses_in_then}
+use Rattle.cbor_diag.proofs.parse.binary.skip.containers.Containers.after_item.Goals as goal
+
+pub returns-in_default-pop-clause-goes : goal.returns-in_default-pop-clause-goes
+returns-in_default-pop-clause-goes c =
+    let top = c.turns.self.top in
+    let rest = c.turns.rest.now in
+    let none = c.pop.ensures.none c.in_default-pop.is in
+    let ends = last_ends top rest c.in-Some.after.now c.in-Some.ensures in
+    goes_then c.turns.invariant.goes (subst (λ (outer : List ToCome). Goes (skip_open outer top) here rest
+    c.in-Some.after.now) (sym none) ends)
+
+pub turns-preserved-in-Some : goal.turns-preserved-in-Some
+turns-preserved-in-Some c =
+    let top = c.turns.self.top in
+    let rest = c.turns.rest.now in
+    let outer = c.pop.new.self in
+    let open1 = c.in-Some-pop.«open» in
+    let ends = open_ends outer open1 top rest c.in-Some.after.now c.in-Some.ensures in
+    record {
+      goes = goes_then c.turns.invariant.goes
+          (subst (λ (all : List ToCome). Goes (skip_open all top) (skip_open outer open1) rest c.in-Some.after.now)
+          (sym c.in-Some-pop.ensures.some) ends);
+    }
+
+pub returns-in_err-rest-clause-pauses : goal.returns-in_err-rest-clause-pauses
+returns-in_err-rest-clause-pauses c =
+    let p = err_from_is_err_and c.from_residual.result c.from_residual.ensures.1 in
+    rw (p.1, p.2) (pauses_in_then c.after_part.new.self.outer c.after_part.new.self.top
+    (skip_open c.args.self.now.outer c.args.self.now.top)
+    (skip_open c.turns.self.outer c.turns.self.top) c.args.bytes.now c.turns.rest.now c.in_err-rest.field-0.0
+    c.turns.invariant.goes c.in_err-rest.ensures.pauses)
+
+pub turns-preserved : goal.turns-preserved
+turns-preserved c = record { goes = goes_then c.turns.invariant.goes c.in_ok-rest.ensures.goes }

@@ -1,0 +1,11 @@
+use Rattle.std.proofs.Common.{◌+◌, ◌*◌, length}
+use Rattle.cbor_diag.specs.mirror.Skipping.{Goes, skip_open}
+use Rattle.cbor_diag.proofs.parse.binary.skip.containers.Containers.after_item.Given as goal
+
+abbrev pub decreases-turns : goal.decreases-turns
+decreases-turns l = 2 * length l.rest + length l.self.outer
+
+abbrev pub invariant-turns : goal.invariant-turns
+invariant-turns l = record {
+  goes : Goes (skip_open l.fn.self.outer l.fn.self.top) (skip_open l.self.outer l.self.top) l.bytes l.rest;
+}

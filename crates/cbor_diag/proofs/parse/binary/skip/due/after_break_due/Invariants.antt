@@ -1,0 +1,13 @@
+use Rattle.std.proofs.Common.{◌≤◌, length}
+use Rattle.cbor_diag.specs.mirror.Skipping.{Goes, skip_chunks}
+use Rattle.cbor_diag.specs.mirror.StringView.{kind_view}
+use Rattle.cbor_diag.proofs.parse.binary.skip.due.after_break_due.Given as goal
+
+abbrev pub decreases-chunks : goal.decreases-chunks
+decreases-chunks l = length l.rest
+
+abbrev pub invariant-chunks : goal.invariant-chunks
+invariant-chunks l = record {
+  goes : Goes (skip_chunks (kind_view l.kind)) (skip_chunks (kind_view l.kind)) l.bytes l.rest;
+  shorter : length l.rest ≤ length l.bytes;
+}

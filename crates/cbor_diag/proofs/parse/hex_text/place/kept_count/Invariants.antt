@@ -1,0 +1,12 @@
+use Rattle.std.proofs.Common.{◌≡◌, ◌+◌, ◌≤◌, length}
+use Rattle.cbor_diag.proofs.hex.Kept.{Walked}
+use Rattle.cbor_diag.proofs.parse.hex_text.place.kept_count.Given as goal
+
+abbrev pub invariant-kept : goal.invariant-kept
+invariant-kept l = record {
+  walked : Walked (λ bytes. length bytes ≡ l.count) l.text l.rest;
+  fits : l.count + length l.rest ≤ length l.text;
+}
+
+abbrev pub decreases-kept : goal.decreases-kept
+decreases-kept l = length l.rest
