@@ -1,4 +1,4 @@
-use Rattle.std.proofs.Common.{length, ap, arith, sym, ◌∙◌}
+use Rattle.std.proofs.Common.{length, ap, sym, ◌∙◌}
 use Rattle.cbor_diag.proofs.skipping.OpenStacks.{stack_len}
 use Rattle.cbor_diag.proofs.parse.binary.skip.outer.Outer.len.Goals as goal
 
