@@ -82,14 +82,17 @@ impl ToCome {
     pub(super) fn after_part(self) -> ToCome
         ensures { frame_of result ≡ emptied (put (frame_of self) some_item) }
     {
-        let less = self.count.saturating_sub(1);
-        let (parts, count) = match self.parts {
-            Parts::Items => (Parts::Items, less),
-            Parts::Pairs => (Parts::Value, less),
-            Parts::Value => (Parts::Pairs, self.count),
-            Parts::ItemsToBreak => (Parts::ItemsToBreak, 0),
-            Parts::PairsToBreak => (Parts::ValueToBreak, 0),
-            Parts::ValueToBreak => (Parts::PairsToBreak, 0),
+        let parts = match self.parts {
+            Parts::Items => Parts::Items,
+            Parts::Pairs => Parts::Value,
+            Parts::Value => Parts::Pairs,
+            Parts::ItemsToBreak => Parts::ItemsToBreak,
+            Parts::PairsToBreak => Parts::ValueToBreak,
+            Parts::ValueToBreak => Parts::PairsToBreak,
+        };
+        let count = match self.parts {
+            Parts::Value | Parts::ValueToBreak => self.count,
+            _ => self.count.saturating_sub(1),
         };
         ToCome { parts, count }
     }
