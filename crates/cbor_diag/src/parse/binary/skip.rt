@@ -204,7 +204,9 @@ fn after_atom(head: ItemHead, bytes: &[u8]) -> Result<&[u8], Stop>
 }
 
 /// What is still to come of an item with `levels` left for it, and the bytes after its head: all of
-/// a container if the head opens one, otherwise nothing.
+/// a container if the head opens one, otherwise nothing. Inlined into the loop of `extent` and into
+/// that of a `Scanner`.
+#[inline(always)]
 fn read_part(bytes: &[u8], levels: usize) -> Result<(Option<ToCome>, &[u8]), Stop>
     ensures goes { IfOk result
         (λ x. Goes (skip_item levels) (begun (levels - 1) x.0) bytes.now x.1.now) }
