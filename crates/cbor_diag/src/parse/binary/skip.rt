@@ -152,6 +152,7 @@ fn after_chunks(kind: StringKind, bytes: &[u8]) -> Result<&[u8], Stop>
 }
 
 /// The head of an item with `levels` left for it, and the bytes after it.
+#[inline(always)]
 fn read_item_head(bytes: &[u8], levels: usize) -> Result<(ItemHead, &[u8]), Stop>
     ensures goes { IfOk result (λ x.
         Goes (skip_item levels) (skip_body (levels - 1) (head_view x.0)) bytes.now x.1.now) }

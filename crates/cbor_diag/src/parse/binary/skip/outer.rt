@@ -2,7 +2,7 @@
 ghost use Rattle.std.specs.Prelude.{◌≡◌, ◌<◌, ◌≤◌, [], ◌∷◌, ◌++◌, length, IfSome, Some, None};
 ghost use Rattle.cbor_diag.specs.WellFormed.{deepest};
 
-use super::to_come::{Parts, ToCome};
+use super::to_come::{Kind, ToCome};
 use crate::syntax::DEEPEST;
 use std::marker::Model;
 
@@ -12,7 +12,7 @@ const CAPACITY: usize = DEEPEST as usize;
 /// The open containers around the innermost one, the outermost first.
 #[derive(Drop)]
 pub(super) struct Outer {
-    parts: [Parts; CAPACITY],
+    kinds: [Kind; CAPACITY],
     counts: [u64; CAPACITY],
     len: usize,
 }
@@ -24,9 +24,9 @@ impl Model for Outer {
 
     ghost Value = { List ToCome };
 
-    ghost view = { λ s. with_counts (take s.len s.parts) (take s.len s.counts) };
+    ghost view = { λ s. with_counts (take s.len s.kinds) (take s.len s.counts) };
 
-    ghost invariant = { λ s. (s.len ≤ 128) × (length s.parts ≡ 128) × (length s.counts ≡ 128) };
+    ghost invariant = { λ s. (s.len ≤ 128) × (length s.kinds ≡ 128) × (length s.counts ≡ 128) };
 }
 
 impl Outer {
@@ -35,7 +35,7 @@ impl Outer {
         ensures { result ≡ [] }
     {
         Outer {
-            parts: [Parts::Items; CAPACITY],
+            kinds: [Kind::Items; CAPACITY],
             counts: [0; CAPACITY],
             len: 0,
         }
@@ -54,8 +54,9 @@ impl Outer {
         requires { length self.old < deepest }
         ensures { self.new ≡ self.old ++ «open» ∷ [] }
     {
-        self.parts[self.len] = open.parts;
-        self.counts[self.len] = open.count;
+        let (kind, count) = open.split();
+        self.kinds[self.len] = kind;
+        self.counts[self.len] = count;
         self.len += 1;
     }
 
@@ -68,8 +69,7 @@ impl Outer {
             return None;
         }
         self.len -= 1;
-        let parts = self.parts[self.len];
-        let count = self.counts[self.len];
-        Some(ToCome { parts, count })
+        let kind = self.kinds[self.len];
+        Some(ToCome::of(kind, self.counts[self.len]))
     }
 }

@@ -6,4 +6,4 @@ pub returns-clause-count : goal.returns-clause-count
 returns-clause-count c =
     let s = c.self.inside in
     let i = c.self.invariant in
-    sym (stack_len s.parts s.counts s.len i.1 i.2 i.0) ∙ ap length c.self.view_is
+    sym (stack_len s.kinds s.counts s.len i.1 i.2 i.0) ∙ ap length c.self.view_is
