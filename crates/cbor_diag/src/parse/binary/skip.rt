@@ -8,6 +8,7 @@ mod containers;
 mod due;
 mod held;
 mod outer;
+mod packed;
 mod progress;
 mod scanner;
 mod to_come;

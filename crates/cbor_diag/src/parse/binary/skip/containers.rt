@@ -6,7 +6,7 @@ ghost use Rattle.cbor_diag.specs.mirror.Skipping.{argument_of, frame_of, here, G
 ghost use Rattle.cbor_diag.specs.mirror.Scanning.{PausesIn};
 
 use super::due::{Due, Pause, after_atom_due};
-use super::outer::Outer;
+use super::packed::Packed;
 use super::to_come::ToCome;
 use super::{Stop, read_item_head, read_part};
 use crate::syntax::DEEPEST;
@@ -14,7 +14,7 @@ use crate::syntax::DEEPEST;
 /// The innermost container, and the open ones around it.
 #[derive(Drop)]
 pub(super) struct Containers {
-    outer: Outer,
+    outer: Packed,
     top: ToCome,
 }
 
@@ -25,7 +25,7 @@ impl Containers {
         ensures top { frame_of result.top ≡ items_in no_items (argument_of (Some 1)) }
     {
         Containers {
-            outer: Outer::new(),
+            outer: Packed::new(),
             top: ToCome::one(),
         }
     }

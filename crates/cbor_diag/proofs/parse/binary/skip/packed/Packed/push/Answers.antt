@@ -2,7 +2,7 @@ use Rattle.std.proofs.Common.{◌<◌, ◌∷◌, [], ◌++◌, List, length, ap
 use Rattle.std.proofs.lemmas.List.{length-set}
 use Rattle.cbor_diag.specs.declared.parse.binary.skip.to_come.ToCome.{ToCome}
 use Rattle.cbor_diag.proofs.skipping.OpenStacks.{stack_len, stack_push}
-use Rattle.cbor_diag.proofs.parse.binary.skip.outer.Outer.push.Goals as goal
+use Rattle.cbor_diag.proofs.parse.binary.skip.packed.Packed.push.Goals as goal
 
 pub bounds-self-inside-self-inside : goal.bounds-self-inside-self-inside
 bounds-self-inside-self-inside c =

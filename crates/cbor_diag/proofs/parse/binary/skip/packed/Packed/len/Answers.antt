@@ -1,6 +1,6 @@
 use Rattle.std.proofs.Common.{length, ap, sym, ◌∙◌}
 use Rattle.cbor_diag.proofs.skipping.OpenStacks.{stack_len}
-use Rattle.cbor_diag.proofs.parse.binary.skip.outer.Outer.len.Goals as goal
+use Rattle.cbor_diag.proofs.parse.binary.skip.packed.Packed.len.Goals as goal
 
 pub returns-clause-count : goal.returns-clause-count
 returns-clause-count c =

@@ -1,6 +1,6 @@
 use Rattle.std.proofs.Common.{◌-◌, arith, sym, ◌∙◌}
 use Rattle.cbor_diag.proofs.skipping.OpenStacks.{stack_pop}
-use Rattle.cbor_diag.proofs.parse.binary.skip.outer.Outer.pop.Goals as goal
+use Rattle.cbor_diag.proofs.parse.binary.skip.packed.Packed.pop.Goals as goal
 
 pub returns-clause-some : goal.returns-clause-some
 returns-clause-some c =
