@@ -6,6 +6,7 @@ use crate::extent::{CHANGES, CUTS, FAULTS, ITEMS, front};
 use crate::samples::SAMPLES;
 use cbor_diag::{Error, Extent, Scanner, extent};
 use std::alloc::Global;
+use std::mem::size_of;
 use std::process::Abort;
 use std::test::Fail;
 
@@ -89,6 +90,11 @@ fn examples_in_short_pieces(rt: HostRuntime) {
     for bytes in CUTS {
         check_pieces(&rt, bytes);
     }
+}
+
+#[test]
+fn a_scanner_takes_less_than_2_kb(rt: HostRuntime) {
+    assert!(rt; size_of::<Scanner>() < 2048);
 }
 
 #[test]

@@ -8,7 +8,7 @@ use Rattle.std.proofs.lemmas.Bool.Decides.{nat_tests}
 use Rattle.hex.specs.Hex.{is_hex_digit}
 use Rattle.std.specs.Str.Lines.{strip_carriage_return}
 use Rattle.std.proofs.lemmas.Bool.{ne_eqb, eq-eqb, eqb-true, cases_lt, or_cases, or_left, or_right}
-use Rattle.std.proofs.lemmas.List.{length-append, append-nil, drop_all, drop_at, length-take-le, take-append-drop, take_all}
+use Rattle.std.proofs.lemmas.List.{length-append, append-nil, drop_all, length-take-le, take-append-drop, take_all}
 use Rattle.std.proofs.lemmas.List.{length-drop, drop_more, take_at}
 use Rattle.std.proofs.lemmas.List.Elements.{filter-append}
 use Rattle.std.proofs.lemmas.List.Sums.{fails_before_first, passes_at_first, position_or_len_is}

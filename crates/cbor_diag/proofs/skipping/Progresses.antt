@@ -1,9 +1,8 @@
 -- Skipping over an item piece by piece: what every byte adds.
-use Rattle.std.proofs.Common.{◌≡◌, ℕ, ◌+◌, ◌-◌, ◌<◌, ◌≤◌, List, [], ◌∷◌, ◌++◌, length, get_or, drop, Some, refl, sym, ap, subst, ◌∙◌}
+use Rattle.std.proofs.Common.{◌≡◌, ℕ, ◌+◌, ◌-◌, ◌<◌, ◌≤◌, List, [], ◌∷◌, ◌++◌, length, get_or, drop, Some, sym, ap, subst, ◌∙◌}
 use Rattle.std.proofs.Common.{append_assoc, arith}
 use Rattle.std.proofs.lemmas.List.{append-nil, length-append, length-take}
 use Rattle.cbor_diag.specs.declared.error.Error.{Error}
-use Rattle.cbor_diag.specs.declared.error.Error.TheVariants as refusal
 use Rattle.cbor_diag.specs.declared.parse.binary.skip.Stop.{Stop}
 use Rattle.cbor_diag.specs.declared.parse.binary.skip.Stop.TheVariants as stops
 use Rattle.cbor_diag.specs.declared.parse.binary.skip.due.Due.TheVariants as due
@@ -14,9 +13,9 @@ use Rattle.cbor_diag.specs.declared.parse.binary.skip.to_come.ToCome.{ToCome}
 use Rattle.cbor_diag.specs.Item.{no_items}
 use Rattle.cbor_diag.specs.Reading.{items_in}
 use Rattle.cbor_diag.specs.WellFormed.{deepest}
-use Rattle.cbor_diag.specs.mirror.Skipping.{Skip, here, Goes, Shows, skip_item, frame_of, argument_of, skip_open}
+use Rattle.cbor_diag.specs.mirror.Skipping.{Skip, here, Goes, Shows, skip_item, frame_of, argument_of}
 use Rattle.cbor_diag.specs.mirror.Scanning.{skip_from, Waits, PausesSo, PausesIn, IsFew}
-use Rattle.cbor_diag.specs.mirror.Scanned.{skip_rest, EndsSo, StopsAt}
+use Rattle.cbor_diag.specs.mirror.Scanned.{EndsSo, StopsAt}
 use Rattle.cbor_diag.proofs.skipping.Skips.{goes_at, goes_then, shows_then, no_item, behind_first, first_is, empty_is}
 use Rattle.cbor_diag.proofs.skipping.SkippedParts.{first_goes}
 use Rattle.cbor_diag.proofs.skipping.Scans.{waits_then}

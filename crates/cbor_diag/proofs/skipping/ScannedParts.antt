@@ -1,18 +1,17 @@
 -- What is still to come in open containers, where the bytes come in pieces.
-use Rattle.std.proofs.Common.{◌≡◌, ℕ, ◌+◌, ◌-◌, ◌<◌, ◌≤◌, List, [], ◌∷◌, ◌++◌, length, None, Ok, Err, refl, sym, ap, subst, ◌∙◌}
+use Rattle.std.proofs.Common.{◌≡◌, ℕ, ◌+◌, ◌-◌, ◌<◌, ◌≤◌, List, ◌∷◌, ◌++◌, length, None, Ok, Err, refl, ap, ◌∙◌}
 use Rattle.std.proofs.Common.{append_assoc, arith}
-use Rattle.std.proofs.lemmas.List.{append-nil, length-append}
+use Rattle.std.proofs.lemmas.List.{length-append}
 use Rattle.cbor_diag.specs.declared.error.Error.{Error}
 use Rattle.cbor_diag.specs.declared.error.Error.TheVariants as refusal
 use Rattle.cbor_diag.specs.declared.parse.binary.skip.Stop.TheVariants as stops
-use Rattle.cbor_diag.specs.declared.parse.binary.skip.due.Due.{Due}
 use Rattle.cbor_diag.specs.declared.parse.binary.skip.due.Due.TheVariants as due
 use Rattle.cbor_diag.specs.declared.parse.binary.skip.due.Pause.{Pause}
 use Rattle.cbor_diag.specs.declared.parse.binary.skip.due.Pause.TheVariants as pause
 use Rattle.cbor_diag.specs.declared.parse.binary.skip.to_come.ToCome.{ToCome}
 use Rattle.cbor_diag.specs.WellFormed.{deepest}
 use Rattle.cbor_diag.specs.Reading.{◌>>=◌, after_end}
-use Rattle.cbor_diag.specs.mirror.Skipping.{Skip, here, Goes, Shows, StopsSo, skip_item, frame_of, closing, skip_open}
+use Rattle.cbor_diag.specs.mirror.Skipping.{Skip, Goes, Shows, skip_item, frame_of, closing, skip_open}
 use Rattle.cbor_diag.specs.mirror.Scanning.{skip_due, skip_from, Waits, PausesSo, PausesIn}
 use Rattle.cbor_diag.proofs.skipping.Skips.{goes_then, goes_within, goes_here, shows_then, stops_within}
 use Rattle.cbor_diag.proofs.skipping.SkippedParts.{wanted, wanted_err, next_same, part_goes, part_stops, Next}

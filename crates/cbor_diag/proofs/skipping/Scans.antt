@@ -1,6 +1,6 @@
 -- Contents of strings that come in pieces, and what is due after some of their bytes.
 use Rattle.std.proofs.Common.{◌≡◌, ℕ, zero, suc, ◌+◌, ◌-◌, ◌^◌, ◌<◌, ◌≤◌, Bool, true, false, if◌then◌else◌, List, [], ◌∷◌, ◌++◌}
-use Rattle.std.proofs.Common.{length, get_or, take, drop, Ok, Err, ◌⊎◌, inl, inr, refl, sym, ap, subst, ◌∙◌, append_assoc}
+use Rattle.std.proofs.Common.{length, get_or, take, drop, Ok, Err, ◌⊎◌, inl, inr, refl, sym, ap, subst, ◌∙◌}
 use Rattle.std.proofs.Common.{arith, ltb}
 use Rattle.std.specs.Prelude.{IsUtf8}
 use Rattle.std.specs.Str.{is_utf8, IsValidUpTo}
@@ -24,14 +24,14 @@ use Rattle.cbor_diag.specs.declared.parse.binary.skip.due.Pause.TheVariants as p
 use Rattle.cbor_diag.specs.StringKind.{StringKind, bytes_kind, text_kind, IsContent}
 use Rattle.cbor_diag.specs.Reading.{◌>>=◌, read_head, read_argument}
 use Rattle.cbor_diag.specs.mirror.StringView.{kind_view}
-use Rattle.cbor_diag.specs.mirror.Skipping.{Skip, rest_of, here, Goes, Shows, skip_content, skip_chunks, stop_of}
+use Rattle.cbor_diag.specs.mirror.Skipping.{Skip, rest_of, Goes, Shows, skip_content, skip_chunks, stop_of}
 use Rattle.cbor_diag.specs.mirror.Scanning.{WholeChars, then_chunks, skip_bad, skip_due, Waits, PausesSo}
 use Rattle.cbor_diag.proofs.bytes.Heads.{IsBytes}
 use Rattle.cbor_diag.proofs.bytes.StringRefusals.{bad_content, content_refuses}
 use Rattle.cbor_diag.proofs.bytes.HeadRefusals.{InfoRefusal, cut_info, bad_info, info_refused}
 use Rattle.cbor_diag.proofs.bytes.HeadRefusals.{HeadRefusal, no_head, short_head, bad_head, head_refused}
 use Rattle.cbor_diag.specs.Refused.{CutHead, cut_head}
-use Rattle.cbor_diag.proofs.skipping.Skips.{goes_at, goes_then, goes_within, shows_then, content_cut, content_goes, stops_within, more_keeps}
+use Rattle.cbor_diag.proofs.skipping.Skips.{goes_at, goes_then, shows_then, content_cut, content_goes, stops_within, more_keeps}
 
 -- ---- contents
 

@@ -11,8 +11,7 @@ use Rattle.cbor_diag.specs.declared.parse.binary.skip.Stop.TheVariants as stops
 use Rattle.cbor_diag.specs.declared.parse.binary.skip.Chunk.{Chunk}
 use Rattle.cbor_diag.specs.declared.parse.binary.skip.Chunk.TheVariants as chunks
 use Rattle.cbor_diag.specs.declared.parse.binary.skip.to_come.ToCome.{ToCome}
-use Rattle.cbor_diag.specs.declared.parse.binary.skip.to_come.Parts.{Parts}
-use Rattle.cbor_diag.specs.declared.parse.binary.skip.to_come.Parts.TheVariants as parts
+use Rattle.cbor_diag.specs.declared.parse.binary.skip.to_come.ToCome.TheVariants as to_come
 use Rattle.cbor_diag.specs.Item.{Item, atom, simple, no_items, no_pairs}
 use Rattle.cbor_diag.specs.ItemHead.{ItemHead}
 use Rattle.cbor_diag.specs.WellFormed.{deepest}
@@ -109,16 +108,10 @@ emptied (value_of ps k left) = value_of no_pairs some_item (any_width left)
 emptied (tag_of t w) = items_in no_items (number 1 Zero)
 emptied (tagged_with t w i) = items_in no_items (number 0 Zero)
 
-abbrev pub frame_with : Parts → ℕ → Frame
-frame_with parts.Items n = items_in no_items (argument_of (Some n))
-frame_with parts.Pairs n = pairs_in no_pairs (argument_of (Some n))
-frame_with parts.Value n = value_of no_pairs some_item (argument_of (Some n))
-frame_with parts.ItemsToBreak n = items_in no_items (argument_of None)
-frame_with parts.PairsToBreak n = pairs_in no_pairs (argument_of None)
-frame_with parts.ValueToBreak n = value_of no_pairs some_item (argument_of None)
-
 abbrev pub frame_of : ToCome → Frame
-frame_of t = frame_with t.parts t.count
+frame_of (to_come.Items left) = items_in no_items (argument_of left)
+frame_of (to_come.Pairs left) = pairs_in no_pairs (argument_of left)
+frame_of (to_come.Value left) = value_of no_pairs some_item (argument_of left)
 
 -- the parts, with `left` levels left for each
 abbrev pub skip_frame : ℕ → Frame → List ℕ → Skip

@@ -8,6 +8,7 @@ mod containers;
 mod due;
 mod held;
 mod outer;
+mod packed;
 mod progress;
 mod scanner;
 mod to_come;
@@ -152,6 +153,7 @@ fn after_chunks(kind: StringKind, bytes: &[u8]) -> Result<&[u8], Stop>
 }
 
 /// The head of an item with `levels` left for it, and the bytes after it.
+#[inline(always)]
 fn read_item_head(bytes: &[u8], levels: usize) -> Result<(ItemHead, &[u8]), Stop>
     ensures goes { IfOk result (λ x.
         Goes (skip_item levels) (skip_body (levels - 1) (head_view x.0)) bytes.now x.1.now) }
@@ -204,7 +206,9 @@ fn after_atom(head: ItemHead, bytes: &[u8]) -> Result<&[u8], Stop>
 }
 
 /// What is still to come of an item with `levels` left for it, and the bytes after its head: all of
-/// a container if the head opens one, otherwise nothing.
+/// a container if the head opens one, otherwise nothing. Inlined into the loop of `extent` and into
+/// that of a `Scanner`.
+#[inline(always)]
 fn read_part(bytes: &[u8], levels: usize) -> Result<(Option<ToCome>, &[u8]), Stop>
     ensures goes { IfOk result
         (λ x. Goes (skip_item levels) (begun (levels - 1) x.0) bytes.now x.1.now) }

@@ -6,15 +6,15 @@ ghost use Rattle.cbor_diag.specs.mirror.Skipping.{argument_of, frame_of, here, G
 ghost use Rattle.cbor_diag.specs.mirror.Scanning.{PausesIn};
 
 use super::due::{Due, Pause, after_atom_due};
-use super::outer::Outer;
+use super::packed::Packed;
 use super::to_come::ToCome;
-use super::{Stop, read_item_head};
+use super::{Stop, read_item_head, read_part};
 use crate::syntax::DEEPEST;
 
 /// The innermost container, and the open ones around it.
 #[derive(Drop)]
 pub(super) struct Containers {
-    outer: Outer,
+    outer: Packed,
     top: ToCome,
 }
 
@@ -25,12 +25,14 @@ impl Containers {
         ensures top { frame_of result.top ≡ items_in no_items (argument_of (Some 1)) }
     {
         Containers {
-            outer: Outer::new(),
+            outer: Packed::new(),
             top: ToCome::one(),
         }
     }
 
-    /// The bytes after the next part, or after its head if that opens a container.
+    /// The bytes after the next part, or after its head if that opens a container. Not inlined: it
+    /// is called once for each piece.
+    #[inline(never)]
     fn after_part<'a>(&mut self, bytes: &'a [u8]) -> Result<&'a [u8], Pause<'a>>
         requires { None ≡ after_end (frame_of self.old.top) bytes.now }
         ensures goes { IfOk result (λ rest. Goes (skip_open self.old.outer self.old.top)
@@ -64,15 +66,31 @@ impl Containers {
             (skip_open self.old.outer self.old.top) bytes.now pause) }
     {
         let mut rest = bytes;
+        let mut top = self.top;
         'turns: loop {
-            if let Some(after) = self.top.after_end(rest) {
+            if let Some(after) = top.after_end(rest) {
                 rest = after;
                 let Some(open) = self.outer.pop() else {
                     return Ok(rest);
                 };
-                self.top = open;
+                top = open;
             } else {
-                rest = self.after_part(rest)?;
+                match read_part(rest, usize::from(DEEPEST) - self.outer.len()) {
+                    Ok((parts, after)) => {
+                        rest = after;
+                        top = top.after_part();
+                        if let Some(parts) = parts {
+                            self.outer.push(top);
+                            top = parts;
+                        }
+                    }
+                    // Once for each piece: the same part again, to find what is due.
+                    Err(_) => {
+                        self.top = top;
+                        rest = self.after_part(rest)?;
+                        top = self.top;
+                    }
+                }
             }
         }
     }

@@ -2,7 +2,7 @@
 ghost use Rattle.std.specs.Prelude.{◌≡◌, ◌<◌, ◌≤◌, [], ◌∷◌, ◌++◌, length, IfSome, Some, None};
 ghost use Rattle.cbor_diag.specs.WellFormed.{deepest};
 
-use super::to_come::{Parts, ToCome};
+use super::to_come::ToCome;
 use crate::syntax::DEEPEST;
 use std::marker::Model;
 
@@ -12,21 +12,19 @@ const CAPACITY: usize = DEEPEST as usize;
 /// The open containers around the innermost one, the outermost first.
 #[derive(Drop)]
 pub(super) struct Outer {
-    parts: [Parts; CAPACITY],
-    counts: [u64; CAPACITY],
+    open: [ToCome; CAPACITY],
     len: usize,
 }
 
 impl Model for Outer {
     ghost use Rattle.std.specs.Prelude.{◌≡◌, ◌≤◌, List, length, take};
     ghost use Rattle.cbor_diag.specs.declared.parse.binary.skip.to_come.ToCome.{ToCome};
-    ghost use Rattle.cbor_diag.specs.mirror.OpenStack.{with_counts};
 
     ghost Value = { List ToCome };
 
-    ghost view = { λ s. with_counts (take s.len s.parts) (take s.len s.counts) };
+    ghost view = { λ s. take s.len s.«open» };
 
-    ghost invariant = { λ s. (s.len ≤ 128) × (length s.parts ≡ 128) × (length s.counts ≡ 128) };
+    ghost invariant = { λ s. (s.len ≤ 128) × (length s.«open» ≡ 128) };
 }
 
 impl Outer {
@@ -35,8 +33,7 @@ impl Outer {
         ensures { result ≡ [] }
     {
         Outer {
-            parts: [Parts::Items; CAPACITY],
-            counts: [0; CAPACITY],
+            open: [ToCome::one(); CAPACITY],
             len: 0,
         }
     }
@@ -50,12 +47,11 @@ impl Outer {
     }
 
     /// Opens one more, the innermost of them.
-    pub(super) fn push(&mut self, open: ToCome)
+    pub(super) fn push(&mut self, parts: ToCome)
         requires { length self.old < deepest }
-        ensures { self.new ≡ self.old ++ «open» ∷ [] }
+        ensures { self.new ≡ self.old ++ parts ∷ [] }
     {
-        self.parts[self.len] = open.parts;
-        self.counts[self.len] = open.count;
+        self.open[self.len] = parts;
         self.len += 1;
     }
 
@@ -68,8 +64,6 @@ impl Outer {
             return None;
         }
         self.len -= 1;
-        let parts = self.parts[self.len];
-        let count = self.counts[self.len];
-        Some(ToCome { parts, count })
+        Some(self.open[self.len])
     }
 }

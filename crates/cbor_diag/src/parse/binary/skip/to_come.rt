@@ -1,46 +1,71 @@
 //! What is still to come in an open container.
 ghost use Rattle.std.specs.Prelude.{◌≡◌, Some, option_map};
 ghost use Rattle.cbor_diag.specs.Item.{no_items};
-ghost use Rattle.cbor_diag.specs.Reading.{items_in, put, after_members, after_end};
+ghost use Rattle.cbor_diag.specs.Reading.{items_in, put, after_members, after_end, one_less};
 ghost use Rattle.cbor_diag.specs.Reading.{opened};
-ghost use Rattle.cbor_diag.specs.mirror.HeadView.{head_view};
-ghost use Rattle.cbor_diag.specs.mirror.Skipping.{argument_of, frame_of, emptied};
+ghost use Rattle.cbor_diag.specs.mirror.HeadView.{argument_view, head_view};
+ghost use Rattle.cbor_diag.specs.mirror.Skipping.{argument_of, any_width, frame_of, emptied};
 ghost use Rattle.cbor_diag.specs.mirror.Skipping.{some_item};
+ghost use Rattle.cbor_diag.specs.mirror.OpenStack.{to_come_of};
 
 use super::super::argument::{Argument, after_break};
 use super::super::head::ItemHead;
 
-/// Which parts are still to come: a number of them, or all up to a break.
+/// How many parts are still to come, or `None` for all up to a break.
+type Count = Option<u64>;
+
+/// What is still to come in an open container.
 #[derive(Clone, Copy)]
-pub(super) enum Parts {
+pub(super) enum ToCome {
     /// The members of an array, or the item of a tag.
-    Items,
+    Items(Count),
     /// The pairs of a map.
-    Pairs,
+    Pairs(Count),
     /// The value of a key that was read, and then pairs.
+    Value(Count),
+}
+
+/// The kind of what is still to come, without a number. A stack of kinds and one of numbers take
+/// less room than one of [`ToCome`].
+#[derive(Clone, Copy)]
+pub(super) enum Kind {
+    Items,
+    Pairs,
     Value,
     ItemsToBreak,
     PairsToBreak,
     ValueToBreak,
 }
 
-/// What is still to come in an open container. A kind and a number are apart, so that a stack of
-/// them takes little room.
-#[derive(Clone, Copy)]
-pub(super) struct ToCome {
-    pub(super) parts: Parts,
-    /// How many, without the value of a key; 0 up to a break.
-    pub(super) count: u64,
+/// The parts of a container of that length.
+fn parts_of(len: Argument) -> Count
+    ensures { argument_of result ≡ any_width (argument_view len) }
+{
+    match len {
+        Argument::Number(count, _) => Some(count),
+        Argument::Indefinite => None,
+    }
 }
 
 /// The bytes after the parts, if none is to come.
-fn after_parts(count: u64, bytes: &[u8]) -> Option<&[u8]>
-    ensures { option_map (λ x. x.now) result ≡ after_members (argument_of (Some count)) bytes.now }
+fn after_parts(count: Count, bytes: &[u8]) -> Option<&[u8]>
+    ensures { option_map (λ x. x.now) result ≡ after_members (argument_of count) bytes.now }
 {
-    if count == 0 {
-        return Some(bytes);
+    match count {
+        Some(0) => Some(bytes),
+        Some(_) => None,
+        None => after_break(bytes),
     }
-    None
+}
+
+/// One part less.
+fn one_less(count: Count) -> Count
+    ensures { argument_of result ≡ one_less (argument_of count) }
+{
+    match count {
+        Some(parts) => Some(parts.saturating_sub(1)),
+        None => None,
+    }
 }
 
 impl ToCome {
@@ -48,33 +73,56 @@ impl ToCome {
     pub(super) fn one() -> ToCome
         ensures { frame_of result ≡ items_in no_items (argument_of (Some 1)) }
     {
-        let parts = Parts::Items;
-        ToCome { parts, count: 1 }
+        ToCome::Items(Some(1))
+    }
+
+    /// What is to come of that kind, and as many; the number counts for nothing up to a break.
+    pub(super) fn of(kind: Kind, count: u64) -> ToCome
+        ensures { result ≡ to_come_of kind count }
+    {
+        match kind {
+            Kind::Items => ToCome::Items(Some(count)),
+            Kind::Pairs => ToCome::Pairs(Some(count)),
+            Kind::Value => ToCome::Value(Some(count)),
+            Kind::ItemsToBreak => ToCome::Items(None),
+            Kind::PairsToBreak => ToCome::Pairs(None),
+            Kind::ValueToBreak => ToCome::Value(None),
+        }
+    }
+
+    /// Its kind, and its number or 0.
+    pub(super) fn split(self) -> (Kind, u64)
+        ensures { to_come_of result.0 result.1 ≡ self }
+    {
+        match self {
+            ToCome::Items(Some(count)) => (Kind::Items, count),
+            ToCome::Pairs(Some(count)) => (Kind::Pairs, count),
+            ToCome::Value(Some(count)) => (Kind::Value, count),
+            ToCome::Items(None) => (Kind::ItemsToBreak, 0),
+            ToCome::Pairs(None) => (Kind::PairsToBreak, 0),
+            ToCome::Value(None) => (Kind::ValueToBreak, 0),
+        }
     }
 
     /// All of the container that a head opens, or `None` if it opens none.
     pub(super) fn new(head: ItemHead) -> Option<ToCome>
         ensures { option_map frame_of result ≡ option_map emptied (opened (head_view head)) }
     {
-        let (parts, count) = match head {
-            ItemHead::Array(Argument::Number(count, _)) => (Parts::Items, count),
-            ItemHead::Array(Argument::Indefinite) => (Parts::ItemsToBreak, 0),
-            ItemHead::Map(Argument::Number(count, _)) => (Parts::Pairs, count),
-            ItemHead::Map(Argument::Indefinite) => (Parts::PairsToBreak, 0),
-            ItemHead::Tag(..) => (Parts::Items, 1),
-            _ => return None,
-        };
-        Some(ToCome { parts, count })
+        match head {
+            ItemHead::Array(len) => Some(ToCome::Items(parts_of(len))),
+            ItemHead::Map(len) => Some(ToCome::Pairs(parts_of(len))),
+            ItemHead::Tag(..) => Some(ToCome::one()),
+            _ => None,
+        }
     }
 
     /// The bytes after the container, if it ends here.
     pub(super) fn after_end(self, bytes: &[u8]) -> Option<&[u8]>
         ensures { option_map (λ x. x.now) result ≡ after_end (frame_of self) bytes.now }
     {
-        match self.parts {
-            Parts::Items | Parts::Pairs => after_parts(self.count, bytes),
-            Parts::ItemsToBreak | Parts::PairsToBreak => after_break(bytes),
-            Parts::Value | Parts::ValueToBreak => None,
+        match self {
+            ToCome::Items(count) | ToCome::Pairs(count) => after_parts(count, bytes),
+            ToCome::Value(_) => None,
         }
     }
 
@@ -82,15 +130,10 @@ impl ToCome {
     pub(super) fn after_part(self) -> ToCome
         ensures { frame_of result ≡ emptied (put (frame_of self) some_item) }
     {
-        let less = self.count.saturating_sub(1);
-        let (parts, count) = match self.parts {
-            Parts::Items => (Parts::Items, less),
-            Parts::Pairs => (Parts::Value, less),
-            Parts::Value => (Parts::Pairs, self.count),
-            Parts::ItemsToBreak => (Parts::ItemsToBreak, 0),
-            Parts::PairsToBreak => (Parts::ValueToBreak, 0),
-            Parts::ValueToBreak => (Parts::PairsToBreak, 0),
-        };
-        ToCome { parts, count }
+        match self {
+            ToCome::Items(count) => ToCome::Items(one_less(count)),
+            ToCome::Pairs(count) => ToCome::Value(one_less(count)),
+            ToCome::Value(count) => ToCome::Pairs(count),
+        }
     }
 }

@@ -1,5 +1,4 @@
 use Rattle.std.proofs.Common.{◌≡◌, ◌≢◌, ℕ, ◌/◌, ◌%◌, ◌≤◌, List, ◌∷◌, get_or, length, Ok, Err, subst, ap, sym, ◌∙◌, arith}
-use Rattle.std.proofs.lemmas.Result.{err_from_is_err_and}
 use Rattle.cbor_diag.specs.declared.syntax.IntegerWidth.{IntegerWidth}
 use Rattle.cbor_diag.specs.declared.error.Error.TheVariants.{Head}
 use Rattle.cbor_diag.specs.Argument.{number}
@@ -10,8 +9,8 @@ use Rattle.cbor_diag.specs.mirror.HeadErrors.{head_error}
 use Rattle.cbor_diag.specs.mirror.Skipping.{here, Goes, Shows, StopsSo, stop_of, skip_content, skip_chunks}
 use Rattle.cbor_diag.specs.mirror.StringView.{kind_view}
 use Rattle.cbor_diag.proofs.bytes.Heads.{IsBytes, IsBytes-rest}
-use Rattle.cbor_diag.proofs.skipping.Skips.{goes_then, goes_within, stops_then, stops_within, break_goes, chunk_goes}
-use Rattle.cbor_diag.proofs.skipping.Skips.{kind_shows, indefinite_shows, info_stops, no_chunks, more_keeps}
+use Rattle.cbor_diag.proofs.skipping.Skips.{break_goes, chunk_goes}
+use Rattle.cbor_diag.proofs.skipping.Skips.{kind_shows, indefinite_shows, info_stops, no_chunks}
 use Rattle.cbor_diag.proofs.skipping.Skips.{behind_first, first_is, at_first, fits_first, empty_is}
 use Rattle.cbor_diag.proofs.skipping.Scans.{content_width, goes_to, argument_few, stop_few}
 use Rattle.cbor_diag.specs.declared.syntax.IntegerWidth.TheVariants.{Zero}

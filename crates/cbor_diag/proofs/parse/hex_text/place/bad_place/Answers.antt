@@ -1,7 +1,6 @@
-use Rattle.std.proofs.Common.{◌≡◌, ◌+◌, ◌-◌, Bool, true, false, List, ℕ, [], ◌∷◌, ◌++◌, length, get_or, take, drop, arith}
-use Rattle.std.proofs.Common.{refl, sym, ap, ◌∙◌, not}
-use Rattle.std.specs.List.{All, AllPass}
-use Rattle.std.specs.Char.{is_ascii_hexdigit}
+use Rattle.std.proofs.Common.{◌≡◌, true, ℕ, [], ◌∷◌, get_or, arith}
+use Rattle.std.proofs.Common.{sym, ap, ◌∙◌}
+use Rattle.std.specs.List.{AllPass}
 use Rattle.std.proofs.lemmas.List.Elements.{All-append}
 use Rattle.hex.specs.Hex.{is_hex_digit}
 use Rattle.cbor_diag.proofs.hex.Kept.{walk_starts, walk_steps, walk_ends, walk_place, walk_front, walk_byte}

@@ -1,4 +1,4 @@
-use Rattle.std.proofs.Common.{◌+◌, ◌-◌, List, ℕ, length, arith, refl, sym, subst}
+use Rattle.std.proofs.Common.{◌-◌, List, ℕ, arith, refl, sym, subst}
 use Rattle.cbor_diag.specs.declared.error.Error.TheVariants as refusal
 use Rattle.cbor_diag.specs.HexText.{AreHexDigits, IsHexFault}
 use Rattle.cbor_diag.proofs.hex.Kept.{bad_digit, bad_not_all, odd_digits}

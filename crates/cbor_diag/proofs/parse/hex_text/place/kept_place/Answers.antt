@@ -1,4 +1,4 @@
-use Rattle.std.proofs.Common.{◌≡◌, ◌+◌, ◌-◌, List, ℕ, [], ◌∷◌, ◌++◌, length, get_or, take, drop, arith, refl, sym, ap}
+use Rattle.std.proofs.Common.{◌≡◌, ◌+◌, ◌-◌, List, ℕ, [], ◌∷◌, length, get_or, arith, refl}
 use Rattle.std.proofs.lemmas.List.{length-append}
 use Rattle.cbor_diag.proofs.hex.Kept.{walk_starts, walk_steps, walk_ends, walk_place, walk_front, kept_shorter}
 use Rattle.cbor_diag.proofs.hex.Kept.{steps_shorter, place_count}

@@ -1,8 +1,8 @@
-use Rattle.std.proofs.Common.{ap, arith, subst}
+use Rattle.std.proofs.Common.{arith}
 use Rattle.std.proofs.lemmas.Result.{err_from_is_err_and}
 use Rattle.cbor_diag.specs.declared.syntax.IntegerWidth.TheVariants.{Zero}
 use Rattle.cbor_diag.specs.Reading.{◌>>=◌}
-use Rattle.cbor_diag.specs.mirror.Skipping.{Goes, skip_content, skip_chunks, after_chunk_length}
+use Rattle.cbor_diag.specs.mirror.Skipping.{skip_content, skip_chunks}
 use Rattle.cbor_diag.specs.mirror.StringView.{kind_view}
 use Rattle.cbor_diag.proofs.skipping.Skips.{goes_then, goes_within, shows_then}
 use Rattle.cbor_diag.proofs.skipping.Scans.{pauses_then}

@@ -1,4 +1,3 @@
-use Rattle.std.proofs.Common.{arith}
 use Rattle.cbor_diag.specs.declared.syntax.IntegerWidth.TheVariants.{Zero}
 use Rattle.cbor_diag.specs.mirror.StringView.{kind_view}
 use Rattle.cbor_diag.proofs.skipping.Scans.{content_longer, chunked_shows}

@@ -1,4 +1,4 @@
-use Rattle.std.proofs.Common.{◌-◌, List, ℕ, length, drop, sym, subst, arith}
+use Rattle.std.proofs.Common.{arith}
 use Rattle.cbor_diag.proofs.skipping.Scans.{bytes_wait}
 use Rattle.cbor_diag.proofs.parse.binary.skip.due.unfinished.Goals as goal
 

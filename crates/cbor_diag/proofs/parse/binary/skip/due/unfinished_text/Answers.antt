@@ -1,7 +1,6 @@
-use Rattle.std.proofs.Common.{◌-◌, List, ℕ, length, drop, sym, subst, arith}
+use Rattle.std.proofs.Common.{◌-◌, length, arith}
 use Rattle.std.proofs.lemmas.List.{take_rest, length-drop}
 use Rattle.cbor_diag.specs.declared.syntax.strings.StringKind.TheVariants.{Text}
-use Rattle.cbor_diag.specs.mirror.Scanning.{Waits, skip_due}
 use Rattle.cbor_diag.proofs.skipping.Scans.{content_waits, bad_waits}
 use Rattle.cbor_diag.proofs.parse.binary.skip.due.unfinished_text.Goals as goal
 

@@ -1,4 +1,3 @@
-use Rattle.std.proofs.Common.{length, take, ap, sym, arith}
 use Rattle.cbor_diag.proofs.skipping.Scans.{whole_chars_are}
 use Rattle.cbor_diag.proofs.parse.binary.skip.due.whole_chars.Goals as goal
 

@@ -7,5 +7,5 @@ decreases-turns l = 2 * length l.rest + length l.self.outer
 
 abbrev pub invariant-turns : goal.invariant-turns
 invariant-turns l = record {
-  goes : Goes (skip_open l.fn.self.outer l.fn.self.top) (skip_open l.self.outer l.self.top) l.bytes l.rest;
+  goes : Goes (skip_open l.fn.self.outer l.fn.self.top) (skip_open l.self.outer l.top) l.bytes l.rest;
 }

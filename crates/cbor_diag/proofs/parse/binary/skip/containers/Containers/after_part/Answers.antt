@@ -1,17 +1,14 @@
-use Rattle.std.proofs.Common.{◌≡◌, ◌-◌, ℕ, List, length, None, ap, sym, subst, arith, ◌∙◌}
+use Rattle.std.proofs.Common.{◌≡◌, ◌-◌, ℕ, length, ap, sym, subst, arith, ◌∙◌}
 use Rattle.std.specs.Prelude.{option_map}
 use Rattle.std.proofs.lemmas.List.{length-append}
 use Rattle.std.proofs.lemmas.Result.{IfOk-weaker, IfErr-weaker}
 use Rattle.cbor_diag.specs.declared.parse.binary.skip.Stop.TheVariants as stops
-use Rattle.cbor_diag.specs.declared.parse.binary.skip.Stop.{Stop}
 use Rattle.cbor_diag.specs.WellFormed.{deepest}
-use Rattle.cbor_diag.specs.ItemHead.{ItemHead, string}
-use Rattle.cbor_diag.specs.mirror.HeadView.{argument_view, head_view}
-use Rattle.cbor_diag.specs.mirror.StringView.{kind_view}
-use Rattle.cbor_diag.specs.mirror.Skipping.{here, Goes, StopsSo, skip_item, skip_body, begun, frame_of}
+use Rattle.cbor_diag.specs.mirror.HeadView.{head_view}
+use Rattle.cbor_diag.specs.mirror.Skipping.{Goes, StopsSo, skip_item, skip_body, frame_of}
 use Rattle.cbor_diag.proofs.skipping.Skips.{goes_then}
 use Rattle.cbor_diag.proofs.skipping.SkippedParts.{part_stops, whole_goes, opens_goes, opened_goes}
-use Rattle.cbor_diag.proofs.skipping.ScannedParts.{string_goes, string_pauses, part_waits}
+use Rattle.cbor_diag.proofs.skipping.ScannedParts.{string_pauses, part_waits}
 use Rattle.cbor_diag.proofs.parse.binary.skip.containers.Containers.after_part.Goals as goal
 
 pub returns-in-Err-Cut-clause-pauses : goal.returns-in-Err-Cut-clause-pauses

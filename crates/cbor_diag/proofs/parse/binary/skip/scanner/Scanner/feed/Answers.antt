@@ -1,9 +1,7 @@
-use Rattle.std.proofs.Common.{◌≡◌, ℕ, List, ◌++◌, sym, subst, ap, ◌∙◌, arith}
-use Rattle.cbor_diag.specs.declared.parse.binary.skip.answer.Extent.TheVariants as extent
+use Rattle.std.proofs.Common.{ℕ, List, ◌++◌, sym, subst, ◌∙◌, arith}
 use Rattle.cbor_diag.specs.Extent.{IsExtent}
-use Rattle.cbor_diag.specs.Scanning.{HasScanned, IsAnswer}
-use Rattle.cbor_diag.proofs.bytes.Heads.{IsBytes}
-use Rattle.cbor_diag.proofs.skipping.ScanAnswers.{answer_extent, answered_more, bytes_append, extent_once, scanned_extent}
+use Rattle.cbor_diag.specs.Scanning.{HasScanned}
+use Rattle.cbor_diag.proofs.skipping.ScanAnswers.{answered_more, bytes_append, extent_once, scanned_extent}
 use Rattle.cbor_diag.proofs.parse.binary.skip.scanner.Scanner.feed.Goals as goal
 
 pub returns-in-Cut-clause-answer : goal.returns-in-Cut-clause-answer

@@ -1,6 +1,5 @@
-use Rattle.std.proofs.Common.{◌≡◌, ◌+◌, ℕ, List, ◌++◌, length, sym, subst, ◌∙◌, arith}
+use Rattle.std.proofs.Common.{◌≡◌, ℕ, List, ◌++◌, length, sym, subst, ◌∙◌, arith}
 use Rattle.std.proofs.lemmas.List.{length-append}
-use Rattle.cbor_diag.specs.declared.parse.binary.skip.answer.Extent.{Extent}
 use Rattle.cbor_diag.specs.Scanning.{IsAnswer}
 use Rattle.cbor_diag.proofs.bytes.Heads.{IsBytes}
 use Rattle.cbor_diag.proofs.skipping.ScanAnswers.{bytes_append, scanned_more}
