@@ -7,8 +7,10 @@ ghost use Rattle.cbor_diag.specs.Answer.{RefusedSo};
 ghost use Rattle.cbor_convert.specs.Output.{Reads, Refuses, output_of, IsOutput};
 
 use crate::form::{Source, To};
-use cbor_diag::{DataItem, Error, bytes_to_bytes, bytes_to_diag, hex_to_bytes, hex_to_diag};
-use cbor_diag::{parse_bytes, parse_diag, parse_hex};
+use cbor_diag::{
+    DataItem, Error, bytes_to_bytes, bytes_to_diag, hex_to_bytes, hex_to_diag, parse_bytes,
+    parse_diag, parse_hex,
+};
 use std::alloc::Global;
 
 /// Reads one item from `input` in the form `from`, and returns it in the form `to`.
