@@ -20,7 +20,7 @@ fn check_pieces_of(rt: &impl Abort, bytes: &[u8], len: usize) {
     let mut scanner = Scanner::new();
     let mut end = 0;
     for piece in bytes.chunks(len.max(1)) {
-        end += piece.len();
+        end = end.saturating_add(piece.len());
         assert_eq!(rt;
             scanner.feed(piece),
             extent(front(bytes, end)),

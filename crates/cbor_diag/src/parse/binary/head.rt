@@ -168,7 +168,8 @@ impl ItemHead {
     }
 }
 
-/// The head at the front.
+/// The head at the front. Inlined into the loop of each reader.
+#[inline(always)]
 #[tactic(auto, unfolding(crate::specs::Reading::read_head))]
 pub(crate) fn read_head(bytes: &[u8]) -> Result<(ItemHead, &[u8])>
     ensures gives { Finds (λ x. (head_view x.0, x.1.now)) result (read_head bytes.now) }
