@@ -47,7 +47,7 @@ const ITEMS: &[(&str, &str)] = &[
 const REFUSED: &[(&str, &str, &str)] = &[
     ("", "CutShort", "cut"),
     ("820118", "CutShort", "cut"),
-    ("a1617801", "Remaining", "3 bytes: {\"x\":1}"),
+    ("a161780100", "Remaining", "4 bytes: {\"x\":1}"),
     ("0000", "Remaining", "1 bytes: 0"),
     ("82011f", "Head", "Head"),
     ("bf01ff", "Head", "Head"),
@@ -90,8 +90,18 @@ fn bytes_and_hex_are_shown(rt: HostRuntime) {
         check(&rt, of_bytes(rt.alloc(), digits), text, digits);
         check(&rt, hex_to_diag(rt.alloc(), digits), text, digits);
     }
-    check(&rt, appended(rt.alloc(), "a: ", "820102"), "a: [1,2]", "820102");
-    check(&rt, front(rt.alloc(), "82010203"), "3 bytes: [1,2]", "82010203");
+    check(
+        &rt,
+        appended(rt.alloc(), "a: ", "820102"),
+        "a: [1,2]",
+        "820102",
+    );
+    check(
+        &rt,
+        front(rt.alloc(), "82010203"),
+        "3 bytes: [1,2]",
+        "82010203",
+    );
 }
 
 #[test]
