@@ -74,10 +74,8 @@ fn of_pretty_text(rt: &impl Abort, alloc: Global) -> Result<(), Fail> {
 }
 
 fn of_shown_bytes(rt: &impl Abort, alloc: Global) -> Result<(), Fail> {
-    assert_eq!(rt;
-        bytes_to_diag(alloc, b"\x82\x01\x61a")?.as_str(),
-        "[1,\"a\"]"
-    );
+    let text = bytes_to_diag(alloc, b"\x82\x01\x61a")?;
+    assert_eq!(rt; text.as_str(), "[1,\"a\"]");
     assert_eq!(rt;
         bytes_to_diag(alloc, b"\x82\x01").err(),
         Some(Error::CutShort)
@@ -88,10 +86,8 @@ fn of_shown_bytes(rt: &impl Abort, alloc: Global) -> Result<(), Fail> {
 fn of_shown_parts(rt: &impl Abort, alloc: Global) -> Result<(), Fail> {
     // An array, and after it an integer that is cut.
     let mut out = String::new(alloc);
-    assert_eq!(rt;
-        push_bytes_to_diag_partial(alloc, b"\x81\x01\x19", &mut out)?,
-        Some(2)
-    );
+    let used = push_bytes_to_diag_partial(alloc, b"\x81\x01\x19", &mut out)?;
+    assert_eq!(rt; used, Some(2));
     assert_eq!(rt; push_bytes_to_diag_partial(alloc, b"\x19", &mut out)?, None);
     assert_eq!(rt; out.as_str(), "[1]");
     Ok(())

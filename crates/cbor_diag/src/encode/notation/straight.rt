@@ -68,7 +68,8 @@ fn push_whole(out: &mut String, alloc: Global, bytes: &[u8]) -> crate::Result<()
 /// ```rust
 /// use cbor_diag::{Error, bytes_to_diag};
 ///
-/// assert_eq!(rt; bytes_to_diag(alloc, b"\x82\x01\x61a")?.as_str(), "[1,\"a\"]");
+/// let text = bytes_to_diag(alloc, b"\x82\x01\x61a")?;
+/// assert_eq!(rt; text.as_str(), "[1,\"a\"]");
 /// assert_eq!(rt; bytes_to_diag(alloc, b"\x82\x01").err(), Some(Error::CutShort));
 /// ```
 ///
@@ -124,7 +125,8 @@ pub fn push_bytes_to_diag(alloc: Global, bytes: &[u8], out: &mut String) -> crat
 ///
 /// // An array, and after it an integer that is cut.
 /// let mut out = String::new(alloc);
-/// assert_eq!(rt; push_bytes_to_diag_partial(alloc, b"\x81\x01\x19", &mut out)?, Some(2));
+/// let used = push_bytes_to_diag_partial(alloc, b"\x81\x01\x19", &mut out)?;
+/// assert_eq!(rt; used, Some(2));
 /// assert_eq!(rt; push_bytes_to_diag_partial(alloc, b"\x19", &mut out)?, None);
 /// assert_eq!(rt; out.as_str(), "[1]");
 /// ```
