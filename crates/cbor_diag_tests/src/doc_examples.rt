@@ -76,10 +76,8 @@ fn of_pretty_text(rt: &impl Abort, alloc: Global) -> Result<(), Fail> {
 fn of_shown_bytes(rt: &impl Abort, alloc: Global) -> Result<(), Fail> {
     let text = bytes_to_diag(alloc, b"\x82\x01\x61a")?;
     assert_eq!(rt; text.as_str(), "[1,\"a\"]");
-    assert_eq!(rt;
-        bytes_to_diag(alloc, b"\x82\x01").err(),
-        Some(Error::CutShort)
-    );
+    let cut = bytes_to_diag(alloc, b"\x82\x01");
+    assert_eq!(rt; cut.err(), Some(Error::CutShort));
     Ok(())
 }
 

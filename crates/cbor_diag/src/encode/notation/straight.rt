@@ -70,7 +70,8 @@ fn push_whole(out: &mut String, alloc: Global, bytes: &[u8]) -> crate::Result<()
 ///
 /// let text = bytes_to_diag(alloc, b"\x82\x01\x61a")?;
 /// assert_eq!(rt; text.as_str(), "[1,\"a\"]");
-/// assert_eq!(rt; bytes_to_diag(alloc, b"\x82\x01").err(), Some(Error::CutShort));
+/// let cut = bytes_to_diag(alloc, b"\x82\x01");
+/// assert_eq!(rt; cut.err(), Some(Error::CutShort));
 /// ```
 ///
 /// [`parse_bytes`]: crate::parse_bytes
