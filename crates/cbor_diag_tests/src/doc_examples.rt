@@ -77,8 +77,8 @@ fn of_pretty_text(rt: &impl Abort, alloc: Global) -> Result<(), Fail> {
 fn of_shown_bytes(rt: &impl Abort, alloc: Global) -> Result<(), Fail> {
     let text = bytes_to_diag(alloc, b"\x82\x01\x61a")?;
     assert_eq!(rt; text.as_str(), "[1,\"a\"]");
-    let error = bytes_to_diag(alloc, b"\x82\x01").err();
-    assert_eq!(rt; error, Some(Error::CutShort));
+    let cut = bytes_to_diag(alloc, b"\x82\x01");
+    assert_eq!(rt; cut.err(), Some(Error::CutShort));
     Ok(())
 }
 
@@ -87,8 +87,7 @@ fn of_shown_parts(rt: &impl Abort, alloc: Global) -> Result<(), Fail> {
     let mut out = String::new(alloc);
     let used = push_bytes_to_diag_partial(alloc, b"\x81\x01\x19", &mut out)?;
     assert_eq!(rt; used, Some(2));
-    let used = push_bytes_to_diag_partial(alloc, b"\x19", &mut out)?;
-    assert_eq!(rt; used, None);
+    assert_eq!(rt; push_bytes_to_diag_partial(alloc, b"\x19", &mut out)?, None);
     assert_eq!(rt; out.as_str(), "[1]");
     Ok(())
 }

@@ -47,7 +47,7 @@ const ITEMS: &[(&str, &str)] = &[
 const REFUSED: &[(&str, &str, &str)] = &[
     ("", "CutShort", "cut"),
     ("820118", "CutShort", "cut"),
-    ("a1617801", "Remaining", "3 bytes: {\"x\":1}"),
+    ("a161780100", "Remaining", "4 bytes: {\"x\":1}"),
     ("0000", "Remaining", "1 bytes: 0"),
     ("82011f", "Head", "Head"),
     ("bf01ff", "Head", "Head"),

@@ -70,8 +70,8 @@ fn push_whole(out: &mut String, alloc: Global, bytes: &[u8]) -> crate::Result<()
 ///
 /// let text = bytes_to_diag(alloc, b"\x82\x01\x61a")?;
 /// assert_eq!(rt; text.as_str(), "[1,\"a\"]");
-/// let error = bytes_to_diag(alloc, b"\x82\x01").err();
-/// assert_eq!(rt; error, Some(Error::CutShort));
+/// let cut = bytes_to_diag(alloc, b"\x82\x01");
+/// assert_eq!(rt; cut.err(), Some(Error::CutShort));
 /// ```
 ///
 /// [`parse_bytes`]: crate::parse_bytes
@@ -128,8 +128,7 @@ pub fn push_bytes_to_diag(alloc: Global, bytes: &[u8], out: &mut String) -> crat
 /// let mut out = String::new(alloc);
 /// let used = push_bytes_to_diag_partial(alloc, b"\x81\x01\x19", &mut out)?;
 /// assert_eq!(rt; used, Some(2));
-/// let used = push_bytes_to_diag_partial(alloc, b"\x19", &mut out)?;
-/// assert_eq!(rt; used, None);
+/// assert_eq!(rt; push_bytes_to_diag_partial(alloc, b"\x19", &mut out)?, None);
 /// assert_eq!(rt; out.as_str(), "[1]");
 /// ```
 ///
