@@ -17,26 +17,33 @@ HEAP = $(KIT)/c/liblibc_c.a
 
 DIST = dist
 PROGRAM = $(DIST)/bin/cbor_view
+CAT = $(DIST)/bin/cborcat
 STATIC = $(DIST)/lib/libcbor_diag.a
 SHARED = $(DIST)/lib/libcbor_diag.so.0
 HEADER = $(DIST)/include/cbor_diag.h
 PKGCONFIG = $(DIST)/lib/pkgconfig/cbor_diag.pc
 MANUAL = $(DIST)/share/man/man1/cbor_view.1
+CAT_MANUAL = $(DIST)/share/man/man1/cborcat.1
+COMPLETION = $(DIST)/share/bash-completion/completions/cborcat
 
 sources = $(shell find $(wildcard $(1:%=crates/%/src) $(1:%=crates/%/specs) $(1:%=crates/%/proofs)) -type f) crates.txt
 BELOW = cbor_notes cbor_diag cbor_convert
 
-.PHONY: all program library install demo quick test check-docs check-bindings compare bench clean
+.PHONY: all program library install demo quick test check-cat check-docs check-bindings compare bench clean
 
-all: program library $(MANUAL)
+all: program library $(MANUAL) $(CAT_MANUAL) $(COMPLETION)
 
-program: $(PROGRAM)
+program: $(PROGRAM) $(CAT)
 
 library: $(STATIC) $(SHARED) $(HEADER) $(PKGCONFIG)
 
 $(PROGRAM): $(call sources,$(BELOW) cbor_view)
 	cd crates/cbor_view && rt run -- hex bytes < ../../examples/uri.hex > /dev/null
 	install -D -m 755 crates/cbor_view/out/cbor_view $@
+
+$(CAT): $(call sources,$(BELOW) cbor_inspect cborcat)
+	cd crates/cborcat && rt run -- -x 820102 > /dev/null
+	install -D -m 755 crates/cborcat/out/cborcat $@
 
 # One object, which exports the calls of the header alone.
 $(STATIC): $(call sources,$(BELOW) cbor_diag_c)
@@ -63,7 +70,16 @@ $(PKGCONFIG): bindings/c/cbor_diag.pc.in Makefile
 $(MANUAL): man/cbor_view.1
 	install -D -m 644 $< $@
 
+$(CAT_MANUAL): man/cborcat.1
+	install -D -m 644 $< $@
+
+$(COMPLETION): completion/cborcat.bash
+	install -D -m 644 $< $@
+
 install: all
+	install -D -m 755 $(CAT) $(DESTDIR)$(PREFIX)/bin/cborcat
+	install -D -m 644 $(CAT_MANUAL) $(DESTDIR)$(PREFIX)/share/man/man1/cborcat.1
+	install -D -m 644 $(COMPLETION) $(DESTDIR)$(PREFIX)/share/bash-completion/completions/cborcat
 	install -D -m 755 $(PROGRAM) $(DESTDIR)$(PREFIX)/bin/cbor_view
 	install -D -m 644 $(STATIC) $(DESTDIR)$(PREFIX)/lib/libcbor_diag.a
 	install -D -m 755 $(SHARED) $(DESTDIR)$(PREFIX)/lib/libcbor_diag.so.0
@@ -86,6 +102,10 @@ quick:
 # The gate.
 test:
 	rt ci
+
+# The program as people run it: in pipes and terminals, with closed outputs and full disks.
+check-cat: $(CAT)
+	cborcat/check $(CAT)
 
 # The links, commands and Rust examples of all pages, and the examples of doc comments. The tests run the latter.
 check-docs: $(PROGRAM)

@@ -41,7 +41,7 @@ pub struct Recognized {
     pub form: Input,
     /// The bytes that it stands for.
     pub bytes: Vec<u8>,
-    /// Another form that reads all of it.
+    /// Another form of text that reads all of it.
     pub also: Option<Input>,
 }
 
@@ -135,15 +135,17 @@ pub fn recognize(alloc: Global, text: &[u8]) -> Result<Recognized, Refusal> {
     }
 }
 
-/// The form that was found, and the next one that reads the input, too.
+/// The form that was found, and the next form of text that reads the input, too. Most texts are
+/// bytes of some items, so that is not told.
 fn found(alloc: Global, form: Input, bytes: Vec<u8>, text: &[u8]) -> Result<Recognized, Refusal> {
-    let also = match form {
-        Input::Hex if Input::Diag.read(alloc, text).is_ok() => Some(Input::Diag),
-        Input::Hex | Input::Diag if Input::Base64.read(alloc, text).is_ok() => Some(Input::Base64),
-        Input::Hex | Input::Diag | Input::Base64 if Input::Bytes.read(alloc, text).is_ok() => {
-            Some(Input::Bytes)
-        }
-        _ => None,
+    let diag = form == Input::Hex && Input::Diag.read(alloc, text).is_ok();
+    let base64 = form == Input::Hex || form == Input::Diag;
+    let also = if diag {
+        Some(Input::Diag)
+    } else if base64 && Input::Base64.read(alloc, text).is_ok() {
+        Some(Input::Base64)
+    } else {
+        None
     };
     Ok(Recognized { form, bytes, also })
 }
@@ -156,7 +158,10 @@ fn reach(text: &[u8], refusal: Refusal) -> usize {
         Refusal::Hex(HexFault::Memory) | Refusal::Memory => usize::MAX,
         Refusal::Diag(_) => 0,
         Refusal::Base64 => 0,
-        Refusal::Items { form: Input::Bytes, shown } => match shown.end {
+        Refusal::Items {
+            form: Input::Bytes,
+            shown,
+        } => match shown.end {
             End::Fault { end, .. } => shown.used.saturating_add(end).saturating_sub(1),
             _ => text.len(),
         },

@@ -35,7 +35,12 @@ pub fn is_shown(lines: bool, text: &[u8]) -> bool
 {
     let mut at = 0;
     'bytes: while at < text.len() {
-        if hides(lines, text[at], byte_at(text, at + 1), byte_at(text, at + 2)) {
+        if hides(
+            lines,
+            text[at],
+            byte_at(text, at + 1),
+            byte_at(text, at + 2),
+        ) {
             return false;
         }
         at += 1;

@@ -66,16 +66,16 @@ pub fn show_items(alloc: Global, show: &Show, bytes: &[u8], out: &mut Vec<u8>) -
 {
     let limit = out.len().saturating_add(BLOCK);
     let mut used = 0;
-    'items: while out.len() < limit {
+    'items: while out.len() < limit && !(show.one && used > 0) {
         match show_first(alloc, show, &bytes[used..], out) {
             Ok(count) => used += count,
             Err(end) => return Shown { used, end },
         }
-        if show.one {
-            break;
-        }
     }
-    Shown { used, end: End::Full }
+    Shown {
+        used,
+        end: End::Full,
+    }
 }
 
 /// Appends what is written of the item at the front, and returns how many bytes it takes.
@@ -87,7 +87,10 @@ fn show_first(alloc: Global, show: &Show, bytes: &[u8], out: &mut Vec<u8>) -> Re
     ensures ends { IfErr result (EndsSo (steps_of show.now) bytes.now) }
     ensures unchanged { OnErr result (out.new.items ≡ out.old.items) }
 {
-    let (item, used) = first_item(alloc, bytes)?;
+    let (item, used) = match first_item(alloc, bytes) {
+        Ok(found) => found,
+        Err(end) => return Err(end),
+    };
     let written = match part_written(alloc, show.style, &item, &show.steps) {
         Ok(Part::Written(written)) => written,
         Ok(Part::None) => return Err(End::Lost { len: used }),
@@ -138,7 +141,10 @@ pub fn skip_items(bytes: &[u8], one: bool) -> Shown
     'items: while used < bytes.len() {
         match extent(&bytes[used..]) {
             Extent::Item(count) => used += count,
-            Extent::Cut => return Shown { used, end: End::Cut },
+            Extent::Cut => return Shown {
+                used,
+                end: End::Cut,
+            },
             Extent::Fault { error, end } => {
                 return Shown {
                     used,

@@ -1,8 +1,8 @@
 //! Hex as people paste it: digits, also with blanks, commas, `0x`, `\x`, and `:` between digits,
 //! and comments from `#` to the end of a line.
-ghost use Rattle.std.specs.Prelude.{◌≡◌, ◌++◌, ◌<◌, ◌≤◌, length, slice_index, IfOk, drop, Ok};
+ghost use Rattle.std.specs.Prelude.{◌≡◌, ◌≤◌, length, slice_index, IfOk, IfErr, Ok, ◌≢◌, ℕ, List};
 ghost use Rattle.hex.specs.Hex.{decode_of};
-ghost use Rattle.cbor_inspect.specs.Loose.{turn_of, loose, first_of};
+ghost use Rattle.cbor_inspect.specs.Loose.{turn_of, loose};
 
 use hex::FromHexError;
 use std::alloc::{AllocError, Global};
@@ -37,7 +37,14 @@ impl Mode {
         ensures { result ≡ turn_of self byte next }
     {
         if self == Mode::Comment {
-            return (false, if byte == b'\n' { Mode::Apart } else { Mode::Comment });
+            return (
+                false,
+                if byte == b'\n' {
+                    Mode::Apart
+                } else {
+                    Mode::Comment
+                },
+            );
         }
         if self == Mode::Prefix {
             return (false, Mode::Apart);

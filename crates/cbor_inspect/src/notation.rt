@@ -1,4 +1,6 @@
-//! Notation in which every character may be shown.
+//! Notation in which every character may be shown, with notes and embedded items.
+//!
+//! A text with more than the plain notation is read back before it is used: it has to be the same item.
 ghost use Rattle.std.specs.Prelude.{◌≡◌, ℕ, true, IsTrue, IfOk, Ok};
 ghost use Rattle.std.specs.String.{string_bytes};
 ghost use Rattle.cbor_diag.specs.Item.{Item};
@@ -8,10 +10,20 @@ ghost use Rattle.cbor_diag.specs.Notation.{IsNotation};
 ghost use Rattle.cbor_inspect.specs.Forms.{IsTextOf};
 ghost use Rattle.cbor_inspect.specs.Hidden.{IsShown};
 
+mod cost;
+mod embedded;
+mod leaves;
+mod notes;
+mod print;
+mod wanted;
+
 use crate::form::Style;
 use crate::hidden::is_shown;
 use cbor_diag::{DataItem, Error, parse_diag};
+use leaves::Base;
+use print::{Content, Look, Spot, push_item};
 use std::alloc::Global;
+use wanted::wants;
 
 /// The notation of an item: on one line, or with `lines`.
 pub(crate) fn notation_of(
@@ -24,14 +36,38 @@ pub(crate) fn notation_of(
     ensures { IfOk result (λ text. IsTextOf lines (view item.now) (string_bytes text)) }
 {
     let plain = plain_text(alloc, item, lines)?;
-    if is_shown(lines, plain.as_bytes()) {
+    let safe = is_shown(lines, plain.as_bytes());
+    let look = Look {
+        alloc,
+        lines,
+        notes: style.notes && lines,
+        embedded: style.embedded,
+    };
+    if safe && !wants(item, look) {
         return Ok(plain);
     }
-    let text = String::new(alloc);
-    if reads_alike(alloc, &text, &plain)? && is_shown(lines, text.as_bytes()) {
+    let text = printed(item, look)?;
+    if is_shown(lines, text.as_bytes()) && reads_alike(alloc, &text, &plain)? {
         return Ok(text);
     }
-    Err(Error::Notation)
+    if safe {
+        Ok(plain)
+    } else {
+        Err(Error::Notation)
+    }
+}
+
+/// The notation of an item with all that is to be shown.
+fn printed(item: &DataItem, look: Look) -> Result<String, Error> {
+    let mut text = String::new(look.alloc);
+    let spot = Spot {
+        left: 128,
+        indent: 0,
+        base: Base::Hex,
+        content: Content::Bytes,
+    };
+    push_item(&mut text, item, look, spot)?;
+    Ok(text)
 }
 
 /// The notation of an item without notes.

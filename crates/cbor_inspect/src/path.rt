@@ -1,9 +1,10 @@
 //! Parts of an item, by a path.
-ghost use Rattle.std.specs.Prelude.{◌≡◌, ◌↔◌, IsTrue, IfOk, IfSome, IfNone, option_map, map};
+ghost use Rattle.std.specs.Prelude.{◌≡◌, ◌↔◌, IsTrue, IfOk, IfSome, IfNone, option_map, map, List, []};
 ghost use Rattle.cbor_diag.specs.Item.{Item};
 ghost use Rattle.cbor_diag.specs.View.{view};
 ghost use Rattle.cbor_inspect.specs.Paths.{untagged, IsKey, IsValue, element_of, IsMember, IsInside};
 ghost use Rattle.cbor_inspect.specs.Paths.{pair_views};
+ghost use Rattle.cbor_inspect.specs.declared.path.Step.{Step};
 ghost use Rattle.cbor_inspect.specs.Parts.{HasPart};
 
 use crate::form::Style;
@@ -50,7 +51,13 @@ fn is_key(wanted: &DataItem, key: &DataItem) -> bool
             DataItem::ByteString(other) => bytes.content == other.content,
             _ => false,
         },
-        _ => wanted == key,
+        DataItem::IndefiniteByteString(_) => *wanted == *key,
+        DataItem::IndefiniteTextString(_) => *wanted == *key,
+        DataItem::Array { .. } => *wanted == *key,
+        DataItem::Map { .. } => *wanted == *key,
+        DataItem::Tag { .. } => *wanted == *key,
+        DataItem::Float { .. } => *wanted == *key,
+        DataItem::Simple(_) => *wanted == *key,
     }
 }
 
@@ -123,6 +130,7 @@ fn inside(alloc: Global, item: &DataItem) -> Result<Option<DataItem>, Error>
 }
 
 /// Writes the part of an item that the steps lead to.
+#[tactic(auto, using(crate::proofs::PathLemmas::after_step, crate::proofs::PathLemmas::after_key, crate::proofs::PathLemmas::no_step))]
 pub(crate) fn part_written(
     alloc: Global,
     style: Style,
@@ -131,23 +139,31 @@ pub(crate) fn part_written(
 ) -> Result<Part, Error>
     ensures part { IfOk result (HasPart style.form steps.now (view item.now)) }
 {
-    match steps {
-        [] => {
-            if item.is_well_formed() {
-                Ok(Part::Written(style.write(alloc, item)?))
-            } else {
-                Err(Error::Notation)
-            }
-        }
-        [Step::Key(wanted), rest @ ..] => match member(wanted, untagged(item)) {
+    let Some((first, rest)) = steps.split_first() else {
+        return whole_written(alloc, style, item);
+    };
+    match first {
+        Step::Key(wanted) => match member(wanted, untagged(item)) {
             Some(next) => part_written(alloc, style, next, rest),
             None => Ok(Part::None),
         },
-        [Step::Inside, rest @ ..] => match inside(alloc, untagged(item))? {
+        Step::Inside => match inside(alloc, untagged(item))? {
             Some(next) => part_written(alloc, style, &next, rest),
             None => Ok(Part::None),
         },
     }
+}
+
+/// Writes all of an item.
+fn whole_written(alloc: Global, style: Style, item: &DataItem) -> Result<Part, Error>
+    ensures { (steps : List Step) → steps ≡ []
+        → IfOk result (HasPart style.form steps (view item.now)) }
+{
+    if !item.is_well_formed() {
+        return Err(Error::Notation);
+    }
+    let written = style.write(alloc, item)?;
+    Ok(Part::Written(written))
 }
 
 /// Reads a path: steps joined by `/`, each `@`, notation, or a plain word, which is a text. A `/`
