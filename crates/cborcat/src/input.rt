@@ -4,21 +4,25 @@ use std::io;
 use std::io::{ErrorKind, Read};
 
 /// How many bytes are asked for at once.
-pub const BLOCK: usize = 64 * 1024;
+const BLOCK: usize = 64 * 1024;
+
+/// Reads into the memory that is there; again if a signal interrupts it.
+fn read_into<R: Read>(input: &mut R, free: &mut [u8]) -> io::Result<usize> {
+    for _ in 0..u64::MAX {
+        match input.read(free) {
+            Err(error) if error.kind() == ErrorKind::Interrupted => {}
+            came => return came,
+        }
+    }
+    Ok(0)
+}
 
 /// Reads what the input has, up to a block, after the bytes that are there; returns how many bytes
 /// came, 0 at the end.
 pub fn read_block<R: Read>(input: &mut R, bytes: &mut Vec<u8>) -> io::Result<usize> {
     let start = bytes.len();
     bytes.resize(start.saturating_add(BLOCK), 0)?;
-    let mut came = Ok(0);
-    for _ in 0..u64::MAX {
-        came = input.read(&mut bytes[start..]);
-        match &came {
-            Err(error) if error.kind() == ErrorKind::Interrupted => {}
-            _ => break,
-        }
-    }
+    let came = read_into(input, &mut bytes[start..]);
     match came {
         Ok(count) => {
             bytes.truncate(start.saturating_add(count));
