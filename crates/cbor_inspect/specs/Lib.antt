@@ -5,3 +5,4 @@ pub mod Paths
 pub mod Parts
 pub mod Ends
 pub mod Loose
+pub mod Inputs

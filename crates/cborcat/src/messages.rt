@@ -3,7 +3,7 @@
 use crate::words::Job;
 use cbor_diag::{DataItem, Error, parse_bytes_partial};
 use cbor_inspect::{
-    End, HexFault, Input, Lost, Refusal, Shown, is_shown, lost_at, place_of_digit,
+    End, HexFault, Input, Refusal, Slip, float_of, is_shown, lost_at, place_of_digit, slip_of,
 };
 use std::fmt::Display;
 use std::io;
@@ -77,6 +77,9 @@ fn line_and_column(text: &[u8], at: usize) -> (usize, usize, usize) {
 
 /// The bytes round a place in hex, and carets below the one at it.
 fn excerpt_of_bytes(rt: &HostRuntime, bytes: &[u8], at: usize) {
+    if at >= bytes.len() {
+        return;
+    }
     let from = at.saturating_sub(11);
     let mut above = String::new(rt.alloc());
     let mut below = String::new(rt.alloc());
@@ -199,17 +202,15 @@ pub fn report_refusal(rt: &HostRuntime, name: &str, text: &[u8], refusal: Refusa
                 "cborcat: {}:{line}:{column}: an odd number of hex digits", label(name)
             );
         }
-        Refusal::Diag(error) => {
-            let _ = eprintln!(rt; "cborcat: {}: {error}", label(name));
-        }
+        Refusal::Diag(error) => report_notation(rt, name, text, error),
         Refusal::Base64 => {
             let _ = eprintln!(rt; "cborcat: {}: not base 64", label(name));
         }
         Refusal::Items { form, shown } => {
             let place = Place { name, form, text };
             let rest = match text.get(shown.used..) {
-                Some(rest) => rest,
-                None => b"",
+                Some(rest) if form != Input::Base64 => rest,
+                _ => b"",
             };
             report_end(rt, &place, shown.used, rest, shown.end);
         }
@@ -332,5 +333,57 @@ fn range_of(pairs: &[(DataItem, DataItem)]) -> Option<(u64, u64)> {
     match range {
         Some((first, last)) if last.saturating_sub(first) >= 2 => range,
         _ => None,
+    }
+}
+
+/// Says where a text stops being notation.
+fn report_notation(rt: &HostRuntime, name: &str, text: &[u8], error: Error) {
+    let slip = match slip_of(rt.alloc(), text) {
+        Ok(Some(slip)) if error == Error::Notation => slip,
+        _ => {
+            let _ = eprintln!(rt; "cborcat: {}: {error}", label(name));
+            return;
+        }
+    };
+    let (at, slip) = slip;
+    let (line, column, _) = line_and_column(text, at);
+    let name = label(name);
+    match slip {
+        Slip::Escape => {
+            let next = match text.get(at.saturating_add(1)) {
+                Some(byte) if byte.is_ascii_graphic() => char::from(*byte),
+                _ => '?',
+            };
+            let _ = eprintln!(rt;
+                "cborcat: {name}:{line}:{column}: \\{next} is no escape; only \\\\ and \\\" are"
+            );
+        }
+        Slip::Comma => {
+            let _ = eprintln!(rt;
+                "cborcat: {name}:{line}:{column}: a last comma needs a blank after it: [1, ]"
+            );
+        }
+        Slip::Character => {
+            let _ = eprintln!(rt; "cborcat: {name}:{line}:{column}: {error}");
+            excerpt_of_text(rt, text, at, "^");
+        }
+        Slip::Float { start, end } => {
+            let _ = eprintln!(rt; "cborcat: {name}:{line}:{column}: {error}");
+            excerpt_of_text(rt, text, at, "^");
+            report_float(rt, text, (start, end));
+        }
+    }
+}
+
+/// Says how a float is written.
+fn report_float(rt: &HostRuntime, text: &[u8], number: (usize, usize)) {
+    let Some(digits) = text.get(number.0..number.1) else {
+        return;
+    };
+    let Ok(digits) = str::from_utf8(digits) else {
+        return;
+    };
+    if let Ok(Some(float)) = float_of(rt.alloc(), digits) {
+        let _ = eprintln!(rt; "  a float is written as its bits: {digits} is {float}");
     }
 }

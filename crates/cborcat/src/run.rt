@@ -120,7 +120,7 @@ fn whole(rt: &HostRuntime, job: &Job, target: &mut Target, name: &str, text: &[u
         },
         None => match recognize(rt.alloc(), text) {
             Ok(found) => {
-                taken(rt, name, found.form, found.also);
+                taken(rt, name, found.form, found.also(rt.alloc(), text));
                 Ok((found.form, found.bytes))
             }
             Err(refusal) => Err(refusal),

@@ -1,7 +1,8 @@
 //! Whether the plain notation of an item lacks what is to be shown.
 use crate::notation::embedded::begins_as_container;
+use crate::hidden::is_shown;
 use crate::notation::print::Look;
-use cbor_diag::{DataItem, Extent, extent};
+use cbor_diag::{DataItem, Extent, TextString, extent};
 
 /// Whether there may be something to show in an item.
 #[cycle(wants)]
@@ -10,9 +11,11 @@ pub(super) fn wants(item: &DataItem, look: Look) -> bool {
         DataItem::Array { content, .. } => any_wants(content, look),
         DataItem::Map { content, .. } => any_pair_wants(content, look),
         DataItem::Tag { tag, value, .. } => {
-            (look.notes && has_note(tag.0)) || wants(value, look)
+            holds_items(tag.0) || (look.notes && has_note(tag.0)) || wants(value, look)
         }
         DataItem::Float { .. } => look.notes,
+        DataItem::TextString(string) => !is_shown(false, string.content.as_bytes()),
+        DataItem::IndefiniteTextString(chunks) => any_hides(chunks),
         DataItem::ByteString(string) => look.embedded && may_be_item(&string.content),
         _ => false,
     }
@@ -40,12 +43,27 @@ fn any_pair_wants(pairs: &Vec<(DataItem, DataItem)>, look: Look) -> bool {
     false
 }
 
-/// Whether values right below a tag have notes, or items that may have some.
+/// Whether byte strings right below a tag are shown as items, which may have something to show.
+fn holds_items(tag: u64) -> bool {
+    tag == 24 || tag == 63
+}
+
+/// Whether values right below a tag have notes.
 fn has_note(tag: u64) -> bool {
     match tag {
-        0 | 1 | 24 | 37 | 52 | 54 | 63 | 100 | 260 | 1004 => true,
+        0 | 1 | 37 | 52 | 54 | 100 | 260 | 1004 => true,
         _ => false,
     }
+}
+
+/// Whether one of these chunks has a character that is not shown as it is.
+fn any_hides(chunks: &[TextString]) -> bool {
+    'chunks: for chunk in chunks {
+        if !is_shown(false, chunk.content.as_bytes()) {
+            return true;
+        }
+    }
+    false
 }
 
 /// Whether bytes are an array, a map or a tagged item.
