@@ -8,7 +8,8 @@ DESTDIR =
 
 # The programs that are built, installed and packed. Each is the crate of its name, with the manual page of that name in
 # man/ and the completion in completions/. RUN_name has the arguments of the run that the kit makes to build it.
-PROGRAMS = cbor_view
+PROGRAMS = cborcat cbor_view
+RUN_cborcat = --from=bytes
 RUN_cbor_view = seq bytes
 
 CC = cc
@@ -35,9 +36,9 @@ MANUALS = $(PROGRAMS:%=$(DIST)/share/man/man1/%.1)
 COMPLETIONS = $(PROGRAMS:%=$(DIST)/share/bash-completion/completions/%)
 
 sources = $(shell find $(wildcard $(1:%=crates/%/src) $(1:%=crates/%/specs) $(1:%=crates/%/proofs)) -type f) crates.txt
-BELOW = cbor_notes cbor_diag cbor_convert
+BELOW = cbor_notes cbor_diag cbor_convert cbor_inspect
 
-.PHONY: all program library install demo try quick test planted check-docs check-bindings check-packages tarball \
+.PHONY: all program library install demo try quick test planted check-cat check-docs check-bindings check-packages tarball \
     deb wheel release compare bench clean
 
 all: program library $(MANUALS) $(COMPLETIONS)
@@ -117,6 +118,10 @@ test:
 # The wrong bodies that the gate does not try.
 planted:
 	planted/run
+
+# The program for people, as they run it: in pipes and terminals, with closed outputs and full disks.
+check-cat: $(DIST)/bin/cborcat
+	cborcat/check $<
 
 # The links, names, commands and Rust examples of all pages, and the examples of doc comments. The tests run the latter.
 check-docs: program

@@ -1,0 +1,4 @@
+pub mod Sequences
+pub mod PathLemmas
+pub mod Fronts
+pub mod LooseLemmas

@@ -1,0 +1,164 @@
+-- Steps lead to one item at most.
+use Rattle.std.proofs.Common.{◌≡◌, ◌⊎◌, ◌↔◌, ℕ, Bool, IsTrue, List, [], ◌∷◌, Some, inl, inr, refl, sym, ap, ◌∙◌}
+use Rattle.std.proofs.Common.{subst, ◌<◌, ◌≤◌, length, map, get_or, Option, None, IfSome, MatchOption}
+use Rattle.std.proofs.Common.{Result, Ok, Err, IfOk}
+use Rattle.cbor_diag.specs.declared.error.Error.{Error}
+use Rattle.std.specs.Option.{option_map, IfNone}
+use Rattle.std.specs.List.{slice_get, HoldsAt}
+use Rattle.std.proofs.lemmas.Option.{slice_get-map, slice_get_past, slice_get_read}
+use Rattle.cbor_diag.specs.declared.syntax.DataItem.{DataItem}
+use Rattle.cbor_diag.specs.declared.syntax.IntegerWidth.{IntegerWidth}
+use Rattle.cbor_diag.specs.View.{view, pairs_view}
+use Rattle.cbor_inspect.specs.declared.path.Step.TheVariants as step
+use Rattle.cbor_diag.specs.Item as spec
+use Rattle.cbor_diag.specs.Item.{Atom, integer, negative, string, chunked_string, float, simple, Item, atom, array, tagged}
+use Rattle.cbor_diag.specs.View.{items_of, pairs_of}
+use Rattle.cbor_diag.specs.Notation.{list_of, pairs_list}
+use Rattle.cbor_inspect.specs.declared.form.Form.{Form}
+use Rattle.cbor_inspect.specs.declared.path.Part.{Part}
+use Rattle.cbor_inspect.specs.declared.path.Part.TheVariants as part
+use Rattle.cbor_inspect.specs.declared.path.Step.{Step}
+use Rattle.cbor_inspect.specs.Paths.{untagged, plain_key, IsKey, IsValue, element_of, IsMember, StepsTo, LeadsTo}
+use Rattle.cbor_inspect.specs.Paths.{pair_views}
+use Rattle.cbor_inspect.specs.Parts.{HasNoPart, HasPart}
+
+one_value : (wanted : Item) (ps : List (Item × Item)) (a b : Item) → IsValue wanted ps a → IsValue wanted ps b → a ≡ b
+one_value wanted [] a b ha hb = absurd ha
+one_value wanted (p ∷ ps) a b (inl ha) (inl hb) = ha.1 ∙ sym hb.1
+one_value wanted (p ∷ ps) a b (inl ha) (inr hb) = absurd (hb.0 ha.0)
+one_value wanted (p ∷ ps) a b (inr ha) (inl hb) = absurd (ha.0 hb.0)
+one_value wanted (p ∷ ps) a b (inr ha) (inr hb) = one_value wanted ps a b ha.1 hb.1
+
+-- a key leads to one member
+pub one_member : (wanted i a b : Item) → IsMember wanted i a → IsMember wanted i b → a ≡ b
+one_member wanted (atom x) a b ha hb = absurd ha
+one_member wanted (array is w) a b ha hb = cc
+one_member wanted (spec.map ps w) a b ha hb = one_value wanted _ a b ha hb
+one_member wanted (tagged t w i) a b ha hb = absurd ha
+
+-- what is written, after one more step that leads to one item alone
+pub after_step : (form : Form) (s : Step) (steps : List Step) (i next : Item) (p : Part) → StepsTo s i next
+    → ((other : Item) → StepsTo s i other → other ≡ next) → HasPart form steps next p → HasPart form (s ∷ steps) i p
+after_step form s steps i next (part.Written output) here only h = (h.0, (next, here, h.1), h.2)
+after_step form s steps i next part.None here only h =
+    λ p leads. h p (subst (λ (x : Item). LeadsTo steps x p) (only leads.0 leads.1) leads.2)
+
+-- a step that leads nowhere
+pub no_step : (s : Step) (steps : List Step) (i : Item) → ((next : Item) → ¬ (StepsTo s i next))
+    → HasNoPart (s ∷ steps) i
+no_step s steps i none = λ p leads. none leads.0 leads.1
+
+-- items in memory are the items of the list
+pub list_of_items : (xs : List Item) → list_of (items_of xs) ≡ xs
+list_of_items [] = refl
+list_of_items (x ∷ xs) = ap (λ (l : List Item). x ∷ l) (list_of_items xs)
+
+pub pairs_of_list : (ps : List (Item × Item)) → pairs_list (pairs_of ps) ≡ ps
+pairs_of_list [] = refl
+pairs_of_list (p ∷ ps) = ap (λ (l : List (Item × Item)). p ∷ l) (pairs_of_list ps)
+
+-- ---- values in memory
+
+-- what a look-up by an index gives
+pub got : {B : Type 0} (now : B → DataItem) (r : Option B) (xs : List DataItem) (i : ℕ)
+    → IfSome r (λ x. now x ≡ get_or xs i (now x))
+    → MatchOption r (length xs ≤ i) (λ x. (i < length xs) × HoldsAt (λ y. now x ≡ y) xs i)
+    → option_map (λ x. view (now x)) r ≡ slice_get (map view xs) i
+got now None xs i h m = sym (slice_get-map view xs i ∙ ap (option_map view) (slice_get_past xs i m))
+got now (Some x) xs i h m =
+    sym (slice_get-map view xs i ∙ ap (option_map view) (slice_get_read xs (length xs) i (now x) refl m.0 h))
+
+pub at_index : (wanted : Item) (n i : ℕ) (w : IntegerWidth) (xs : List Item) → wanted ≡ atom (integer n w) → i ≡ n
+    → slice_get xs i ≡ element_of wanted xs
+at_index wanted n i w xs e same =
+    ap (slice_get xs) same ∙ sym (ap (λ (x : Item). element_of x xs) e)
+
+-- the member of an array, and of a map, or none
+pub some_element : {B : Type 0} (now : B → DataItem) (r : Option B) (wanted i : Item) (xs : List Item)
+    (w : Option IntegerWidth) → i ≡ array (items_of xs) w → option_map (λ x. view (now x)) r ≡ element_of wanted xs
+    → IfSome r (λ x. IsMember wanted i (view (now x)))
+some_element now None wanted i xs w e h = tt
+some_element now (Some x) wanted i xs w e h =
+    subst (λ (j : Item). IsMember wanted j (view (now x))) (sym e) (ap (element_of wanted) (list_of_items xs) ∙ sym h)
+
+pub no_element : {B : Type 0} (now : B → DataItem) (r : Option B) (wanted i : Item) (xs : List Item)
+    (w : Option IntegerWidth) → i ≡ array (items_of xs) w → option_map (λ x. view (now x)) r ≡ element_of wanted xs
+    → IfNone r ((m : Item) → ¬ (IsMember wanted i m))
+no_element now None wanted i xs w e h =
+    λ m is.
+        let there : element_of wanted (list_of (items_of xs)) ≡ Some m =
+        subst (λ (j : Item). IsMember wanted j m) e is in
+        let bad : ◌≡◌ {A = Option Item} None (Some m) = h ∙ sym (ap (element_of wanted) (list_of_items xs)) ∙ there in
+        cc bad
+no_element now (Some x) wanted i xs w e h = tt
+
+pub map_member : (wanted i m : Item) (ps : List (Item × Item)) (w : Option IntegerWidth) → i ≡ spec.map (pairs_of ps) w
+    → IsMember wanted i m ↔ IsValue wanted ps m
+map_member wanted i m ps w e = (
+  λ h. subst (λ (l : List (Item × Item)). IsValue wanted l m) (pairs_of_list ps)
+      (subst (λ (j : Item). IsMember wanted j m) e h),
+  λ h. subst (λ (j : Item). IsMember wanted j m) (sym e)
+      (subst (λ (l : List (Item × Item)). IsValue wanted l m) (sym (pairs_of_list ps)) h),
+)
+
+-- no integer, and no string of definite length
+abbrev pub IsOther : Item → Type 0
+IsOther (atom (integer n w)) = ⊥
+IsOther (atom (negative n w)) = ⊥
+IsOther (atom (string kind c)) = ⊥
+IsOther _ = Unit {0}
+
+-- such an item is the same as a key exactly if it is the same but for widths
+pub plain_other : (a k : Item) → IsOther a → (a ≡ k) ↔ (a ≡ plain_key k)
+plain_other a (atom (integer n w)) h = (λ e. absurd (subst IsOther e h), λ e. absurd (subst IsOther e h))
+plain_other a (atom (negative n w)) h = (λ e. absurd (subst IsOther e h), λ e. absurd (subst IsOther e h))
+plain_other a (atom (string kind c)) h = (λ e. absurd (subst IsOther e h), λ e. absurd (subst IsOther e h))
+plain_other a (atom (chunked_string kind cs)) h = (λ e. e, λ e. e)
+plain_other a (atom (float n w)) h = (λ e. e, λ e. e)
+plain_other a (atom (simple n)) h = (λ e. e, λ e. e)
+plain_other a (array is w) h = (λ e. e, λ e. e)
+plain_other a (spec.map ps w) h = (λ e. e, λ e. e)
+plain_other a (tagged t w i) h = (λ e. e, λ e. e)
+
+pub key_is : (a k : Item) (r : Bool) → IsOther a → plain_key a ≡ a → (IsTrue r ↔ (a ≡ k)) → (IsTrue r ↔ IsKey a k)
+key_is a k r other same h =
+    let l = plain_other a k other in
+    (λ t. same ∙ l.0 (h.0 t), λ e. h.1 (l.1 (sym same ∙ e)))
+
+-- past a pair that does not have the key
+pub value_next : (wanted : Item) (p : Item × Item) (ps : List (Item × Item)) → ¬ (IsKey wanted p.0) → (value : Item)
+    → IsValue wanted (p ∷ ps) value ↔ IsValue wanted ps value
+value_next wanted p ps other value = (
+  λ h. elim h [ inl here ↦ absurd (other here.0) | inr later ↦ later.1 ],
+  λ later. inr (other, later),
+)
+
+pub some_value : {B : Type 0} (now : B → DataItem) (r : Option B) (wanted i : Item) (ps : List (DataItem × DataItem))
+    (w : Option IntegerWidth) → i ≡ spec.map (pairs_view ps) w
+    → IfSome r (λ x. IsValue wanted (pair_views ps) (view (now x)))
+    → IfSome r (λ x. IsMember wanted i (view (now x)))
+some_value now None wanted i ps w e h = tt
+some_value now (Some x) wanted i ps w e h =
+    let both = map_member wanted i (view (now x)) (pair_views ps) w e in both.1 h
+
+pub no_value : {B : Type 0} (r : Option B) (wanted i : Item) (ps : List (DataItem × DataItem))
+    (w : Option IntegerWidth) → i ≡ spec.map (pairs_view ps) w
+    → IfNone r ((value : Item) → ¬ (IsValue wanted (pair_views ps) value))
+    → IfNone r ((m : Item) → ¬ (IsMember wanted i m))
+no_value None wanted i ps w e h = λ m is. let both = map_member wanted i m (pair_views ps) w e in h m (both.0 is)
+no_value (Some x) wanted i ps w e h = tt
+
+-- what is written after a step by a key
+pub after_key : (form : Form) (wanted : DataItem) (steps : List Step) (i next : Item) (p : Part)
+    → IsMember (view wanted) (untagged i) next → HasPart form steps next p
+    → HasPart form (step.Key wanted ∷ steps) i p
+after_key form wanted steps i next p here h =
+    after_step form (step.Key wanted) steps i next p here
+        (λ other is. one_member (view wanted) (untagged i) other next is here) h
+
+pub part_after_key : (r : Result Part Error) (form : Form) (wanted : DataItem) (steps rest : List Step) (i next : Item)
+    → steps ≡ step.Key wanted ∷ rest → IsMember (view wanted) (untagged i) next → IfOk r (HasPart form rest next)
+    → IfOk r (HasPart form steps i)
+part_after_key (Ok p) form wanted steps rest i next e here h =
+    subst (λ (s : List Step). HasPart form s i p) (sym e) (after_key form wanted rest i next p here h)
+part_after_key (Err e) form wanted steps rest i next same here h = tt

@@ -1,0 +1,50 @@
+use Rattle.std.proofs.Common.{◌≡◌, ℕ, ◌+◌, ◌<◌, length, drop, arith, inl}
+use Rattle.std.proofs.lemmas.List.{take_rest, length-drop}
+use Rattle.cbor_diag.specs.Item.{Item}
+use Rattle.cbor_inspect.proofs.Fronts.{one_more, later_too, some_front}
+use Rattle.cbor_inspect.proofs.items.skip_items.Goals as goal
+
+pub returns-in-Cut-clause-clean : goal.returns-in-Cut-clause-clean
+returns-in-Cut-clause-clean c =
+    let bytes = c.args.bytes.now in
+    let used = c.items.used in
+    let every = rw (take_rest bytes used) at c.in-Cut.ensures.every_item in
+    let within : used < length bytes = omega arith in
+    λ one. (
+      λ e. let bad : ⊥ = cc e in absurd bad,
+      λ whole.
+          let front = some_front bytes used within c.items.invariant.later whole in
+          let bad : ⊥ = cc (every front.0 front.1 front.2) in absurd bad,
+    )
+
+pub returns-in-Fault-clause-clean : goal.returns-in-Fault-clause-clean
+returns-in-Fault-clause-clean c =
+    let bytes = c.args.bytes.now in
+    let used = c.items.used in
+    let every = rw (take_rest bytes used) at c.in-Fault.ensures.every_item in
+    let within : used < length bytes = omega arith in
+    λ one. (
+      λ e. let bad : ⊥ = cc e in absurd bad,
+      λ whole.
+          let front = some_front bytes used within c.items.invariant.later whole in
+          let bad : ⊥ = cc (every front.0 front.1 front.2) in absurd bad,
+    )
+
+pub returns-then-one-clause-items : goal.returns-then-one-clause-items
+returns-then-one-clause-items c =
+    let bytes = c.args.bytes.now in
+    let used = c.items.used in
+    one_more bytes used c.in-Item.count c.items.invariant.items (rw (take_rest bytes used) at c.in-Item.ensures.item)
+
+pub items-preserved : goal.items-preserved
+items-preserved c =
+    let bytes = c.args.bytes.now in
+    let used = c.items.used in
+    let found = rw (take_rest bytes used) at c.in-Item.ensures.item in
+    let every = rw (take_rest bytes used) at c.in-Item.ensures.every_item in
+    let before : used < length bytes = omega arith in
+    record {
+      within = omega (arith, length-drop used bytes, found.1.1);
+      items = one_more bytes used c.in-Item.count c.items.invariant.items found;
+      later = later_too bytes used c.in-Item.count before c.items.invariant.later every;
+    }

@@ -1,0 +1,34 @@
+-- What is written of an item, or of its part, and why no further item is written.
+use Rattle.std.specs.Prelude.{◌≡◌, ◌≢◌, ℕ, ◌<◌, List, [], take}
+use Rattle.cbor_diag.specs.declared.error.Error.{Error}
+use Rattle.cbor_diag.specs.Item.{Item}
+use Rattle.cbor_diag.specs.Facts.{IsCut, BeginsWithItem}
+use Rattle.cbor_diag.specs.Extent.{FaultEnds}
+use Rattle.cbor_inspect.specs.declared.items.End.{End}
+use Rattle.cbor_inspect.specs.declared.items.End.TheVariants as end
+use Rattle.cbor_inspect.specs.declared.items.Show.{Show}
+use Rattle.cbor_inspect.specs.declared.path.Step.{Step}
+use Rattle.cbor_inspect.specs.Parts.{ShowsPart, HasNoPart}
+
+-- the path to the part that is written
+abbrev pub steps_of : Show → List Step
+steps_of show = show.steps.items
+
+-- what is written of an item: the part that the path leads to, in the form
+abbrev pub Shows : Show → Item → List ℕ → Type 0
+Shows show i output = ShowsPart show.style.form (steps_of show) i output
+
+-- the bytes are no item: that number of first bytes has the fault, and fewer are cut
+abbrev pub FaultAt : List ℕ → Error → ℕ → Type 0
+FaultAt rest error shown = FaultEnds rest error shown × ((n : ℕ) → n < shown → IsCut (take n rest))
+
+-- what an end says of the bytes that remain
+abbrev pub EndsSo : List Step → List ℕ → End → Type 0
+EndsSo steps rest end.Full = Unit {0}
+EndsSo steps rest end.Done = rest ≡ []
+EndsSo steps rest end.Cut = (rest ≢ []) × IsCut rest
+EndsSo steps rest (end.Fault error shown) = FaultAt rest error shown
+EndsSo steps rest (end.Lost len) =
+    (i : Item) × BeginsWithItem rest i len × HasNoPart steps i
+EndsSo steps rest (end.Failed error) = Unit {0}
+EndsSo steps rest end.Remaining = ⊥

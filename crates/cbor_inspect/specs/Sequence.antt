@@ -1,0 +1,30 @@
+-- Items one after the other (RFC 8742), what is written of them, and where they end.
+use Rattle.std.specs.Prelude.{◌≡◌, ◌≢◌, ℕ, ◌+◌, ◌≤◌, List, [], ◌∷◌, ◌++◌, length, take, drop}
+use Rattle.cbor_diag.specs.declared.error.Error.{Error}
+use Rattle.cbor_diag.specs.Item.{Item}
+use Rattle.cbor_diag.specs.Facts.{IsItem, IsCut}
+use Rattle.cbor_diag.specs.Extent.{FaultEnds}
+use Rattle.cbor_inspect.specs.declared.form.Form.{Form}
+use Rattle.cbor_inspect.specs.Forms.{IsForm}
+
+-- the input is these items, each after the one before it, and then the rest
+abbrev pub ItemsThen : List ℕ → List Item → List ℕ → Type 0
+ItemsThen input [] rest = input ≡ rest
+ItemsThen input (i ∷ is) rest =
+    (front after : List ℕ) × (input ≡ front ++ after) × IsItem front i × ItemsThen after is rest
+
+-- the input is items, one after the other, and nothing else
+abbrev pub IsSequence : List ℕ → Type 0
+IsSequence input = (items : List Item) × ItemsThen input items []
+
+-- the output is what is written of each of these items, in order
+abbrev pub ShowsEach : (Item → List ℕ → Type 0) → List Item → List ℕ → Type 0
+ShowsEach Shows [] output = output ≡ []
+ShowsEach Shows (i ∷ is) output =
+    (first more : List ℕ) × (output ≡ first ++ more) × Shows i first × ShowsEach Shows is more
+
+-- The output is what is written of some items at the front of the input, all in order, and this rest follows them.
+pub record IsShownOfFirst (Shows : Item → List ℕ → Type 0) (input output rest : List ℕ) : Type 0 where
+  pub items : List Item
+  pub input_is : ItemsThen input items rest
+  pub output_is : ShowsEach Shows items output

@@ -1,0 +1,166 @@
+//! Items one after the other, as far as they have come.
+ghost use Rattle.std.specs.Prelude.{◌≡◌, ◌↔◌, ℕ, ◌+◌, ◌-◌, ◌<◌, ◌≤◌, ◌++◌, [], List, length, drop};
+ghost use Rattle.std.specs.Prelude.{IfOk, IfErr, OnErr, false};
+ghost use Rattle.cbor_diag.specs.Item.{Item};
+ghost use Rattle.cbor_diag.specs.View.{view};
+ghost use Rattle.cbor_diag.specs.Facts.{IsWellFormed, BeginsWithItem, HasFault};
+ghost use Rattle.cbor_inspect.specs.declared.path.Step.{Step};
+ghost use Rattle.cbor_inspect.specs.Sequence.{IsSequence, ItemsThen, IsShownOfFirst};
+ghost use Rattle.cbor_inspect.specs.Ends.{EndsSo, Shows, steps_of};
+
+use crate::form::Style;
+use crate::path::{Part, Step, part_written};
+use cbor_diag::{DataItem, Error, Extent, extent, parse_bytes_partial};
+use std::alloc::Global;
+
+/// Outputs are gathered until they are at least this long.
+const BLOCK: usize = 64 * 1024;
+
+/// What is written of items.
+#[derive(Drop)]
+pub struct Show {
+    /// How each is written.
+    pub style: Style,
+    /// The path to the part that is written. Nothing is written of an item without that part.
+    pub steps: Vec<Step>,
+    /// Whether a call writes one item at most.
+    pub one: bool,
+}
+
+/// Why no further item is written.
+#[derive(Clone, Copy, PartialEq, Eq, Debug)]
+pub enum End {
+    /// The output is a block, or one item was written: write it, and go on.
+    Full,
+    /// No bytes remain.
+    Done,
+    /// An item begins, and is not whole.
+    Cut,
+    /// What remains is no item: its first `end` bytes have this error, and fewer are cut.
+    Fault { error: Error, end: usize },
+    /// The input was to be one item, and more bytes follow it. No call here returns this.
+    Remaining,
+    /// The item that follows, of this many bytes, does not have the part.
+    Lost { len: usize },
+    /// Memory ran out, or notation that was made is not read back.
+    Failed(Error),
+}
+
+/// How far items were written.
+#[derive(Clone, Copy, PartialEq, Eq, Debug)]
+pub struct Shown {
+    /// How many bytes the items take that were written.
+    pub used: usize,
+    /// Why no further item was written.
+    pub end: End,
+}
+
+/// Appends what is written of one item after the other, from the front of the bytes, until no whole
+/// item is there, an item does not have the part, or a block is full. After `Failed` the items
+/// before are written.
+pub fn show_items(alloc: Global, show: &Show, bytes: &[u8], out: &mut Vec<u8>) -> Shown
+    ensures used { result.used ≤ length bytes.now }
+    ensures written { (written : List ℕ) × (out.new.items ≡ out.old.items ++ written)
+        × IsShownOfFirst (Shows show.now) bytes.now written (drop result.used bytes.now) }
+    ensures ends { EndsSo (steps_of show.now) (drop result.used bytes.now) result.end }
+{
+    let limit = out.len().saturating_add(BLOCK);
+    let mut used = 0;
+    'items: while out.len() < limit && !(show.one && used > 0) {
+        match show_first(alloc, show, &bytes[used..], out) {
+            Ok(count) => used += count,
+            Err(end) => return Shown { used, end },
+        }
+    }
+    Shown {
+        used,
+        end: End::Full,
+    }
+}
+
+/// Appends what is written of the item at the front, and returns how many bytes it takes.
+fn show_first(alloc: Global, show: &Show, bytes: &[u8], out: &mut Vec<u8>) -> Result<usize, End>
+    ensures used { IfOk result (λ used. (1 ≤ used) × (used ≤ length bytes.now)) }
+    ensures written { IfOk result (λ used. (written : List ℕ)
+        × (out.new.items ≡ out.old.items ++ written)
+        × IsShownOfFirst (Shows show.now) bytes.now written (drop used bytes.now)) }
+    ensures ends { IfErr result (EndsSo (steps_of show.now) bytes.now) }
+    ensures unchanged { OnErr result (out.new.items ≡ out.old.items) }
+{
+    let (item, used) = match first_item(alloc, bytes) {
+        Ok(found) => found,
+        Err(end) => return Err(end),
+    };
+    let written = match part_written(alloc, show.style, &item, &show.steps) {
+        Ok(Part::Written(written)) => written,
+        Ok(Part::None) => return Err(End::Lost { len: used }),
+        Err(error) => return Err(End::Failed(error)),
+    };
+    match out.extend_from_slice(&written) {
+        Ok(()) => Ok(used),
+        Err(_) => Err(End::Failed(Error::Memory)),
+    }
+}
+
+/// The item at the front of the bytes and its length, or why there is none.
+fn first_item(alloc: Global, bytes: &[u8]) -> Result<(DataItem, usize), End>
+    ensures found { IfOk result (λ x. BeginsWithItem bytes.now (view x.0) x.1) }
+    ensures well_formed { IfOk result (λ x. IsWellFormed (view x.0)) }
+    ensures ends { (steps : List Step) → IfErr result (EndsSo steps bytes.now) }
+{
+    match parse_bytes_partial(alloc, bytes) {
+        Ok(Some(found)) => Ok(found),
+        Ok(None) if bytes.is_empty() => Err(End::Done),
+        Ok(None) => Err(End::Cut),
+        Err(Error::Memory) => Err(End::Failed(Error::Memory)),
+        Err(error) => Err(fault_of(bytes, error)),
+    }
+}
+
+/// The place of the fault of the bytes.
+fn fault_of(bytes: &[u8], error: Error) -> End
+    requires { HasFault bytes.now error }
+    ensures { (steps : List Step) → EndsSo steps bytes.now result }
+{
+    match extent(bytes) {
+        Extent::Fault { error, end } => End::Fault { error, end },
+        _ => unreachable!(),
+    }
+}
+
+/// Goes past one item after the other, from the front of the bytes, until no whole item is there,
+/// without memory.
+pub fn skip_items(bytes: &[u8], one: bool) -> Shown
+    ensures used { result.used ≤ length bytes.now }
+    ensures items { (items : List Item) × ItemsThen bytes.now items (drop result.used bytes.now) }
+    ensures ends { (steps : List Step) → EndsSo steps (drop result.used bytes.now) result.end }
+    // The bytes are items alone exactly if none remain at the end.
+    ensures clean { (one ≡ false) → (result.end ≡ End.Done) ↔ IsSequence bytes.now }
+{
+    let mut used = 0;
+    'items: while used < bytes.len() {
+        match extent(&bytes[used..]) {
+            Extent::Item(count) => used += count,
+            Extent::Cut => return Shown {
+                used,
+                end: End::Cut,
+            },
+            Extent::Fault { error, end } => {
+                return Shown {
+                    used,
+                    end: End::Fault { error, end },
+                };
+            }
+        }
+        if one {
+            return Shown {
+                used,
+                end: End::Full,
+            };
+        }
+    }
+    Shown {
+        used,
+        end: End::Done,
+    }
+}

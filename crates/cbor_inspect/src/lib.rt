@@ -1,0 +1,23 @@
+//! What a viewer of CBOR data needs beside the conversions of `cbor_convert`: which form an input
+//! has, items one after the other as they arrive, the places of errors, parts of items by a path,
+//! and notation with notes, in which no control character is.
+//!
+//! Nothing here knows of arguments or files.
+#![tactic(auto)]
+
+mod decode;
+mod form;
+mod hidden;
+mod items;
+mod loose;
+mod notation;
+mod path;
+mod scan;
+
+pub use decode::{Input, Recognized, Refusal, recognize};
+pub use form::{Form, Style};
+pub use hidden::is_shown;
+pub use items::{End, Show, Shown, show_items, skip_items};
+pub use loose::{HexFault, place_of_digit};
+pub use scan::{Slip, float_of, slip_of};
+pub use path::{Lost, Step, lost_at, steps_of, untagged};

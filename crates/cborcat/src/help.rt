@@ -1,0 +1,54 @@
+//! The text of `cborcat --help`.
+
+/// What `--help` prints, and the manual page says in more words.
+pub const HELP: &str = "Usage: cborcat [OPTION]... [FILE]...
+Shows CBOR data (RFC 8949) as text, or converts it.
+
+Reads each FILE; without one, or for -, standard input. Writes each item.
+
+Input:
+  -f, --from=FORM    bytes, hex, diag or base64 (default: recognized)
+  -x, --text=TEXT    read TEXT instead of files
+  -1, --one          exactly one item in each input, not a sequence
+      --offset=N     begin at byte N of the data
+      --limit=BYTES  refuse a longer item (default: 268435456)
+
+Output:
+  -t, --to=FORM      pretty, diag, hex, digits or bytes (default: pretty)
+  -p, --path=PATH    only the part that PATH leads to
+  -e, --embedded     show byte strings that hold an array, a map or a
+                     tagged item as <<..>>
+      --no-notes     no comments in notation
+  -o, --output=FILE  write FILE, once all input is converted
+  -c, --check        write nothing; report the first fault of each input
+
+  -h, --help         show this text
+  -V, --version      show the version
+
+Forms:
+  bytes   CBOR
+  hex     input: digits, also with blanks , : 0x \\x, and comments after #
+          output: a dump with comments
+  digits  hex on one line (output)
+  diag    diagnostic notation; pretty is diag over several lines
+  base64  either alphabet (input)
+
+Without -f, an input is bytes if no text can begin with its first byte.
+Otherwise it is the first of hex, diag, base64 and bytes that reads all of it.
+Bytes are shown as they arrive; other input is read to its end first.
+
+A PATH has steps joined by /: an index of an array, a key of a map in
+notation or as a plain word, or @ for the item inside a byte string.
+Tags need no step.
+
+Exit status: 0 all input is CBOR; 1 some is not, or PATH leads nowhere;
+2 wrong arguments, out of memory, or a file cannot be read or written.
+
+Examples:
+  cborcat message.cbor
+  cborcat -t hex -x 'a1 01 26'
+  tail -c +1 -f log.cbor | cborcat -t diag
+  cborcat -p 2/@ token.hex
+  cborcat -c *.cbor
+  git config diff.cbor.textconv cborcat
+";

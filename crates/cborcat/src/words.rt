@@ -1,0 +1,180 @@
+//! The words of the command line.
+
+use crate::help::HELP;
+use cbor_inspect::{Form, Input, Show, Style, steps_of};
+use clap::error::ErrorKind;
+use clap::{Arg, ArgAction, ArgMatches, Command};
+use std::alloc::{AllocError, Global};
+
+/// The forms of an input.
+static FROM: [&str; 4] = ["bytes", "hex", "diag", "base64"];
+
+/// The forms of the output.
+static TO: [&str; 5] = ["pretty", "diag", "hex", "digits", "bytes"];
+
+/// What the arguments ask for.
+#[derive(Drop)]
+pub struct Job<'a> {
+    /// The form of the inputs, if it is named.
+    pub from: Option<Input>,
+    /// A text that is read in place of files.
+    pub text: Option<&'a str>,
+    /// How many bytes of the data are skipped.
+    pub offset: usize,
+    /// How long an item may be.
+    pub limit: usize,
+    /// What is written of each item.
+    pub show: Show,
+    /// The path as it was given.
+    pub path: &'a str,
+    /// The file that is written.
+    pub output: Option<&'a str>,
+    /// Whether inputs are checked alone.
+    pub check: bool,
+    /// The files that are read; `-` for standard input.
+    pub files: Vec<&'a str>,
+}
+
+/// What becomes of the arguments.
+#[derive(Drop)]
+pub enum Asked<'a> {
+    /// A run.
+    Job(Job<'a>),
+    /// Nothing more, with this status: help or the version was printed, or the arguments are wrong.
+    Ended(u8),
+}
+
+/// Reads the arguments.
+pub fn read_words<'a>(rt: &HostRuntime, words: &'a [String]) -> Asked<'a> {
+    let Ok(command) = command(rt.alloc()) else {
+        return out_of_memory(rt);
+    };
+    match command.try_get_matches_from(words) {
+        Ok(matches) => job_of(rt, &matches),
+        Err(error) => {
+            let _ = error.print(rt);
+            if error.kind() == ErrorKind::DisplayHelp || error.kind() == ErrorKind::DisplayVersion {
+                Asked::Ended(0)
+            } else {
+                Asked::Ended(2)
+            }
+        }
+    }
+}
+
+fn out_of_memory<'a>(rt: &HostRuntime) -> Asked<'a> {
+    let _ = eprintln!(rt; "cborcat: out of memory");
+    Asked::Ended(2)
+}
+
+/// The command, whose help is the text as written.
+fn command<'a>(alloc: Global) -> Result<Command<'a>, AllocError> {
+    let command = Command::new(alloc, "cborcat")
+        .version("0.1.0")
+        .override_help(HELP)
+        .override_usage("cborcat [OPTION]... [FILE]...");
+    with_output(alloc, with_input(alloc, command)?)
+}
+
+/// An option that takes a value.
+fn option<'a>(alloc: Global, name: &'a str) -> Arg<'a> {
+    Arg::new(alloc, name).long(name).action(ArgAction::Set)
+}
+
+/// An option that takes none.
+fn flag<'a>(alloc: Global, name: &'a str) -> Arg<'a> {
+    Arg::new(alloc, name).long(name).action(ArgAction::SetTrue)
+}
+
+/// The command with the arguments on inputs.
+fn with_input<'a>(alloc: Global, command: Command<'a>) -> Result<Command<'a>, AllocError> {
+    let from = option(alloc, "from").short('f').value_parser(FROM.as_slice());
+    let text = option(alloc, "text").short('x').allow_hyphen_values(true);
+    let offset = option(alloc, "offset").value_parser(clap::value_parser!(usize));
+    let limit = option(alloc, "limit").value_parser(clap::value_parser!(usize));
+    let files = Arg::new(alloc, "file").action(ArgAction::Append).num_args(0..);
+    command
+        .arg(from)?
+        .arg(text.conflicts_with("file")?)?
+        .arg(flag(alloc, "one").short('1'))?
+        .arg(offset)?
+        .arg(limit)?
+        .arg(files)
+}
+
+/// The command with the arguments on the output.
+fn with_output<'a>(alloc: Global, command: Command<'a>) -> Result<Command<'a>, AllocError> {
+    let to = option(alloc, "to").short('t').value_parser(TO.as_slice());
+    let path = option(alloc, "path").short('p').allow_hyphen_values(true);
+    command
+        .arg(to)?
+        .arg(path)?
+        .arg(flag(alloc, "embedded").short('e'))?
+        .arg(flag(alloc, "no-notes"))?
+        .arg(option(alloc, "output").short('o'))?
+        .arg(flag(alloc, "check").short('c'))
+}
+
+/// The form of an input that a word names.
+fn input_of(word: &str) -> Option<Input> {
+    match word {
+        "bytes" => Some(Input::Bytes),
+        "hex" => Some(Input::Hex),
+        "diag" => Some(Input::Diag),
+        "base64" => Some(Input::Base64),
+        _ => None,
+    }
+}
+
+/// The form of the output that a word names.
+fn form_of(word: Option<&str>) -> Form {
+    match word {
+        Some("diag") => Form::Diag,
+        Some("hex") => Form::Hex,
+        Some("digits") => Form::Digits,
+        Some("bytes") => Form::Bytes,
+        _ => Form::Pretty,
+    }
+}
+
+/// What the arguments ask for.
+fn job_of<'a>(rt: &HostRuntime, matches: &ArgMatches<'a>) -> Asked<'a> {
+    let alloc = rt.alloc();
+    let path = match matches.get_str("path") {
+        Some(path) => path,
+        None => "",
+    };
+    let Ok(steps) = steps_of(alloc, path) else {
+        return out_of_memory(rt);
+    };
+    let mut files = Vec::new(alloc);
+    if let Some(names) = matches.get_strs("file") {
+        if files.extend_from_slice(names).is_err() {
+            return out_of_memory(rt);
+        }
+    }
+    let style = Style {
+        form: form_of(matches.get_str("to")),
+        embedded: matches.get_flag("embedded"),
+        notes: !matches.get_flag("no-notes"),
+    };
+    let show = Show {
+        style,
+        steps,
+        one: matches.get_flag("one"),
+    };
+    Asked::Job(Job {
+        from: match matches.get_str("from") {
+            Some(word) => input_of(word),
+            None => None,
+        },
+        text: matches.get_str("text"),
+        offset: matches.get_one::<usize>("offset").unwrap_or(0),
+        limit: matches.get_one::<usize>("limit").unwrap_or(268_435_456),
+        show,
+        path,
+        output: matches.get_str("output"),
+        check: matches.get_flag("check"),
+        files,
+    })
+}
