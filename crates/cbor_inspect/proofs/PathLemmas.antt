@@ -86,10 +86,10 @@ pub no_element : {B : Type 0} (now : B → DataItem) (r : Option B) (wanted i : 
     → IfNone r ((m : Item) → ¬ (IsMember wanted i m))
 no_element now None wanted i xs w e h =
     λ m is.
-        let there : element_of wanted (list_of (items_of xs)) ≡ Some m =
-        subst (λ (j : Item). IsMember wanted j m) e is in
-        let bad : ◌≡◌ {A = Option Item} None (Some m) = h ∙ sym (ap (element_of wanted) (list_of_items xs)) ∙ there in
-        cc bad
+    let there : element_of wanted (list_of (items_of xs)) ≡ Some m =
+    subst (λ (j : Item). IsMember wanted j m) e is in
+    let bad : ◌≡◌ {A = Option Item} None (Some m) = h ∙ sym (ap (element_of wanted) (list_of_items xs)) ∙ there in
+    cc bad
 no_element now (Some x) wanted i xs w e h = tt
 
 pub map_member : (wanted i m : Item) (ps : List (Item × Item)) (w : Option IntegerWidth) → i ≡ spec.map (pairs_of ps) w
@@ -154,7 +154,7 @@ pub after_key : (form : Form) (wanted : DataItem) (steps : List Step) (i next : 
     → HasPart form (step.Key wanted ∷ steps) i p
 after_key form wanted steps i next p here h =
     after_step form (step.Key wanted) steps i next p here
-        (λ other is. one_member (view wanted) (untagged i) other next is here) h
+    (λ other is. one_member (view wanted) (untagged i) other next is here) h
 
 pub part_after_key : (r : Result Part Error) (form : Form) (wanted : DataItem) (steps rest : List Step) (i next : Item)
     → steps ≡ step.Key wanted ∷ rest → IsMember (view wanted) (untagged i) next → IfOk r (HasPart form rest next)

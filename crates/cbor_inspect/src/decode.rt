@@ -122,7 +122,10 @@ fn is_blank(byte: u8) -> bool
 fn digits_of(alloc: Global, text: &[u8]) -> Result<Vec<u8>, AllocError>
     ensures { IfOk result (λ digits. digits.items ≡ unblanked text.now) }
 {
-    text.iter().copied().filter(|byte| !is_blank(*byte)).collect(alloc)
+    text.iter()
+        .copied()
+        .filter(|byte| !is_blank(*byte))
+        .collect(alloc)
 }
 
 /// The bytes of a text in base 64.
@@ -153,22 +156,34 @@ pub fn recognize(alloc: Global, text: &[u8]) -> Result<Recognized, Refusal>
     ensures first { IfOk result (λ found. NoneBefore found.form text.now) }
 {
     let hex = match Input::Hex.read(alloc, text) {
-        Ok(bytes) => return Ok(Recognized { form: Input::Hex, bytes }),
+        Ok(bytes) => return Ok(Recognized {
+            form: Input::Hex,
+            bytes,
+        }),
         Err(Refusal::Memory) => return Err(Refusal::Memory),
         Err(refusal) => refusal,
     };
     let diag = match Input::Diag.read(alloc, text) {
-        Ok(bytes) => return Ok(Recognized { form: Input::Diag, bytes }),
+        Ok(bytes) => return Ok(Recognized {
+            form: Input::Diag,
+            bytes,
+        }),
         Err(Refusal::Memory) => return Err(Refusal::Memory),
         Err(refusal) => refusal,
     };
     let base64 = match Input::Base64.read(alloc, text) {
-        Ok(bytes) => return Ok(Recognized { form: Input::Base64, bytes }),
+        Ok(bytes) => return Ok(Recognized {
+            form: Input::Base64,
+            bytes,
+        }),
         Err(Refusal::Memory) => return Err(Refusal::Memory),
         Err(refusal) => refusal,
     };
     match Input::Bytes.read(alloc, text) {
-        Ok(bytes) => Ok(Recognized { form: Input::Bytes, bytes }),
+        Ok(bytes) => Ok(Recognized {
+            form: Input::Bytes,
+            bytes,
+        }),
         Err(Refusal::Memory) => Err(Refusal::Memory),
         Err(bytes) => Err(furthest(alloc, text, [hex, diag, base64, bytes])),
     }
@@ -209,7 +224,10 @@ fn reach(alloc: Global, text: &[u8], refusal: Refusal) -> usize {
             _ => 0,
         },
         Refusal::Base64 => 0,
-        Refusal::Items { form: Input::Bytes, shown } => match shown.end {
+        Refusal::Items {
+            form: Input::Bytes,
+            shown,
+        } => match shown.end {
             _ if is_text(text) => 0,
             End::Fault { end, .. } => shown.used.saturating_add(end),
             _ => text.len(),

@@ -19,5 +19,5 @@ pub use form::{Form, Style};
 pub use hidden::is_shown;
 pub use items::{End, Show, Shown, show_items, skip_items};
 pub use loose::{HexFault, place_of_digit};
-pub use scan::{Slip, float_of, slip_of};
 pub use path::{Lost, Step, lost_at, steps_of, untagged};
+pub use scan::{Slip, float_of, slip_of};

@@ -211,7 +211,11 @@ pub fn slip_of(alloc: Global, text: &[u8]) -> Result<Option<(usize, Slip)>, Allo
         };
         if at >= text.len() {
             let whole = closing == 0 && (next == Next::After || next == Next::AfterString);
-            return Ok(if whole { None } else { Some((at, Slip::Character)) });
+            return Ok(if whole {
+                None
+            } else {
+                Some((at, Slip::Character))
+            });
         }
         if closing != 0 && next != Next::Item {
             if let Some(end) = after_closing(text, at, closing) {
@@ -220,7 +224,11 @@ pub fn slip_of(alloc: Global, text: &[u8]) -> Result<Option<(usize, Slip)>, Allo
                 }
                 let _ = open.pop();
                 at = end;
-                next = if closing == b'>' { Next::AfterString } else { Next::After };
+                next = if closing == b'>' {
+                    Next::AfterString
+                } else {
+                    Next::After
+                };
                 continue;
             }
         }
@@ -253,7 +261,11 @@ pub fn slip_of(alloc: Global, text: &[u8]) -> Result<Option<(usize, Slip)>, Allo
             Token::Opens(closing, end) => {
                 open.push(closing)?;
                 at = end;
-                next = if closing == b')' { Next::Item } else { Next::First };
+                next = if closing == b')' {
+                    Next::Item
+                } else {
+                    Next::First
+                };
             }
             Token::Wrong(place, slip) => return Ok(Some((place, slip))),
         }

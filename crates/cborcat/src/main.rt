@@ -24,7 +24,10 @@ fn main(rt: HostRuntime) -> ExitCode {
             Err(_) => return trouble(&rt, "out of memory"),
         },
         Err(_) => {
-            return trouble(&rt, "an argument is not UTF-8; for such a file use cborcat < FILE");
+            return trouble(
+                &rt,
+                "an argument is not UTF-8; for such a file use cborcat < FILE",
+            );
         }
     };
     match read_words(&rt, &words) {

@@ -50,7 +50,10 @@ fn word_of(form: Input) -> &'static str {
 pub fn taken(rt: &HostRuntime, name: &str, form: Input, also: Option<Input>) {
     if let Some(other) = also {
         let _ = eprintln!(rt;
-            "cborcat: {}: read as {}; -f {} reads it, too", label(name), word_of(form), word_of(other)
+            "cborcat: {}: read as {}; -f {} reads it, too",
+            label(name),
+            word_of(form),
+            word_of(other)
         );
     }
 }
@@ -102,7 +105,11 @@ fn excerpt_of_bytes(rt: &HostRuntime, bytes: &[u8], at: usize) {
 /// The line of a text round a place, and carets below the characters at it.
 fn excerpt_of_text(rt: &HostRuntime, text: &[u8], at: usize, carets: &str) {
     let (_, _, begins) = line_and_column(text, at);
-    let from = if at.saturating_sub(begins) > 60 { at.saturating_sub(40) } else { begins };
+    let from = if at.saturating_sub(begins) > 60 {
+        at.saturating_sub(40)
+    } else {
+        begins
+    };
     let mut above = String::new(rt.alloc());
     let mut below = String::new(rt.alloc());
     for (index, byte) in text.iter().enumerate() {
@@ -112,7 +119,11 @@ fn excerpt_of_text(rt: &HostRuntime, text: &[u8], at: usize, carets: &str) {
         if index >= from.saturating_add(72) || *byte == b'\n' {
             break;
         }
-        let shown = if *byte >= 32 && *byte < 127 { char::from(*byte) } else { '?' };
+        let shown = if *byte >= 32 && *byte < 127 {
+            char::from(*byte)
+        } else {
+            '?'
+        };
         if above.push(shown).is_err() || (index < at && below.push(' ').is_err()) {
             return;
         }
@@ -132,7 +143,8 @@ pub fn report_end(rt: &HostRuntime, place: &Place, begins: usize, rest: &[u8], e
                 let _ = eprintln!(rt; "bytes remain after the item");
             } else {
                 let _ = eprintln!(rt;
-                    "cborcat: {}: byte {begins}: bytes remain after the item", label(place.name)
+                    "cborcat: {}: byte {begins}: bytes remain after the item",
+                    label(place.name)
                 );
             }
             let _ = eprintln!(rt; "  without -1 they are read as further items");
@@ -154,7 +166,13 @@ fn spot(rt: &HostRuntime, place: &Place, byte: usize) {
 }
 
 /// Says which byte no item can have.
-fn report_fault(rt: &HostRuntime, place: &Place, begins: usize, rest: &[u8], fault: (Error, usize)) {
+fn report_fault(
+    rt: &HostRuntime,
+    place: &Place,
+    begins: usize,
+    rest: &[u8],
+    fault: (Error, usize),
+) {
     let (error, end) = fault;
     let in_rest = end.saturating_sub(1);
     let byte = begins.saturating_add(in_rest);
@@ -165,7 +183,8 @@ fn report_fault(rt: &HostRuntime, place: &Place, begins: usize, rest: &[u8], fau
         excerpt_of_text(rt, place.text, at, "^^");
     } else {
         let _ = eprintln!(rt;
-            "cborcat: {}: byte {byte} (0x{byte:x}): {error}", label(place.name)
+            "cborcat: {}: byte {byte} (0x{byte:x}): {error}",
+            label(place.name)
         );
         excerpt_of_bytes(rt, rest, in_rest);
     }
@@ -199,7 +218,8 @@ pub fn report_refusal(rt: &HostRuntime, name: &str, text: &[u8], refusal: Refusa
         Refusal::Hex(HexFault::Odd(at)) => {
             let (line, column, _) = line_and_column(text, at);
             let _ = eprintln!(rt;
-                "cborcat: {}:{line}:{column}: an odd number of hex digits", label(name)
+                "cborcat: {}:{line}:{column}: an odd number of hex digits",
+                label(name)
             );
         }
         Refusal::Diag(error) => report_notation(rt, name, text, error),
@@ -270,7 +290,9 @@ pub fn report_lost(rt: &HostRuntime, job: &Job, place: &Place, rest: &[u8], len:
     match &lost.item {
         DataItem::Map { content, .. } => {
             let keys = keys_of(rt, content);
-            let _ = eprintln!(rt; "cborcat: {name}: {path}: no such key; the map{there} has {keys}");
+            let _ = eprintln!(rt;
+                "cborcat: {name}: {path}: no such key; the map{there} has {keys}"
+            );
         }
         DataItem::Array { content, .. } => {
             let count = content.len();
@@ -308,7 +330,11 @@ fn keys_of(rt: &HostRuntime, pairs: &[(DataItem, DataItem)]) -> String {
         }
         if pair.0.is_well_formed() {
             if let Ok(key) = pair.0.to_diag(rt.alloc()) {
-                let key = if is_shown(false, key.as_bytes()) { key.as_str() } else { "a text" };
+                let key = if is_shown(false, key.as_bytes()) {
+                    key.as_str()
+                } else {
+                    "a text"
+                };
                 let _ = text.push_str(key);
             }
         }

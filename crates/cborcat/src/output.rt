@@ -1,10 +1,9 @@
 //! Where the output goes.
 
 use crate::messages::say;
-use std::fs;
 use std::fs::{File, OpenOptions};
-use std::io;
 use std::io::{ErrorKind, Write};
+use std::{fs, io};
 
 /// Where the output goes.
 #[derive(Drop)]

@@ -35,8 +35,14 @@ impl Ended {
 
 /// Does what the arguments ask for, and returns the exit status.
 pub fn run(rt: &HostRuntime, job: &Job) -> u8 {
-    if job.show.style.form == Form::Bytes && job.output.is_none() && !job.check && rt.stdout().is_terminal() {
-        let _ = eprintln!(rt; "cborcat: bytes are not written to a terminal; use -o FILE or a pipe");
+    if job.show.style.form == Form::Bytes
+        && job.output.is_none()
+        && !job.check
+        && rt.stdout().is_terminal()
+    {
+        let _ = eprintln!(rt;
+            "cborcat: bytes are not written to a terminal; use -o FILE or a pipe"
+        );
         return TROUBLE;
     }
     let asked = if job.check { None } else { job.output };
@@ -86,7 +92,13 @@ fn file(rt: &HostRuntime, job: &Job, target: &mut Target, name: &str) -> Ended {
 }
 
 /// One input. Its first bytes decide whether it is read as it arrives.
-fn one<R: Read>(rt: &HostRuntime, job: &Job, target: &mut Target, name: &str, input: &mut R) -> Ended {
+fn one<R: Read>(
+    rt: &HostRuntime,
+    job: &Job,
+    target: &mut Target,
+    name: &str,
+    input: &mut R,
+) -> Ended {
     let mut bytes = Vec::new(rt.alloc());
     if let Err(error) = read_block(input, &mut bytes) {
         say(rt, name, &error);
@@ -216,7 +228,10 @@ fn stream<R: Read>(
         stream.skip_more();
         if at_end || stream.is_worth_a_look() {
             if let Next::Over { goes_on } = convert(rt, job, target, place, &mut stream, at_end) {
-                return Ended { status: stream.status, goes_on };
+                return Ended {
+                    status: stream.status,
+                    goes_on,
+                };
             }
         }
         if at_end {
@@ -319,7 +334,12 @@ impl Waiting {
     fn wait(&mut self, rt: &HostRuntime, job: &Job, place: &Place) -> Next {
         let waiting = self.rest().len();
         if waiting > job.limit {
-            let _ = eprintln!(rt; "cborcat: {}: byte {}: the item is longer than {} bytes (--limit)", label(place.name), self.before, job.limit);
+            let _ = eprintln!(rt;
+                "cborcat: {}: byte {}: the item is longer than {} bytes (--limit)",
+                label(place.name),
+                self.before,
+                job.limit
+            );
             self.status = self.status.max(BAD);
             return Next::Over { goes_on: true };
         }

@@ -88,11 +88,15 @@ fn flag<'a>(alloc: Global, name: &'a str) -> Arg<'a> {
 
 /// The command with the arguments on inputs.
 fn with_input<'a>(alloc: Global, command: Command<'a>) -> Result<Command<'a>, AllocError> {
-    let from = option(alloc, "from").short('f').value_parser(FROM.as_slice());
+    let from = option(alloc, "from")
+        .short('f')
+        .value_parser(FROM.as_slice());
     let text = option(alloc, "text").short('x').allow_hyphen_values(true);
     let offset = option(alloc, "offset").value_parser(clap::value_parser!(usize));
     let limit = option(alloc, "limit").value_parser(clap::value_parser!(usize));
-    let files = Arg::new(alloc, "file").action(ArgAction::Append).num_args(0..);
+    let files = Arg::new(alloc, "file")
+        .action(ArgAction::Append)
+        .num_args(0..);
     command
         .arg(from)?
         .arg(text.conflicts_with("file")?)?

@@ -1,6 +1,6 @@
 //! Whether the plain notation of an item lacks what is to be shown.
-use crate::notation::embedded::begins_as_container;
 use crate::hidden::is_shown;
+use crate::notation::embedded::begins_as_container;
 use crate::notation::print::Look;
 use cbor_diag::{DataItem, Extent, TextString, extent};
 

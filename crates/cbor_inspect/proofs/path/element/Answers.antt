@@ -12,5 +12,5 @@ returns-in-Ok c =
     let wanted : view c.args.wanted.now ≡ atom (integer c.in-Integer.value c.in-Integer.bitwidth) =
     rw c.in-Integer.is (search (rules, the_lemmas)) in
     got (λ x. x.now) c.get.result c.args.items.now c.in-Ok.index lookup.1 lookup.3
-        ∙ at_index (view c.args.wanted.now) c.in-Integer.value c.in-Ok.index c.in-Integer.bitwidth
-        (map view c.args.items.now) wanted c.in-Ok.ensures.1
+    ∙ at_index (view c.args.wanted.now) c.in-Integer.value c.in-Ok.index c.in-Integer.bitwidth
+    (map view c.args.items.now) wanted c.in-Ok.ensures.1
