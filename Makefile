@@ -111,9 +111,12 @@ quick:
 	    (cd crates/$$crate && rt test) || exit 1; \
 	done
 
-# The gate: all proofs, tests and must-fail edits.
+# The gate: all proofs, tests and must-fail edits. One check for each processor runs at a time, and no more than there
+# are 4 GB of free memory for; without the number rt counts on more memory, and runs those of cbor_diag one by one.
+JOBS = $(shell awk -v most="$$(nproc)" '/^MemAvailable/ { n = int($$2 / 4000000); print n < 1 ? 1 : n < most ? n : most }' \
+    /proc/meminfo)
 test:
-	@$(PROGRESS) rt ci
+	@RT_JOBS=$${RT_JOBS:-$(JOBS)} $(PROGRESS) rt ci
 
 # The wrong bodies that the gate does not try.
 planted:
