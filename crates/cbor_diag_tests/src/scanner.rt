@@ -18,7 +18,7 @@ fn behind(bytes: &[u8], place: usize) -> &[u8] {
 /// All bytes, in pieces of that length.
 fn check_pieces_of(rt: &impl Abort, bytes: &[u8], len: usize) {
     let mut scanner = Scanner::new();
-    let mut end = 0;
+    let mut end = 0usize;
     for piece in bytes.chunks(len.max(1)) {
         end = end.saturating_add(piece.len());
         assert_eq!(rt;
