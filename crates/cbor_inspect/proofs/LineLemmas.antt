@@ -1,7 +1,7 @@
 -- Notation that is made straight from bytes is that of the item that they are.
-use Rattle.std.proofs.Common.{◌≡◌, ℕ, ◌<◌, List, [], ◌∷◌, ◌++◌, take, None, false, refl, sym, subst, arith}
+use Rattle.std.proofs.Common.{◌≡◌, ℕ, List, [], ◌∷◌, ◌++◌, take, None, false, refl, sym, subst, arith}
 use Rattle.cbor_diag.specs.Encoding.{Base16}
-use Rattle.cbor_diag.specs.Facts.{IsItem, BeginsWithItem, IsWellFormed, diag_of}
+use Rattle.cbor_diag.specs.Facts.{BeginsWithItem, IsWellFormed, diag_of}
 use Rattle.cbor_diag.specs.Item.{Item}
 use Rattle.cbor_diag.specs.Layout.{Compact}
 use Rattle.cbor_diag.specs.Normal.{normal_at}

@@ -1,11 +1,7 @@
 -- Items one after the other (RFC 8742), what is written of them, and where they end.
-use Rattle.std.specs.Prelude.{◌≡◌, ◌≢◌, ℕ, ◌+◌, ◌≤◌, List, [], ◌∷◌, ◌++◌, length, take, drop}
-use Rattle.cbor_diag.specs.declared.error.Error.{Error}
+use Rattle.std.specs.Prelude.{◌≡◌, ℕ, List, [], ◌∷◌, ◌++◌}
 use Rattle.cbor_diag.specs.Item.{Item}
-use Rattle.cbor_diag.specs.Facts.{IsItem, BeginsWithItem, IsCut}
-use Rattle.cbor_diag.specs.Extent.{FaultEnds}
-use Rattle.cbor_inspect.specs.declared.form.Form.{Form}
-use Rattle.cbor_inspect.specs.Forms.{IsForm}
+use Rattle.cbor_diag.specs.Facts.{IsItem, BeginsWithItem}
 
 -- the input is these items, each after the one before it, and then the rest
 abbrev pub ItemsThen : List ℕ → List Item → List ℕ → Type 0

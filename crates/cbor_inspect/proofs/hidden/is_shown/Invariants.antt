@@ -1,4 +1,4 @@
-use Rattle.std.proofs.Common.{ℕ, ◌-◌, ◌<◌, ◌≤◌, length}
+use Rattle.std.proofs.Common.{ℕ, ◌-◌, ◌<◌, length}
 use Rattle.cbor_inspect.specs.Hidden.{ShownAt}
 use Rattle.cbor_inspect.proofs.hidden.is_shown.Given as goal
 

@@ -1,4 +1,3 @@
-use Rattle.std.proofs.Common.{◌≡◌}
 use Rattle.cbor_inspect.specs.Ends.{Shows}
 use Rattle.cbor_inspect.proofs.Sequences.{one_shown}
 use Rattle.cbor_inspect.proofs.items.show_first.Goals as goal
