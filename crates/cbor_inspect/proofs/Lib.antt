@@ -2,3 +2,5 @@ pub mod Sequences
 pub mod PathLemmas
 pub mod Fronts
 pub mod LooseLemmas
+pub mod HiddenLemmas
+pub mod LineLemmas

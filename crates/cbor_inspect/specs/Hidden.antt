@@ -9,10 +9,21 @@ Hides lines a b c = ((a < 32) × ((lines ≡ true) → a ≢ 10)) ⊎ (a ≡ 127
     ⊎ ((a ≡ 0xe2) × (b ≡ 0x80) × (0xa8 ≤ c) × (c ≤ 0xae))
     ⊎ ((a ≡ 0xe2) × (b ≡ 0x81) × (0xa6 ≤ c) × (c ≤ 0xa9))
 
+-- no such character begins with this byte
+abbrev pub NeverHides : Bool → ℕ → Type 0
+NeverHides lines a = (b c : ℕ) → ¬ (Hides lines a b c)
+
 -- no such character begins at this place of the text
 abbrev pub ShownAt : Bool → List ℕ → ℕ → Type 0
 ShownAt lines text k =
     ¬ (Hides lines (slice_index text k) (slice_index text (k + 1)) (slice_index text (k + 2)))
+
+-- no such character begins with, or at, these places of the text
+abbrev pub HidesNone : Bool → List ℕ → ℕ → ℕ → Type 0
+HidesNone lines text from to = (k : ℕ) → from ≤ k → k < to → NeverHides lines (slice_index text k)
+
+abbrev pub ShownBetween : Bool → List ℕ → ℕ → ℕ → Type 0
+ShownBetween lines text from to = (k : ℕ) → from ≤ k → k < to → ShownAt lines text k
 
 -- the text has no such character
 abbrev pub IsShown : Bool → List ℕ → Type 0

@@ -1,5 +1,5 @@
 -- Which bytes an input stands for in each form.
-use Rattle.std.specs.Prelude.{◌≡◌, ◌⊎◌, ℕ, ◌==◌, ◌||◌, Bool, not, List, filter, IsUtf8, Result, Ok, Err, Option, None, Some}
+use Rattle.std.specs.Prelude.{◌≡◌, ◌⊎◌, ℕ, ◌==◌, ◌||◌, Bool, not, List, filter, IsUtf8, Ok}
 use Rattle.hex.specs.Hex.{decode_of}
 use Rattle.cbor_notes.specs.AreBytes.{AreBytes}
 use Rattle.cbor_notes.specs.Base64.{standard, url_safe}

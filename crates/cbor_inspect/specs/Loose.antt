@@ -1,5 +1,5 @@
 -- Hex as people paste it: which characters of a text are kept.
-use Rattle.std.specs.Prelude.{◌≡◌, ℕ, ◌==◌, ◌&&◌, ◌||◌, Bool, true, false, List, [], ◌∷◌, if◌then◌else◌}
+use Rattle.std.specs.Prelude.{ℕ, ◌==◌, ◌&&◌, ◌||◌, Bool, true, false, List, [], ◌∷◌, if◌then◌else◌}
 use Rattle.hex.specs.Hex.{is_hex_digit}
 use Rattle.cbor_inspect.specs.declared.loose.Mode.{Mode}
 use Rattle.cbor_inspect.specs.declared.loose.Mode.TheVariants as mode

@@ -1,11 +1,7 @@
 -- Items one after the other (RFC 8742), what is written of them, and where they end.
-use Rattle.std.specs.Prelude.{◌≡◌, ◌≢◌, ℕ, ◌+◌, ◌≤◌, List, [], ◌∷◌, ◌++◌, length, take, drop}
-use Rattle.cbor_diag.specs.declared.error.Error.{Error}
+use Rattle.std.specs.Prelude.{◌≡◌, ℕ, List, [], ◌∷◌, ◌++◌}
 use Rattle.cbor_diag.specs.Item.{Item}
-use Rattle.cbor_diag.specs.Facts.{IsItem, IsCut}
-use Rattle.cbor_diag.specs.Extent.{FaultEnds}
-use Rattle.cbor_inspect.specs.declared.form.Form.{Form}
-use Rattle.cbor_inspect.specs.Forms.{IsForm}
+use Rattle.cbor_diag.specs.Facts.{IsItem, BeginsWithItem}
 
 -- the input is these items, each after the one before it, and then the rest
 abbrev pub ItemsThen : List ℕ → List Item → List ℕ → Type 0
@@ -22,6 +18,10 @@ abbrev pub ShowsEach : (Item → List ℕ → Type 0) → List Item → List ℕ
 ShowsEach Shows [] output = output ≡ []
 ShowsEach Shows (i ∷ is) output =
     (first more : List ℕ) × (output ≡ first ++ more) × Shows i first × ShowsEach Shows is more
+
+-- the output is what is written of the item at the front of the input, which takes that many bytes
+abbrev pub ShowsFront : (Item → List ℕ → Type 0) → List ℕ → List ℕ → ℕ → Type 0
+ShowsFront Shows input output used = (i : Item) × BeginsWithItem input i used × Shows i output
 
 -- The output is what is written of some items at the front of the input, all in order, and this rest follows them.
 pub record IsShownOfFirst (Shows : Item → List ℕ → Type 0) (input output rest : List ℕ) : Type 0 where

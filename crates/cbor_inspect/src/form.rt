@@ -64,7 +64,7 @@ impl Style {
 }
 
 /// The bytes of a text and a line feed.
-fn line_of(text: String) -> Result<Vec<u8>, Error>
+pub(crate) fn line_of(text: String) -> Result<Vec<u8>, Error>
     ensures { IfOk result (λ line. line.items ≡ string_bytes text ++ 10 ∷ []) }
 {
     let mut line = text.into_bytes();

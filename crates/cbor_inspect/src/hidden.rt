@@ -1,6 +1,7 @@
 //! Characters that are not shown as they are.
-ghost use Rattle.std.specs.Prelude.{◌≡◌, ◌↔◌, ℕ, ◌+◌, ◌<◌, true, IsTrue, slice_index};
-ghost use Rattle.cbor_inspect.specs.Hidden.{Hides, IsShown};
+ghost use Rattle.std.specs.Prelude.{◌≡◌, ◌↔◌, ℕ, ◌+◌, ◌<◌, ◌≤◌, true, IsTrue, slice_index, length};
+ghost use Rattle.cbor_inspect.specs.Hidden.{Hides, NeverHides, IsShown};
+ghost use Rattle.cbor_inspect.specs.Hidden.{HidesNone, ShownBetween};
 
 /// Whether three bytes of UTF-8 begin with a character that is not shown as it is: a control
 /// character, but for a line feed where `lines` are allowed; U+2028 to U+202E, or U+2066 to U+2069.
@@ -28,22 +29,64 @@ fn byte_at(text: &[u8], at: usize) -> u8
     }
 }
 
-/// Whether all characters of a text may be shown as they are: none is a control character or ends a line or turns the
-/// direction of a text. With `lines`, line feeds may.
+/// Whether no such character begins with this byte, whatever follows. It has no branch, for
+/// `is_harmless`.
+fn never_hides(lines: bool, a: u8) -> bool
+    ensures { IsTrue result → NeverHides lines a }
+{
+    ((a >= 32) | (lines & (a == 10))) & (a != 127) & (a != 0xc2) & (a != 0xe2)
+}
+
+/// Whether no such character begins with a byte from one place of a text to another. The loop has
+/// one exit, so the compiler takes many bytes at once: a byte costs less than one instruction, and
+/// some twenty where each is looked at with the two that follow it.
+fn is_harmless(lines: bool, text: &[u8], from: usize, to: usize) -> bool
+    requires { to ≤ length text.now }
+    ensures { IsTrue result → HidesNone lines text.now from to }
+{
+    let mut harmless = true;
+    let mut at = from;
+    'bytes: while at < to {
+        harmless &= never_hides(lines, text[at]);
+        at += 1;
+    }
+    harmless
+}
+
+/// Whether no character that is not shown as it is begins from one place of a text to another.
+fn is_shown_between(lines: bool, text: &[u8], from: usize, to: usize) -> bool
+    requires { to ≤ length text.now }
+    ensures { IsTrue result → ShownBetween lines text.now from to }
+{
+    if is_harmless(lines, text, from, to) {
+        return true;
+    }
+    let mut at = from;
+    'bytes: while at < to {
+        let (b, c) = (byte_at(text, at + 1), byte_at(text, at + 2));
+        if hides(lines, text[at], b, c) {
+            return false;
+        }
+        at += 1;
+    }
+    true
+}
+
+/// How many bytes of a text are looked at together.
+const BLOCK: usize = 256;
+
+/// Whether all characters of a text may be shown as they are: none is a control character or ends a
+/// line or turns the direction of a text. With `lines`, line feeds may.
 pub fn is_shown(lines: bool, text: &[u8]) -> bool
     ensures { IsTrue result → IsShown lines text.now }
 {
     let mut at = 0;
-    'bytes: while at < text.len() {
-        if hides(
-            lines,
-            text[at],
-            byte_at(text, at + 1),
-            byte_at(text, at + 2),
-        ) {
+    'parts: while at < text.len() {
+        let end = text.len().min(at + BLOCK);
+        if !is_shown_between(lines, text, at, end) {
             return false;
         }
-        at += 1;
+        at = end;
     }
     true
 }

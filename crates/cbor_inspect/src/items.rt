@@ -3,14 +3,21 @@ ghost use Rattle.std.specs.Prelude.{◌≡◌, ◌↔◌, ℕ, ◌+◌, ◌-◌,
 ghost use Rattle.std.specs.Prelude.{IfOk, IfErr, OnErr, false};
 ghost use Rattle.cbor_diag.specs.Item.{Item};
 ghost use Rattle.cbor_diag.specs.View.{view};
-ghost use Rattle.cbor_diag.specs.Facts.{IsWellFormed, BeginsWithItem, HasFault};
+ghost use Rattle.std.specs.String.{string_bytes};
+ghost use Rattle.cbor_diag.specs.Facts.{IsItem, IsWellFormed, BeginsWithItem, HasFault, diag_of};
+ghost use Rattle.cbor_diag.specs.Written.{encoded};
+ghost use Rattle.cbor_inspect.specs.Forms.{IsForm};
 ghost use Rattle.cbor_inspect.specs.declared.path.Step.{Step};
-ghost use Rattle.cbor_inspect.specs.Sequence.{IsSequence, ItemsThen, IsShownOfFirst};
+ghost use Rattle.cbor_inspect.specs.Sequence.{IsSequence, ItemsThen, IsShownOfFirst, ShowsFront};
 ghost use Rattle.cbor_inspect.specs.Ends.{EndsSo, Shows, steps_of};
 
-use crate::form::Style;
+use crate::form::{Form, Style, line_of};
+use crate::hidden::is_shown;
 use crate::path::{Part, Step, part_written};
-use cbor_diag::{DataItem, Error, Extent, extent, parse_bytes_partial};
+use cbor_diag::{
+    DataItem, Error, Extent, bytes_to_bytes, extent, parse_bytes_partial,
+    push_bytes_to_diag_partial,
+};
 use std::alloc::Global;
 
 /// Outputs are gathered until they are at least this long.
@@ -87,18 +94,110 @@ fn show_first(alloc: Global, show: &Show, bytes: &[u8], out: &mut Vec<u8>) -> Re
     ensures ends { IfErr result (EndsSo (steps_of show.now) bytes.now) }
     ensures unchanged { OnErr result (out.new.items ≡ out.old.items) }
 {
-    let (item, used) = match first_item(alloc, bytes) {
-        Ok(found) => found,
+    let (written, used) = match first_written(alloc, show, bytes) {
+        Ok(front) => front,
         Err(end) => return Err(end),
-    };
-    let written = match part_written(alloc, show.style, &item, &show.steps) {
-        Ok(Part::Written(written)) => written,
-        Ok(Part::None) => return Err(End::Lost { len: used }),
-        Err(error) => return Err(End::Failed(error)),
     };
     match out.extend_from_slice(&written) {
         Ok(()) => Ok(used),
         Err(_) => Err(End::Failed(Error::Memory)),
+    }
+}
+
+/// What is written of the item at the front, and its length, or why nothing is written.
+fn first_written(alloc: Global, show: &Show, bytes: &[u8]) -> Result<(Vec<u8>, usize), End>
+    ensures written { IfOk result (λ x. ShowsFront (Shows show.now) bytes.now x.0.items x.1) }
+    ensures ends { IfErr result (EndsSo (steps_of show.now) bytes.now) }
+{
+    if !show.steps.is_empty() {
+        return first_part(alloc, show, bytes);
+    }
+    match show.style.form {
+        Form::Bytes => first_encoding(alloc, bytes),
+        Form::Diag if !show.style.embedded => first_line(alloc, show.style, bytes),
+        _ => first_whole(alloc, show.style, bytes),
+    }
+}
+
+/// The same of the part that the path leads to.
+fn first_part(alloc: Global, show: &Show, bytes: &[u8]) -> Result<(Vec<u8>, usize), End>
+    ensures written { IfOk result (λ x. ShowsFront (Shows show.now) bytes.now x.0.items x.1) }
+    ensures ends { IfErr result (EndsSo (steps_of show.now) bytes.now) }
+{
+    let (item, used) = match first_item(alloc, bytes) {
+        Ok(found) => found,
+        Err(end) => return Err(end),
+    };
+    match part_written(alloc, show.style, &item, &show.steps) {
+        Ok(Part::Written(written)) => Ok((written, used)),
+        Ok(Part::None) => Err(End::Lost { len: used }),
+        Err(error) => Err(End::Failed(error)),
+    }
+}
+
+/// The same of all of the item.
+fn first_whole(alloc: Global, style: Style, bytes: &[u8]) -> Result<(Vec<u8>, usize), End>
+    ensures written { IfOk result (λ x.
+        ShowsFront (IsForm style.form) bytes.now x.0.items x.1) }
+    ensures ends { (steps : List Step) → IfErr result (EndsSo steps bytes.now) }
+{
+    let (item, used) = match first_item(alloc, bytes) {
+        Ok(found) => found,
+        Err(end) => return Err(end),
+    };
+    match style.write(alloc, &item) {
+        Ok(written) => Ok((written, used)),
+        Err(error) => Err(End::Failed(error)),
+    }
+}
+
+/// The encoding of the item at the front, of which no item is built.
+fn first_encoding(alloc: Global, bytes: &[u8]) -> Result<(Vec<u8>, usize), End>
+    ensures written { IfOk result (λ x.
+        ShowsFront (IsForm Form.Bytes) bytes.now x.0.items x.1) }
+    ensures ends { (steps : List Step) → IfErr result (EndsSo steps bytes.now) }
+{
+    match extent(bytes) {
+        Extent::Item(used) => match encoding_of(alloc, &bytes[..used]) {
+            Ok(written) => Ok((written, used)),
+            Err(error) => Err(End::Failed(error)),
+        },
+        Extent::Cut if bytes.is_empty() => Err(End::Done),
+        Extent::Cut => Err(End::Cut),
+        Extent::Fault { error, end } => Err(End::Fault { error, end }),
+    }
+}
+
+/// The encoding of the item that the bytes are.
+fn encoding_of(alloc: Global, bytes: &[u8]) -> Result<Vec<u8>, Error>
+    ensures { IfOk result (λ out. (i : Item) × IsItem bytes.now i × (out.items ≡ encoded i)) }
+{
+    let copy = Vec::from_slice(alloc, bytes)?;
+    bytes_to_bytes(alloc, copy)
+}
+
+/// The item at the front in notation on one line. It is built only if the notation that is made
+/// straight from the bytes has a hidden character.
+fn first_line(alloc: Global, style: Style, bytes: &[u8]) -> Result<(Vec<u8>, usize), End>
+    requires { style.form ≡ Form.Diag }
+    ensures written { IfOk result (λ x.
+        ShowsFront (IsForm Form.Diag) bytes.now x.0.items x.1) }
+    ensures ends { (steps : List Step) → IfErr result (EndsSo steps bytes.now) }
+{
+    let mut text = String::new(alloc);
+    let used = match push_bytes_to_diag_partial(alloc, bytes, &mut text) {
+        Ok(Some(used)) => used,
+        Ok(None) if bytes.is_empty() => return Err(End::Done),
+        Ok(None) => return Err(End::Cut),
+        Err(Error::Memory) => return Err(End::Failed(Error::Memory)),
+        Err(error) => return Err(fault_of(bytes, error)),
+    };
+    if !is_shown(false, text.as_bytes()) {
+        return first_whole(alloc, style, bytes);
+    }
+    match line_of(text) {
+        Ok(line) => Ok((line, used)),
+        Err(error) => Err(End::Failed(error)),
     }
 }
 

@@ -4,6 +4,7 @@ use crate::input::{may_be_text, read_all, read_block};
 use crate::messages::{Place, label, report_end, report_lost, report_refusal, say, taken};
 use crate::output::{Target, Written, close, open, write};
 use crate::words::Job;
+use cbor_diag::{Extent, extent};
 use cbor_inspect::{End, Form, Input, recognize, show_items, skip_items};
 use std::fs::File;
 use std::io::{IsTerminal, Read};
@@ -197,14 +198,28 @@ impl Waiting {
         self.before = self.before.saturating_add(count);
     }
 
-    /// Whether an item that was cut may be whole now: it is short, or twice as long as before.
-    fn is_worth_a_look(&self) -> bool {
+    /// Whether an item that was cut may be whole now: it is short, or twice as long as before and
+    /// not found to be cut, which takes no memory. A longer item than is allowed is looked at, too.
+    fn is_worth_a_look(&mut self, limit: usize) -> bool {
         let len = self.rest().len();
-        len < SMALL || len / 2 >= self.tried
+        if len < SMALL {
+            return true;
+        }
+        if len / 2 < self.tried {
+            return false;
+        }
+        if len <= limit && extent(self.rest()) == Extent::Cut {
+            self.tried = len;
+            return false;
+        }
+        true
     }
 
     /// Drops the bytes that were converted or are skipped.
     fn drop_front(&mut self) {
+        if self.start == 0 {
+            return;
+        }
         let len = self.pending.len();
         let count = self.start.min(len);
         self.pending.as_mut_slice().copy_within(count.., 0);
@@ -226,7 +241,7 @@ fn stream<R: Read>(
     let mut at_end = false;
     for _ in 0..u64::MAX {
         stream.skip_more();
-        if at_end || stream.is_worth_a_look() {
+        if at_end || stream.is_worth_a_look(job.limit) {
             if let Next::Over { goes_on } = convert(rt, job, target, place, &mut stream, at_end) {
                 return Ended {
                     status: stream.status,

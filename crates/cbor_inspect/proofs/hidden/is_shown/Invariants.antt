@@ -3,8 +3,8 @@ use Rattle.cbor_inspect.specs.Hidden.{ShownAt}
 use Rattle.cbor_inspect.proofs.hidden.is_shown.Given as goal
 
 -- the characters before are shown as they are
-abbrev pub invariant-bytes : goal.invariant-bytes
-invariant-bytes l = (k : ℕ) → k < l.at → ShownAt l.lines l.text k
+abbrev pub invariant-parts : goal.invariant-parts
+invariant-parts l = (k : ℕ) → k < l.at → ShownAt l.lines l.text k
 
-abbrev pub decreases-bytes : goal.decreases-bytes
-decreases-bytes l = length l.text - l.at
+abbrev pub decreases-parts : goal.decreases-parts
+decreases-parts l = length l.text - l.at

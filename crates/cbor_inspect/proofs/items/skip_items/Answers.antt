@@ -1,6 +1,5 @@
-use Rattle.std.proofs.Common.{◌≡◌, ℕ, ◌+◌, ◌<◌, length, drop, arith, inl}
+use Rattle.std.proofs.Common.{◌<◌, length, arith}
 use Rattle.std.proofs.lemmas.List.{take_rest, length-drop}
-use Rattle.cbor_diag.specs.Item.{Item}
 use Rattle.cbor_inspect.proofs.Fronts.{one_more, later_too, some_front}
 use Rattle.cbor_inspect.proofs.items.skip_items.Goals as goal
 

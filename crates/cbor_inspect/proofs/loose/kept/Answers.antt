@@ -1,4 +1,4 @@
-use Rattle.std.proofs.Common.{◌≡◌, ◌+◌, drop, get_or, vec_items, ap, ◌∙◌}
+use Rattle.std.proofs.Common.{◌+◌, drop, get_or, vec_items, ap, ◌∙◌}
 use Rattle.cbor_inspect.specs.declared.loose.Mode.TheVariants.{Apart}
 use Rattle.cbor_inspect.specs.Loose.{loose}
 use Rattle.cbor_inspect.proofs.LooseLemmas.{loose_turn, keep_step, skip_step}

@@ -1,9 +1,8 @@
-use Rattle.std.proofs.Common.{◌≡◌, rules, map, Some, None}
+use Rattle.std.proofs.Common.{◌≡◌, rules, map}
 use Rattle.cbor_diag.specs.Item as spec
 use Rattle.cbor_diag.specs.Item.{array}
 use Rattle.cbor_diag.specs.declared.syntax.DataItem.{the_lemmas}
 use Rattle.cbor_diag.specs.View.{view, items_view, pairs_view}
-use Rattle.cbor_inspect.specs.Paths.{pair_views}
 use Rattle.cbor_inspect.proofs.PathLemmas.{some_element, no_element, some_value, no_value}
 use Rattle.cbor_inspect.proofs.path.member.Goals as goal
 

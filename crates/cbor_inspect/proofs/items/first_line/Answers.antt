@@ -1,0 +1,13 @@
+use Rattle.std.proofs.Common.{◌++◌, ap, ◌∙◌, arith}
+use Rattle.std.specs.String.{string_bytes}
+use Rattle.cbor_diag.specs.Facts.{diag_of}
+use Rattle.cbor_inspect.proofs.LineLemmas.{line_shown}
+use Rattle.cbor_inspect.proofs.items.first_line.Goals as goal
+
+pub returns-in-Ok-clause-written : goal.returns-in-Ok-clause-written
+returns-in-Ok-clause-written c =
+    let found = rw c.in-Ok-Some.field-0-is at c.in-Ok-Some.ensures.found in
+    let is = found.2 ∙ ap (λ x. x ++ diag_of found.0) c.new-text.ensures.bytes in
+    line_shown c.args.bytes.now c.in-Ok-Some.used found.0 (string_bytes c.push_bytes_to_diag_partial.new.out) c.in-Ok.line.items
+    (λ n. omega (arith, c.type_inv.bytes n)) found.1 is
+    (rw c.as_bytes.ensures.value at (c.is_shown.ensures c.if-not-is_shown.false)) c.in-Ok.ensures
