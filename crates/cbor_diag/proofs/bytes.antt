@@ -13,6 +13,7 @@ pub mod CutShort
 pub mod Faults
 pub mod ExactlyOne
 pub mod Strict
+pub mod NoLongSimple
 pub mod StrictHeads
 pub mod Resolved
 pub mod Sizes

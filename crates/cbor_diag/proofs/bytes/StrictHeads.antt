@@ -1,5 +1,5 @@
 -- Bytes that spell an item spell it strictly if no head in them takes a byte too many.
-use Rattle.std.proofs.Common.{◌≡◌, ℕ, ◌+◌, ◌<◌, ◌≤◌, Bool, cond, List, [], ◌∷◌, ◌++◌, length, take, drop, Option}
+use Rattle.std.proofs.Common.{◌≡◌, ℕ, ◌+◌, ◌<◌, ◌≤◌, ◌⊎◌, Bool, cond, List, [], ◌∷◌, ◌++◌, length, take, drop, Option}
 use Rattle.std.proofs.Common.{Some, None, Ok, inl, inr, refl, sym, ap, subst, ◌∙◌, append_assoc, arith}
 use Rattle.std.proofs.lemmas.Bool.{cases_lt, cases_eq, ne_eqb}
 use Rattle.std.proofs.Math.Seq.{take-length}
@@ -17,13 +17,15 @@ use Rattle.cbor_diag.specs.ItemHead as item_head
 use Rattle.cbor_diag.specs.ItemHead.{ItemHead}
 use Rattle.cbor_diag.specs.StringKind.{StringKind, major_of}
 use Rattle.cbor_diag.specs.Bytes.{any, strict, ChunkThen, SpellsChunks, MembersThen, Spells, SpellsItems, SpellsPairs}
-use Rattle.cbor_diag.specs.Facts.{IsItem, BeginsWithItem}
+use Rattle.cbor_diag.specs.Facts.{IsItem, IsStrictItem, BeginsWithItem}
 use Rattle.cbor_diag.specs.Reading as reading
 use Rattle.cbor_diag.specs.Reading.{read_wide, read_argument, read_head, head_of}
 use Rattle.cbor_diag.specs.Written.{encoded}
-use Rattle.cbor_diag.specs.mirror.StrictHeads.{LongSimple, IsShort, after_content, StrictHeads, no_head, a_break}
+use Rattle.cbor_diag.specs.mirror.StrictHeads.{LongSimple, NoLongSimple, IsShort, after_content, StrictHeads}
+use Rattle.cbor_diag.specs.mirror.StrictHeads.{no_head, a_break}
 use Rattle.cbor_diag.specs.mirror.StrictHeads.{a_head}
 use Rattle.cbor_diag.proofs.bytes.Heads.{IsBytes, refused, ok_is, cons_is, byte_of, head_append, head_again}
+use Rattle.cbor_diag.proofs.bytes.NoLongSimple.{plainly_spelled}
 use Rattle.cbor_diag.proofs.bytes.Strict.{strict_only}
 use Rattle.cbor_diag.proofs.bytes.Chunks.{chunk_parts, chunk_append}
 use Rattle.cbor_diag.proofs.bytes.FoundAgain.{kind_major, string_head, head_behind}
@@ -252,9 +254,13 @@ with_none (first ∷ b) e =
 
 -- ---- the item that all of the bytes are
 
-pub strict_is : (b : List ℕ) (i : Item) (n : ℕ) → BeginsWithItem b i n → length b ≤ n → StrictHeads b
-    → IsItem b i × (b ≡ encoded i)
+either_strict : (b : List ℕ) (i : Item) → IsItem b i → NoLongSimple b ⊎ StrictHeads b → IsStrictItem b i
+either_strict b i is (inl none) = plainly_spelled 1 b i is none
+either_strict b i is (inr heads) = strictly_spelled 1 b i is heads
+
+pub strict_is : (b : List ℕ) (i : Item) (n : ℕ) → BeginsWithItem b i n → length b ≤ n
+    → NoLongSimple b ⊎ StrictHeads b → IsItem b i × (b ≡ encoded i)
 strict_is b i n begins long s =
     let all : take n b ≡ b = ap (λ (k : ℕ). take k b) (omega (arith, begins.1)) ∙ take-length b in
     let is : IsItem b i = subst (λ (x : List ℕ). IsItem x i) all begins.2 in
-    (is, strict_only 1 b i (strictly_spelled 1 b i is s))
+    (is, strict_only 1 b i (either_strict b i is s))

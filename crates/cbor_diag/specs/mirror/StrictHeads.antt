@@ -11,7 +11,11 @@ abbrev pub LongSimple : List ℕ → Type 0
 LongSimple (first ∷ (n ∷ b)) = (first ≡ 0xf8) × (n < 24)
 LongSimple _ = ⊥
 
--- the same, of bytes that begin with that head
+-- no two bytes that follow each other are such a value
+abbrev pub NoLongSimple : List ℕ → Type 0
+NoLongSimple b = (k : ℕ) → ¬ (LongSimple (drop k b))
+
+-- of bytes that begin with that head: they do not begin with such a value
 abbrev pub IsShort : ItemHead → List ℕ → Type 0
 IsShort (item_head.simple n) (first ∷ b) = first ≡ 0xf8 → 24 ≤ n
 IsShort h b = Unit {0}

@@ -1,6 +1,6 @@
 use Rattle.std.proofs.Common.{arith}
 use Rattle.cbor_diag.proofs.bytes.StrictHeads.{with_none}
-use Rattle.cbor_diag.proofs.parse.binary.strict.is_strict.Goals as goal
+use Rattle.cbor_diag.proofs.parse.binary.strict.has_strict_heads.Goals as goal
 
 pub returns : goal.returns
 returns c = λ t.

@@ -1,6 +1,6 @@
 use Rattle.std.proofs.Common.{length}
 use Rattle.cbor_diag.specs.mirror.StrictHeads.{StrictHeads}
-use Rattle.cbor_diag.proofs.parse.binary.strict.is_strict.Given as goal
+use Rattle.cbor_diag.proofs.parse.binary.strict.has_strict_heads.Given as goal
 
 -- what holds of the bytes that are left holds of all
 abbrev pub invariant-heads : goal.invariant-heads
