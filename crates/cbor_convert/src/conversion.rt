@@ -18,6 +18,7 @@ use std::alloc::Global;
 /// Returns the errors of `parse_bytes`, `parse_hex` or `parse_diag`, and `Utf8` if hex or notation
 /// is not UTF-8.
 pub fn convert(alloc: Global, from: Source, to: To, input: &[u8]) -> Result<Vec<u8>, Error>
+    // The output of the item that the input is, or why it is none.
     ensures ok { IfOk result (λ output. IsOutput from to input.now (Ok output.items)) }
     ensures refused { RefusedSo result (λ e. IsOutput from to input.now (Err e)) }
 {
@@ -64,6 +65,7 @@ fn from_hex(alloc: Global, to: To, input: &[u8]) -> Result<Option<Vec<u8>>, Erro
 
 /// Reads one item from `input` in the form `from`. Its errors are those of [`convert`].
 pub fn read_item(alloc: Global, from: Source, input: &[u8]) -> Result<DataItem, Error>
+    // The item that the input is, which has an encoding, or why it is none.
     ensures item { IfOk result (λ item. Reads from input.now (view item)) }
     ensures refused { RefusedSo result (Refuses from input.now) }
     ensures well_formed { IfOk result (λ item. IsWellFormed (view item)) }

@@ -87,10 +87,13 @@ pub fn bytes_to_bytes(alloc: Global, bytes: Vec<u8>) -> Result<Vec<u8>>
 /// [`parse_hex`]: crate::parse_hex
 /// [`DataItem::to_bytes`]: crate::DataItem::to_bytes
 pub fn hex_to_bytes(alloc: Global, hex: &str) -> Result<Vec<u8>>
+    // The encoding of the item that the hex is, exactly if it is one.
     ensures ok { IfOk result (λ out.
         (i : Item) × IsHexOf hex.now i × (out.items ≡ encoded i)) }
     ensures every_item { (i : Item) → IsHexOf hex.now i
         → MatchResult result (λ out. out.items ≡ encoded i) (λ e. e ≡ Error.Memory) }
+
+    // Each error, exactly if it is true.
     ensures refused { RefusedSo result (IsHexRefused hex.now) }
     ensures every_refusal { (e : Error) → IsHexRefused hex.now e → GaveRefusal result e }
 {

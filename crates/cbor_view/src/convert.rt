@@ -4,7 +4,7 @@ ghost use Rattle.cbor_diag.specs.Answer.{RefusedSo};
 ghost use Rattle.cbor_convert.specs.Output.{IsOutput};
 
 use cbor_convert::{Source, To, read_item, write_item};
-use cbor_diag::Error;
+use cbor_diag::{Error, bytes_to_bytes};
 use std::alloc::Global;
 
 /// Returns the output for an input. What is written of an item is written in the memory of the input
@@ -16,6 +16,9 @@ pub(crate) fn convert(alloc: Global, from: Source, to: To, input: Vec<u8>) -> Re
     ensures ok { IfOk result (λ output. IsOutput from to input.items (Ok output.items)) }
     ensures refused { RefusedSo result (λ e. IsOutput from to input.items (Err e)) }
 {
+    if let (Source::Bytes, To::Bytes) = (from, to) {
+        return bytes_to_bytes(alloc, input);
+    }
     if let To::Bytes | To::Diag = to {
         if let Source::Bytes | Source::Hex = from {
             return cbor_convert::convert(alloc, from, to, &input);

@@ -162,10 +162,15 @@ pub(crate) fn decode(alloc: Global, digits: Vec<u8>) -> crate::Result<Vec<u8>>
 /// assert_eq!(rt; parse_hex(alloc, "8").err(), Some(Error::OddHex));
 /// ```
 pub fn parse_hex(alloc: Global, hex: &str) -> crate::Result<DataItem>
+    // The item that the hex is, exactly if it is one.
     ensures ok { IfOk result (λ i. IsHexOf hex.now (view i)) }
     ensures every_item { (i : Item) → IsHexOf hex.now i → GaveItem result i }
+
+    // Each error, exactly if it is true.
     ensures refused { RefusedSo result (IsHexRefused hex.now) }
     ensures every_refusal { (e : Error) → IsHexRefused hex.now e → GaveRefusal result e }
+
+    // The item has an encoding.
     ensures well_formed { IfOk result (λ i. IsWellFormed (view i)) }
 {
     let digits = uncommented(alloc, hex)?;

@@ -123,6 +123,7 @@ fn bad_place(text: &[u8]) -> Option<usize>
 /// [`extent`]: crate::extent
 /// [`parse_hex`]: crate::parse_hex
 pub fn hex_fault(hex: &str) -> Option<(Error, usize)>
+    // The error and its place, or none exactly where the kept bytes are digits of whole bytes.
     ensures fault { IfSome result (λ x. IsHexFault hex.now x.0 x.1) }
     ensures none { (result ≡ None) ↔ AreHexDigits hex.now }
 {
@@ -155,6 +156,8 @@ pub fn hex_fault(hex: &str) -> Option<(Error, usize)>
 ///
 /// [`extent`]: crate::extent
 pub fn hex_place(hex: &str, n: usize) -> Option<usize>
+    // The place of the kept byte that is the first digit, or none exactly where the two are not
+    // there.
     ensures some { IfSome result (λ place. IsKeptByte hex.now (2 * n) place) }
     ensures none { (result ≡ None) ↔ (length (uncommented hex.now) < 2 * n + 2) }
 {
