@@ -1,7 +1,9 @@
 -- Bytes that spell an item spell it strictly if no head in them takes a byte too many.
-use Rattle.std.proofs.Common.{◌≡◌, ℕ, ◌+◌, ◌<◌, ◌≤◌, ◌⊎◌, Bool, cond, List, [], ◌∷◌, ◌++◌, length, take, drop, Option}
+use Rattle.std.proofs.Common.{◌≡◌, ◌≢◌, ℕ, zero, suc, ◌+◌, ◌-◌, ◌/◌, ◌%◌, ◌^◌, ◌<◌, ◌≤◌, ◌⊎◌, Bool, false, cond, ltb, List, [], ◌∷◌, ◌++◌}
+use Rattle.std.proofs.Common.{length, take, drop, Option}
 use Rattle.std.proofs.Common.{Some, None, Ok, inl, inr, refl, sym, ap, subst, ◌∙◌, append_assoc, arith}
-use Rattle.std.proofs.lemmas.Bool.{cases_lt, cases_eq, ne_eqb}
+use Rattle.std.specs.Int.{byte_len, from_be_bytes}
+use Rattle.std.proofs.lemmas.Bool.{cases_lt, cases_eq, ne_eqb, le-ltb}
 use Rattle.std.proofs.Math.Seq.{take-length}
 use Rattle.std.proofs.lemmas.List.{append-nil, drop_at}
 use Rattle.cbor_diag.specs.declared.syntax.IntegerWidth.{IntegerWidth}
@@ -22,9 +24,10 @@ use Rattle.cbor_diag.specs.Reading as reading
 use Rattle.cbor_diag.specs.Reading.{read_wide, read_argument, read_head, head_of}
 use Rattle.cbor_diag.specs.Written.{encoded}
 use Rattle.cbor_diag.specs.mirror.StrictHeads.{LongSimple, NoLongSimple, IsShort, after_content, StrictHeads}
-use Rattle.cbor_diag.specs.mirror.StrictHeads.{no_head, a_break}
+use Rattle.cbor_diag.specs.mirror.StrictHeads.{no_head, a_break, IsNumberLen}
 use Rattle.cbor_diag.specs.mirror.StrictHeads.{a_head}
 use Rattle.cbor_diag.proofs.bytes.Heads.{IsBytes, refused, ok_is, cons_is, byte_of, head_append, head_again}
+use Rattle.cbor_diag.proofs.bytes.Heads.{info_way, in_byte, in_bytes, no_number, no_meaning, at_majors}
 use Rattle.cbor_diag.proofs.bytes.NoLongSimple.{plainly_spelled}
 use Rattle.cbor_diag.proofs.bytes.Strict.{strict_only}
 use Rattle.cbor_diag.proofs.bytes.Chunks.{chunk_parts, chunk_append}
@@ -245,6 +248,72 @@ with_break (first ∷ b) rest e s =
 pub with_head : (b rest after : List ℕ) (h : ItemHead) → IsBytes b → ¬ (LongSimple b) → read_head b ≡ Ok (h, rest)
     → after ≡ after_content h rest → StrictHeads after → StrictHeads b
 with_head b rest after h fits plain e is s = a_head e (short_head b rest h fits plain e) (subst StrictHeads is s)
+
+-- ---- heads with a number that is not read
+
+-- a number of that many bytes is there
+number_there : (info k : ℕ) (b : List ℕ) → IsNumberLen info k → k ≤ length b
+    → (n : ℕ) × (w : IntegerWidth) × (read_argument info b ≡ Ok (number n w, drop k b))
+unfolding read_wide
+number_there info k b (inl is) long =
+    elim (info_way info b) [
+      | in_byte lt reads ↦ (info, Zero, reads ∙ ap (λ (j : ℕ). Ok (number info Zero, drop j b)) (sym is.1))
+      | in_bytes j w width way reads ↦ absurd (omega (arith, is.0, way.is))
+      | no_number other reads ↦ absurd (omega (arith, is.0, other))
+      | no_meaning least other reads ↦ absurd (omega (arith, is.0, least))
+    ]
+number_there info k b (inr is) long =
+    elim (info_way info b) [
+      | in_byte lt reads ↦ absurd (omega (arith, is.0, lt))
+      | in_bytes j w width way reads ↦
+          let exponent : info - 24 ≡ j = omega (arith, way.is) in
+          let len : byte_len w ≡ k = way.len ∙ ap (λ (x : ℕ). 2 ^ x) (sym exponent) ∙ sym is.2 in
+          let there : ltb (length b) (byte_len w) ≡ false = le-ltb _ _ (rw len long) in
+          let value = from_be_bytes w (take (byte_len w) b) in
+          (value, width, reads ∙ (rw there refl ∙ ap (λ (x : ℕ). Ok (number value width, drop x b)) len))
+      | no_number other reads ↦ absurd (omega (arith, is.1, other))
+      | no_meaning least other reads ↦ absurd (omega (arith, is.1, least))
+    ]
+
+-- a head of another major type than those of strings, which has no content
+record Plain (major n : ℕ) (w : IntegerWidth) : Type 0 where
+  h : ItemHead
+  is : head_of major (number n w) ≡ Ok h
+  alone : (b : List ℕ) → after_content h b ≡ b
+
+plain_special : (n : ℕ) (w : IntegerWidth) → Plain 7 n w
+unfolding head_of
+plain_special n Sixteen = record { h = item_head.float n float_width.Sixteen; is = refl; alone = λ b. refl }
+plain_special n ThirtyTwo = record { h = item_head.float n float_width.ThirtyTwo; is = refl; alone = λ b. refl }
+plain_special n SixtyFour = record { h = item_head.float n float_width.SixtyFour; is = refl; alone = λ b. refl }
+plain_special n w = record { h = item_head.simple n; is = refl; alone = λ b. refl }
+
+plain_head : (n : ℕ) (w : IntegerWidth) (major : ℕ) → major ≤ 7 → major ≢ 2 → major ≢ 3 → Plain major n w
+unfolding head_of
+plain_head n w major le no_bytes no_text =
+    at_majors (λ m. m ≢ 2 → m ≢ 3 → Plain m n w)
+    (λ a b. record { h = item_head.integer n w; is = refl; alone = λ b. refl })
+    (λ a b. record { h = item_head.negative n w; is = refl; alone = λ b. refl }) (λ a b. absurd (a refl))
+    (λ a b. absurd (b refl)) (λ a b. record { h = item_head.array (number n w); is = refl; alone = λ b. refl })
+    (λ a b. record { h = item_head.map (number n w); is = refl; alone = λ b. refl })
+    (λ a b. record { h = item_head.tag n w; is = refl; alone = λ b. refl }) (λ a b. plain_special n w) major le
+    no_bytes no_text
+
+byte_before : (first : ℕ) (b : List ℕ) → first < 256 → IsBytes b → IsBytes (first ∷ b)
+byte_before first b byte fits zero = byte
+byte_before first b byte fits (suc i) = fits i
+
+-- strict heads after the bytes of such a number are strict heads with it
+pub with_number : (first k : ℕ) (b after : List ℕ) → first < 256 → IsBytes b → ¬ (LongSimple (first ∷ b))
+    → first / 32 ≢ 2 → first / 32 ≢ 3 → IsNumberLen (first % 32) k → k ≤ length b → after ≡ drop k b
+    → StrictHeads after → StrictHeads (first ∷ b)
+unfolding read_head
+with_number first k b after byte bytes plain no_bytes no_text len long is s =
+    let fits = byte_before first b byte bytes in
+    let number = number_there (first % 32) k b len long in
+    let head = plain_head number.0 number.1 (first / 32) (omega (arith, byte)) no_bytes no_text in
+    with_head (first ∷ b) (drop k b) after head.h fits plain (rw (number.2, head.is) refl)
+    (is ∙ sym (head.alone (drop k b))) s
 
 pub with_none : (b : List ℕ) → length b ≡ 0 → StrictHeads b
 with_none [] e = no_head

@@ -1,5 +1,5 @@
 -- Heads one after the other, none of them of a simple value that takes a byte too many.
-use Rattle.std.specs.Prelude.{◌≡◌, ℕ, ◌≤◌, ◌<◌, List, [], ◌∷◌, drop, Ok}
+use Rattle.std.specs.Prelude.{◌≡◌, ℕ, ◌-◌, ◌^◌, ◌≤◌, ◌<◌, ◌⊎◌, List, [], ◌∷◌, drop, Ok}
 use Rattle.cbor_diag.specs.Argument.{number}
 use Rattle.cbor_diag.specs.Head.{break_byte}
 use Rattle.cbor_diag.specs.ItemHead as item_head
@@ -19,6 +19,10 @@ NoLongSimple b = (k : ℕ) → ¬ (LongSimple (drop k b))
 abbrev pub IsShort : ItemHead → List ℕ → Type 0
 IsShort (item_head.simple n) (first ∷ b) = first ≡ 0xf8 → 24 ≤ n
 IsShort h b = Unit {0}
+
+-- how many bytes of a number follow such info
+abbrev pub IsNumberLen : ℕ → ℕ → Type 0
+IsNumberLen info k = ((info < 24) × (k ≡ 0)) ⊎ ((24 ≤ info) × (info < 28) × (k ≡ 2 ^ (info - 24)))
 
 -- the bytes after a head, and after the content of a string of definite length
 abbrev pub after_content : ItemHead → List ℕ → List ℕ

@@ -1,9 +1,10 @@
 //! Finds out whether bytes that are an item are its encoding already: whether no simple value below
 //! 24 takes two bytes. It goes from head to head, and keeps nothing of what is open.
-ghost use Rattle.std.specs.Prelude.{◌≡◌, ◌↔◌, ◌<◌, ◌⊎◌, ℕ, List, length, drop, IsTrue, IfSome};
+ghost use Rattle.std.specs.Prelude.{◌≡◌, ◌≢◌, ◌↔◌, ◌<◌, ◌≤◌, ◌⊎◌, ◌/◌, ℕ, List, ◌∷◌, length, drop};
+ghost use Rattle.std.specs.Prelude.{IsTrue, IfSome};
 ghost use Rattle.cbor_diag.specs.mirror.HeadView.{head_view};
 ghost use Rattle.cbor_diag.specs.mirror.StrictHeads.{LongSimple, NoLongSimple, StrictHeads};
-ghost use Rattle.cbor_diag.specs.mirror.StrictHeads.{after_content};
+ghost use Rattle.cbor_diag.specs.mirror.StrictHeads.{after_content, IsNumberLen};
 
 use super::argument::{Argument, after_break};
 use super::head::{ItemHead, read_head};
@@ -46,8 +47,47 @@ fn content_len(head: ItemHead) -> u64
     }
 }
 
+/// How many bytes of a number follow a first byte with these five bits of info, if a number does.
+fn number_len(info: u8) -> Option<usize>
+    ensures { IfSome result (λ k. IsNumberLen info k) }
+{
+    match info {
+        0..=23 => Some(0),
+        24 => Some(1),
+        25 => Some(2),
+        26 => Some(4),
+        27 => Some(8),
+        _ => None,
+    }
+}
+
+/// Whether a string begins with this byte.
+fn begins_string(first: u8) -> bool
+    ensures { ¬ (IsTrue result) → (first / 32 ≢ 2) × (first / 32 ≢ 3) }
+{
+    first / 32 == 2 || first / 32 == 3
+}
+
+/// The bytes after a head that has a number and is not that of a string, by its first byte. The
+/// number is not read: with [`after_read_head`] alone, a map with integer keys takes a third more.
+fn after_number(first: u8, bytes: &[u8]) -> Option<&[u8]>
+    ensures strict { ¬ (LongSimple (first ∷ bytes.now))
+        → IfSome result (λ after. StrictHeads after.now → StrictHeads (first ∷ bytes.now)) }
+    ensures shorter { IfSome result (λ after. length after.now ≤ length bytes.now) }
+{
+    if begins_string(first) {
+        return None;
+    }
+    let count = number_len(first % 32)?;
+    if count > bytes.len() {
+        return None;
+    }
+    let (_, after) = bytes.split_at(count);
+    Some(after)
+}
+
 /// The bytes after the head at the front, and after the content of a string of definite length.
-fn after_head(bytes: &[u8]) -> Option<&[u8]>
+fn after_read_head(bytes: &[u8]) -> Option<&[u8]>
     ensures strict { ¬ (LongSimple bytes.now)
         → IfSome result (λ after. StrictHeads after.now → StrictHeads bytes.now) }
     ensures shorter { IfSome result (λ after. length after.now < length bytes.now) }
@@ -61,6 +101,21 @@ fn after_head(bytes: &[u8]) -> Option<&[u8]>
     }
     let (_, after) = rest.split_at(count as usize);
     Some(after)
+}
+
+/// The same, by the shorter way where it is there.
+fn after_head(bytes: &[u8]) -> Option<&[u8]>
+    ensures strict { ¬ (LongSimple bytes.now)
+        → IfSome result (λ after. StrictHeads after.now → StrictHeads bytes.now) }
+    ensures shorter { IfSome result (λ after. length after.now < length bytes.now) }
+{
+    let [first, rest @ ..] = bytes else {
+        return None;
+    };
+    match after_number(*first, rest) {
+        Some(after) => Some(after),
+        None => after_read_head(bytes),
+    }
 }
 
 /// The bytes after the break or the head at the front, unless it takes a byte too many.

@@ -1,7 +1,7 @@
 use Rattle.std.proofs.Common.{◌∙◌, sym, arith}
 use Rattle.cbor_diag.specs.mirror.HeadView.{head_view}
 use Rattle.cbor_diag.proofs.bytes.StrictHeads.{with_head}
-use Rattle.cbor_diag.proofs.parse.binary.strict.after_head.Goals as goal
+use Rattle.cbor_diag.proofs.parse.binary.strict.after_read_head.Goals as goal
 
 pub returns-clause-strict : goal.returns-clause-strict
 returns-clause-strict c = λ plain s.
