@@ -2,8 +2,8 @@ pub mod Pieces
 pub mod Digits
 pub mod Elements
 pub mod Walks
+pub mod HeadLines
 pub mod Members
-pub mod NoteSteps
 pub mod NoteTexts
 pub mod EmbeddedDumps
 pub mod WholeDumps
@@ -12,3 +12,4 @@ pub mod Fits
 pub mod NotesFit
 pub mod ItemsFit
 pub mod AllDigits
+pub mod Fronts

@@ -1,5 +1,5 @@
 //! The lines of heads and of strings.
-ghost use Rattle.std.specs.Prelude.{◌≡◌, ◌<◌, ◌≤◌, ◌∷◌, [], length, OnOk};
+ghost use Rattle.std.specs.Prelude.{◌≡◌, ◌<◌, ◌≤◌, ◌+◌, ◌∷◌, [], length, OnOk};
 ghost use Rattle.std.specs.Str.{IsCharBoundary};
 ghost use Rattle.cbor_notes.specs.Layout.{reach};
 ghost use Rattle.cbor_diag.specs.Comments.{simple_comment, text_comment};

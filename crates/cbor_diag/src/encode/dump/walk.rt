@@ -25,7 +25,7 @@ use super::writer::Writer;
 use crate::error::Error;
 use crate::parse::{Argument, ItemHead, next_chunk, no_level_left, read_borrowed, read_front};
 use crate::parse::read_head;
-use crate::syntax::strings::{StringContent, StringKind};
+use crate::syntax::strings::StringKind;
 use crate::syntax::{DEEPEST, Tag};
 use std::alloc::{AllocError, Global};
 
@@ -265,11 +265,11 @@ fn dump_notes(
     ensures shared { OnOk result (walk.new.shared ≡ walk.old.shared) }
 {
     match tag {
-        Tag::ENCODED_CBOR => match definite_bytes(bytes) {
+        Tag::ENCODED_CBOR => match definite_bytes(bytes)? {
             Some(content) => embedded_item(walk, context, content),
             None => walk.writer.note_line(context.depth, INVALID_ITEM),
         },
-        Tag::ENCODED_CBOR_SEQ => match definite_bytes(bytes) {
+        Tag::ENCODED_CBOR_SEQ => match definite_bytes(bytes)? {
             Some(content) => embedded_sequence(walk, context, content),
             None => walk.writer.note_line(context.depth, INVALID_SEQUENCE),
         },
@@ -304,20 +304,27 @@ fn dump_value_note(
 }
 
 /// The content of the byte string of definite length at the front, if an item of that kind is
-/// there.
-fn definite_bytes(bytes: &[u8]) -> Option<&[u8]>
-    ensures { (level : ℕ) (i : Item) (rest : List ℕ) → 1 ≤ level → level ≤ deepest + 1
-        → read_at level bytes.now ≡ Ok (i, rest) → option_copied result ≡ spec.bytes_in i }
+/// there. The item was read before, so the only error is out of memory.
+fn definite_bytes(bytes: &[u8]) -> Result<Option<&[u8]>, AllocError>
+    ensures { (level : ℕ) (i : Item) (rest : List ℕ) → level ≤ deepest + 1
+        → read_at level bytes.now ≡ Ok (i, rest)
+        → IfOk result (λ x. option_copied x ≡ spec.bytes_in i) }
 {
     let Ok((head, rest)) = read_head(bytes) else {
-        return None;
+        return Err(AllocError);
     };
-    let ItemHead::String(StringKind::Bytes, Argument::Number(count, _)) = head else {
-        return None;
+    let ItemHead::String(kind, length) = head else {
+        return Ok(None);
     };
-    match read_borrowed(StringKind::Bytes, count, rest) {
-        Ok((StringContent::Bytes(content), _)) => Some(content),
-        _ => None,
+    let Argument::Number(count, _) = length else {
+        return Ok(None);
+    };
+    match kind {
+        StringKind::Text => Ok(None),
+        StringKind::Bytes => match read_borrowed(kind, count, rest) {
+            Ok((content, _)) => Ok(Some(content.as_bytes())),
+            Err(_) => Err(AllocError),
+        },
     }
 }
 
