@@ -10,6 +10,7 @@ pub mod Appends
 pub mod Straight
 pub mod Passes
 pub mod ShownLines
+pub mod Widths
 pub mod HeadErrors
 pub mod HeadView
 pub mod EncodingView

@@ -24,6 +24,7 @@ mod lines;
 mod note_lines;
 mod notes;
 mod pass;
+mod width;
 mod writer;
 
 use crate::error::Error;
