@@ -1,4 +1,6 @@
 pub mod Pieces
+pub mod Widths
+pub mod FrontWidths
 pub mod Digits
 pub mod Elements
 pub mod Walks

@@ -42,7 +42,7 @@ pub(crate) struct Place {
 impl Place {
     /// In a container.
     fn inside(self) -> Place
-        requires { IsPlace self }
+        requires place { IsPlace self }
         requires level { self.level ≤ deepest }
         ensures level { result.level ≡ self.level + 1 }
         ensures depth { result.depth ≡ self.depth + 1 }
@@ -57,7 +57,7 @@ impl Place {
 
     /// Right below a tag.
     fn below(self, tag: Tag) -> Place
-        requires { IsPlace self }
+        requires place { IsPlace self }
         requires level { self.level ≤ deepest }
         ensures level { result.level ≡ self.level + 1 }
         ensures depth { result.depth ≡ self.depth + 1 }
@@ -91,6 +91,7 @@ pub(super) fn dump_width(bytes: &[u8], level: u8) -> crate::Result<(usize, &[u8]
 }
 
 /// How far the digits of the lines so far reach.
+#[derive(Drop)]
 pub(crate) struct Reach {
     /// The column after the last of them.
     pub(crate) widest: usize,
@@ -170,7 +171,7 @@ impl Reach {
         bytes: &'a [u8],
         place: Place,
     ) -> crate::Result<&'a [u8]>
-        requires { IsPlace place }
+        requires place { IsPlace place }
         requires level { place.level ≤ deepest }
         ensures measured { IfOk result (λ rest. MeasuredBehind place
             (item_head.array (argument_view count)) bytes.now rest.now self.old.widest
@@ -200,7 +201,7 @@ impl Reach {
         bytes: &'a [u8],
         place: Place,
     ) -> crate::Result<&'a [u8]>
-        requires { IsPlace place }
+        requires place { IsPlace place }
         requires level { place.level ≤ deepest }
         ensures measured { IfOk result (λ rest. MeasuredBehind place
             (item_head.map (argument_view count)) bytes.now rest.now self.old.widest
@@ -229,7 +230,7 @@ impl Reach {
         bytes: &'a [u8],
         place: Place,
     ) -> crate::Result<&'a [u8]>
-        requires { IsPlace place }
+        requires place { IsPlace place }
         requires level { place.level ≤ deepest }
         ensures measured { IfOk result (λ rest. MeasuredBehind place
             (item_head.string (kind_view head.0) (argument_view head.1)) bytes.now rest.now
@@ -256,7 +257,7 @@ impl Reach {
         bytes: &'a [u8],
         place: Place,
     ) -> crate::Result<&'a [u8]>
-        requires { IsPlace place }
+        requires place { IsPlace place }
         requires level { place.level ≤ deepest }
         ensures measured { IfOk result (λ rest. MeasuredBehind place
             (item_head.string (kind_view kind) indefinite) bytes.now rest.now self.old.widest
