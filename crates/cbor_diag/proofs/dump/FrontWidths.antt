@@ -8,21 +8,28 @@ use Rattle.cbor_diag.specs.declared.syntax.IntegerWidth.{IntegerWidth}
 use Rattle.cbor_diag.specs.declared.syntax.IntegerWidth.TheVariants as width
 use Rattle.cbor_diag.specs.declared.syntax.FloatWidth.TheVariants as float_width
 use Rattle.cbor_diag.specs.declared.syntax.strings.StringContent.{StringContent}
+use Rattle.cbor_diag.specs.declared.syntax.strings.StringKind as code_kind
 use Rattle.cbor_diag.specs.declared.encode.dump.width.Place.{Place}
+use Rattle.cbor_diag.specs.declared.parse.binary.head.ItemHead as code_head
+use Rattle.cbor_diag.specs.declared.parse.binary.head.ItemHead.TheVariants as code
+use Rattle.cbor_diag.specs.declared.parse.binary.argument.Argument as code_argument
+use Rattle.cbor_diag.specs.declared.parse.binary.argument.Argument.TheVariants.{Number, Indefinite}
 use Rattle.cbor_diag.specs.Argument.{Argument, number, indefinite}
 use Rattle.cbor_diag.specs.Item as spec
-use Rattle.cbor_diag.specs.Item.{Chunk, string, chunked_string, Item, atom, array, tagged, Items, no_items, item}
-use Rattle.cbor_diag.specs.Item.{Pairs, no_pairs, pair, item_count, pair_count}
+use Rattle.cbor_diag.specs.Item.{Chunk, integer, negative, string, chunked_string, float, simple, Item, atom, array}
+use Rattle.cbor_diag.specs.Item.{tagged, Items, no_items, item, Pairs, no_pairs, pair, item_count, pair_count}
 use Rattle.cbor_diag.specs.ItemHead as item_head
 use Rattle.cbor_diag.specs.ItemHead.{ItemHead}
 use Rattle.cbor_diag.specs.Head.{head, stated, opening, FitsStated, HeadThen}
 use Rattle.cbor_diag.specs.Bytes.{any, SpellsSimple}
 use Rattle.cbor_diag.specs.Reading.{Read, Fails, ◌>>=◌, count_width, joined, joined_pairs, opened, read_head, read_content}
-use Rattle.cbor_diag.specs.Reading.{read_chunk, read_body, counted_item, read_item, no_level_left}
+use Rattle.cbor_diag.specs.Reading.{read_chunk, read_body, counted_item, read_item, no_level_left, tag_of}
 use Rattle.cbor_diag.specs.StringKind.{StringKind, major_of}
 use Rattle.cbor_diag.specs.WellFormed.{levels_left}
 use Rattle.cbor_diag.specs.Written.{encoded_head, encoded_open, encoded_simple}
+use Rattle.cbor_diag.specs.mirror.HeadView.{argument_view, head_view}
 use Rattle.cbor_diag.specs.mirror.Passes.{tag_number}
+use Rattle.cbor_diag.specs.mirror.Stack.{left_of}
 use Rattle.cbor_diag.specs.mirror.StringView.{borrowed_chunk, bytes_of, kind_of}
 use Rattle.cbor_diag.specs.mirror.Widths.{head_reach, longest_piece, content_width, string_width, chunks_width}
 use Rattle.cbor_diag.specs.mirror.Widths.{piece_reach, head_length, close_width, items_width, pairs_width, width_at}
@@ -31,7 +38,7 @@ use Rattle.cbor_diag.specs.mirror.Widths.{HasHead, shown_length}
 use Rattle.cbor_diag.proofs.bytes.Chunks.{chunk_takes}
 use Rattle.cbor_diag.proofs.bytes.Heads.{IsBytes, ArgumentThen, HeadIs, head_takes}
 use Rattle.cbor_diag.proofs.bytes.Strict.{stated_is}
-use Rattle.cbor_diag.proofs.straight.Readings.{ok_then, fails_then, tag_read}
+use Rattle.cbor_diag.proofs.straight.Readings.{ok_then, fails_then, part_fails, tag_read}
 
 -- ---- reading
 
@@ -205,9 +212,21 @@ no_more : (a : ℕ) → a ≡ max a 0
 no_more a = omega arith
 
 -- an item that is its head
-pub atom_measured : (p : Place) (h : ItemHead) (b : List ℕ) (i : Item) (old : ℕ)
-    → read_behind p.level h b ≡ Ok (i, b) → HasHead h i → inner_there p i ≡ 0 → MeasuredBehind p h b b old old
-atom_measured p h b i old read has none = (i, read, has, no_more old ∙ ap (max old) (sym none))
+pub alone_measured : (p : Place) (h : code_head.ItemHead) (b : List ℕ) (n : ℕ)
+    → ((k : code_kind.StringKind) (a : code_argument.Argument) → h ≡ code.String k a → ⊥)
+    → ((a : code_argument.Argument) → h ≡ code.Array a → ⊥) → ((a : code_argument.Argument) → h ≡ code.Map a → ⊥)
+    → ((t : ℕ) (w : IntegerWidth) → h ≡ code.Tag t w → ⊥) → MeasuredBehind p (head_view h) b b n n
+alone_measured p (code.Integer m w) b n no_string no_array no_map no_tag =
+    (atom (integer m w), refl, refl, no_more n)
+alone_measured p (code.Negative m w) b n no_string no_array no_map no_tag =
+    (atom (negative m w), refl, refl, no_more n)
+alone_measured p (code.String k a) b n no_string no_array no_map no_tag = absurd (no_string k a refl)
+alone_measured p (code.Array a) b n no_string no_array no_map no_tag = absurd (no_array a refl)
+alone_measured p (code.Map a) b n no_string no_array no_map no_tag = absurd (no_map a refl)
+alone_measured p (code.Tag t w) b n no_string no_array no_map no_tag = absurd (no_tag t w refl)
+alone_measured p (code.Float bits w) b n no_string no_array no_map no_tag =
+    (atom (float bits w), refl, refl, no_more n)
+alone_measured p (code.Simple m) b n no_string no_array no_map no_tag = (atom (simple m), refl, refl, no_more n)
 
 -- a tag, and the value right below it
 pub tag_measured : (p below : Place) (t : ℕ) (w : IntegerWidth) (b after : List ℕ) (old new : ℕ)
@@ -223,7 +242,31 @@ tag_measured p below t w b after old new level depth tag m =
     ∙ ap (λ n. width_at left n (tag_number below.tag) j) depth ∙ ap (λ x. width_at left (p.depth + 1) x j) tag in
     (tagged t w j, tag_read left t w b after j read, (j, refl), m.2 ∙ ap (max old) wide)
 
+-- what is not the item below a tag
+pub tag_behind_fails : (level inner t : ℕ) (w : IntegerWidth) (b : List ℕ) (e : Error) → inner ≡ level + 1
+    → Fails e (read_at inner b) → Fails e (read_behind level (item_head.tag t w) b)
+tag_behind_fails level inner t w b e same fails =
+    part_fails e (levels_left (level + 1)) (tag_of t w) b refl (subst (λ n. Fails e (read_at n b)) same fails)
+
 -- ---- members
+
+pub none_yet : (a : ℕ) → a ≡ max a 0
+none_yet a = no_more a
+
+-- however many members are held, the width of their count is the same
+pub held_width : (len : code_argument.Argument) (held : ℕ) → count_width (left_of len held) ≡ count_width (argument_view len)
+held_width (Number n w) held = refl
+held_width Indefinite held = refl
+
+-- what is read one level deeper
+pub level_read : (inner level : ℕ) (b : List ℕ) (i : Item) (rest : List ℕ) → inner ≡ level
+    → read_at inner b ≡ Ok (i, rest) → read_item (levels_left level) b ≡ Ok (i, rest)
+level_read inner level b i rest same e = ap (λ n. read_at n b) (sym same) ∙ e
+
+pub level_fails : (e : Error) (inner level : ℕ) (b : List ℕ) → inner ≡ level → Fails e (read_at inner b)
+    → Fails e (read_item (levels_left level) b)
+level_fails e inner level b same h = subst (λ n. Fails e (read_at n b)) same h
+
 
 items_more : (each : Item → ℕ) (is : Items) (i : Item)
     → items_width each (joined is (item i no_items)) ≡ max (items_width each is) (each i)

@@ -2,7 +2,7 @@
 //!
 //! Each function takes the remaining bytes and returns those after what it counted. Notes have no
 //! digits, so what is embedded in a byte string counts as its bytes.
-ghost use Rattle.std.specs.Prelude.{◌≡◌, ◌<◌, ◌≤◌, ◌+◌, ◌*◌, length, max, IfOk, IfErr};
+ghost use Rattle.std.specs.Prelude.{◌≡◌, ◌<◌, ◌≤◌, ◌+◌, ◌-◌, length, max, IfOk, IfErr};
 ghost use Rattle.std.specs.Str.{IsCharBoundary};
 ghost use Rattle.cbor_notes.specs.Layout.{width_of};
 ghost use Rattle.cbor_diag.specs.Argument.{indefinite};

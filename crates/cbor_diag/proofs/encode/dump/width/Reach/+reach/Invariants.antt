@@ -27,7 +27,7 @@ decreases-pairs-pairs l = length l.rest
 -- what was read of the members, and how far their digits reach
 abbrev pub invariant-items-items : goal.invariant-items-items
 invariant-items-items l =
-    let left = levels_left (l.place.level + 1) in
+    let left = levels_left (l.fn.place.level + 1) in
     record {
       members : Items;
       so_far : parts_read left (items_in members (left_of l.count l.held)) l.rest
@@ -38,7 +38,7 @@ invariant-items-items l =
 
 abbrev pub invariant-pairs-pairs : goal.invariant-pairs-pairs
 invariant-pairs-pairs l =
-    let left = levels_left (l.place.level + 1) in
+    let left = levels_left (l.fn.place.level + 1) in
     record {
       members : Pairs;
       so_far : parts_read left (pairs_in members (left_of l.count l.held)) l.rest

@@ -18,5 +18,5 @@ invariant-chunks l = record {
   enough : length l.rest ≤ bound;
   so_far : later turns (onto chunks (read_chunks bound (kind_view l.kind) l.rest))
       ≡ read_chunks (length l.bytes) (kind_view l.kind) l.bytes;
-  reach : l.self.widest ≡ max l.fn.self.widest (chunks_width (kind_view l.kind) (l.place.depth + 1) chunks);
+  reach : l.self.widest ≡ max l.fn.self.widest (chunks_width (kind_view l.kind) (l.fn.place.depth + 1) chunks);
 }
