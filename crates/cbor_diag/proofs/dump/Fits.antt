@@ -126,7 +126,7 @@ last_low text (suc n) =
       | false ↦ omega arith
     ]
 
-text_cut_low : (text : List ℕ) → text_cut text ≤ 16
+pub text_cut_low : (text : List ℕ) → text_cut text ≤ 16
 text_cut_low text = let last = last_low text piece_size in grind (arith, nat_tests)
 
 text_few : (text : List ℕ) → AllByRecursion (λ p. length p ≤ 24) (text_pieces text)

@@ -3,6 +3,7 @@ use Rattle.std.proofs.Common.{◌≡◌, ℕ, zero, suc, ◌+◌, ◌-◌, ◌*�
 use Rattle.std.proofs.Common.{List, [], ◌∷◌, ◌++◌, map, length, take, drop, codes, Option, Some, None, inl, inr, refl}
 use Rattle.std.proofs.Common.{sym, ap, ◌∙◌, arith, length-drop, length-take-le}
 use Rattle.std.specs.List.{flat_map}
+use Rattle.std.proofs.lemmas.List.{length-take}
 use Rattle.std.proofs.lemmas.Bool.Decides.{nat_tests}
 use Rattle.std.proofs.lemmas.Bool.{cases_lt}
 use Rattle.hex.specs.Hex.{encode_lower}
@@ -17,7 +18,7 @@ use Rattle.cbor_diag.specs.Item.{array, tagged, Items, no_items, item, Pairs, no
 use Rattle.cbor_diag.specs.Comments.{bytes_comment, text_comment}
 use Rattle.cbor_diag.specs.Head.{opening, break_byte}
 use Rattle.cbor_diag.specs.Notes.{Note}
-use Rattle.cbor_diag.specs.Pieces.{pieces_of, byte_pieces, text_pieces, piece_size}
+use Rattle.cbor_diag.specs.Pieces.{pieces_of, byte_pieces, text_cut, text_pieces, piece_size}
 use Rattle.cbor_diag.specs.StringKind.{StringKind, bytes_kind, text_kind, major_of}
 use Rattle.cbor_diag.specs.Written.{encoded_head}
 use Rattle.cbor_diag.specs.Dump.{Context, head_hex, head_line, piece_line, content_lines, string_lines, chunks_lines}
@@ -30,7 +31,8 @@ use Rattle.cbor_diag.specs.mirror.Widths.{head_length, close_width, items_width,
 use Rattle.cbor_diag.specs.mirror.Widths.{width_at}
 use Rattle.cbor_diag.proofs.dump.Digits.{length-hex, length-head_short, length-head_long}
 use Rattle.cbor_diag.proofs.dump.Elements.{Small, element_small, element_cut}
-use Rattle.cbor_diag.proofs.dump.Pieces.{byte_cut}
+use Rattle.cbor_diag.proofs.dump.Fits.{text_cut_low}
+use Rattle.cbor_diag.proofs.dump.Pieces.{pieces_more, text_cuts}
 
 -- ---- lines
 
@@ -98,6 +100,24 @@ longest_of k some (suc n) (x ∷ xs) fits =
     let first : length (take cut all) ≡ cut = length-take-le cut all (omega arith) in
     let left : length (drop cut all) ≡ length all - cut = length-drop cut all in
     let others = longest_of k some n (drop cut all) (omega arith) in
+    omega arith
+
+-- the longest piece of a text is its first one, or one of those that are left
+pub text_step : (rest piece after : List ℕ) → 0 < length rest → piece ≡ take (text_cut rest) rest
+    → after ≡ drop (text_cut rest) rest
+    → longest (pieces_of text_cut (length rest) rest)
+    ≡ max (length piece) (longest (pieces_of text_cut (length after) after))
+text_step rest piece after some front back =
+    rw (front, back) (ap longest (pieces_more text_cut text_cuts rest some))
+
+pub text_low : (n : ℕ) (bytes : List ℕ) → longest (pieces_of text_cut n bytes) ≤ piece_size
+text_low zero [] = omega arith
+text_low (suc n) [] = omega arith
+text_low zero (x ∷ xs) = omega arith
+text_low (suc n) (x ∷ xs) =
+    let low = text_cut_low (x ∷ xs) in
+    let first = length-take (text_cut (x ∷ xs)) (x ∷ xs) in
+    let others = text_low n (drop (text_cut (x ∷ xs)) (x ∷ xs)) in
     omega arith
 
 plain_reach : (depth : ℕ) (encoding : Option Encoding) (bytes : List ℕ)

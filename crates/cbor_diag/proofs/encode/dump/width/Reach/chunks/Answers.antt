@@ -3,6 +3,7 @@ use Rattle.std.proofs.lemmas.Result.{err_from_is_err_and}
 use Rattle.cbor_diag.specs.Item.{Chunk, atom, chunked_string}
 use Rattle.cbor_diag.specs.Reading.{Counted, read_chunks}
 use Rattle.cbor_diag.specs.mirror.StringView.{bytes_of, kind_view, borrowed_chunk}
+use Rattle.cbor_diag.proofs.bytes.Chunks.{chunk_takes}
 use Rattle.cbor_diag.proofs.bytes.Steps.{later_none}
 use Rattle.cbor_diag.proofs.dump.FrontWidths.{none_yet, chunk_taken, chunk_counted, chunks_measured}
 use Rattle.cbor_diag.proofs.straight.Readings.{fails_then, fails_stopped, ok_then, none_before}
@@ -18,6 +19,7 @@ chunks-init c =
       bound = length c.args.bytes.now;
       enough = omega arith;
       so_far = later_none (onto [] all) ∙ none_before all;
+      fits = λ i. omega (arith, c.type_inv.bytes i);
       reach = none_yet c.args.self.now.widest;
     }
 
@@ -47,14 +49,14 @@ pub chunk-requires-clause-taken : goal.chunk-requires-clause-taken
 chunk-requires-clause-taken c =
     let chunk = borrowed_chunk c.in-Some.field-0-1 c.in-Some.content in
     let taken = chunk_taken (kind_view c.args.kind) c.chunks.rest.now c.in_ok-chunk.after.now chunk
-    (λ i. omega (arith, c.type_inv.rest i)) (rw c.in-Some.is at c.in_ok-chunk.ensures.gives) in
+    c.chunks.invariant.fits (rw c.in-Some.is at c.in_ok-chunk.ensures.gives) in
     omega (arith, taken.0)
 
 pub chunk-requires-clause-head : goal.chunk-requires-clause-head
 chunk-requires-clause-head c =
     let chunk = borrowed_chunk c.in-Some.field-0-1 c.in-Some.content in
     let taken = chunk_taken (kind_view c.args.kind) c.chunks.rest.now c.in_ok-chunk.after.now chunk
-    (λ i. omega (arith, c.type_inv.rest i)) (rw c.in-Some.is at c.in_ok-chunk.ensures.gives) in
+    c.chunks.invariant.fits (rw c.in-Some.is at c.in_ok-chunk.ensures.gives) in
     omega (arith, taken.0, taken.1)
 
 pub chunks-preserved : goal.chunks-preserved
@@ -73,8 +75,9 @@ chunks-preserved c =
       bound = next.0;
       enough = next.1;
       so_far = next.2;
+      fits = (chunk_takes kind c.chunks.rest.now after chunk i.fits read).1;
       reach = chunk_counted kind (c.args.place.depth + 1) i.chunks c.in-Some.field-0-1 c.in-Some.content
           c.chunks.rest.now after c.args.self.now.widest c.chunks.self.widest c.chunk.new.self.widest
-          (λ n. omega (arith, c.type_inv.rest n)) (rw c.in-Some.is at c.in_ok-chunk.ensures.kind) read i.reach
+          i.fits (rw c.in-Some.is at c.in_ok-chunk.ensures.kind) read i.reach
           c.chunk.ensures;
     }
