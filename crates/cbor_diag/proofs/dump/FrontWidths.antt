@@ -1,8 +1,7 @@
 -- What is measured of an item, part by part as its bytes are read.
-use Rattle.std.proofs.Common.{◌≡◌, ℕ, suc, ◌+◌, ◌-◌, ◌<◌, ◌≤◌, max, List, [], ◌∷◌, ◌++◌, length, Option, Some, None, Ok}
+use Rattle.std.proofs.Common.{◌≡◌, ℕ, suc, ◌+◌, ◌-◌, ◌<◌, ◌≤◌, max, List, [], ◌∷◌, ◌++◌, length, Some, None, Ok}
 use Rattle.std.proofs.Common.{Err, inl, inr, refl, sym, ap, subst, ◌∙◌, arith, length-append}
 use Rattle.std.proofs.lemmas.Bool.Decides.{nat_tests}
-use Rattle.std.proofs.lemmas.Bool.{cases_lt}
 use Rattle.cbor_diag.specs.declared.error.Error.{Error}
 use Rattle.cbor_diag.specs.declared.syntax.IntegerWidth.{IntegerWidth}
 use Rattle.cbor_diag.specs.declared.syntax.IntegerWidth.TheVariants as width
@@ -20,9 +19,9 @@ use Rattle.cbor_diag.specs.Item.{Chunk, integer, negative, string, chunked_strin
 use Rattle.cbor_diag.specs.Item.{tagged, Items, no_items, item, Pairs, no_pairs, pair, item_count, pair_count}
 use Rattle.cbor_diag.specs.ItemHead as item_head
 use Rattle.cbor_diag.specs.ItemHead.{ItemHead}
-use Rattle.cbor_diag.specs.Head.{head, stated, opening, FitsStated, HeadThen}
+use Rattle.cbor_diag.specs.Head.{head, stated, FitsStated, HeadThen}
 use Rattle.cbor_diag.specs.Bytes.{any, SpellsSimple}
-use Rattle.cbor_diag.specs.Reading.{Read, Fails, ◌>>=◌, count_width, joined, joined_pairs, opened, read_head, read_content}
+use Rattle.cbor_diag.specs.Reading.{Fails, ◌>>=◌, count_width, joined, joined_pairs, opened, read_head, read_content}
 use Rattle.cbor_diag.specs.Reading.{read_chunk, read_body, counted_item, read_item, no_level_left, tag_of}
 use Rattle.cbor_diag.specs.StringKind.{StringKind, major_of}
 use Rattle.cbor_diag.specs.WellFormed.{levels_left}
@@ -37,7 +36,6 @@ use Rattle.cbor_diag.specs.mirror.Widths.{width_there, inner_there, read_at, rea
 use Rattle.cbor_diag.specs.mirror.Widths.{HasHead, shown_length}
 use Rattle.cbor_diag.proofs.bytes.Chunks.{chunk_takes}
 use Rattle.cbor_diag.proofs.bytes.Heads.{IsBytes, ArgumentThen, HeadIs, head_takes}
-use Rattle.cbor_diag.proofs.bytes.Strict.{stated_is}
 use Rattle.cbor_diag.proofs.straight.Readings.{ok_then, fails_then, part_fails, tag_read}
 
 -- ---- reading

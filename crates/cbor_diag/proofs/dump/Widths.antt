@@ -1,12 +1,11 @@
 -- How far the lines of a dump reach: found from the lengths of heads and pieces.
-use Rattle.std.proofs.Common.{◌≡◌, ℕ, zero, suc, ◌+◌, ◌-◌, ◌*◌, ◌%◌, ◌==◌, ◌<◌, ◌≤◌, true, false, cond, max, min, unwrap_or}
+use Rattle.std.proofs.Common.{◌≡◌, ℕ, zero, suc, ◌+◌, ◌-◌, ◌%◌, ◌==◌, ◌<◌, ◌≤◌, true, false, cond, max, min, unwrap_or}
 use Rattle.std.proofs.Common.{List, [], ◌∷◌, ◌++◌, map, length, take, drop, codes, Option, Some, None, inl, inr, refl}
-use Rattle.std.proofs.Common.{sym, ap, ◌∙◌, arith, length-drop, length-take-le}
+use Rattle.std.proofs.Common.{ap, ◌∙◌, arith, length-drop, length-take-le}
 use Rattle.std.specs.List.{flat_map}
 use Rattle.std.proofs.lemmas.List.{length-take}
 use Rattle.std.proofs.lemmas.Bool.Decides.{nat_tests}
 use Rattle.std.proofs.lemmas.Bool.{cases_lt}
-use Rattle.hex.specs.Hex.{encode_lower}
 use Rattle.cbor_notes.specs.Element.{element_size, element_text}
 use Rattle.cbor_notes.specs.Layout.{DumpLine, reach, width_of}
 use Rattle.cbor_notes.proofs.columns.Trees.{width_of-append}
@@ -20,13 +19,13 @@ use Rattle.cbor_diag.specs.Head.{opening, break_byte}
 use Rattle.cbor_diag.specs.Notes.{Note}
 use Rattle.cbor_diag.specs.Pieces.{pieces_of, byte_pieces, text_cut, text_pieces, piece_size}
 use Rattle.cbor_diag.specs.StringKind.{StringKind, bytes_kind, text_kind, major_of}
-use Rattle.cbor_diag.specs.Written.{encoded_head}
-use Rattle.cbor_diag.specs.Dump.{Context, head_hex, head_line, piece_line, content_lines, string_lines, chunks_lines}
+use Rattle.cbor_diag.specs.Written.{encoded_head, encoded_open, encoded_float, encoded_simple}
+use Rattle.cbor_diag.specs.Dump.{Context, head_hex, head_line, piece_line, content_lines, string_lines}
 use Rattle.cbor_diag.specs.Dump.{string_content_lines, bytes_lines, element_lines, sized_lines, tagged_lines, atom_lines}
 use Rattle.cbor_diag.specs.Dump.{break_line, close_lines, inside, below, shared_in, shared_from, note_line, note_lines}
 use Rattle.cbor_diag.specs.Dump.{notes, notes_lines, items_lines, pairs_lines, parts_lines, lines_at, top}
 use Rattle.cbor_diag.specs.mirror.Widths.{reached, head_digits, head_reach, piece_reach, longest, sized_piece}
-use Rattle.cbor_diag.specs.mirror.Widths.{tagged_piece, longest_piece, content_width, string_width, chunks_width}
+use Rattle.cbor_diag.specs.mirror.Widths.{tagged_piece, content_width, string_width, chunks_width}
 use Rattle.cbor_diag.specs.mirror.Widths.{head_length, close_width, items_width, pairs_width, atom_inner, inner_width}
 use Rattle.cbor_diag.specs.mirror.Widths.{width_at}
 use Rattle.cbor_diag.proofs.dump.Digits.{length-hex, length-head_short, length-head_long}
@@ -158,7 +157,7 @@ string_content_reach text_kind p bytes = content_reach (p.depth + 1) text_commen
 string_reach : (kind : StringKind) (p : Context) (c : Chunk)
     → width_of (string_lines kind p c) ≡ string_width kind p.depth p.tag c
 string_reach kind p c =
-    headed p.depth (encoded_head (major_of kind) (length c.bytes) c.width) _ (string_content_lines kind p c.bytes)
+    headed p.depth (encoded_head (major_of kind) (length c.bytes) c.width) [] (string_content_lines kind p c.bytes)
     (content_width kind p.depth p.tag c.bytes) (string_content_reach kind p c.bytes)
 
 chunks_reach : (kind : StringKind) (p : Context) (cs : List Chunk)
@@ -175,18 +174,18 @@ close_reach depth None = alone depth (break_byte ∷ []) (codes "break")
 
 atom_reach : (p : Context) (a : Atom)
     → width_of (atom_lines p a) ≡ max (head_reach p.depth (head_length (atom a))) (atom_inner p.depth p.tag a)
-atom_reach p (integer n w) = headed p.depth (encoded_head 0 n w) _ [] 0 refl
-atom_reach p (negative n w) = headed p.depth (encoded_head 1 n w) _ [] 0 refl
+atom_reach p (integer n w) = headed p.depth (encoded_head 0 n w) [] [] 0 refl
+atom_reach p (negative n w) = headed p.depth (encoded_head 1 n w) [] [] 0 refl
 atom_reach p (string kind c) = string_reach kind p c
 atom_reach p (chunked_string kind cs) =
-    headed p.depth (opening (major_of kind) ∷ []) _
+    headed p.depth (opening (major_of kind) ∷ []) []
     (flat_map (string_lines kind (inside p)) cs ++ break_line (p.depth + 1) ∷ [])
     (max (chunks_width kind (p.depth + 1) cs) (close_width (p.depth + 1) None))
     (both (flat_map (string_lines kind (inside p)) cs) (break_line (p.depth + 1) ∷ [])
     (chunks_width kind (p.depth + 1) cs) (close_width (p.depth + 1) None) (chunks_reach kind p cs)
     (close_reach (p.depth + 1) None))
-atom_reach p (float bits w) = headed p.depth _ _ [] 0 refl
-atom_reach p (simple n) = headed p.depth _ _ [] 0 refl
+atom_reach p (float bits w) = headed p.depth (encoded_float bits w) [] [] 0 refl
+atom_reach p (simple n) = headed p.depth (encoded_simple n) [] [] 0 refl
 
 -- ---- notes have no digits
 
@@ -231,21 +230,23 @@ module _ (write : Context → ℕ → Item → List DumpLine) (each : ℕ → Op
       ≡ max (head_reach p.depth (head_length i)) (inner_width each p.depth p.tag i)
   parts_reach p known (atom a) = atom_reach p a
   parts_reach p known (array is w) =
-      headed p.depth _ _ (items_lines (write (inside p)) known is ++ close_lines (p.depth + 1) w)
+      headed p.depth (encoded_open 4 (item_count is) w) []
+      (items_lines (write (inside p)) known is ++ close_lines (p.depth + 1) w)
       (inner_width each p.depth p.tag (array is w))
       (both (items_lines (write (inside p)) known is) (close_lines (p.depth + 1) w)
       (items_width (each (p.depth + 1) None) is) (close_width (p.depth + 1) w)
       (items_reach (write (inside p)) (each (p.depth + 1) None) (same (inside p)) known is)
       (close_reach (p.depth + 1) w))
   parts_reach p known (spec.map ps w) =
-      headed p.depth _ _ (pairs_lines (write (inside p)) known ps ++ close_lines (p.depth + 1) w)
+      headed p.depth (encoded_open 5 (pair_count ps) w) []
+      (pairs_lines (write (inside p)) known ps ++ close_lines (p.depth + 1) w)
       (inner_width each p.depth p.tag (spec.map ps w))
       (both (pairs_lines (write (inside p)) known ps) (close_lines (p.depth + 1) w)
       (pairs_width (each (p.depth + 1) None) ps) (close_width (p.depth + 1) w)
       (pairs_reach (write (inside p)) (each (p.depth + 1) None) (same (inside p)) known ps)
       (close_reach (p.depth + 1) w))
   parts_reach p known (tagged t w i) =
-      headed p.depth (encoded_head 6 t w) _ (write (below t known p) (shared_from t known) i)
+      headed p.depth (encoded_head 6 t w) [] (write (below t known p) (shared_from t known) i)
       (each (p.depth + 1) (Some t) i) (same (below t known p) (shared_from t known) i)
 
 -- the lines of an item reach as far as is found from its lengths

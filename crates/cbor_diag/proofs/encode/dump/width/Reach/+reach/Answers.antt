@@ -1,14 +1,13 @@
-use Rattle.std.proofs.Common.{◌≡◌, ◌+◌, Some, Ok, max, refl, ap, sym, subst, ◌∙◌, arith}
+use Rattle.std.proofs.Common.{◌+◌, Some, max, ap, sym, subst, ◌∙◌, arith}
 use Rattle.std.proofs.lemmas.Result.{err_from_is_err_and, IfOk-weaker, IfErr-weaker}
 use Rattle.cbor_diag.specs.Item as spec
 use Rattle.cbor_diag.specs.Item.{atom, integer, negative, float, simple, array, tagged, no_items, item, no_pairs, pair}
-use Rattle.cbor_diag.specs.ItemHead as item_head
-use Rattle.cbor_diag.specs.Reading.{Fails, items_in, pairs_in, tag_of, joined, joined_pairs, count_width}
-use Rattle.cbor_diag.specs.Reading.{read_head, read_item, no_level_left}
+use Rattle.cbor_diag.specs.Reading.{Fails, items_in, pairs_in, joined, joined_pairs, count_width}
+use Rattle.cbor_diag.specs.Reading.{read_head, no_level_left}
 use Rattle.cbor_diag.specs.WellFormed.{levels_left}
 use Rattle.cbor_diag.specs.mirror.HeadView.{argument_view, head_view}
 use Rattle.cbor_diag.specs.mirror.Stack.{left_of}
-use Rattle.cbor_diag.specs.mirror.Widths.{head_reach, Measured, MeasuredBehind, read_at, read_behind, shown_length, width_there}
+use Rattle.cbor_diag.specs.mirror.Widths.{head_reach, read_at, width_there}
 use Rattle.cbor_diag.proofs.bytes.Shorter.{item_shorter}
 use Rattle.cbor_diag.proofs.dump.FrontWidths.{behind_fails, head_fails, too_deep, head_low, front_measured}
 use Rattle.cbor_diag.proofs.dump.FrontWidths.{alone_measured, tag_measured, tag_behind_fails, item_counted, pair_counted}

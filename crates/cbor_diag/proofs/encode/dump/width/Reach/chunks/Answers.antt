@@ -1,8 +1,8 @@
-use Rattle.std.proofs.Common.{◌+◌, List, [], ◌∷◌, ◌++◌, length, max, refl, ap, sym, ◌∙◌, arith}
+use Rattle.std.proofs.Common.{◌+◌, List, [], ◌∷◌, ◌++◌, length, ap, ◌∙◌, arith}
 use Rattle.std.proofs.lemmas.Result.{err_from_is_err_and}
-use Rattle.cbor_diag.specs.Item.{Chunk, atom, chunked_string}
+use Rattle.cbor_diag.specs.Item.{Chunk}
 use Rattle.cbor_diag.specs.Reading.{Counted, read_chunks}
-use Rattle.cbor_diag.specs.mirror.StringView.{bytes_of, kind_view, borrowed_chunk}
+use Rattle.cbor_diag.specs.mirror.StringView.{kind_view, borrowed_chunk}
 use Rattle.cbor_diag.proofs.bytes.Chunks.{chunk_takes}
 use Rattle.cbor_diag.proofs.bytes.Steps.{later_none}
 use Rattle.cbor_diag.proofs.dump.FrontWidths.{none_yet, chunk_taken, chunk_counted, chunks_measured}
