@@ -2,8 +2,6 @@
 use Rattle.std.proofs.Common.{◌≡◌, ◌≢◌, ℕ, ◌+◌, ◌-◌, List, ◌++◌, length, Some, Result, Ok, Err, refl, ap, sym}
 use Rattle.std.proofs.Common.{subst, ◌∙◌, arith}
 use Rattle.std.specs.List.{AllByRecursion}
-use Rattle.std.specs.String.{string_bytes}
-use Rattle.std.specs.declared.string.String.{String}
 use Rattle.std.specs.Prelude.{IfOk}
 use Rattle.std.proofs.lemmas.Result.{IfOk-weaker}
 use Rattle.hex.specs.Hex.{decode_of, encode_lower}
@@ -58,16 +56,17 @@ module _ (i : Item) (well : IsWellFormed i) where
 -- ---- the same of the item that bytes are
 
 -- the text is the dump of the item that the bytes are
-abbrev pub IsDumpOf : List ℕ → String → Type 0
-IsDumpOf b text = (i : Item) × IsItem b i × (string_bytes text ≡ dump i)
+abbrev pub IsDumpOf : List ℕ → List ℕ → Type 0
+IsDumpOf b text = (i : Item) × IsItem b i × (text ≡ dump i)
 
-module _ (b : List ℕ) (fits : IsBytes b) (r : Result String Error) (ok : IfOk r (IsDumpOf b)) where
-  pub digits_shown : IfOk r (λ s. (i : Item) × IsItem b i × (uncommented (string_bytes s) ≡ encode_lower (encoded i)))
-  digits_shown = IfOk-weaker r (IsDumpOf b) _
+module _ {T : Type 0} (text_of : T → List ℕ) (b : List ℕ) (fits : IsBytes b) (r : Result T Error)
+    (ok : IfOk r (λ s. IsDumpOf b (text_of s))) where
+  pub digits_shown : IfOk r (λ s. (i : Item) × IsItem b i × (uncommented (text_of s) ≡ encode_lower (encoded i)))
+  digits_shown = IfOk-weaker r (λ s. IsDumpOf b (text_of s)) _
       (λ s h. (h.0, h.1, ap uncommented h.2 ∙ dump_digits h.0 (spells_well 1 b h.0 fits h.1))) ok
 
-  pub reads_back : IfOk r (λ s. (i : Item) × IsItem b i × IsHexOf (string_bytes s) i)
-  reads_back = IfOk-weaker r (IsDumpOf b) _
+  pub reads_back : IfOk r (λ s. (i : Item) × IsItem b i × IsHexOf (text_of s) i)
+  reads_back = IfOk-weaker r (λ s. IsDumpOf b (text_of s)) _
       (λ s h. (
         h.0,
         h.1,
@@ -75,8 +74,8 @@ module _ (b : List ℕ) (fits : IsBytes b) (r : Result String Error) (ok : IfOk 
             (dump_read_back h.0 (spells_well 1 b h.0 fits h.1))),
       )) ok
 
-  pub column_shown : IfOk r (λ s. (i : Item) × IsItem b i × IsColumn (width_of (lines i) + 1) (string_bytes s))
-  column_shown = IfOk-weaker r (IsDumpOf b) _
+  pub column_shown : IfOk r (λ s. (i : Item) × IsItem b i × IsColumn (width_of (lines i) + 1) (text_of s))
+  column_shown = IfOk-weaker r (λ s. IsDumpOf b (text_of s)) _
       (λ s h. (
         h.0,
         h.1,

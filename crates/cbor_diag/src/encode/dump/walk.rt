@@ -19,6 +19,5 @@ pub(super) fn dump(alloc: Global, bytes: &[u8], level: u8) -> crate::Result<(Str
         × (string_bytes x.0 ≡ layout (spec.lines_at_level level spec.top 0 i))) }
     ensures refused { IfErr result (λ e. Fails e (read_at level bytes.now)) }
 {
-    let _ = (alloc, bytes, level);
     Err(Error::Memory)
 }
