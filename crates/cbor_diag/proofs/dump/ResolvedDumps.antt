@@ -2,6 +2,7 @@
 use Rattle.std.proofs.Common.{◌≡◌, ℕ, zero, suc, ◌+◌, List, [], ◌∷◌, ◌++◌, map, length, codes, Option, Some, None, Ok, Err}
 use Rattle.std.proofs.Common.{refl, sym, ap, ◌∙◌, append-nil}
 use Rattle.std.specs.List.{flat_map}
+use Rattle.cbor_notes.specs.Element.{element_size}
 use Rattle.cbor_notes.specs.Layout.{DumpLine, layout}
 use Rattle.cbor_diag.specs.declared.error.Error.{Error}
 use Rattle.cbor_diag.specs.declared.error.Error.TheVariants as refusal
@@ -14,7 +15,7 @@ use Rattle.cbor_diag.specs.Item as spec
 use Rattle.cbor_diag.specs.Item.{Chunk, Atom, integer, negative, string, chunked_string, float, simple, Item, atom, array}
 use Rattle.cbor_diag.specs.Item.{tagged, Items, no_items, item, Pairs, no_pairs, pair, item_count, pair_count}
 use Rattle.cbor_diag.specs.Notes.{Family, ipv4, ipv6, zone_at, interface_note, members_note, with_length, with_zone}
-use Rattle.cbor_diag.specs.Notes.{value_note, null_value, invalid_address, invalid_length, family_size}
+use Rattle.cbor_diag.specs.Notes.{value_note, typed_array_note}
 use Rattle.cbor_diag.specs.Reading.{Fails, read_item}
 use Rattle.cbor_diag.specs.StringKind.{StringKind, bytes_kind, text_kind, major_of}
 use Rattle.cbor_diag.specs.WellFormed.{WellFormed}
@@ -46,13 +47,26 @@ members_same f (item (atom (integer len w)) (item (atom (string bytes_kind c)) i
 members_same f (item (atom (string bytes_kind c)) is) = rw (interface_same f c.bytes is) refl
 members_same f _ = refl
 
+typed_same : (size : Option ℕ) (i : Item) → typed_array_note size (resolve i) ≡ typed_array_note size i
+typed_same None i = refl
+typed_same (Some size) (atom (string bytes_kind c)) = refl
+typed_same (Some size) _ = refl
+
 value_same : (known t : ℕ) (i : Item) → value_note known t (resolve i) ≡ value_note known t i
 unfolding value_note
-value_same known t (atom (integer n w)) = refl
-value_same known t (atom (string bytes_kind c)) = refl
-value_same known t (atom (string text_kind c)) = refl
-value_same known t (array is w) = rw (members_same ipv4 is, members_same ipv6 is) refl
-value_same known t _ = refl
+value_same known t (atom (integer n w)) = rw (typed_same (element_size t) (atom (integer n w))) refl
+value_same known t (atom (negative n w)) = rw (typed_same (element_size t) (atom (negative n w))) refl
+value_same known t (atom (string bytes_kind c)) =
+    rw (typed_same (element_size t) (atom (string bytes_kind c))) refl
+value_same known t (atom (string text_kind c)) = rw (typed_same (element_size t) (atom (string text_kind c))) refl
+value_same known t (atom (chunked_string kind cs)) =
+    rw (typed_same (element_size t) (atom (chunked_string kind cs))) refl
+value_same known t (atom (float bits w)) = rw (typed_same (element_size t) (atom (float bits w))) refl
+value_same known t (atom (simple n)) = refl
+value_same known t (array is w) =
+    rw (members_same ipv4 is, members_same ipv6 is, typed_same (element_size t) (array is w)) refl
+value_same known t (spec.map ps w) = rw (typed_same (element_size t) (spec.map ps w)) refl
+value_same known t (tagged u w i) = rw (typed_same (element_size t) (tagged u w i)) refl
 
 bytes_same : (i : Item) → bytes_in (resolve i) ≡ bytes_in i
 bytes_same (atom (string bytes_kind c)) = refl
