@@ -1,4 +1,8 @@
 pub mod Pieces
+pub mod Widths
+pub mod FrontWidths
+pub mod ResolvedDumps
+pub mod PublicDumps
 pub mod Digits
 pub mod Elements
 pub mod Walks

@@ -10,7 +10,7 @@ use Rattle.std.proofs.lemmas.Str.{IsAscii-append}
 use Rattle.std.proofs.lemmas.List.{length-take}
 use Rattle.hex.specs.Hex.{encode_lower, lower_digits}
 use Rattle.cbor_notes.specs.Element.{element_size, element_text}
-use Rattle.cbor_notes.specs.Layout.{DumpLine}
+use Rattle.cbor_notes.specs.Layout.{DumpLine, reach}
 use Rattle.cbor_notes.specs.Columns.{IsPlain, Lacks}
 use Rattle.cbor_notes.specs.LineTree.{IsFit}
 use Rattle.cbor_notes.proofs.columns.CommentTexts.{element_line}
@@ -73,6 +73,10 @@ style_ascii Content bytes = IsAscii-encode_lower bytes
 pub style_short : (style : HexStyle) (bytes : List ℕ) → length bytes ≤ 24 → length (style_hex style bytes) ≤ 64
 style_short Head bytes few = head_fits bytes few
 style_short Content bytes few = let digits = length-hex bytes in omega arith
+
+pub reach_low : (depth : ℕ) (hex : List ℕ) → depth < 140 → length hex ≤ 64
+    → reach (record { depth = depth; hex = hex; comment = [] }) ≤ 484
+reach_low depth hex low short = cond_both (length hex == 0) _ _ (λ n. n ≤ 484) (λ _. omega arith) (λ _. omega arith)
 
 -- a head at a depth that isn't too deep
 pub fit_head : (depth : ℕ) (bytes comment : List ℕ) → depth < 140 → length bytes ≤ 9 → Free 10 comment

@@ -1,49 +1,62 @@
 -- What the walk over bytes has dumped, by what its parts have.
-use Rattle.std.proofs.Common.{◌≡◌, ℕ, ◌+◌, ◌≤◌, List, [], ◌∷◌, ◌++◌, length, codes, Some, None, Result, Ok, IfOk, refl, sym}
+use Rattle.std.proofs.Common.{◌≡◌, ◌≢◌, ℕ, ◌+◌, ◌≤◌, List, [], ◌∷◌, ◌++◌, length, drop, codes, Option, Some, None, Result, Ok, Err, IfOk, OnOk}
+use Rattle.std.proofs.Common.{refl, sym}
 use Rattle.std.proofs.Common.{ap, subst, ◌∙◌, append_assoc, arith}
 use Rattle.std.specs.List.{flat_map}
+use Rattle.std.specs.Option.{option_to_list}
+use Rattle.std.specs.String.{string_bytes}
 use Rattle.std.proofs.lemmas.Grind.{flat_map-append}
 use Rattle.std.proofs.lemmas.List.{append-nil}
 use Rattle.std.proofs.lemmas.Result.{IfOk-weaker}
-use Rattle.cbor_notes.specs.Layout.{DumpLine}
+use Rattle.cbor_notes.specs.Layout.{DumpLine, line_text, width_of}
 use Rattle.cbor_diag.specs.declared.error.Error.{Error}
+use Rattle.cbor_diag.specs.declared.error.Error.TheVariants as refusal
 use Rattle.cbor_diag.specs.declared.syntax.IntegerWidth.{IntegerWidth}
 use Rattle.cbor_diag.specs.declared.syntax.strings.StringContent.{StringContent}
 use Rattle.cbor_diag.specs.declared.encode.dump.context.DumpContext.{DumpContext}
 use Rattle.cbor_diag.specs.declared.encode.dump.walk.Walk.{Walk}
 use Rattle.cbor_diag.specs.declared.encode.dump.writer.Writer.{Writer}
 use Rattle.cbor_diag.specs.declared.parse.binary.argument.Argument as code_argument
+use Rattle.cbor_diag.specs.declared.parse.binary.argument.Argument.TheVariants as code_length
+use Rattle.cbor_diag.specs.declared.parse.binary.head.ItemHead as code_head
+use Rattle.cbor_diag.specs.declared.parse.binary.head.ItemHead.TheVariants as code
+use Rattle.cbor_diag.specs.declared.syntax.strings.StringKind as code_kind
+use Rattle.cbor_diag.specs.declared.syntax.strings.StringKind.TheVariants as code_kinds
+use Rattle.cbor_diag.specs.Answer.{spelled, IsOutcome}
 use Rattle.cbor_diag.specs.Argument.{number, indefinite}
 use Rattle.cbor_diag.specs.Dump.{below, inside, break_line, close_lines, items_lines, pairs_lines, lines_at_level}
 use Rattle.cbor_diag.specs.Dump.{shared_from, shared_in, shared_in_items, shared_in_pairs, string_content_lines, string_lines}
-use Rattle.cbor_diag.specs.Dump.{bytes_in}
+use Rattle.cbor_diag.specs.Dump.{bytes_in, note_line, note_lines, encoded_item_note, encoded_sequence_notes, parts_lines, top}
 use Rattle.cbor_diag.specs.Head.{head}
 use Rattle.cbor_diag.specs.Item as spec
-use Rattle.cbor_diag.specs.Item.{Chunk, Item, atom, string, chunked_string, array, tagged, Items, no_items, Pairs, no_pairs}
+use Rattle.cbor_diag.specs.Item.{Chunk, Item, atom, integer, negative, float, simple, string, chunked_string, array, tagged, Items, no_items, Pairs, no_pairs}
 use Rattle.cbor_diag.specs.Item.{item_count, pair_count}
 use Rattle.cbor_diag.specs.ItemHead as item_head
 use Rattle.cbor_diag.specs.ItemHead.{ItemHead}
 use Rattle.cbor_diag.specs.Reading.{head_of, read_head, read_content, read_chunks, after_members, items_in, pairs_in}
-use Rattle.cbor_diag.specs.Reading.{count_width}
+use Rattle.cbor_diag.specs.Reading.{count_width, Read, Fails}
+use Rattle.cbor_diag.specs.Notes.{Note, value_note}
 use Rattle.cbor_diag.specs.StringKind.{StringKind, bytes_kind}
 use Rattle.cbor_diag.specs.WellFormed.{levels_left}
 use Rattle.cbor_diag.specs.mirror.AtLevel.{read_at, read_behind}
 use Rattle.cbor_diag.specs.mirror.Dumped.{context_view, item_lines, items_there, pairs_there, notes_there, line_of_head}
+use Rattle.cbor_diag.specs.mirror.Dumped.{value_note_there, whole_note_there, sequence_notes_there, embedded_lines, dump_at}
 use Rattle.cbor_diag.specs.mirror.Dumped.{Wrote, Dumped, DumpedBehind}
-use Rattle.cbor_diag.specs.mirror.HeadView.{argument_view}
+use Rattle.cbor_diag.specs.mirror.HeadView.{argument_view, head_view}
 use Rattle.cbor_diag.specs.mirror.Stack.{left_of}
-use Rattle.cbor_diag.specs.mirror.StringView.{kind_of, bytes_of, borrowed_chunk}
+use Rattle.cbor_diag.specs.mirror.StringView.{kind_view, kind_of, bytes_of, borrowed_chunk}
 use Rattle.cbor_diag.proofs.bytes.Chunks.{content_takes}
+use Rattle.cbor_diag.proofs.bytes.ExactlyOne.{outcome_reads}
 use Rattle.cbor_diag.proofs.bytes.Found.{item_takes}
-use Rattle.cbor_diag.proofs.bytes.Heads.{IsBytes, head_again}
+use Rattle.cbor_diag.proofs.bytes.Heads.{IsBytes, head_again, ok_is}
 use Rattle.cbor_diag.proofs.straight.Levels.{head_reads, level_read}
 use Rattle.cbor_diag.proofs.straight.Readings.{parts_read, parts_ended, tag_read, content_read, ok_then}
-use Rattle.cbor_diag.proofs.dump.Members.{written_in, below_opens, tag_shared, Announced, count_line, width_held}
-use Rattle.cbor_diag.proofs.dump.Walks.{wrote_then}
+use Rattle.cbor_diag.proofs.dump.Members.{written_in, untagged, below_opens, tag_shared, Announced, count_line, width_held}
+use Rattle.cbor_diag.proofs.dump.Walks.{wrote_none, wrote_then}
 
 -- ---- a head and what is behind it
 
-dumped_front : (c : DumpContext) (b rest after : List ℕ) (h : ItemHead) (old mid new : Walk) → c.level ≤ 128
+pub dumped_front : (c : DumpContext) (b rest after : List ℕ) (h : ItemHead) (old mid new : Walk) → c.level ≤ 128
     → read_head b ≡ Ok (h, rest) → mid.shared ≡ old.shared
     → Wrote old.writer mid.writer (line_of_head c.depth h ∷ []) → DumpedBehind c h rest after mid new
     → Dumped c (read_at c.level b) after old new
@@ -65,6 +78,35 @@ pub front_ok : {T : Type 0} (r : Result T Error) (now : T → List ℕ) (c : Dum
 front_ok r now c b rest h old mid new le e same w behind =
     IfOk-weaker r (λ x. DumpedBehind c h rest (now x) mid new) (λ x. Dumped c (read_at c.level b) (now x) old new)
     (λ x d. dumped_front c b rest (now x) h old mid new le e same w d) behind
+
+alone : (c : DumpContext) (h : ItemHead) (b : List ℕ) (walk : Walk) (i : Item) → read_behind c.level h b ≡ Ok (i, b)
+    → item_lines c walk.shared i ≡ line_of_head c.depth h ∷ [] → shared_in i ≡ 0 → DumpedBehind c h b b walk walk
+alone c h b walk i reads parts none = record {
+  item = i;
+  reads = reads;
+  lines = [];
+  parts = parts;
+  wrote = wrote_none walk.writer;
+  shared = omega (arith, none);
+}
+
+-- an item without parts ends with its head
+pub alone_dumped : (c : DumpContext) (h : code_head.ItemHead) (b : List ℕ) (walk : Walk)
+    → ((k : code_kind.StringKind) (a : code_argument.Argument) → h ≡ code.String k a → ⊥)
+    → ((a : code_argument.Argument) → h ≡ code.Array a → ⊥) → ((a : code_argument.Argument) → h ≡ code.Map a → ⊥)
+    → ((t : ℕ) (w : IntegerWidth) → h ≡ code.Tag t w → ⊥) → DumpedBehind c (head_view h) b b walk walk
+alone_dumped c (code.Integer n w) b walk no_string no_array no_map no_tag =
+    alone c (item_head.integer n w) b walk (atom (integer n w)) refl refl refl
+alone_dumped c (code.Negative n w) b walk no_string no_array no_map no_tag =
+    alone c (item_head.negative n w) b walk (atom (negative n w)) refl refl refl
+alone_dumped c (code.String k a) b walk no_string no_array no_map no_tag = absurd (no_string k a refl)
+alone_dumped c (code.Array a) b walk no_string no_array no_map no_tag = absurd (no_array a refl)
+alone_dumped c (code.Map a) b walk no_string no_array no_map no_tag = absurd (no_map a refl)
+alone_dumped c (code.Tag t w) b walk no_string no_array no_map no_tag = absurd (no_tag t w refl)
+alone_dumped c (code.Float bits w) b walk no_string no_array no_map no_tag =
+    alone c (item_head.float bits w) b walk (atom (float bits w)) refl refl refl
+alone_dumped c (code.Simple n) b walk no_string no_array no_map no_tag =
+    alone c (item_head.simple n) b walk (atom (simple n)) refl refl refl
 
 -- ---- containers
 
@@ -215,21 +257,117 @@ abbrev pub IsOther : ItemHead → Type 0
 IsOther (item_head.string bytes_kind (number n w)) = ⊥
 IsOther h = Unit {0}
 
+pub not_string : (h : code_head.ItemHead)
+    → ((k : code_kind.StringKind) (a : code_argument.Argument) → h ≡ code.String k a → ⊥) → IsOther (head_view h)
+not_string (code.String k a) other = absurd (other k a refl)
+not_string (code.Integer n w) other = tt
+not_string (code.Negative n w) other = tt
+not_string (code.Array a) other = tt
+not_string (code.Map a) other = tt
+not_string (code.Tag t w) other = tt
+not_string (code.Float bits w) other = tt
+not_string (code.Simple n) other = tt
+
+pub not_number : (k : code_kind.StringKind) (a : code_argument.Argument)
+    → ((n : ℕ) (w : IntegerWidth) → a ≡ code_length.Number n w → ⊥)
+    → IsOther (item_head.string (kind_view k) (argument_view a))
+not_number k (code_length.Number n w) other = absurd (other n w refl)
+not_number code_kinds.Bytes code_length.Indefinite other = tt
+not_number code_kinds.Text code_length.Indefinite other = tt
+
 pub other_bytes : (level : ℕ) (b rest behind : List ℕ) (i : Item) (h : ItemHead) → level ≤ 129 → IsBytes b
     → read_at level b ≡ Ok (i, rest) → read_head b ≡ Ok (h, behind) → IsOther h → bytes_in i ≡ None
-other_bytes level b rest behind (atom (string bytes_kind c)) h le fits e head other =
-    let same : h ≡ item_head.string bytes_kind (number (length c.bytes) c.width) =
-    (let both = sym head ∙ bytes_head level b rest c le fits e in cc) in
-    absurd (subst IsOther same other)
-other_bytes level b rest behind i h le fits e head other = refl
+other_bytes level b rest behind (atom (string bytes_kind c)) h le fits e begins other =
+    let both = ok_is (h, behind) (item_head.string bytes_kind (number (length c.bytes) c.width), c.bytes ++ rest)
+    (sym begins ∙ bytes_head level b rest c le fits e) in
+    absurd (subst IsOther (ap (λ (x : ItemHead × List ℕ). x.0) both) other)
+other_bytes level b rest behind i h le fits e begins other = refl
 
 pub own_content : (level n : ℕ) (w : IntegerWidth) (content : StringContent) (b rest behind after : List ℕ) (i : Item)
     → read_at level b ≡ Ok (i, rest) → read_head b ≡ Ok (item_head.string bytes_kind (number n w), behind)
     → kind_of content ≡ bytes_kind → read_content bytes_kind n w behind ≡ Ok (borrowed_chunk w content, after)
     → bytes_in i ≡ Some (bytes_of content)
-own_content level n w content b rest behind after i e head same read =
-    let here = sym (head_reads level b (item_head.string bytes_kind (number n w)) behind (level_read level b rest i e) head)
+own_content level n w content b rest behind after i e begins same read =
+    let here = sym (head_reads level b (item_head.string bytes_kind (number n w)) behind (level_read level b rest i e) begins)
     ∙ e in
     let own = content_read n w content behind after bytes_kind same read in
-    let is : i ≡ atom (string (kind_of content) (borrowed_chunk w content)) = (let both = sym here ∙ own in cc) in
+    let both = ok_is (i, rest) (atom (string (kind_of content) (borrowed_chunk w content)), after) (sym here ∙ own) in
+    let is : i ≡ atom (string (kind_of content) (borrowed_chunk w content)) =
+    ap (λ (x : Item × List ℕ). x.0) both in
     ap bytes_in is ∙ ap (λ k. bytes_in (atom (string k (borrowed_chunk w content)))) same
+
+-- ---- notes
+
+-- the note of a tag other than those of what is embedded
+pub note_written : {T E : Type 0} (r : Result T E) (old new : Writer) (c : DumpContext) (t : ℕ) (i j : Item) (note : Note)
+    → i ≡ j → Some note ≡ value_note c.shared t j → OnOk r (Wrote old new (note_lines c.depth note))
+    → OnOk r (Wrote old new (value_note_there c t i))
+note_written r old new c t i j note same is wrote =
+    let one : note_lines c.depth note ≡ value_note_there c t i =
+    sym (append-nil (note_lines c.depth note))
+    ∙ ap (λ (o : Option Note). flat_map (note_lines c.depth) (option_to_list o)) is
+    ∙ ap (value_note_there c t) (sym same) in
+    subst (λ ls. OnOk r (Wrote old new ls)) one wrote
+
+pub no_note_written : (w : Writer) (c : DumpContext) (t : ℕ) (i j : Item) → i ≡ j → value_note c.shared t j ≡ None
+    → Wrote w w (value_note_there c t i)
+no_note_written w c t i j same none =
+    let empty : [] ≡ value_note_there c t i =
+    ap (λ (o : Option Note). flat_map (note_lines c.depth) (option_to_list o)) (sym none)
+    ∙ ap (value_note_there c t) (sym same) in
+    subst (Wrote w w) empty (wrote_none w)
+
+-- tags 24 and 63, by the bytes in the value
+pub item_note : (c : DumpContext) (t : ℕ) (i : Item) (b : List ℕ) → t ≡ 24 → bytes_in i ≡ Some b
+    → whole_note_there c b ≡ notes_there c t i
+item_note c t i b is bytes =
+    sym (append-nil (whole_note_there c b))
+    ∙ ap (λ (o : Option (List ℕ)). note_lines c.depth
+    (encoded_item_note (levels_left (c.level + 1)) (embedded_lines c) o) ++ []) (sym bytes)
+    ∙ ap (λ n. notes_there c n i) (sym is)
+
+pub no_item_note : (c : DumpContext) (t : ℕ) (i : Item) → t ≡ 24 → bytes_in i ≡ None
+    → note_line c.depth (codes "invalid type for encoded cbor data item") ∷ [] ≡ notes_there c t i
+no_item_note c t i is none =
+    ap (λ (o : Option (List ℕ)). note_lines c.depth
+    (encoded_item_note (levels_left (c.level + 1)) (embedded_lines c) o) ++ []) (sym none)
+    ∙ ap (λ n. notes_there c n i) (sym is)
+
+pub sequence_note : (c : DumpContext) (t : ℕ) (i : Item) (b : List ℕ) → t ≡ 63 → bytes_in i ≡ Some b
+    → sequence_notes_there c b ≡ notes_there c t i
+sequence_note c t i b is bytes =
+    ap (λ (o : Option (List ℕ)). flat_map (note_lines c.depth)
+    (encoded_sequence_notes (levels_left (c.level + 1)) (embedded_lines c) o)) (sym bytes)
+    ∙ ap (λ n. notes_there c n i) (sym is)
+
+pub no_sequence_note : (c : DumpContext) (t : ℕ) (i : Item) → t ≡ 63 → bytes_in i ≡ None
+    → note_line c.depth (codes "invalid type for encoded cbor sequence") ∷ [] ≡ notes_there c t i
+no_sequence_note c t i is none =
+    ap (λ (o : Option (List ℕ)). flat_map (note_lines c.depth)
+    (encoded_sequence_notes (levels_left (c.level + 1)) (embedded_lines c) o)) (sym none)
+    ∙ ap (λ n. notes_there c n i) (sym is)
+
+-- an error other than out of memory is that of reading
+pub real_error : (e : Error) (read : Read Item) → e ≢ refusal.Memory → Fails e read → read ≡ Err e
+real_error refusal.Memory read real h = absurd (real refl)
+real_error e read real h = h
+
+-- a whole dump, in a column as wide as its lines reach
+pub whole_dump : (c : DumpContext) (level : ℕ) (i : Item) (old new : Walk) → c.level ≡ level → context_view c ≡ top
+    → level ≤ 128 → old.shared ≡ 0 → string_bytes old.writer.out ≡ []
+    → old.writer.width ≡ width_of (lines_at_level level top 0 i)
+    → Wrote old.writer new.writer (item_lines c old.shared i) → string_bytes new.writer.out ≡ dump_at level i
+whole_dump c level i old new deep here le none empty wide w =
+    let same = ap (λ n. parts_lines (lines_at_level (n + 1)) (context_view c) old.shared i) deep
+    ∙ ap (λ p. parts_lines (lines_at_level (level + 1)) p old.shared i) here
+    ∙ ap (λ n. parts_lines (lines_at_level (level + 1)) top n i) none ∙ sym (untagged level top 0 i le refl) in
+    w.text ∙ ap (λ t. t ++ flat_map (line_text old.writer.width) (item_lines c old.shared i)) empty
+    ∙ ap (λ n. flat_map (line_text n) (item_lines c old.shared i)) wide
+    ∙ ap (flat_map (line_text (width_of (lines_at_level level top 0 i)))) same
+
+-- the item that was read before is read again
+pub same_item : (level : ℕ) (b rest : List ℕ) (i j : Item) (used : ℕ) → level ≤ 129 → read_at level b ≡ Ok (i, rest)
+    → IsOutcome level b (spelled j used) → i ≡ j
+same_item level b rest i j used le e o =
+    let again = outcome_reads level (levels_left level) b (spelled j used) (omega arith) o in
+    ap (λ (x : Item × List ℕ). x.0) (ok_is (i, rest) (j, drop used b) (sym e ∙ again))

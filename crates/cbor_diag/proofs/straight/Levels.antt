@@ -4,7 +4,7 @@ use Rattle.std.proofs.lemmas.Bool.{cases_lt}
 use Rattle.cbor_diag.specs.declared.error.Error.{Error}
 use Rattle.cbor_diag.specs.Item.{Item}
 use Rattle.cbor_diag.specs.ItemHead.{ItemHead}
-use Rattle.cbor_diag.specs.Reading.{Read, Fails, opened, read_body, read_head, no_level_left, counted_item, read_item}
+use Rattle.cbor_diag.specs.Reading.{Fails, opened, read_body, read_head, no_level_left, counted_item, read_item}
 use Rattle.cbor_diag.specs.WellFormed.{levels_left}
 use Rattle.cbor_diag.specs.mirror.AtLevel.{read_at, read_behind}
 use Rattle.cbor_diag.proofs.straight.Readings.{fails_then, ok_then, one_more}
@@ -16,10 +16,10 @@ head_reads level b h rest le e = ap (λ n. read_item n b) (one_more level le)
     ∙ ok_then (1, read_head b) (h, rest) (λ x. read_body (counted_item (levels_left (level + 1))) (opened x.0) x.0 x.1)
     e
 
--- what holds of what reading gives after a head holds of what it gives before
-pub after_head : (P : Read Item → Type 0) (level : ℕ) (b : List ℕ) (h : ItemHead) (rest : List ℕ) → level ≤ 128
-    → read_head b ≡ Ok (h, rest) → P (read_behind level h rest) → P (read_at level b)
-after_head P level b h rest le e holds = subst P (sym (head_reads level b h rest le e)) holds
+-- an error after a head
+pub behind_fails : (level : ℕ) (b : List ℕ) (h : ItemHead) (rest : List ℕ) (e : Error) → level ≤ 128
+    → read_head b ≡ Ok (h, rest) → Fails e (read_behind level h rest) → Fails e (read_at level b)
+behind_fails level b h rest e le is fails = subst (Fails e) (sym (head_reads level b h rest le is)) fails
 
 pub head_fails : (level : ℕ) (b : List ℕ) (e : Error) → level ≤ 128 → Fails e (read_head b)
     → Fails e (read_at level b)

@@ -22,6 +22,7 @@ mod hex_style;
 mod lines;
 mod note_lines;
 mod notes;
+mod straight;
 mod walk;
 mod width;
 mod writer;
@@ -29,6 +30,7 @@ mod writer;
 use crate::error::Error;
 use crate::syntax::DataItem;
 use std::alloc::Global;
+pub use straight::{bytes_to_hex, hex_to_hex, push_bytes_to_hex, push_bytes_to_hex_partial};
 use walk::dump;
 
 impl DataItem {

@@ -73,7 +73,7 @@ impl Writer {
     }
 
     /// The line of a head, whose bytes these are.
-    pub(super) fn head(
+    pub(super) fn head_line(
         &mut self,
         depth: usize,
         head: ItemHead,
@@ -250,7 +250,7 @@ impl Writer {
     {
         let (content, width) = chunk;
         let length = Argument::Number(content.as_bytes().len() as u64, width);
-        self.head(
+        self.head_line(
             context.depth,
             ItemHead::String(content.kind(), length),
             head,

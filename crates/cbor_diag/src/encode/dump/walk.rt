@@ -88,7 +88,7 @@ fn dump_front<'a>(
     }
     let (head, rest) = read_head(bytes)?;
     let taken = bytes.len() - rest.len();
-    walk.writer.head(context.depth, head, &bytes[..taken])?;
+    walk.writer.head_line(context.depth, head, &bytes[..taken])?;
     match head {
         ItemHead::String(kind, length) => dump_string(walk, context, (kind, length), rest),
         ItemHead::Array(count) => dump_items(walk, context, count, rest),
@@ -341,17 +341,20 @@ fn embedded_item(
         (whole_note_there context.now bytes.now)) }
     ensures shared { OnOk result (walk.new.shared ≡ walk.old.shared) }
 {
-    let failed = match dump(walk.alloc, bytes, context.level + 1) {
+    match dump(walk.alloc, bytes, context.level + 1) {
         Ok((text, rest)) => {
             if rest.is_empty() {
-                return walk.writer.embedded_note(context.depth, &text);
+                walk.writer.embedded_note(context.depth, &text)
+            } else {
+                let error = Error::Remaining;
+                walk.writer.failed_note(context.depth, FAILED_ITEM, error)
             }
-            Error::Remaining
         }
-        Err(Error::Memory) => return Err(AllocError),
-        Err(error) => error,
-    };
-    walk.writer.failed_note(context.depth, FAILED_ITEM, failed)
+        Err(error) => match error {
+            Error::Memory => Err(AllocError),
+            _ => walk.writer.failed_note(context.depth, FAILED_ITEM, error),
+        },
+    }
 }
 
 /// The notes of tag 63: the dumps of the items in the bytes, one after the other, and the error
@@ -375,8 +378,10 @@ fn embedded_sequence(
                 walk.writer.embedded_note(context.depth, &text)?;
                 rest = after;
             }
-            Err(Error::Memory) => return Err(AllocError),
-            Err(error) => return walk.writer.failed_note(context.depth, FAILED_REST, error),
+            Err(error) => match error {
+                Error::Memory => return Err(AllocError),
+                _ => return walk.writer.failed_note(context.depth, FAILED_REST, error),
+            },
         }
     }
     Ok(())

@@ -23,5 +23,6 @@ invariant-chunks l = record {
       ≡ read_chunks (length l.bytes) (kind_view l.kind) l.bytes;
   wrote : Wrote l.fn.walk.writer l.walk.writer
       (flat_map (string_lines (kind_view l.kind) (inside (context_view l.context))) chunks);
+  fits : IsBytes l.rest;
   shared : l.walk.shared ≡ l.fn.walk.shared;
 }

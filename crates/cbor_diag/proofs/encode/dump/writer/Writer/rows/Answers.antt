@@ -6,13 +6,17 @@ use Rattle.cbor_diag.proofs.dump.EmbeddedDumps.{rows_end, rows_more, utf8_after}
 use Rattle.cbor_diag.proofs.dump.Walks.{left_all}
 use Rattle.cbor_diag.proofs.encode.dump.writer.Writer.rows.Goals as goal
 
-pub rows-init-1 : goal.rows-init-1
-rows-init-1 c = λ width lines plain text. record {
-  lines = lines;
-  plain = plain;
-  text = text;
-  left = left_all c.args.self.now (map (note_line c.args.depth) (map (row width) lines));
-}
+pub rows-init : goal.rows-init
+rows-init c = (
+  c.utf8.text,
+  λ width lines plain text.
+      record {
+        lines = lines;
+        plain = plain;
+        text = text;
+        left = left_all c.args.self.now (map (note_line c.args.depth) (map (row width) lines));
+      },
+)
 
 pub rows-preserved : goal.rows-preserved
 rows-preserved c =

@@ -15,13 +15,13 @@ use Rattle.cbor_diag.proofs.encode.dump.writer.Writer.text_content.Goals as goal
 abbrev line_of : ℕ → List ℕ → DumpLine
 line_of depth p = piece_line depth p (text_comment p)
 
-pub pieces-init-1 : goal.pieces-init-1
-pieces-init-1 c =
+pub pieces-init : goal.pieces-init
+pieces-init c =
     let text = c.args.text.now in
     let all = content_lines c.args.depth text_comment (text_pieces text) in
     let whole = ap (content_lines c.args.depth text_comment) (text_long text (omega arith))
     ∙ content_is c.args.depth text_comment text_cut text_cuts text (omega arith) in
-    subst (λ ls. Left c.args.self.now c.args.self.now ls all) whole (left_all c.args.self.now all)
+    (c.utf8.text, subst (λ ls. Left c.args.self.now c.args.self.now ls all) whole (left_all c.args.self.now all))
 
 pub text_cut-requires : goal.text_cut-requires
 text_cut-requires c = some_left (length c.pieces.rest.now) c.pieces-test.ensures
