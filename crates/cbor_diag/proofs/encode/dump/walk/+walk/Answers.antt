@@ -1,4 +1,4 @@
-use Rattle.std.proofs.Common.{◌≡◌, ◌+◌, ◌≤◌, List, Ok, OnOk, length, option_copied, refl, ap, sym, subst, ◌∙◌, arith, rules}
+use Rattle.std.proofs.Common.{◌≡◌, ◌+◌, ◌≤◌, ℕ, List, Ok, OnOk, length, option_copied, refl, ap, sym, subst, ◌∙◌, arith, rules}
 use Rattle.std.proofs.lemmas.Bool.{eqb-true, eqb-false}
 use Rattle.std.proofs.lemmas.List.{nil_from_length}
 use Rattle.std.proofs.lemmas.Result.{err_from_is_err_and, IfErr-weaker, on_ok_weaker}
@@ -380,8 +380,8 @@ embedded_item-returns-then-is_empty-clause-wrote t c =
     (wrote (lines_at_level level top 0 d.0) (plain level d.0 (omega arith) well) (c.deref.ensures ∙ d.2)))
     c.embedded_note.ensures
 
-pub embedded_item-returns-else-is_empty-clause-wrote : goal.embedded_item-returns-else-is_empty-clause-wrote
-embedded_item-returns-else-is_empty-clause-wrote t c =
+pub embedded_item-returns-in-Ok-clause-wrote : goal.embedded_item-returns-in-Ok-clause-wrote
+embedded_item-returns-in-Ok-clause-wrote t c =
     let context = c.args.context.now in
     let level = context.level + 1 in
     let d = c.in-Ok.ensures.dumped in
@@ -391,16 +391,20 @@ embedded_item-returns-else-is_empty-clause-wrote t c =
     subst (λ n. OnOk c.failed_note.result (Wrote c.args.walk.now.writer c.failed_note.new.self
     (note_lines context.depth n))) (sym failed) c.failed_note.ensures
 
-pub embedded_item-returns-in_default-clause-wrote : goal.embedded_item-returns-in_default-clause-wrote
-embedded_item-returns-in_default-clause-wrote t c =
+pub embedded_item-returns : goal.embedded_item-returns
+embedded_item-returns t c =
     let context = c.args.context.now in
     let level = context.level + 1 in
     let read = read_at level c.args.bytes.now in
     let e = c.in-Err.error in
     let failed = whole_failed (embedded_lines context) read e
     (real_error e read c.in_default.not-Memory c.in-Err.ensures.refused) in
-    subst (λ n. OnOk c.failed_note-in_default.result (Wrote c.args.walk.now.writer c.failed_note-in_default.new.self
-    (note_lines context.depth n))) (sym failed) c.failed_note-in_default.ensures
+    record {
+      wrote = subst (λ n. OnOk c.failed_note-in_default.result (Wrote c.args.walk.now.writer
+          c.failed_note-in_default.new.self (note_lines context.depth n))) (sym failed)
+          c.failed_note-in_default.ensures;
+      shared = on_ok_weaker c.failed_note-in_default.result (λ _. refl) c.failed_note-in_default.ensures;
+    }
 
 pub embedded_sequence-items-smaller : goal.embedded_sequence-items-smaller
 embedded_sequence-items-smaller t c =
@@ -417,7 +421,7 @@ embedded_sequence-items-preserved t c =
     let after = c.in-Ok.after.now in
     let le : level ≤ 129 = omega (arith, c.requires.level) in
     let well = well_read level rest after d.0 le i.left.bytes d.1 in
-    let wrote = c.in_ok-embedded_note.ensures (lines_at_level level top 0 d.0) (plain level d.0 (omega arith) well)
+    let wrote = c.in_ok-embedded_note-in-Ok.ensures (lines_at_level level top 0 d.0) (plain level d.0 (omega arith) well)
     (c.deref.ensures ∙ d.2) in
     record {
       left = (sequence_more level context.depth le c.args.walk.now.writer c.items.walk.writer rest _ i.left d.0 after
