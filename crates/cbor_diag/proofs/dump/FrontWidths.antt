@@ -241,7 +241,6 @@ pub level_fails : (e : Error) (inner level : ℕ) (b : List ℕ) → inner ≡ l
     → Fails e (read_item (levels_left level) b)
 level_fails e inner level b same h = subst (λ n. Fails e (read_at n b)) same h
 
-
 items_more : (each : Item → ℕ) (is : Items) (i : Item)
     → items_width each (joined is (item i no_items)) ≡ max (items_width each is) (each i)
 items_more each no_items i = omega arith

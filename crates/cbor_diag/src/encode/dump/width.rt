@@ -299,13 +299,7 @@ fn shown_length(head: ItemHead, taken: usize) -> usize
     ensures { result ≡ spec.shown_length (head_view head) taken }
 {
     match head {
-        ItemHead::Simple(value) => {
-            if value < 24 {
-                1
-            } else {
-                taken
-            }
-        }
+        ItemHead::Simple(value) => { if value < 24 { 1 } else { taken } }
         _ => taken,
     }
 }
