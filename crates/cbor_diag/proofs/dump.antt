@@ -1,9 +1,13 @@
 pub mod Pieces
+pub mod Widths
+pub mod FrontWidths
+pub mod ResolvedDumps
+pub mod PublicDumps
 pub mod Digits
 pub mod Elements
 pub mod Walks
+pub mod HeadLines
 pub mod Members
-pub mod NoteSteps
 pub mod NoteTexts
 pub mod EmbeddedDumps
 pub mod WholeDumps
@@ -12,3 +16,4 @@ pub mod Fits
 pub mod NotesFit
 pub mod ItemsFit
 pub mod AllDigits
+pub mod Fronts

@@ -6,4 +6,5 @@ mod head;
 mod notation;
 
 pub(crate) use bytes::push_items;
+pub use dump::{bytes_to_hex, hex_to_hex, push_bytes_to_hex, push_bytes_to_hex_partial};
 pub use notation::{bytes_to_diag, hex_to_diag, push_bytes_to_diag, push_bytes_to_diag_partial};

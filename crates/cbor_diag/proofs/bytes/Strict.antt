@@ -64,7 +64,7 @@ stated-stated w n = refl
 head_written : (major n : ℕ) (w : IntegerWidth) → FitsStated w n → head major n w ≡ encoded_head major n w
 head_written major n w fits = ap (head major n) (sym (stated_is w n fits))
 
-encoded_head-resolve : (major n : ℕ) (w : IntegerWidth) → encoded_head major n (stated w n) ≡ encoded_head major n w
+pub encoded_head-resolve : (major n : ℕ) (w : IntegerWidth) → encoded_head major n (stated w n) ≡ encoded_head major n w
 encoded_head-resolve major n w = ap (head major n) (stated-stated w n)
 
 -- ---- members of an array or a map
@@ -104,11 +104,11 @@ encoded_close-resolve : (n : ℕ) (w : Option IntegerWidth) → encoded_close (r
 encoded_close-resolve n (Some w) = refl
 encoded_close-resolve n None = refl
 
-item_count-resolve : (is : Items) → item_count (resolve_items is) ≡ item_count is
+pub item_count-resolve : (is : Items) → item_count (resolve_items is) ≡ item_count is
 item_count-resolve no_items = refl
 item_count-resolve (item i is) = ap suc (item_count-resolve is)
 
-pair_count-resolve : (ps : Pairs) → pair_count (resolve_pairs ps) ≡ pair_count ps
+pub pair_count-resolve : (ps : Pairs) → pair_count (resolve_pairs ps) ≡ pair_count ps
 pair_count-resolve no_pairs = refl
 pair_count-resolve (pair k v ps) = ap suc (pair_count-resolve ps)
 
