@@ -17,3 +17,4 @@ pub mod NotesFit
 pub mod ItemsFit
 pub mod AllDigits
 pub mod Fronts
+pub mod NotedValues

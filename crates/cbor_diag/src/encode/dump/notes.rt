@@ -1,5 +1,5 @@
 //! The notes of a dump: what is said of the value of a tag, by the value alone.
-ghost use Rattle.std.specs.Prelude.{◌≡◌, ◌<◌, ℕ, false, option_map, Some, None, IfOk};
+ghost use Rattle.std.specs.Prelude.{◌≡◌, ◌≢◌, ◌<◌, ℕ, false, option_map, Some, None, IfOk};
 ghost use Rattle.std.specs.String.{string_bytes};
 ghost use Rattle.cbor_diag.specs.Comments as comments;
 ghost use Rattle.cbor_diag.specs.Item.{Item};
@@ -68,6 +68,17 @@ pub(super) fn may_have_note(tag: Tag) -> bool
         | Tag::NETWORK_ADDRESS
         | Tag::DATE => true,
         _ => element_size(tag.0).is_some(),
+    }
+}
+
+/// Whether the note on a value right below this tag says more of an array than that it is none of
+/// the values that may be there: whether addresses are.
+pub(super) fn may_have_members(tag: Tag) -> bool
+    ensures { result ≡ false → (tag.0 ≢ 52) × (tag.0 ≢ 54) }
+{
+    match tag {
+        Tag::IPV4 | Tag::IPV6 => true,
+        _ => false,
     }
 }
 
