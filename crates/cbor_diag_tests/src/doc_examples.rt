@@ -3,9 +3,9 @@
 // docs/DUMP.md.
 
 use cbor_diag::{
-    Error, Extent, Scanner, bytes_to_bytes, bytes_to_diag, extent, hex_fault, hex_place,
-    hex_to_bytes, hex_to_diag, parse_bytes, parse_bytes_partial, parse_diag, parse_hex,
-    push_bytes_to_diag_partial,
+    Error, Extent, Scanner, bytes_to_bytes, bytes_to_diag, bytes_to_hex, extent, hex_fault,
+    hex_place, hex_to_bytes, hex_to_diag, hex_to_hex, parse_bytes, parse_bytes_partial, parse_diag,
+    parse_hex, push_bytes_to_diag_partial, push_bytes_to_hex_partial,
 };
 use std::alloc::Global;
 use std::process::Abort;
@@ -98,6 +98,32 @@ fn of_shown_hex(rt: &impl Abort, alloc: Global) -> Result<(), Fail> {
     Ok(())
 }
 
+fn of_dumped_bytes(rt: &impl Abort, alloc: Global) -> Result<(), Fail> {
+    let dump = bytes_to_hex(alloc, b"\x81\x18\x64")?;
+    let lines = "81       # array(1)\n   18 64 #   unsigned(100)\n";
+    assert_eq!(rt; dump.as_str(), lines);
+    let cut = bytes_to_hex(alloc, b"\x82\x01");
+    assert_eq!(rt; cut.err(), Some(Error::CutShort));
+    Ok(())
+}
+
+fn of_dumped_parts(rt: &impl Abort, alloc: Global) -> Result<(), Fail> {
+    // An integer, and after it one that is cut.
+    let mut out = String::new(alloc);
+    let used = push_bytes_to_hex_partial(alloc, b"\x01\x19", &mut out)?;
+    assert_eq!(rt; used, Some(1));
+    assert_eq!(rt; push_bytes_to_hex_partial(alloc, b"\x19", &mut out)?, None);
+    assert_eq!(rt; out.as_str(), "01 # unsigned(1)\n");
+    Ok(())
+}
+
+fn of_dumped_hex(rt: &impl Abort, alloc: Global) -> Result<(), Fail> {
+    let dump = hex_to_hex(alloc, "81 01")?;
+    let lines = "81    # array(1)\n   01 #   unsigned(1)\n";
+    assert_eq!(rt; dump.as_str(), lines);
+    Ok(())
+}
+
 fn of_encodings(rt: &impl Abort, alloc: Global) -> Result<(), Fail> {
     let bytes = bytes_to_bytes(alloc, Vec::from_slice(alloc, b"\x82\xf8\x14\x19\x00\x05")?)?;
     assert_eq!(rt; bytes.as_slice(), b"\x82\xf4\x19\x00\x05".as_slice());
@@ -146,6 +172,9 @@ fn examples_of_doc_comments(rt: HostRuntime) -> Result<(), Fail> {
     of_shown_bytes(&rt, rt.alloc())?;
     of_shown_parts(&rt, rt.alloc())?;
     of_shown_hex(&rt, rt.alloc())?;
+    of_dumped_bytes(&rt, rt.alloc())?;
+    of_dumped_parts(&rt, rt.alloc())?;
+    of_dumped_hex(&rt, rt.alloc())?;
     of_encodings(&rt, rt.alloc())?;
     of_extents(&rt);
     of_pieces(&rt);

@@ -22,3 +22,5 @@ mod make;
 mod notes;
 #[cfg(test)]
 mod shared;
+#[cfg(test)]
+mod straight;

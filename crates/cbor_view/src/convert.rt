@@ -19,7 +19,7 @@ pub(crate) fn convert(alloc: Global, from: Source, to: To, input: Vec<u8>) -> Re
     if let (Source::Bytes, To::Bytes) = (from, to) {
         return bytes_to_bytes(alloc, input);
     }
-    if let To::Bytes | To::Diag = to {
+    if let To::Bytes | To::Hex | To::Diag = to {
         if let Source::Bytes | Source::Hex = from {
             return cbor_convert::convert(alloc, from, to, &input);
         }

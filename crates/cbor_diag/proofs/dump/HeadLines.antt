@@ -115,9 +115,12 @@ pub chunk_fits : (kind : StringKind) (b after : List ℕ) (c : Chunk) → IsByte
     → read_chunk kind b ≡ Ok (Some c, after) → length c.bytes + length after ≤ length b
 chunk_fits kind b after c fits e =
     let parts = chunk_parts kind b after c fits e in
-    omega (arith, ap length parts,
-    length-append (encoded_head (major_of kind) (length c.bytes) c.width) (c.bytes ++ after),
-    length-append c.bytes after)
+    omega (
+      arith,
+      ap length parts,
+      length-append (encoded_head (major_of kind) (length c.bytes) c.width) (c.bytes ++ after),
+      length-append c.bytes after,
+    )
 
 pub chunk_head : (kind : StringKind) (b after own : List ℕ) (c : Chunk) (n : ℕ) → IsBytes b
     → read_chunk kind b ≡ Ok (Some c, after) → n ≡ length b - (length c.bytes + length after) → own ≡ take n b

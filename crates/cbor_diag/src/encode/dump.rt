@@ -23,14 +23,15 @@ mod lines;
 mod note_lines;
 mod notes;
 mod straight;
+mod walk;
 mod width;
 mod writer;
 
 use crate::error::Error;
 use crate::syntax::DataItem;
-use items::dump;
 use std::alloc::Global;
 pub use straight::{bytes_to_hex, hex_to_hex, push_bytes_to_hex, push_bytes_to_hex_partial};
+use walk::dump;
 
 impl DataItem {
     /// Returns the item as a dump: its bytes in hex, as [`DataItem::to_bytes`] writes them, each
@@ -67,6 +68,8 @@ impl DataItem {
         ensures not_embedded { RejectsExactly }
         ensures refused { IfErr result (λ e. e ≡ Error.Memory) }
     {
-        Ok(dump(alloc, self, 1)?)
+        let bytes = self.to_bytes(alloc)?;
+        let (text, _) = dump(alloc, &bytes, 1)?;
+        Ok(text)
     }
 }

@@ -27,8 +27,9 @@ use super::notes::{may_have_members, may_have_note, value_note};
 use super::width::dump_width;
 use super::writer::Writer;
 use crate::error::Error;
-use crate::parse::{Argument, ItemHead, next_chunk, no_level_left, read_borrowed, read_front};
-use crate::parse::read_head;
+use crate::parse::{
+    Argument, ItemHead, next_chunk, no_level_left, read_borrowed, read_front, read_head,
+};
 use crate::syntax::strings::StringKind;
 use crate::syntax::{DEEPEST, DataItem, Simple, Tag};
 use std::alloc::{AllocError, Global};
@@ -373,11 +374,7 @@ fn definite_bytes(bytes: &[u8]) -> Result<Option<&[u8]>, AllocError>
 
 /// The note of tag 24: the dump of the item that the bytes are, one level deeper, or the error.
 #[cycle(walk)]
-fn embedded_item(
-    walk: &mut Walk,
-    context: &DumpContext,
-    bytes: &[u8],
-) -> Result<(), AllocError>
+fn embedded_item(walk: &mut Walk, context: &DumpContext, bytes: &[u8]) -> Result<(), AllocError>
     requires context { IsContext context.now }
     requires level { context.now.level ≤ deepest }
     ensures wrote { OnOk result (Wrote walk.old.writer walk.new.writer
@@ -403,11 +400,7 @@ fn embedded_item(
 /// The notes of tag 63: the dumps of the items in the bytes, one after the other, and the error
 /// after them.
 #[cycle(walk)]
-fn embedded_sequence(
-    walk: &mut Walk,
-    context: &DumpContext,
-    bytes: &[u8],
-) -> Result<(), AllocError>
+fn embedded_sequence(walk: &mut Walk, context: &DumpContext, bytes: &[u8]) -> Result<(), AllocError>
     requires context { IsContext context.now }
     requires level { context.now.level ≤ deepest }
     ensures wrote { OnOk result (Wrote walk.old.writer walk.new.writer
