@@ -299,22 +299,20 @@ own_content level n w content b rest behind after i e begins same read =
 -- ---- notes
 
 -- the note of a tag other than those of what is embedded
-pub note_written : {T E : Type 0} (r : Result T E) (old new : Writer) (c : DumpContext) (t : ℕ) (i j : Item) (note : Note)
-    → i ≡ j → Some note ≡ value_note c.shared t j → OnOk r (Wrote old new (note_lines c.depth note))
+pub note_written : {T E : Type 0} (r : Result T E) (old new : Writer) (c : DumpContext) (t : ℕ) (i : Item) (note : Note)
+    → Some note ≡ value_note c.shared t i → OnOk r (Wrote old new (note_lines c.depth note))
     → OnOk r (Wrote old new (value_note_there c t i))
-note_written r old new c t i j note same is wrote =
+note_written r old new c t i note is wrote =
     let one : note_lines c.depth note ≡ value_note_there c t i =
     sym (append-nil (note_lines c.depth note))
-    ∙ ap (λ (o : Option Note). flat_map (note_lines c.depth) (option_to_list o)) is
-    ∙ ap (value_note_there c t) (sym same) in
+    ∙ ap (λ (o : Option Note). flat_map (note_lines c.depth) (option_to_list o)) is in
     subst (λ ls. OnOk r (Wrote old new ls)) one wrote
 
-pub no_note_written : (w : Writer) (c : DumpContext) (t : ℕ) (i j : Item) → i ≡ j → value_note c.shared t j ≡ None
+pub no_note_written : (w : Writer) (c : DumpContext) (t : ℕ) (i : Item) → value_note c.shared t i ≡ None
     → Wrote w w (value_note_there c t i)
-no_note_written w c t i j same none =
+no_note_written w c t i none =
     let empty : [] ≡ value_note_there c t i =
-    ap (λ (o : Option Note). flat_map (note_lines c.depth) (option_to_list o)) (sym none)
-    ∙ ap (value_note_there c t) (sym same) in
+    ap (λ (o : Option Note). flat_map (note_lines c.depth) (option_to_list o)) (sym none) in
     subst (Wrote w w) empty (wrote_none w)
 
 -- tags 24 and 63, by the bytes in the value

@@ -25,35 +25,29 @@ closed_is f (array is w) e = tt
 closed_is f (spec.map ps w) e = tt
 closed_is f (tagged t w i) e = tt
 
+closed_or : (rest : List ℕ) (i : Item) (whole : Option Item) (after : Option (List ℕ)) (more : Counted Item)
+    → ((j : Item) → whole ≡ Some j → IsContainer j) → (more.1 ≡ Ok (i, rest) → IsContainer i)
+    → (close_or whole after more).1 ≡ Ok (i, rest) → IsContainer i
+closed_or rest i (Some j) (Some after) more is later e =
+    subst IsContainer (ap (λ (x : Item × List ℕ). x.0) (ok_is (j, after) (i, rest) e)) (is j refl)
+closed_or rest i (Some j) None more is later e = later e
+closed_or rest i None after more is later e = later e
+
 -- what the parts of an open container become is one
-mutual
-  unfolding parts_from
-
-  parts_are : (n : ℕ) (read : List ℕ → Counted Item) (f : Frame) (b rest : List ℕ) (i : Item)
-      → (parts_from n read f b).1 ≡ Ok (i, rest) → IsContainer i
-  parts_are zero read f b rest i e = absurd cc
-  parts_are (suc n) read f b rest i e =
-      closed_or n read f b rest i (closed f) (after_end f b) (closed_is f) e
-
-  closed_or : (n : ℕ) (read : List ℕ → Counted Item) (f : Frame) (b rest : List ℕ) (i : Item) (whole : Option Item)
-      (after : Option (List ℕ)) → ((j : Item) → whole ≡ Some j → IsContainer j)
-      → (close_or whole after (read b >>- λ x. parts_from n read (put f x.0) x.1)).1 ≡ Ok (i, rest) → IsContainer i
-  closed_or n read f b rest i (Some j) (Some after) is e =
-      subst IsContainer (ap (λ (x : Item × List ℕ). x.0) (ok_is (j, after) (i, rest) e)) (is j refl)
-  closed_or n read f b rest i (Some j) None is e = more n read f b rest i e
-  closed_or n read f b rest i None after is e = more n read f b rest i e
-
-  more : (n : ℕ) (read : List ℕ → Counted Item) (f : Frame) (b rest : List ℕ) (i : Item)
-      → (read b >>- λ x. parts_from n read (put f x.0) x.1).1 ≡ Ok (i, rest) → IsContainer i
-  more n read f b rest i e =
-      let step = then_ok (read b) (λ x. parts_from n read (put f x.0) x.1) (i, rest) e in
-      parts_are n read (put f step.0.0) step.0.1 rest i step.2
+parts_are : (n : ℕ) (read : List ℕ → Counted Item) (f : Frame) (b rest : List ℕ) (i : Item)
+    → (parts_from n read f b).1 ≡ Ok (i, rest) → IsContainer i
+unfolding parts_from
+parts_are zero read f b rest i e = absurd cc
+parts_are (suc n) read f b rest i e =
+    closed_or rest i (closed f) (after_end f b) (read b >>- λ x. parts_from n read (put f x.0) x.1) (closed_is f)
+    (λ e. let step = then_ok (read b) (λ x. parts_from n read (put f x.0) x.1) (i, rest) e in
+    parts_are n read (put f step.0.0) step.0.1 rest i step.2) e
 
 -- behind the head of a container, only a container is read
 body_is : (left : ℕ) (o : Option Frame) (h : ItemHead) (b rest : List ℕ) (i : Item) → IsSome o
     → (read_body (counted_item left) o h b).1 ≡ Ok (i, rest) → IsContainer i
 body_is left (Some f) h b rest i opens e = parts_are (suc (length b)) (counted_item left) f b rest i e
-body_is left None h b rest i opens e = absurd opens
+body_is left None h b rest i opens e = absurd (let wrong = opens in cc)
 
 pub container_is : (level : ℕ) (b behind rest : List ℕ) (h : ItemHead) (i : Item) → read_head b ≡ Ok (h, behind)
     → IsSome (opened h) → read_at level b ≡ Ok (i, rest) → IsContainer i
