@@ -1,5 +1,5 @@
 //! Writes the lines of an item straight from its bytes: what the bytes are, each part as soon as it
-//! is read, and the notes on the values of tags. No item is built but below a tag with a note.
+//! is read, and the notes on the values of tags. No item is built but for a value with a note.
 //!
 //! Each function takes the remaining bytes and returns those after what it wrote.
 ghost use Rattle.std.specs.Prelude.{◌≡◌, ◌≤◌, ◌+◌, ℕ, List, Ok, IfOk, IfErr, OnOk, option_copied};
