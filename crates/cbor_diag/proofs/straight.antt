@@ -1,3 +1,4 @@
+pub mod Embedded
 pub mod PublicCalls
 pub mod Readings
 pub mod Texts

@@ -1,16 +1,18 @@
 -- What is printed from bytes, in one pass with their reading.
-use Rattle.std.specs.Prelude.{◌≡◌, ℕ, zero, suc, ◌+◌, List, ◌++◌, codes, Ok}
+use Rattle.std.specs.Prelude.{◌≡◌, ℕ, zero, suc, ◌+◌, List, ◌++◌, codes, Bool, true, false, None, Ok}
 use Rattle.cbor_diag.specs.declared.encode.notation.context.NotationContext.{NotationContext}
 use Rattle.cbor_diag.specs.declared.syntax.strings.StringContent.{StringContent}
 use Rattle.cbor_diag.specs.declared.syntax.strings.StringContent.TheVariants as content
 use Rattle.cbor_diag.specs.Item.{Item}
 use Rattle.cbor_diag.specs.ItemHead.{ItemHead}
 use Rattle.cbor_diag.specs.Layout.{Compact}
-use Rattle.cbor_diag.specs.NotationText.{text}
+use Rattle.cbor_diag.specs.ContainerStyle.{ContainerStyle}
+use Rattle.cbor_diag.specs.NotationText.{text, last_line}
+use Rattle.cbor_diag.specs.NotationText as shown
 use Rattle.cbor_diag.specs.StringKind.{StringKind, no_chunks}
 use Rattle.cbor_diag.specs.Reading.{Read, opened, read_body, counted_item, read_item}
 use Rattle.cbor_diag.specs.WellFormed.{levels_left}
-use Rattle.cbor_diag.specs.mirror.LayoutView.{layout_view, context_view, content_there}
+use Rattle.cbor_diag.specs.mirror.LayoutView.{layout_view, context_view, content_there, before_member}
 
 -- Reading gives an item before the rest, and its text is written after the old one.
 abbrev pub Printed : (Item → List ℕ) → Read Item → List ℕ → List ℕ → List ℕ → Type 0
@@ -34,10 +36,10 @@ string_there c (content.Bytes bytes) = content_there c (context_view c).content 
 string_there c (content.Text t) = text t.now
 
 -- what is written before a chunk after so many others, and after the last
-abbrev pub before_chunk : ℕ → List ℕ
-before_chunk zero = codes "(_"
-before_chunk (suc held) = codes ","
+abbrev pub before_chunk : ContainerStyle → ℕ → List ℕ
+before_chunk l zero = shown.opened l (codes "(") None ++ before_member l true
+before_chunk l (suc held) = before_member l false
 
-abbrev pub after_chunks : StringKind → ℕ → List ℕ
-after_chunks kind zero = no_chunks kind
-after_chunks kind (suc held) = codes ")"
+abbrev pub after_chunks : ContainerStyle → StringKind → ℕ → List ℕ
+after_chunks l kind zero = no_chunks kind
+after_chunks l kind (suc held) = last_line l ++ codes ")"

@@ -201,6 +201,9 @@ fn push_content(out: &mut String, bytes: &[u8], context: &NotationContext) -> Re
     ensures { AppendsText result out.old out.new
         (content_there context.now (context_view context.now).content bytes.now) }
 {
+    if let Layout::Compact = context.layout {
+        return from_bytes::push_content(out, bytes, context);
+    }
     match context.content {
         Content::Bytes => push_quoted(out, bytes, context.encoding),
         Content::Item => push_embedded(out, bytes, context),

@@ -1,12 +1,12 @@
 use Rattle.std.proofs.Common.{◌+◌, ◌++◌, codes, Some, IfOk, IfErr, refl, ap, sym, subst, ◌∙◌, arith}
-use Rattle.std.proofs.lemmas.List.{append-nil}
 use Rattle.std.proofs.lemmas.Result.{err_from_is_err_and}
 use Rattle.std.specs.String.{string_bytes}
 use Rattle.cbor_diag.specs.ContainerStyle as style
 use Rattle.cbor_diag.specs.Item as spec
-use Rattle.cbor_diag.specs.Item.{atom, integer, negative, float, simple, array, tagged, no_items, item, no_pairs, pair}
+use Rattle.cbor_diag.specs.Item.{atom, integer, negative, string, float, simple, array, tagged, no_items, item, no_pairs, pair}
 use Rattle.cbor_diag.specs.ItemHead as item_head
-use Rattle.cbor_diag.specs.NotationText.{opened, below}
+use Rattle.cbor_diag.specs.Estimate.{estimated_items, estimated_pairs}
+use Rattle.cbor_diag.specs.NotationText.{opened, inside, below}
 use Rattle.cbor_diag.specs.Reading.{Fails, items_in, pairs_in, tag_of, joined, joined_pairs, count_width}
 use Rattle.cbor_diag.specs.Reading.{read_head, no_level_left}
 use Rattle.cbor_diag.specs.WellFormed.{levels_left}
@@ -14,12 +14,14 @@ use Rattle.cbor_diag.specs.mirror.HeadView.{argument_view}
 use Rattle.cbor_diag.specs.mirror.LayoutView.{context_view, item_text}
 use Rattle.cbor_diag.specs.mirror.Stack.{left_of}
 use Rattle.cbor_diag.specs.mirror.Straight.{Printed, read_there}
+use Rattle.cbor_diag.specs.mirror.StringView.{kind_of, borrowed_chunk}
 use Rattle.cbor_diag.proofs.bytes.Frames.{count_more, pair_count_more}
 use Rattle.cbor_diag.proofs.bytes.Shorter.{item_shorter}
 use Rattle.cbor_diag.proofs.straight.Readings.{fails_is, head_fails, too_deep, after_head, atom_printed, float_fits}
 use Rattle.cbor_diag.proofs.straight.Readings.{parts_read, part_fails, parts_ended, none_held, member_read, pair_read}
-use Rattle.cbor_diag.proofs.straight.Readings.{value_fails, tag_read, below_read, below_fails}
-use Rattle.cbor_diag.proofs.straight.Texts.{item_more, pair_more, writes_inner, array_printed, map_printed}
+use Rattle.cbor_diag.proofs.straight.Readings.{value_fails, tag_read, content_read, below_read, below_fails}
+use Rattle.cbor_diag.proofs.straight.Texts.{none_written, item_more, pair_more, writes_inner, compact_style}
+use Rattle.cbor_diag.proofs.straight.Texts.{array_printed, map_printed, string_printed}
 use Rattle.cbor_diag.proofs.text.Parts.{tag_shown}
 use Rattle.cbor_diag.proofs.encode.notation.from_bytes.+straight.Goals as goal
 
@@ -132,30 +134,36 @@ push_front-returns-in_ok-push_simple-in-Simple-clause-printed t c =
 pub push_array_front-items-init : goal.push_array_front-items-init
 push_array_front-items-init t c =
     let old = string_bytes c.args.out.now in
+    let l = style.Compact in
     let width = c.width.ensures 0 ∙ ap count_width (none_held c.args.count) in
     record {
-      members = no_items;
+      found = no_items;
       so_far = ap
           (λ a. parts_read (levels_left (c.args.context.now.level + 1)) (items_in no_items a) c.args.bytes.now)
           (none_held c.args.count);
       count = refl;
-      text = c.in_ok-push_opening.ensures ∙ ap (λ w. old ++ opened style.Compact (codes "[") w) width
-          ∙ sym (append-nil _);
+      text = c.in_ok-push_opening.ensures ∙ ap (λ w. old ++ opened l (codes "[") w) width ∙ none_written l _;
       room = omega arith;
     }
 
 pub push_array_front-returns-in-Some-clause-printed : goal.push_array_front-returns-in-Some-clause-printed
 push_array_front-returns-in-Some-clause-printed t c =
     let i = c.items.invariant in
+    let l = style.Compact in
+    let context = c.args.context.now in
     let w = count_width (argument_view c.args.count) in
     let width = sym (c.width.ensures c.items.held) ∙ c.width.ensures 0 ∙ ap count_width (none_held c.args.count) in
-    let f = items_in i.members (left_of c.args.count c.items.held) in (
-      array i.members w,
-      sym i.so_far ∙ parts_ended (levels_left (c.args.context.now.level + 1)) f c.items.rest.now c.in-Some.after.now
-          (array i.members w) (ap (λ x. Some (array i.members x)) width) (sym c.in-Some.ensures),
-      array_printed c.args.context.now c.inside-inner.result c.requires.level c.requires.compact
-          c.inside-inner.ensures.level c.inside-inner.ensures.context i.members w (string_bytes c.args.out.now) _
-          (string_bytes c.items.out) (string_bytes c.push_closing.new.out) refl i.text c.in_ok-push_closing.ensures,
+    let f = items_in i.found (left_of c.args.count c.items.held) in
+    let read = sym i.so_far ∙ parts_ended (levels_left (context.level + 1)) f c.items.rest.now c.in-Some.after.now
+    (array i.found w) (ap (λ x. Some (array i.found x)) width) (sym c.in-Some.ensures) in
+    let inside_it = c.inside-inner.ensures.context
+    ∙ ap (λ x. inside x (context_view context)) c.members_layout.ensures in (
+      array i.found w,
+      read,
+      array_printed l context c.inside-inner.result c.requires.level c.inside-inner.ensures.level inside_it i.found w
+          (string_bytes c.args.out.now) _ (string_bytes c.items.out) (string_bytes c.push_closing.new.out)
+          (compact_style context (4 + estimated_items i.found) c.requires.compact) refl i.text
+          c.in_ok-push_closing.ensures,
     )
 
 pub push_array_front-returns-in_err-rest-clause-refused : goal.push_array_front-returns-in_err-rest-clause-refused
@@ -165,7 +173,7 @@ push_array_front-returns-in_err-rest-clause-refused t c =
     let e = c.in_err-rest.field-0.0 in
     let left = levels_left (c.args.context.now.level + 1) in
     rw (p.1, p.2) (subst (Fails e) i.so_far (part_fails e left
-    (items_in i.members (left_of c.args.count c.items.held)) c.items.rest.now (sym c.in_default.ensures)
+    (items_in i.found (left_of c.args.count c.items.held)) c.items.rest.now (sym c.in_default.ensures)
     (below_fails e c.inside-inner.result (c.args.context.now.level + 1) c.items.rest.now c.inside-inner.ensures.level
     c.in_err-rest.ensures.refused)))
 
@@ -183,13 +191,13 @@ push_array_front-items-preserved t c =
     c.in_ok-rest.rest.now c.inside-inner.ensures.level p.1 in
     let shorter = item_shorter left c.items.rest.now p.0 c.in_ok-rest.rest.now read in
     record {
-      members = joined i.members (item p.0 no_items);
-      so_far = sym (member_read left i.members c.args.count c.items.held c.items.rest.now c.in_ok-rest.rest.now p.0
+      found = joined i.found (item p.0 no_items);
+      so_far = sym (member_read left i.found c.args.count c.items.held c.items.rest.now c.in_ok-rest.rest.now p.0
           (sym c.in_default.ensures) read) ∙ i.so_far;
-      count = omega (arith, count_more i.members p.0, i.count);
-      text = item_more (item_text c.inside-inner.result) i.members p.0 c.items.held _ (string_bytes c.items.out)
-          (string_bytes c.push_start.new.out) (string_bytes c.push_front.new.out) i.count i.text
-          c.in_ok-push_start.ensures p.2;
+      count = omega (arith, count_more i.found p.0, i.count);
+      text = item_more style.Compact (item_text c.inside-inner.result) i.found p.0 c.items.held _
+          (string_bytes c.items.out) (string_bytes c.push_start.new.out) (string_bytes c.push_front.new.out)
+          (string_bytes c.push_end.new.out) i.count i.text c.in_ok-push_start.ensures p.2 c.in_ok-push_end.ensures;
       room = omega (arith, i.room, shorter);
     }
 
@@ -198,30 +206,36 @@ push_array_front-items-preserved t c =
 pub push_map_front-pairs-init : goal.push_map_front-pairs-init
 push_map_front-pairs-init t c =
     let old = string_bytes c.args.out.now in
+    let l = style.Compact in
     let width = c.width.ensures 0 ∙ ap count_width (none_held c.args.count) in
     record {
-      members = no_pairs;
+      found = no_pairs;
       so_far = ap
           (λ a. parts_read (levels_left (c.args.context.now.level + 1)) (pairs_in no_pairs a) c.args.bytes.now)
           (none_held c.args.count);
       count = refl;
-      text = c.in_ok-push_opening.ensures ∙ ap (λ w. old ++ opened style.Compact (codes "{") w) width
-          ∙ sym (append-nil _);
+      text = c.in_ok-push_opening.ensures ∙ ap (λ w. old ++ opened l (codes "{") w) width ∙ none_written l _;
       room = omega arith;
     }
 
 pub push_map_front-returns-in-Some-clause-printed : goal.push_map_front-returns-in-Some-clause-printed
 push_map_front-returns-in-Some-clause-printed t c =
     let i = c.pairs.invariant in
+    let l = style.Compact in
+    let context = c.args.context.now in
     let w = count_width (argument_view c.args.count) in
     let width = sym (c.width.ensures c.pairs.held) ∙ c.width.ensures 0 ∙ ap count_width (none_held c.args.count) in
-    let f = pairs_in i.members (left_of c.args.count c.pairs.held) in (
-      spec.map i.members w,
-      sym i.so_far ∙ parts_ended (levels_left (c.args.context.now.level + 1)) f c.pairs.rest.now c.in-Some.after.now
-          (spec.map i.members w) (ap (λ x. Some (spec.map i.members x)) width) (sym c.in-Some.ensures),
-      map_printed c.args.context.now c.inside-inner.result c.requires.level c.requires.compact
-          c.inside-inner.ensures.level c.inside-inner.ensures.context i.members w (string_bytes c.args.out.now) _
-          (string_bytes c.pairs.out) (string_bytes c.push_closing.new.out) refl i.text c.in_ok-push_closing.ensures,
+    let f = pairs_in i.found (left_of c.args.count c.pairs.held) in
+    let read = sym i.so_far ∙ parts_ended (levels_left (context.level + 1)) f c.pairs.rest.now c.in-Some.after.now
+    (spec.map i.found w) (ap (λ x. Some (spec.map i.found x)) width) (sym c.in-Some.ensures) in
+    let inside_it = c.inside-inner.ensures.context
+    ∙ ap (λ x. inside x (context_view context)) c.members_layout.ensures in (
+      spec.map i.found w,
+      read,
+      map_printed l context c.inside-inner.result c.requires.level c.inside-inner.ensures.level inside_it i.found w
+          (string_bytes c.args.out.now) _ (string_bytes c.pairs.out) (string_bytes c.push_closing.new.out)
+          (compact_style context (4 + estimated_pairs i.found) c.requires.compact) refl i.text
+          c.in_ok-push_closing.ensures,
     )
 
 pub push_map_front-returns-in_err-value-clause-refused : goal.push_map_front-returns-in_err-value-clause-refused
@@ -231,7 +245,7 @@ push_map_front-returns-in_err-value-clause-refused t c =
     let e = c.in_err-value.field-0.0 in
     let left = levels_left (c.args.context.now.level + 1) in
     rw (p.1, p.2) (subst (Fails e) i.so_far (part_fails e left
-    (pairs_in i.members (left_of c.args.count c.pairs.held)) c.pairs.rest.now (sym c.in_default.ensures)
+    (pairs_in i.found (left_of c.args.count c.pairs.held)) c.pairs.rest.now (sym c.in_default.ensures)
     (below_fails e c.inside-inner.result (c.args.context.now.level + 1) c.pairs.rest.now c.inside-inner.ensures.level
     c.in_err-value.ensures.refused)))
 
@@ -244,7 +258,7 @@ push_map_front-returns-in_err-rest-clause-refused t c =
     let k = c.in_ok-value.ensures.printed in
     let key = below_read c.inside-inner.result (c.args.context.now.level + 1) c.pairs.rest.now k.0
     c.in_ok-value.value.now c.inside-inner.ensures.level k.1 in
-    rw (p.1, p.2) (subst (Fails e) i.so_far (value_fails e left i.members c.args.count c.pairs.held c.pairs.rest.now
+    rw (p.1, p.2) (subst (Fails e) i.so_far (value_fails e left i.found c.args.count c.pairs.held c.pairs.rest.now
     c.in_ok-value.value.now k.0 (sym c.in_default.ensures) key
     (below_fails e c.inside-inner.result (c.args.context.now.level + 1) c.in_ok-value.value.now
     c.inside-inner.ensures.level c.in_err-rest.ensures.refused)))
@@ -273,14 +287,15 @@ push_map_front-pairs-preserved t c =
     let first = item_shorter left c.pairs.rest.now k.0 c.in_ok-value.value.now key in
     let second = item_shorter left c.in_ok-value.value.now v.0 c.in_ok-rest.rest.now value in
     record {
-      members = joined_pairs i.members (pair k.0 v.0 no_pairs);
-      so_far = sym (pair_read left i.members c.args.count c.pairs.held c.pairs.rest.now c.in_ok-value.value.now
+      found = joined_pairs i.found (pair k.0 v.0 no_pairs);
+      so_far = sym (pair_read left i.found c.args.count c.pairs.held c.pairs.rest.now c.in_ok-value.value.now
           c.in_ok-rest.rest.now k.0 v.0 (sym c.in_default.ensures) key value) ∙ i.so_far;
-      count = omega (arith, pair_count_more i.members k.0 v.0, i.count);
-      text = pair_more (item_text c.inside-inner.result) i.members k.0 v.0 c.pairs.held _ (string_bytes c.pairs.out)
-          (string_bytes c.push_start.new.out) (string_bytes c.push_front.new.out) (string_bytes c.push_colon.new.out)
-          (string_bytes c.push_front-in-pairs.new.out) i.count i.text c.in_ok-push_start.ensures k.2
-          c.in_ok-push_colon.ensures v.2;
+      count = omega (arith, pair_count_more i.found k.0 v.0, i.count);
+      text = pair_more style.Compact (item_text c.inside-inner.result) i.found k.0 v.0 c.pairs.held _
+          (string_bytes c.pairs.out) (string_bytes c.push_start.new.out) (string_bytes c.push_front.new.out)
+          (string_bytes c.push_colon.new.out) (string_bytes c.push_front-in-pairs.new.out)
+          (string_bytes c.push_end.new.out) i.count i.text c.in_ok-push_start.ensures k.2 c.in_ok-push_colon.ensures v.2
+          c.in_ok-push_end.ensures;
       room = omega (arith, i.room, first, second);
     }
 
@@ -312,4 +327,19 @@ push_tag_front-returns-clause-printed t c =
       tag_shown level context p.0 c.args.head.0 c.args.head.1 (string_bytes c.args.out.now)
           (string_bytes c.push_number.new.out) (string_bytes c.push.new.self) (string_bytes c.push_front.new.out)
           (string_bytes c.push-2.new.self) c.requires.level c.in_ok-push_number.ensures opening inner closing,
+    )
+
+-- ---- a string
+
+pub push_string_front-returns-in_ok-push_definite-in-Number-clause-printed : goal.push_string_front-returns-in_ok-push_definite-in-Number-clause-printed
+push_string_front-returns-in_ok-push_definite-in-Number-clause-printed t c =
+    let w = c.in-Number.field-1 in
+    let content = c.in_ok-content-in-Number.content in
+    let read = content_read c.in-Number.count w content c.args.bytes.now c.in_ok-content-in-Number.rest.now _
+    c.in_ok-content-in-Number.ensures.kind (c.in_ok-content-in-Number.ensures.gives w) in
+    rw c.in-Number.is (
+      atom (string (kind_of content) (borrowed_chunk w content)),
+      read,
+      string_printed c.args.context.now w content (string_bytes c.args.out.now) (string_bytes c.push_definite.new.out)
+          c.requires.level c.in_ok-push_definite-in-Number.ensures,
     )

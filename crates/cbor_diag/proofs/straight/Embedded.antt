@@ -1,0 +1,177 @@
+-- Printing what is embedded in bytes from these bytes: an item, and items one after the other.
+use Rattle.std.proofs.Common.{◌≡◌, ◌≢◌, ℕ, zero, suc, ◌+◌, ◌≤◌, true, false, eqb, List, [], ◌∷◌, ◌++◌, length, codes}
+use Rattle.std.proofs.Common.{Option, Some, None, Result, Ok, Err, refl, sym, ap, subst, ◌∙◌, append_assoc, arith}
+use Rattle.std.specs.Io.{StartsWith}
+use Rattle.std.proofs.lemmas.Bool.{eqb-true}
+use Rattle.std.proofs.lemmas.List.{nil_from_length}
+use Rattle.cbor_diag.specs.declared.error.Error.{Error}
+use Rattle.cbor_diag.specs.declared.error.Error.TheVariants as refusal
+use Rattle.cbor_diag.specs.declared.encode.notation.context.NotationContext.{NotationContext}
+use Rattle.cbor_diag.specs.ContainerStyle.{ContainerStyle}
+use Rattle.cbor_diag.specs.Embedded.{if_whole, embedded_at, before, sequence_of, sequence_at}
+use Rattle.cbor_diag.specs.Estimate.{estimated_items}
+use Rattle.cbor_diag.specs.Item.{Item, Items, no_items, item}
+use Rattle.cbor_diag.specs.Layout.{Context}
+use Rattle.cbor_diag.specs.Layout as shown
+use Rattle.cbor_diag.specs.NotationText as written
+use Rattle.cbor_diag.specs.NotationText.{Writer, quoted, members, members_layout, last_line, inside, item_texts}
+use Rattle.cbor_diag.specs.NotationText.{embedded_text, rest_text, sequence_listed, sequence_text, text_at_level}
+use Rattle.cbor_diag.specs.Reading.{Fails, joined, read_item}
+use Rattle.cbor_diag.specs.WellFormed.{levels_left}
+use Rattle.cbor_diag.specs.mirror.Appends.{Appends}
+use Rattle.cbor_diag.specs.mirror.EncodingView.{encoding_view}
+use Rattle.cbor_diag.specs.mirror.LayoutView.{layout_view, context_view, content_there, item_text}
+use Rattle.cbor_diag.specs.mirror.Straight.{read_there}
+use Rattle.cbor_diag.proofs.bytes.FoundAgain.{joined-none, joined_one}
+use Rattle.cbor_diag.proofs.bytes.Shorter.{item_shorter}
+use Rattle.cbor_diag.proofs.shared.Appending.{begins_same, begins_still, begins_two, appends_last, begins_through}
+use Rattle.cbor_diag.proofs.straight.Readings.{below_read, below_fails}
+use Rattle.cbor_diag.proofs.straight.Texts.{writes_inner, style_there}
+
+-- an error that is not memory is the one that reading gives
+fails_so : {X : Type 0} (e : Error) (read : Result X Error) → e ≢ refusal.Memory → Fails e read → read ≡ Err e
+fails_so refusal.Memory read other h = absurd (other refl)
+fails_so e read other h = h
+
+-- ---- one item
+
+embedded_is : (write : Writer) (c : Context) (b : List ℕ) (e : Option Item) → eqb (length b) 0 ≡ false
+    → embedded_text write c b e ≡ written.item_text write c b e
+embedded_is write c [] e some = absurd cc
+embedded_is write c (x ∷ b) e some = refl
+
+-- no bytes are no item
+pub nothing_printed : {T E : Type 0} (r : Result T E) (c : NotationContext) (b old new : List ℕ)
+    → eqb (length b) 0 ≡ true → Appends r old new (codes "<<>>") → Appends r old new (content_there c shown.Item b)
+nothing_printed r c [] old new none h = h
+nothing_printed r c (x ∷ b) old new none h = absurd cc
+
+bytes_remain : (i : Item) (rest : List ℕ) → eqb (length rest) 0 ≡ false → if_whole (Ok (i, rest)) ≡ None
+bytes_remain i [] some = absurd cc
+bytes_remain i (x ∷ rest) some = refl
+
+module _ (c inner : NotationContext) (deeper : inner.level ≡ c.level + 1) where
+  pub no_whole : (b rest : List ℕ) (i : Item) → read_there inner b ≡ Ok (i, rest) → eqb (length rest) 0 ≡ false
+      → embedded_at (levels_left (c.level + 1)) b ≡ None
+  no_whole b rest i read some = ap if_whole (below_read inner (c.level + 1) b i rest deeper read)
+      ∙ bytes_remain i rest some
+
+  pub no_item : (b : List ℕ) (e : Error) → e ≢ refusal.Memory → Fails e (read_there inner b)
+      → embedded_at (levels_left (c.level + 1)) b ≡ None
+  no_item b e other h =
+      ap if_whole (fails_so e (read_item (levels_left (c.level + 1)) b) other (below_fails e inner (c.level + 1) b deeper h))
+
+  -- an item between its brackets
+  pub embedded_printed : {T E : Type 0} (r : Result T E) (b rest : List ℕ) (i : Item) (old begun out new : List ℕ)
+      → context_view inner ≡ inside (layout_view c.layout) (context_view c) → eqb (length b) 0 ≡ false
+      → read_there inner b ≡ Ok (i, rest) → eqb (length rest) 0 ≡ true → begun ≡ old ++ codes "<<"
+      → out ≡ begun ++ item_text inner i → Appends r out new (codes ">>")
+      → Appends r old new (content_there c shown.Item b)
+  embedded_printed r b rest i old begun out new inside_it some read none p q h =
+      let write : Writer = text_at_level (c.level + 1) in
+      let context : Context = context_view c in
+      let ends : rest ≡ [] = nil_from_length rest (eqb-true (length rest) 0 none) in
+      let whole : embedded_at (levels_left (c.level + 1)) b ≡ Some i = ap if_whole
+      (below_read inner (c.level + 1) b i rest deeper read ∙ ap (λ (x : List ℕ). Ok (i, x)) ends) in
+      let regroup : ((old ++ codes "<<") ++ item_text inner i) ++ codes ">>"
+      ≡ old ++ (codes "<<" ++ (item_text inner i ++ codes ">>")) = simp append_assoc in
+      appends_last r old out new (codes ">>") (content_there c shown.Item b) (begins_two old begun _ _ out p q)
+      (λ e. e ∙ ap (λ x. x ++ codes ">>") (q ∙ ap (λ x. x ++ item_text inner i) p) ∙ regroup
+      ∙ ap (λ f. old ++ (codes "<<" ++ (f i ++ codes ">>")))
+      (writes_inner inner (c.level + 1) (inside (layout_view c.layout) context) deeper inside_it)
+      ∙ ap (λ o. old ++ written.item_text write context b o) (sym whole)
+      ∙ ap (λ x. old ++ x) (sym (embedded_is write context b (embedded_at (levels_left (c.level + 1)) b) some)))
+      h
+
+-- bytes that are no item, after what was written of them was cut back
+pub bytes_instead : {T E : Type 0} (r : Result T E) (c : NotationContext) (b old cut new : List ℕ)
+    → eqb (length b) 0 ≡ false → embedded_at (levels_left (c.level + 1)) b ≡ None → cut ≡ old
+    → Appends r cut new (quoted (encoding_view c.encoding) b) → Appends r old new (content_there c shown.Item b)
+bytes_instead r c b old cut new some none same h =
+    let write : Writer = text_at_level (c.level + 1) in
+    let o : Option Item = embedded_at (levels_left (c.level + 1)) b in
+    let shows : quoted (encoding_view c.encoding) b ≡ content_there c shown.Item b =
+    ap (λ e. written.item_text write (context_view c) b e) (sym none) ∙ sym (embedded_is write (context_view c) b o some) in
+    subst (Appends r old new) shows (subst (λ x. Appends r x new (quoted (encoding_view c.encoding) b)) same h)
+
+-- ---- a sequence
+
+-- items before a sequence
+abbrev onto : Items → Items × List ℕ → Items × List ℕ
+onto is s = (joined is s.0, s.1)
+
+-- the items so far and those of the rest are the whole sequence
+pub record SoFar (left : ℕ) (is : Items) (b : List ℕ) (whole : Items × List ℕ) : Type 0 where
+  pub steps : ℕ
+  pub enough : length b ≤ steps
+  pub same : onto is (sequence_of (read_item left) steps b) ≡ whole
+
+pub sequence_begun : (left : ℕ) (b : List ℕ) → SoFar left no_items b (sequence_at left b)
+sequence_begun left b = record { steps = length b; enough = omega arith; same = refl }
+
+one_read : (left steps : ℕ) (is : Items) (i : Item) (b rest : List ℕ) (whole : Items × List ℕ)
+    → read_item left b ≡ Ok (i, rest) → length b ≤ steps → onto is (sequence_of (read_item left) steps b) ≡ whole
+    → SoFar left (joined is (item i no_items)) rest whole
+unfolding sequence_of
+one_read left zero is i b rest whole e enough h = absurd (omega (arith, item_shorter left b i rest e))
+one_read left (suc m) is i b rest whole e enough h =
+    let s : Items × List ℕ = sequence_of (read_item left) m rest in
+    let here : onto is (before i s) ≡ whole = rw e at h in
+    record {
+      steps = m;
+      enough = omega (arith, item_shorter left b i rest e);
+      same = ap (λ js. (js, s.1)) (joined_one is i s.0) ∙ here;
+    }
+
+pub sequence_more : (left : ℕ) (is : Items) (i : Item) (b rest : List ℕ) (whole : Items × List ℕ)
+    → read_item left b ≡ Ok (i, rest) → SoFar left is b whole → SoFar left (joined is (item i no_items)) rest whole
+sequence_more left is i b rest whole e s = one_read left s.steps is i b rest whole e s.enough s.same
+
+none_read : (left steps : ℕ) (is : Items) (b : List ℕ) (e : Error) (whole : Items × List ℕ)
+    → read_item left b ≡ Err e → onto is (sequence_of (read_item left) steps b) ≡ whole → (is, b) ≡ whole
+unfolding sequence_of
+none_read left zero is b e whole ends h = ap (λ js. (js, b)) (sym (joined-none is)) ∙ h
+none_read left (suc n) is b e whole ends h =
+    let here : onto is (no_items, b) ≡ whole = rw ends at h in
+    ap (λ js. (js, b)) (sym (joined-none is)) ∙ here
+
+pub sequence_ends : (left : ℕ) (is : Items) (b : List ℕ) (e : Error) (whole : Items × List ℕ) → e ≢ refusal.Memory
+    → Fails e (read_item left b) → SoFar left is b whole → (is, b) ≡ whole
+sequence_ends left is b e whole other h s =
+    none_read left s.steps is b e whole (fails_so e (read_item left b) other h) s.same
+
+-- what was written of an item that can't be read is after the items before it
+pub begun_after : (old begun out started new : List ℕ) (a m between : List ℕ) → begun ≡ old ++ a → out ≡ begun ++ m
+    → started ≡ out ++ between → StartsWith new started → StartsWith new old
+begun_after old begun out started new a m between p q r h =
+    begins_through old started new h (begins_still old out between started (begins_two old begun a m out p q) r)
+
+pub begun_member : (out started new between : List ℕ) → started ≡ out ++ between → StartsWith new started
+    → StartsWith new out
+begun_member out started new between r h =
+    begins_through out started new h (begins_still out out between started (begins_same out) r)
+
+pub sequence_printed : {T E : Type 0} (r : Result T E) (l : ContainerStyle) (c inner : NotationContext) (is : Items)
+    (b rest old begun out cut new : List ℕ) → inner.level ≡ c.level + 1
+    → context_view inner ≡ inside (members_layout l) (context_view c) → l ≡ style_there c (4 + estimated_items is)
+    → (is, rest) ≡ sequence_at (levels_left (c.level + 1)) b → begun ≡ old ++ codes "<<"
+    → out ≡ begun ++ members l (item_texts (item_text inner) is) → cut ≡ out
+    → Appends r cut new (last_line l ++ (codes ">>" ++ rest_text (context_view c) rest))
+    → Appends r old new (content_there c shown.Sequence b)
+sequence_printed r l c inner is b rest old begun out cut new deeper inside_it same whole p q back h =
+    let write : Writer = text_at_level (c.level + 1) in
+    let context : Context = context_view c in
+    let ms : List ℕ = members l (item_texts (item_text inner) is) in
+    let after : List ℕ = rest_text context rest in
+    let regroup : ((old ++ codes "<<") ++ ms) ++ (last_line l ++ (codes ">>" ++ after))
+    ≡ old ++ ((codes "<<" ++ (ms ++ (last_line l ++ codes ">>"))) ++ after) = simp append_assoc in
+    let so_far : cut ≡ (old ++ codes "<<") ++ ms = back ∙ q ∙ ap (λ x. x ++ ms) p in
+    appends_last r old cut new (last_line l ++ (codes ">>" ++ after)) (content_there c shown.Sequence b)
+    (begins_two old (old ++ codes "<<") (codes "<<") ms cut refl so_far)
+    (λ e. e ∙ ap (λ x. x ++ (last_line l ++ (codes ">>" ++ after))) so_far ∙ regroup
+    ∙ ap
+    (λ f. old ++ ((codes "<<" ++ (members l (item_texts f is) ++ (last_line l ++ codes ">>"))) ++ after))
+    (writes_inner inner (c.level + 1) (inside (members_layout l) context) deeper inside_it)
+    ∙ ap (λ k. old ++ sequence_listed write context k (is, rest)) same
+    ∙ ap (λ s. old ++ sequence_text write context s) whole)
+    h
