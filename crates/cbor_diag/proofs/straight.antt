@@ -1,4 +1,4 @@
-pub mod Embedded
 pub mod PublicCalls
 pub mod Readings
+pub mod Sequences
 pub mod Texts

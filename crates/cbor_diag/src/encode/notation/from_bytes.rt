@@ -293,7 +293,7 @@ fn push_sequence(
     let inner = context.inside(style.members_layout());
     out.push_str("<<")?;
     let mut rest = bytes;
-    let mut held = 0;
+    let mut held: usize = 0;
     'items: loop {
         let start = out.len();
         push_start(out, style, held == 0)?;

@@ -5,6 +5,7 @@ use Rattle.cbor_diag.specs.ContainerStyle as style
 use Rattle.cbor_diag.specs.Item as spec
 use Rattle.cbor_diag.specs.Item.{atom, integer, negative, string, float, simple, array, tagged, no_items, item, no_pairs, pair}
 use Rattle.cbor_diag.specs.ItemHead as item_head
+use Rattle.cbor_diag.specs.Embedded.{sequence_at}
 use Rattle.cbor_diag.specs.Estimate.{estimated_items, estimated_pairs}
 use Rattle.cbor_diag.specs.NotationText.{opened, inside, below}
 use Rattle.cbor_diag.specs.Reading.{Fails, items_in, pairs_in, tag_of, joined, joined_pairs, count_width}
@@ -17,6 +18,9 @@ use Rattle.cbor_diag.specs.mirror.Straight.{Printed, read_there}
 use Rattle.cbor_diag.specs.mirror.StringView.{kind_of, borrowed_chunk}
 use Rattle.cbor_diag.proofs.bytes.Frames.{count_more, pair_count_more}
 use Rattle.cbor_diag.proofs.bytes.Shorter.{item_shorter}
+use Rattle.cbor_diag.proofs.shared.Appending.{cut_back}
+use Rattle.cbor_diag.proofs.straight.Sequences.{sequence_begun, sequence_more, sequence_ends, begun_after, begun_member}
+use Rattle.cbor_diag.proofs.straight.Sequences.{sequence_printed}
 use Rattle.cbor_diag.proofs.straight.Readings.{fails_is, head_fails, too_deep, after_head, atom_printed, float_fits}
 use Rattle.cbor_diag.proofs.straight.Readings.{parts_read, part_fails, parts_ended, none_held, member_read, pair_read}
 use Rattle.cbor_diag.proofs.straight.Readings.{value_fails, tag_read, content_read, below_read, below_fails}
@@ -343,3 +347,74 @@ push_string_front-returns-in_ok-push_definite-in-Number-clause-printed t c =
       string_printed c.args.context.now w content (string_bytes c.args.out.now) (string_bytes c.push_definite.new.out)
           c.requires.level c.in_ok-push_definite-in-Number.ensures,
     )
+
+-- ---- a sequence
+
+pub push_sequence-items-init : goal.push_sequence-items-init
+push_sequence-items-init t c = record {
+  found = no_items;
+  so_far = sequence_begun (levels_left (c.args.context.now.level + 1)) c.args.bytes.now;
+  count = refl;
+  text = c.in_ok-push_str.ensures.bytes ∙ none_written style.Compact _;
+  room = omega arith;
+}
+
+pub push_sequence-items-smaller : goal.push_sequence-items-smaller
+push_sequence-items-smaller t c =
+    let p = c.in-Ok.ensures.printed in
+    item_shorter (levels_left c.inside-inner.result.level) c.items.rest.now p.0 c.in-Ok.after.now p.1
+
+pub push_sequence-items-preserved : goal.push_sequence-items-preserved
+push_sequence-items-preserved t c =
+    let i = c.items.invariant in
+    let p = c.in-Ok.ensures.printed in
+    let left = levels_left (c.args.context.now.level + 1) in
+    let after = c.in-Ok.after.now in
+    let read = below_read c.inside-inner.result (c.args.context.now.level + 1) c.items.rest.now p.0 after
+    c.inside-inner.ensures.level p.1 in
+    let shorter = item_shorter left c.items.rest.now p.0 after read in
+    record {
+      found = joined i.found (item p.0 no_items);
+      so_far = sequence_more left i.found p.0 c.items.rest.now after _ read i.so_far;
+      count = omega (arith, count_more i.found p.0, i.count);
+      text = item_more style.Compact (item_text c.inside-inner.result) i.found p.0 c.items.held _
+          (string_bytes c.items.out) (string_bytes c.push_start.new.out) (string_bytes c.push_front.new.out)
+          (string_bytes c.push_end.new.out) i.count i.text c.in_ok-push_start.ensures p.2 c.in_ok-push_end-in-Ok.ensures;
+      room = omega (arith, i.room, shorter);
+    }
+
+pub push_sequence-returns-in-Memory : goal.push_sequence-returns-in-Memory
+push_sequence-returns-in-Memory t c =
+    let old = string_bytes c.args.out.now in
+    begun_after old (old ++ codes "<<") (string_bytes c.items.out) (string_bytes c.push_start.new.out)
+    (string_bytes c.push_front.new.out) (codes "<<") _ _ refl c.items.invariant.text c.in_ok-push_start.ensures
+    c.in-Err.ensures.begun
+
+pub push_sequence-truncate-requires : goal.push_sequence-truncate-requires
+push_sequence-truncate-requires t c =
+    λ _. (cut_back c.items.out c.push_front.new.out c.len-start.result c.len-start.ensures
+    (begun_member (string_bytes c.items.out) (string_bytes c.push_start.new.out) (string_bytes c.push_front.new.out) _
+    c.in_ok-push_start.ensures c.in-Err.ensures.begun)).0
+
+pub push_sequence-returns-in_default : goal.push_sequence-returns-in_default
+push_sequence-returns-in_default t c =
+    let i = c.items.invariant in
+    let l = style.Compact in
+    let context = c.args.context.now in
+    let left = levels_left (context.level + 1) in
+    let old = string_bytes c.args.out.now in
+    let rest = c.items.rest.now in
+    let inside_it = c.inside-inner.ensures.context
+    ∙ ap (λ x. inside x (context_view context)) c.members_layout.ensures in
+    let whole = sequence_ends left i.found rest c.in-Err.error (sequence_at left c.args.bytes.now)
+    c.in_default.not-Memory
+    (below_fails c.in-Err.error c.inside-inner.result (context.level + 1) rest c.inside-inner.ensures.level
+    c.in-Err.ensures.refused) i.so_far in
+    let back = c.truncate.ensures.bytes ∙ (cut_back c.items.out c.push_front.new.out c.len-start.result
+    c.len-start.ensures (begun_member (string_bytes c.items.out) (string_bytes c.push_start.new.out)
+    (string_bytes c.push_front.new.out) _ c.in_ok-push_start.ensures c.in-Err.ensures.begun)).1 in
+    sequence_printed c.push_sequence_end.result l context c.inside-inner.result i.found c.args.bytes.now rest old
+    (old ++ codes "<<") (string_bytes c.items.out) (string_bytes c.truncate.new.self)
+    (string_bytes c.push_sequence_end.new.out) c.inside-inner.ensures.level inside_it
+    (compact_style context (4 + estimated_items i.found) c.requires.compact) whole refl i.text back
+    c.push_sequence_end.ensures

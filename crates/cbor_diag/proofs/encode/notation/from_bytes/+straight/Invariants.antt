@@ -9,7 +9,7 @@ use Rattle.cbor_diag.specs.WellFormed.{levels_left}
 use Rattle.cbor_diag.specs.mirror.HeadView.{argument_view}
 use Rattle.cbor_diag.specs.mirror.LayoutView.{item_text}
 use Rattle.cbor_diag.specs.mirror.Stack.{left_of}
-use Rattle.cbor_diag.proofs.straight.Embedded.{SoFar}
+use Rattle.cbor_diag.proofs.straight.Sequences.{SoFar}
 use Rattle.cbor_diag.proofs.straight.Readings.{parts_read}
 use Rattle.cbor_diag.proofs.encode.notation.from_bytes.+straight.Given as goal
 

@@ -1,100 +1,31 @@
--- Printing what is embedded in bytes from these bytes: an item, and items one after the other.
-use Rattle.std.proofs.Common.{◌≡◌, ◌≢◌, ℕ, zero, suc, ◌+◌, ◌≤◌, true, false, eqb, List, [], ◌∷◌, ◌++◌, length, codes}
-use Rattle.std.proofs.Common.{Option, Some, None, Result, Ok, Err, refl, sym, ap, subst, ◌∙◌, append_assoc, arith}
+-- Printing items that are embedded in bytes one after the other from these bytes.
+use Rattle.std.proofs.Common.{◌≡◌, ◌≢◌, ℕ, zero, suc, ◌+◌, ◌≤◌, List, ◌++◌, length, codes}
+use Rattle.std.proofs.Common.{Result, Ok, Err, refl, sym, ap, ◌∙◌, append_assoc, arith}
 use Rattle.std.specs.Io.{StartsWith}
-use Rattle.std.proofs.lemmas.Bool.{eqb-true}
-use Rattle.std.proofs.lemmas.List.{nil_from_length}
 use Rattle.cbor_diag.specs.declared.error.Error.{Error}
 use Rattle.cbor_diag.specs.declared.error.Error.TheVariants as refusal
 use Rattle.cbor_diag.specs.declared.encode.notation.context.NotationContext.{NotationContext}
 use Rattle.cbor_diag.specs.ContainerStyle.{ContainerStyle}
-use Rattle.cbor_diag.specs.Embedded.{if_whole, embedded_at, before, sequence_of, sequence_at}
+use Rattle.cbor_diag.specs.Embedded.{before, sequence_of, sequence_at}
 use Rattle.cbor_diag.specs.Estimate.{estimated_items}
 use Rattle.cbor_diag.specs.Item.{Item, Items, no_items, item}
 use Rattle.cbor_diag.specs.Layout.{Context}
 use Rattle.cbor_diag.specs.Layout as shown
-use Rattle.cbor_diag.specs.NotationText as written
-use Rattle.cbor_diag.specs.NotationText.{Writer, quoted, members, members_layout, last_line, inside, item_texts}
-use Rattle.cbor_diag.specs.NotationText.{embedded_text, rest_text, sequence_listed, sequence_text, text_at_level}
+use Rattle.cbor_diag.specs.NotationText.{Writer, members, members_layout, last_line, inside, item_texts}
+use Rattle.cbor_diag.specs.NotationText.{rest_text, sequence_listed, sequence_text, text_at_level}
 use Rattle.cbor_diag.specs.Reading.{Fails, joined, read_item}
 use Rattle.cbor_diag.specs.WellFormed.{levels_left}
 use Rattle.cbor_diag.specs.mirror.Appends.{Appends}
-use Rattle.cbor_diag.specs.mirror.EncodingView.{encoding_view}
-use Rattle.cbor_diag.specs.mirror.LayoutView.{layout_view, context_view, content_there, item_text}
-use Rattle.cbor_diag.specs.mirror.Straight.{read_there}
+use Rattle.cbor_diag.specs.mirror.LayoutView.{context_view, content_there, item_text}
 use Rattle.cbor_diag.proofs.bytes.FoundAgain.{joined-none, joined_one}
 use Rattle.cbor_diag.proofs.bytes.Shorter.{item_shorter}
 use Rattle.cbor_diag.proofs.shared.Appending.{begins_same, begins_still, begins_two, appends_last, begins_through}
-use Rattle.cbor_diag.proofs.straight.Readings.{below_read, below_fails}
 use Rattle.cbor_diag.proofs.straight.Texts.{writes_inner, style_there}
 
 -- an error that is not memory is the one that reading gives
 fails_so : {X : Type 0} (e : Error) (read : Result X Error) → e ≢ refusal.Memory → Fails e read → read ≡ Err e
 fails_so refusal.Memory read other h = absurd (other refl)
 fails_so e read other h = h
-
--- ---- one item
-
-embedded_is : (write : Writer) (c : Context) (b : List ℕ) (e : Option Item) → eqb (length b) 0 ≡ false
-    → embedded_text write c b e ≡ written.item_text write c b e
-embedded_is write c [] e some = absurd cc
-embedded_is write c (x ∷ b) e some = refl
-
--- no bytes are no item
-pub nothing_printed : {T E : Type 0} (r : Result T E) (c : NotationContext) (b old new : List ℕ)
-    → eqb (length b) 0 ≡ true → Appends r old new (codes "<<>>") → Appends r old new (content_there c shown.Item b)
-nothing_printed r c [] old new none h = h
-nothing_printed r c (x ∷ b) old new none h = absurd cc
-
-bytes_remain : (i : Item) (rest : List ℕ) → eqb (length rest) 0 ≡ false → if_whole (Ok (i, rest)) ≡ None
-bytes_remain i [] some = absurd cc
-bytes_remain i (x ∷ rest) some = refl
-
-module _ (c inner : NotationContext) (deeper : inner.level ≡ c.level + 1) where
-  pub no_whole : (b rest : List ℕ) (i : Item) → read_there inner b ≡ Ok (i, rest) → eqb (length rest) 0 ≡ false
-      → embedded_at (levels_left (c.level + 1)) b ≡ None
-  no_whole b rest i read some = ap if_whole (below_read inner (c.level + 1) b i rest deeper read)
-      ∙ bytes_remain i rest some
-
-  pub no_item : (b : List ℕ) (e : Error) → e ≢ refusal.Memory → Fails e (read_there inner b)
-      → embedded_at (levels_left (c.level + 1)) b ≡ None
-  no_item b e other h =
-      ap if_whole (fails_so e (read_item (levels_left (c.level + 1)) b) other (below_fails e inner (c.level + 1) b deeper h))
-
-  -- an item between its brackets
-  pub embedded_printed : {T E : Type 0} (r : Result T E) (b rest : List ℕ) (i : Item) (old begun out new : List ℕ)
-      → context_view inner ≡ inside (layout_view c.layout) (context_view c) → eqb (length b) 0 ≡ false
-      → read_there inner b ≡ Ok (i, rest) → eqb (length rest) 0 ≡ true → begun ≡ old ++ codes "<<"
-      → out ≡ begun ++ item_text inner i → Appends r out new (codes ">>")
-      → Appends r old new (content_there c shown.Item b)
-  embedded_printed r b rest i old begun out new inside_it some read none p q h =
-      let write : Writer = text_at_level (c.level + 1) in
-      let context : Context = context_view c in
-      let ends : rest ≡ [] = nil_from_length rest (eqb-true (length rest) 0 none) in
-      let whole : embedded_at (levels_left (c.level + 1)) b ≡ Some i = ap if_whole
-      (below_read inner (c.level + 1) b i rest deeper read ∙ ap (λ (x : List ℕ). Ok (i, x)) ends) in
-      let regroup : ((old ++ codes "<<") ++ item_text inner i) ++ codes ">>"
-      ≡ old ++ (codes "<<" ++ (item_text inner i ++ codes ">>")) = simp append_assoc in
-      appends_last r old out new (codes ">>") (content_there c shown.Item b) (begins_two old begun _ _ out p q)
-      (λ e. e ∙ ap (λ x. x ++ codes ">>") (q ∙ ap (λ x. x ++ item_text inner i) p) ∙ regroup
-      ∙ ap (λ f. old ++ (codes "<<" ++ (f i ++ codes ">>")))
-      (writes_inner inner (c.level + 1) (inside (layout_view c.layout) context) deeper inside_it)
-      ∙ ap (λ o. old ++ written.item_text write context b o) (sym whole)
-      ∙ ap (λ x. old ++ x) (sym (embedded_is write context b (embedded_at (levels_left (c.level + 1)) b) some)))
-      h
-
--- bytes that are no item, after what was written of them was cut back
-pub bytes_instead : {T E : Type 0} (r : Result T E) (c : NotationContext) (b old cut new : List ℕ)
-    → eqb (length b) 0 ≡ false → embedded_at (levels_left (c.level + 1)) b ≡ None → cut ≡ old
-    → Appends r cut new (quoted (encoding_view c.encoding) b) → Appends r old new (content_there c shown.Item b)
-bytes_instead r c b old cut new some none same h =
-    let write : Writer = text_at_level (c.level + 1) in
-    let o : Option Item = embedded_at (levels_left (c.level + 1)) b in
-    let shows : quoted (encoding_view c.encoding) b ≡ content_there c shown.Item b =
-    ap (λ e. written.item_text write (context_view c) b e) (sym none) ∙ sym (embedded_is write (context_view c) b o some) in
-    subst (Appends r old new) shows (subst (λ x. Appends r x new (quoted (encoding_view c.encoding) b)) same h)
-
--- ---- a sequence
 
 -- items before a sequence
 abbrev onto : Items → Items × List ℕ → Items × List ℕ
