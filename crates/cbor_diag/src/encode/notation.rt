@@ -4,6 +4,7 @@
 //! Compact and pretty text are written by the same functions: they differ in their `Layout` alone.
 #![tactic(auto, using(crate::proofs::shared::Appending::appending_steps))]
 
+mod ahead;
 mod context;
 mod embedded;
 mod estimate;
