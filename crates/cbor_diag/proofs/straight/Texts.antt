@@ -23,7 +23,7 @@ use Rattle.cbor_diag.specs.StringKind.{StringKind, bytes_kind, text_kind, no_chu
 use Rattle.cbor_diag.specs.Estimate.{estimated_items, estimated_pairs, estimated_chunks}
 use Rattle.cbor_diag.specs.mirror.EncodingView.{encoding_view}
 use Rattle.cbor_diag.specs.mirror.LayoutView.{layout_view, context_view, before_member, after_member, item_text}
-use Rattle.cbor_diag.specs.mirror.Straight.{IsCompact, string_there, before_chunk, after_chunks}
+use Rattle.cbor_diag.specs.mirror.Straight.{string_there, before_chunk, after_chunks}
 use Rattle.cbor_diag.specs.mirror.StringView.{borrowed_chunk, kind_of}
 use Rattle.cbor_diag.proofs.text.Parts.{write_below, opened_again, bracketed_written}
 
@@ -133,10 +133,6 @@ writes_inner inner level c p q = ap (λ n. text_at_level n (context_view inner))
 -- the style of a container that is estimated so
 abbrev pub style_there : NotationContext → ℕ → ContainerStyle
 style_there c size = container_style (layout_view c.layout) size
-
--- on one line without blanks it is the same for all
-pub compact_style : (c : NotationContext) (size : ℕ) → IsCompact c → style.Compact ≡ style_there c size
-compact_style c size compact = ap (λ x. container_style x size) (sym compact)
 
 module _ (l : ContainerStyle) (c inner : NotationContext) (level : c.level ≤ 128) (deeper : inner.level ≡ c.level + 1)
     (inside_it : context_view inner ≡ inside (members_layout l) (context_view c)) where

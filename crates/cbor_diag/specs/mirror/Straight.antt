@@ -5,14 +5,13 @@ use Rattle.cbor_diag.specs.declared.syntax.strings.StringContent.{StringContent}
 use Rattle.cbor_diag.specs.declared.syntax.strings.StringContent.TheVariants as content
 use Rattle.cbor_diag.specs.Item.{Item}
 use Rattle.cbor_diag.specs.ItemHead.{ItemHead}
-use Rattle.cbor_diag.specs.Layout.{Compact}
 use Rattle.cbor_diag.specs.ContainerStyle.{ContainerStyle}
 use Rattle.cbor_diag.specs.NotationText.{text, last_line}
 use Rattle.cbor_diag.specs.NotationText as shown
 use Rattle.cbor_diag.specs.StringKind.{StringKind, no_chunks}
 use Rattle.cbor_diag.specs.Reading.{Read, opened, read_body, counted_item, read_item}
 use Rattle.cbor_diag.specs.WellFormed.{levels_left}
-use Rattle.cbor_diag.specs.mirror.LayoutView.{layout_view, context_view, content_there, before_member}
+use Rattle.cbor_diag.specs.mirror.LayoutView.{context_view, content_there, before_member}
 
 -- Reading gives an item before the rest, and its text is written after the old one.
 abbrev pub Printed : (Item → List ℕ) → Read Item → List ℕ → List ℕ → List ℕ → Type 0
@@ -25,10 +24,6 @@ read_there c b = read_item (levels_left c.level) b
 -- the same after a head
 abbrev pub read_after : NotationContext → ItemHead → List ℕ → Read Item
 read_after c h b = (read_body (counted_item (levels_left (c.level + 1))) (opened h) h b).1
-
--- all is on one line
-abbrev pub IsCompact : NotationContext → Type 0
-IsCompact c = layout_view c.layout ≡ Compact
 
 -- the text of a string of definite length there
 abbrev pub string_there : NotationContext → StringContent → List ℕ

@@ -16,7 +16,9 @@ ghost use Rattle.cbor_diag.specs.Item as spec;
 ghost use Rattle.cbor_diag.specs.Item.{Chunk, Items, Pairs, atom, array, chunked_string};
 ghost use Rattle.cbor_diag.specs.ItemHead as item_head;
 ghost use Rattle.cbor_diag.specs.Layout as shown;
-ghost use Rattle.cbor_diag.specs.NotationText.{container_style};
+ghost use Rattle.cbor_diag.specs.Embedded.{sequence_at};
+ghost use Rattle.cbor_diag.specs.WellFormed.{levels_left};
+ghost use Rattle.cbor_diag.specs.NotationText.{container_style, sequence_size, indent_of, style_indent};
 ghost use Rattle.cbor_diag.specs.Reading.{read_content};
 ghost use Rattle.cbor_diag.specs.declared.syntax.IntegerWidth.{IntegerWidth};
 ghost use Rattle.cbor_diag.specs.mirror.Ahead.{Leaves, Estimates, front_read, body_read};
@@ -55,10 +57,11 @@ impl<'a> Ahead<'a> {
 impl Layout {
     /// The style of an array with this count of items, whose bytes after its head these are.
     pub(super) fn array_style_ahead(self, count: Argument, bytes: &[u8]) -> ContainerStyle
-        ensures { (levels : ℕ) (is : Items) (w : Option IntegerWidth) (rest : List ℕ)
+        ensures style { (levels : ℕ) (is : Items) (w : Option IntegerWidth) (rest : List ℕ)
             → body_read (item_head.array (argument_view count)) bytes.now levels
             ≡ Ok (array is w, rest)
             → style_view result ≡ container_style (layout_view self) (4 + estimated_items is) }
+        ensures indent { style_indent (style_view result) ≡ indent_of (layout_view self) }
     {
         match self {
             Layout::Compact => ContainerStyle::Compact,
@@ -68,10 +71,11 @@ impl Layout {
 
     /// The style of a map with this count of pairs, whose bytes after its head these are.
     pub(super) fn map_style_ahead(self, count: Argument, bytes: &[u8]) -> ContainerStyle
-        ensures { (levels : ℕ) (ps : Pairs) (w : Option IntegerWidth) (rest : List ℕ)
+        ensures style { (levels : ℕ) (ps : Pairs) (w : Option IntegerWidth) (rest : List ℕ)
             → body_read (item_head.map (argument_view count)) bytes.now levels
             ≡ Ok (spec.map ps w, rest)
             → style_view result ≡ container_style (layout_view self) (4 + estimated_pairs ps) }
+        ensures indent { style_indent (style_view result) ≡ indent_of (layout_view self) }
     {
         match self {
             Layout::Compact => ContainerStyle::Compact,
@@ -81,16 +85,26 @@ impl Layout {
 
     /// The style of an indefinite string, whose bytes after its opening byte these are.
     pub(super) fn chunks_style_ahead(self, kind: StringKind, bytes: &[u8]) -> ContainerStyle
-        ensures { (levels : ℕ) (cs : List Chunk) (rest : List ℕ)
+        ensures style { (levels : ℕ) (cs : List Chunk) (rest : List ℕ)
             → body_read (item_head.string (kind_view kind) indefinite) bytes.now levels
             ≡ Ok (atom (chunked_string (kind_view kind) cs), rest)
             → style_view result
             ≡ container_style (layout_view self) (4 + estimated_chunks (kind_view kind) cs) }
+        ensures indent { style_indent (style_view result) ≡ indent_of (layout_view self) }
     {
         match self {
             Layout::Compact => ContainerStyle::Compact,
             Layout::Pretty { indent } => style_of(indent, chunks_ahead(kind, bytes, BUDGET)),
         }
+    }
+
+    /// The style of the items that follow each other in the bytes, read from `level`.
+    pub(super) fn sequence_style_ahead(self, level: u8, bytes: &[u8]) -> ContainerStyle
+        ensures style { style_view result ≡ container_style (layout_view self)
+            (sequence_size (sequence_at (levels_left level) bytes.now)) }
+        ensures indent { style_indent (style_view result) ≡ indent_of (layout_view self) }
+    {
+        ContainerStyle::Compact
     }
 }
 
@@ -107,12 +121,7 @@ fn style_of(indent: usize, members: Option<Ahead<'_>>) -> ContainerStyle
 }
 
 /// Looks at a string of definite length after its head.
-fn string_ahead(
-    kind: StringKind,
-    count: u64,
-    bytes: &[u8],
-    budget: usize,
-) -> Option<Ahead<'_>>
+fn string_ahead(kind: StringKind, count: u64, bytes: &[u8], budget: usize) -> Option<Ahead<'_>>
     ensures leaves { (w : IntegerWidth) (c : Chunk) (rest : List ℕ)
         → read_content (kind_view kind) count w bytes.now ≡ Ok (c, rest)
         → Leaves result budget (estimated_string (kind_view kind) c) rest }
@@ -175,7 +184,10 @@ fn item_ahead(bytes: &[u8], budget: usize) -> Option<Ahead<'_>>
         ItemHead::Tag(tag, _) => item_ahead(rest, budget.saturating_sub(digit_count(tag) + 2)),
         ItemHead::Float(_, width) => Ahead::new(budget.saturating_sub(float_len(width)), rest),
         ItemHead::Simple(value) => {
-            Ahead::new(budget.saturating_sub(digit_count(u64::from(value)) + 8), rest)
+            Ahead::new(
+                budget.saturating_sub(digit_count(u64::from(value)) + 8),
+                rest,
+            )
         }
     }
 }

@@ -1,5 +1,5 @@
-//! Writes an item straight from its bytes, on one line: each part is written as soon as it is read,
-//! and no item is built.
+//! Writes an item straight from its bytes: each part is written as soon as it is read, and no item is
+//! built. How long a container would be on one line is found by a look ahead (`ahead.rt`).
 //!
 //! Each function takes the remaining bytes and returns those after what it wrote. What was written
 //! before an error stays. Bytes that are embedded in a string are written by the same functions; what
@@ -17,8 +17,8 @@ ghost use Rattle.cbor_diag.specs.WellFormed.{deepest};
 ghost use Rattle.cbor_diag.specs.mirror.Appends.{AppendsText};
 ghost use Rattle.cbor_diag.specs.mirror.HeadView.{argument_view};
 ghost use Rattle.cbor_diag.specs.mirror.LayoutView.{context_view, style_view, item_text};
-ghost use Rattle.cbor_diag.specs.mirror.LayoutView.{content_there};
-ghost use Rattle.cbor_diag.specs.mirror.Straight.{IsCompact, Printed, read_there, read_after};
+ghost use Rattle.cbor_diag.specs.mirror.LayoutView.{IsIndented, content_there};
+ghost use Rattle.cbor_diag.specs.mirror.Straight.{Printed, read_there, read_after};
 ghost use Rattle.cbor_diag.specs.mirror.Straight.{string_there, before_chunk, after_chunks};
 ghost use Rattle.cbor_diag.specs.mirror.StringView.{kind_view};
 ghost use Rattle.cbor_diag.specs.Argument.{indefinite};
@@ -44,7 +44,7 @@ pub(super) fn push_front<'a>(
     context: &NotationContext,
 ) -> crate::Result<&'a [u8]>
     requires level { context.now.level ≤ deepest + 1 }
-    requires compact { IsCompact context.now }
+    requires indent { IsIndented context.now }
     ensures printed { IfOk result (λ rest. Printed (item_text context.now)
         (read_there context.now bytes.now) rest.now (string_bytes out.old) (string_bytes out.new)) }
     ensures refused { IfErr result (λ e. Fails e (read_there context.now bytes.now)) }
@@ -88,7 +88,7 @@ fn push_array_front<'a>(
     context: &NotationContext,
 ) -> crate::Result<&'a [u8]>
     requires level { context.now.level ≤ deepest }
-    requires compact { IsCompact context.now }
+    requires indent { IsIndented context.now }
     ensures printed { IfOk result (λ rest. Printed (item_text context.now)
         (read_after context.now (item_head.array (argument_view count)) bytes.now) rest.now
         (string_bytes out.old) (string_bytes out.new)) }
@@ -96,7 +96,7 @@ fn push_array_front<'a>(
         (read_after context.now (item_head.array (argument_view count)) bytes.now)) }
     ensures begun { OnErr result (StartsWith (string_bytes out.new) (string_bytes out.old)) }
 {
-    let style = ContainerStyle::Compact;
+    let style = context.layout.array_style_ahead(count, bytes);
     let inner = context.inside(style.members_layout());
     push_opening(out, '[', count.width(), style)?;
     let mut rest = bytes;
@@ -123,7 +123,7 @@ fn push_map_front<'a>(
     context: &NotationContext,
 ) -> crate::Result<&'a [u8]>
     requires level { context.now.level ≤ deepest }
-    requires compact { IsCompact context.now }
+    requires indent { IsIndented context.now }
     ensures printed { IfOk result (λ rest. Printed (item_text context.now)
         (read_after context.now (item_head.map (argument_view count)) bytes.now) rest.now
         (string_bytes out.old) (string_bytes out.new)) }
@@ -131,7 +131,7 @@ fn push_map_front<'a>(
         (read_after context.now (item_head.map (argument_view count)) bytes.now)) }
     ensures begun { OnErr result (StartsWith (string_bytes out.new) (string_bytes out.old)) }
 {
-    let style = ContainerStyle::Compact;
+    let style = context.layout.map_style_ahead(count, bytes);
     let inner = context.inside(style.members_layout());
     push_opening(out, '{', count.width(), style)?;
     let mut rest = bytes;
@@ -160,7 +160,7 @@ fn push_tag_front<'a>(
     context: &NotationContext,
 ) -> crate::Result<&'a [u8]>
     requires level { context.now.level ≤ deepest }
-    requires compact { IsCompact context.now }
+    requires indent { IsIndented context.now }
     ensures printed { IfOk result (λ rest. Printed (item_text context.now)
         (read_after context.now (item_head.tag head.0 head.1) bytes.now) rest.now
         (string_bytes out.old) (string_bytes out.new)) }
@@ -185,7 +185,7 @@ fn push_string_front<'a>(
     context: &NotationContext,
 ) -> crate::Result<&'a [u8]>
     requires level { context.now.level ≤ deepest }
-    requires compact { IsCompact context.now }
+    requires indent { IsIndented context.now }
     ensures printed { IfOk result (λ rest. Printed (item_text context.now) (read_after context.now
         (item_head.string (kind_view head.0) (argument_view head.1)) bytes.now) rest.now
         (string_bytes out.old) (string_bytes out.new)) }
@@ -212,7 +212,7 @@ fn push_definite(
     context: &NotationContext,
 ) -> Result<(), AllocError>
     requires level { context.now.level ≤ deepest }
-    requires compact { IsCompact context.now }
+    requires indent { IsIndented context.now }
     ensures { AppendsText result out.old out.new (string_there context.now content.entry) }
 {
     match content {
@@ -230,7 +230,7 @@ pub(super) fn push_content(
     context: &NotationContext,
 ) -> Result<(), AllocError>
     requires level { context.now.level ≤ deepest }
-    requires compact { IsCompact context.now }
+    requires indent { IsIndented context.now }
     ensures { AppendsText result out.old out.new
         (content_there context.now (context_view context.now).content bytes.now) }
 {
@@ -250,7 +250,7 @@ fn push_embedded(
     context: &NotationContext,
 ) -> Result<(), AllocError>
     requires level { context.now.level ≤ deepest }
-    requires compact { IsCompact context.now }
+    requires indent { IsIndented context.now }
     ensures { AppendsText result out.old out.new (content_there context.now shown.Item bytes.now) }
 {
     if bytes.is_empty() {
@@ -285,11 +285,13 @@ fn push_sequence(
     context: &NotationContext,
 ) -> Result<(), AllocError>
     requires level { context.now.level ≤ deepest }
-    requires compact { IsCompact context.now }
+    requires indent { IsIndented context.now }
     ensures { AppendsText result out.old out.new
         (content_there context.now shown.Sequence bytes.now) }
 {
-    let style = ContainerStyle::Compact;
+    let style = context
+        .layout
+        .sequence_style_ahead(context.level + 1, bytes);
     let inner = context.inside(style.members_layout());
     out.push_str("<<")?;
     let mut rest = bytes;
@@ -339,7 +341,7 @@ fn push_chunks_front<'a>(
     context: &NotationContext,
 ) -> crate::Result<&'a [u8]>
     requires level { context.now.level ≤ deepest }
-    requires compact { IsCompact context.now }
+    requires indent { IsIndented context.now }
     ensures printed { IfOk result (λ rest. Printed (item_text context.now)
         (read_after context.now (item_head.string (kind_view kind) indefinite) bytes.now) rest.now
         (string_bytes out.old) (string_bytes out.new)) }
@@ -347,7 +349,7 @@ fn push_chunks_front<'a>(
         (read_after context.now (item_head.string (kind_view kind) indefinite) bytes.now)) }
     ensures begun { OnErr result (StartsWith (string_bytes out.new) (string_bytes out.old)) }
 {
-    let style = ContainerStyle::Compact;
+    let style = context.layout.chunks_style_ahead(kind, bytes);
     let mut rest = bytes;
     let mut held = 0;
     'chunks: loop {

@@ -1,18 +1,16 @@
 use Rattle.std.proofs.Common.{◌+◌, ◌++◌, codes, Some, IfOk, IfErr, refl, ap, sym, subst, ◌∙◌, arith}
 use Rattle.std.proofs.lemmas.Result.{err_from_is_err_and}
 use Rattle.std.specs.String.{string_bytes}
-use Rattle.cbor_diag.specs.ContainerStyle as style
 use Rattle.cbor_diag.specs.Item as spec
 use Rattle.cbor_diag.specs.Item.{atom, integer, negative, string, float, simple, array, tagged, no_items, item, no_pairs, pair}
 use Rattle.cbor_diag.specs.ItemHead as item_head
 use Rattle.cbor_diag.specs.Embedded.{sequence_at}
-use Rattle.cbor_diag.specs.Estimate.{estimated_items, estimated_pairs}
-use Rattle.cbor_diag.specs.NotationText.{opened, inside, below}
+use Rattle.cbor_diag.specs.NotationText.{container_style, sequence_size, opened, inside, below}
 use Rattle.cbor_diag.specs.Reading.{Fails, items_in, pairs_in, tag_of, joined, joined_pairs, count_width}
 use Rattle.cbor_diag.specs.Reading.{read_head, no_level_left}
 use Rattle.cbor_diag.specs.WellFormed.{levels_left}
 use Rattle.cbor_diag.specs.mirror.HeadView.{argument_view}
-use Rattle.cbor_diag.specs.mirror.LayoutView.{context_view, item_text}
+use Rattle.cbor_diag.specs.mirror.LayoutView.{layout_view, style_view, context_view, item_text}
 use Rattle.cbor_diag.specs.mirror.Stack.{left_of}
 use Rattle.cbor_diag.specs.mirror.Straight.{Printed, read_there}
 use Rattle.cbor_diag.specs.mirror.StringView.{kind_of, borrowed_chunk}
@@ -24,7 +22,7 @@ use Rattle.cbor_diag.proofs.straight.Sequences.{sequence_printed}
 use Rattle.cbor_diag.proofs.straight.Readings.{fails_is, head_fails, too_deep, after_head, atom_printed, float_fits}
 use Rattle.cbor_diag.proofs.straight.Readings.{parts_read, part_fails, parts_ended, none_held, member_read, pair_read}
 use Rattle.cbor_diag.proofs.straight.Readings.{value_fails, tag_read, content_read, below_read, below_fails}
-use Rattle.cbor_diag.proofs.straight.Texts.{none_written, item_more, pair_more, writes_inner, compact_style}
+use Rattle.cbor_diag.proofs.straight.Texts.{none_written, item_more, pair_more, writes_inner}
 use Rattle.cbor_diag.proofs.straight.Texts.{array_printed, map_printed, string_printed}
 use Rattle.cbor_diag.proofs.text.Parts.{tag_shown}
 use Rattle.cbor_diag.proofs.encode.notation.from_bytes.+straight.Goals as goal
@@ -138,7 +136,7 @@ push_front-returns-in_ok-push_simple-in-Simple-clause-printed t c =
 pub push_array_front-items-init : goal.push_array_front-items-init
 push_array_front-items-init t c =
     let old = string_bytes c.args.out.now in
-    let l = style.Compact in
+    let l = style_view c.array_style_ahead-style.result in
     let width = c.width.ensures 0 ∙ ap count_width (none_held c.args.count) in
     record {
       found = no_items;
@@ -153,7 +151,7 @@ push_array_front-items-init t c =
 pub push_array_front-returns-in-Some-clause-printed : goal.push_array_front-returns-in-Some-clause-printed
 push_array_front-returns-in-Some-clause-printed t c =
     let i = c.items.invariant in
-    let l = style.Compact in
+    let l = style_view c.array_style_ahead-style.result in
     let context = c.args.context.now in
     let w = count_width (argument_view c.args.count) in
     let width = sym (c.width.ensures c.items.held) ∙ c.width.ensures 0 ∙ ap count_width (none_held c.args.count) in
@@ -166,7 +164,7 @@ push_array_front-returns-in-Some-clause-printed t c =
       read,
       array_printed l context c.inside-inner.result c.requires.level c.inside-inner.ensures.level inside_it i.found w
           (string_bytes c.args.out.now) _ (string_bytes c.items.out) (string_bytes c.push_closing.new.out)
-          (compact_style context (4 + estimated_items i.found) c.requires.compact) refl i.text
+          (c.array_style_ahead-style.ensures.style (levels_left (context.level + 1)) i.found w c.in-Some.after.now read) refl i.text
           c.in_ok-push_closing.ensures,
     )
 
@@ -199,7 +197,7 @@ push_array_front-items-preserved t c =
       so_far = sym (member_read left i.found c.args.count c.items.held c.items.rest.now c.in_ok-rest.rest.now p.0
           (sym c.in_default.ensures) read) ∙ i.so_far;
       count = omega (arith, count_more i.found p.0, i.count);
-      text = item_more style.Compact (item_text c.inside-inner.result) i.found p.0 c.items.held _
+      text = item_more (style_view c.array_style_ahead-style.result) (item_text c.inside-inner.result) i.found p.0 c.items.held _
           (string_bytes c.items.out) (string_bytes c.push_start.new.out) (string_bytes c.push_front.new.out)
           (string_bytes c.push_end.new.out) i.count i.text c.in_ok-push_start.ensures p.2 c.in_ok-push_end.ensures;
       room = omega (arith, i.room, shorter);
@@ -210,7 +208,7 @@ push_array_front-items-preserved t c =
 pub push_map_front-pairs-init : goal.push_map_front-pairs-init
 push_map_front-pairs-init t c =
     let old = string_bytes c.args.out.now in
-    let l = style.Compact in
+    let l = style_view c.map_style_ahead-style.result in
     let width = c.width.ensures 0 ∙ ap count_width (none_held c.args.count) in
     record {
       found = no_pairs;
@@ -225,7 +223,7 @@ push_map_front-pairs-init t c =
 pub push_map_front-returns-in-Some-clause-printed : goal.push_map_front-returns-in-Some-clause-printed
 push_map_front-returns-in-Some-clause-printed t c =
     let i = c.pairs.invariant in
-    let l = style.Compact in
+    let l = style_view c.map_style_ahead-style.result in
     let context = c.args.context.now in
     let w = count_width (argument_view c.args.count) in
     let width = sym (c.width.ensures c.pairs.held) ∙ c.width.ensures 0 ∙ ap count_width (none_held c.args.count) in
@@ -238,7 +236,7 @@ push_map_front-returns-in-Some-clause-printed t c =
       read,
       map_printed l context c.inside-inner.result c.requires.level c.inside-inner.ensures.level inside_it i.found w
           (string_bytes c.args.out.now) _ (string_bytes c.pairs.out) (string_bytes c.push_closing.new.out)
-          (compact_style context (4 + estimated_pairs i.found) c.requires.compact) refl i.text
+          (c.map_style_ahead-style.ensures.style (levels_left (context.level + 1)) i.found w c.in-Some.after.now read) refl i.text
           c.in_ok-push_closing.ensures,
     )
 
@@ -295,7 +293,7 @@ push_map_front-pairs-preserved t c =
       so_far = sym (pair_read left i.found c.args.count c.pairs.held c.pairs.rest.now c.in_ok-value.value.now
           c.in_ok-rest.rest.now k.0 v.0 (sym c.in_default.ensures) key value) ∙ i.so_far;
       count = omega (arith, pair_count_more i.found k.0 v.0, i.count);
-      text = pair_more style.Compact (item_text c.inside-inner.result) i.found k.0 v.0 c.pairs.held _
+      text = pair_more (style_view c.map_style_ahead-style.result) (item_text c.inside-inner.result) i.found k.0 v.0 c.pairs.held _
           (string_bytes c.pairs.out) (string_bytes c.push_start.new.out) (string_bytes c.push_front.new.out)
           (string_bytes c.push_colon.new.out) (string_bytes c.push_front-in-pairs.new.out)
           (string_bytes c.push_end.new.out) i.count i.text c.in_ok-push_start.ensures k.2 c.in_ok-push_colon.ensures v.2
@@ -355,7 +353,7 @@ push_sequence-items-init t c = record {
   found = no_items;
   so_far = sequence_begun (levels_left (c.args.context.now.level + 1)) c.args.bytes.now;
   count = refl;
-  text = c.in_ok-push_str.ensures.bytes ∙ none_written style.Compact _;
+  text = c.in_ok-push_str.ensures.bytes ∙ none_written (style_view c.sequence_style_ahead-style.result) _;
   room = omega arith;
 }
 
@@ -377,7 +375,7 @@ push_sequence-items-preserved t c =
       found = joined i.found (item p.0 no_items);
       so_far = sequence_more left i.found p.0 c.items.rest.now after _ read i.so_far;
       count = omega (arith, count_more i.found p.0, i.count);
-      text = item_more style.Compact (item_text c.inside-inner.result) i.found p.0 c.items.held _
+      text = item_more (style_view c.sequence_style_ahead-style.result) (item_text c.inside-inner.result) i.found p.0 c.items.held _
           (string_bytes c.items.out) (string_bytes c.push_start.new.out) (string_bytes c.push_front.new.out)
           (string_bytes c.push_end.new.out) i.count i.text c.in_ok-push_start.ensures p.2 c.in_ok-push_end-in-Ok.ensures;
       room = omega (arith, i.room, shorter);
@@ -399,7 +397,7 @@ push_sequence-truncate-requires t c =
 pub push_sequence-returns-in_default : goal.push_sequence-returns-in_default
 push_sequence-returns-in_default t c =
     let i = c.items.invariant in
-    let l = style.Compact in
+    let l = style_view c.sequence_style_ahead-style.result in
     let context = c.args.context.now in
     let left = levels_left (context.level + 1) in
     let old = string_bytes c.args.out.now in
@@ -410,11 +408,13 @@ push_sequence-returns-in_default t c =
     c.in_default.not-Memory
     (below_fails c.in-Err.error c.inside-inner.result (context.level + 1) rest c.inside-inner.ensures.level
     c.in-Err.ensures.refused) i.so_far in
+    let same = c.sequence_style_ahead-style.ensures.style ∙ ap (λ n. container_style (layout_view context.layout) n)
+    (ap sequence_size (sym whole)) in
     let back = c.truncate.ensures.bytes ∙ (cut_back c.items.out c.push_front.new.out c.len-start.result
     c.len-start.ensures (begun_member (string_bytes c.items.out) (string_bytes c.push_start.new.out)
     (string_bytes c.push_front.new.out) _ c.in_ok-push_start.ensures c.in-Err.ensures.begun)).1 in
     sequence_printed c.push_sequence_end.result l context c.inside-inner.result i.found c.args.bytes.now rest old
     (old ++ codes "<<") (string_bytes c.items.out) (string_bytes c.truncate.new.self)
     (string_bytes c.push_sequence_end.new.out) c.inside-inner.ensures.level inside_it
-    (compact_style context (4 + estimated_items i.found) c.requires.compact) whole refl i.text back
+    same whole refl i.text back
     c.push_sequence_end.ensures

@@ -1,13 +1,12 @@
 use Rattle.std.proofs.Common.{◌≡◌, ◌+◌, ◌-◌, ◌*◌, ◌≤◌, ◌++◌, codes, length}
 use Rattle.std.specs.String.{string_bytes}
-use Rattle.cbor_diag.specs.ContainerStyle as style
 use Rattle.cbor_diag.specs.Embedded.{sequence_at}
 use Rattle.cbor_diag.specs.Item.{Items, no_items, Pairs, no_pairs, item_count, pair_count}
 use Rattle.cbor_diag.specs.NotationText.{members, opened, colon, item_texts, pair_texts}
 use Rattle.cbor_diag.specs.Reading.{items_in, pairs_in, count_width}
 use Rattle.cbor_diag.specs.WellFormed.{levels_left}
 use Rattle.cbor_diag.specs.mirror.HeadView.{argument_view}
-use Rattle.cbor_diag.specs.mirror.LayoutView.{item_text}
+use Rattle.cbor_diag.specs.mirror.LayoutView.{style_view, item_text}
 use Rattle.cbor_diag.specs.mirror.Stack.{left_of}
 use Rattle.cbor_diag.proofs.straight.Sequences.{SoFar}
 use Rattle.cbor_diag.proofs.straight.Readings.{parts_read}
@@ -60,8 +59,8 @@ invariant-push_array_front-items l =
           ≡ parts_read left (items_in no_items (argument_view l.count)) l.bytes;
       count : item_count found ≡ l.held;
       text : string_bytes l.out ≡ (string_bytes l.fn.out
-          ++ opened style.Compact (codes "[") (count_width (argument_view l.count)))
-          ++ members style.Compact (item_texts (item_text l.inner) found);
+          ++ opened (style_view l.style) (codes "[") (count_width (argument_view l.count)))
+          ++ members (style_view l.style) (item_texts (item_text l.inner) found);
       room : l.held + length l.rest ≤ length l.bytes;
     }
 
@@ -74,8 +73,8 @@ invariant-push_map_front-pairs l =
           ≡ parts_read left (pairs_in no_pairs (argument_view l.count)) l.bytes;
       count : pair_count found ≡ l.held;
       text : string_bytes l.out ≡ (string_bytes l.fn.out
-          ++ opened style.Compact (codes "{") (count_width (argument_view l.count)))
-          ++ members style.Compact (pair_texts (item_text l.inner) (colon style.Compact) found);
+          ++ opened (style_view l.style) (codes "{") (count_width (argument_view l.count)))
+          ++ members (style_view l.style) (pair_texts (item_text l.inner) (colon (style_view l.style)) found);
       room : l.held + length l.rest ≤ length l.bytes;
     }
 
@@ -88,6 +87,6 @@ invariant-push_sequence-items l =
       so_far : SoFar left found l.rest (sequence_at left l.bytes);
       count : item_count found ≡ l.held;
       text : string_bytes l.out ≡ (string_bytes l.fn.out ++ codes "<<")
-          ++ members style.Compact (item_texts (item_text l.inner) found);
+          ++ members (style_view l.style) (item_texts (item_text l.inner) found);
       room : l.held + length l.rest ≤ length l.bytes;
     }
