@@ -8,8 +8,8 @@ ghost use Rattle.cbor_convert.specs.Output.{Reads, Refuses, output_of, IsOutput}
 
 use crate::form::{Source, To};
 use cbor_diag::{
-    DataItem, Error, bytes_to_bytes, bytes_to_diag, hex_to_bytes, hex_to_diag, parse_bytes,
-    parse_diag, parse_hex,
+    DataItem, Error, bytes_to_bytes, bytes_to_diag, bytes_to_diag_pretty, hex_to_bytes,
+    hex_to_diag, hex_to_diag_pretty, parse_bytes, parse_diag, parse_hex,
 };
 use std::alloc::Global;
 
@@ -42,7 +42,8 @@ fn from_bytes(alloc: Global, to: To, input: &[u8]) -> Result<Option<Vec<u8>>, Er
     match to {
         To::Bytes => Ok(Some(bytes_to_bytes(alloc, Vec::from_slice(alloc, input)?)?)),
         To::Diag => Ok(Some(ended_line(bytes_to_diag(alloc, input)?)?)),
-        To::Hex | To::Pretty => Ok(None),
+        To::Pretty => Ok(Some(ended_line(bytes_to_diag_pretty(alloc, input)?)?)),
+        To::Hex => Ok(None),
     }
 }
 
@@ -58,7 +59,8 @@ fn from_hex(alloc: Global, to: To, input: &[u8]) -> Result<Option<Vec<u8>>, Erro
     match to {
         To::Bytes => Ok(Some(hex_to_bytes(alloc, text)?)),
         To::Diag => Ok(Some(ended_line(hex_to_diag(alloc, text)?)?)),
-        To::Hex | To::Pretty => Ok(None),
+        To::Pretty => Ok(Some(ended_line(hex_to_diag_pretty(alloc, text)?)?)),
+        To::Hex => Ok(None),
     }
 }
 

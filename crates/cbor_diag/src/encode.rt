@@ -6,4 +6,7 @@ mod head;
 mod notation;
 
 pub(crate) use bytes::push_items;
-pub use notation::{bytes_to_diag, hex_to_diag, push_bytes_to_diag, push_bytes_to_diag_partial};
+pub use notation::{
+    bytes_to_diag, bytes_to_diag_pretty, hex_to_diag, hex_to_diag_pretty, push_bytes_to_diag,
+    push_bytes_to_diag_partial, push_bytes_to_diag_pretty, push_bytes_to_diag_pretty_partial,
+};

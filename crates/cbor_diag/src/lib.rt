@@ -28,7 +28,10 @@ mod parse;
 mod rewrite;
 mod syntax;
 
-pub use encode::{bytes_to_diag, hex_to_diag, push_bytes_to_diag, push_bytes_to_diag_partial};
+pub use encode::{
+    bytes_to_diag, bytes_to_diag_pretty, hex_to_diag, hex_to_diag_pretty, push_bytes_to_diag,
+    push_bytes_to_diag_partial, push_bytes_to_diag_pretty, push_bytes_to_diag_pretty_partial,
+};
 pub use error::{Error, Result};
 pub use parse::{
     Extent, Scanner, Turns, extent, hex_fault, hex_place, parse_bytes, parse_bytes_counted,

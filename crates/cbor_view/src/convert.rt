@@ -16,7 +16,7 @@ pub(crate) fn convert(alloc: Global, from: Source, to: To, input: Vec<u8>) -> Re
     ensures ok { IfOk result (λ output. IsOutput from to input.items (Ok output.items)) }
     ensures refused { RefusedSo result (λ e. IsOutput from to input.items (Err e)) }
 {
-    if let To::Bytes | To::Diag = to {
+    if let To::Bytes | To::Diag | To::Pretty = to {
         if let Source::Bytes | Source::Hex = from {
             return cbor_convert::convert(alloc, from, to, &input);
         }

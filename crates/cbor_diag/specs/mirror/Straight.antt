@@ -1,17 +1,19 @@
 -- What is printed from bytes, in one pass with their reading.
 use Rattle.std.specs.Prelude.{◌≡◌, ℕ, zero, suc, ◌+◌, List, ◌++◌, codes, true, false, None, Ok}
+use Rattle.cbor_diag.specs.declared.encode.notation.context.Layout.{Layout}
 use Rattle.cbor_diag.specs.declared.encode.notation.context.NotationContext.{NotationContext}
 use Rattle.cbor_diag.specs.declared.syntax.strings.StringContent.{StringContent}
 use Rattle.cbor_diag.specs.declared.syntax.strings.StringContent.TheVariants as content
+use Rattle.cbor_diag.specs.Encoding.{Base16}
 use Rattle.cbor_diag.specs.Item.{Item}
 use Rattle.cbor_diag.specs.ItemHead.{ItemHead}
 use Rattle.cbor_diag.specs.ContainerStyle.{ContainerStyle}
-use Rattle.cbor_diag.specs.NotationText.{text, last_line}
+use Rattle.cbor_diag.specs.NotationText.{text, in_encoding, last_line, text_at_level}
 use Rattle.cbor_diag.specs.NotationText as shown
 use Rattle.cbor_diag.specs.StringKind.{StringKind, no_chunks}
 use Rattle.cbor_diag.specs.Reading.{Read, opened, read_body, counted_item, read_item}
 use Rattle.cbor_diag.specs.WellFormed.{levels_left}
-use Rattle.cbor_diag.specs.mirror.LayoutView.{context_view, content_there, before_member}
+use Rattle.cbor_diag.specs.mirror.LayoutView.{layout_view, context_view, content_there, before_member}
 
 -- Reading gives an item before the rest, and its text is written after the old one.
 abbrev pub Printed : (Item → List ℕ) → Read Item → List ℕ → List ℕ → List ℕ → Type 0
@@ -24,6 +26,10 @@ read_there c b = read_item (levels_left c.level) b
 -- the same after a head
 abbrev pub read_after : NotationContext → ItemHead → List ℕ → Read Item
 read_after c h b = (read_body (counted_item (levels_left (c.level + 1))) (opened h) h b).1
+
+-- the text of an item at the outermost level in this layout
+abbrev pub text_in : Layout → Item → List ℕ
+text_in layout i = text_at_level 1 (in_encoding (layout_view layout) Base16) i
 
 -- the text of a string of definite length there
 abbrev pub string_there : NotationContext → StringContent → List ℕ

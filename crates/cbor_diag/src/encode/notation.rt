@@ -9,6 +9,7 @@ mod context;
 mod estimate;
 mod from_bytes;
 mod members;
+mod outermost;
 mod scalars;
 mod straight;
 
@@ -42,7 +43,10 @@ use members::{push_chunks, push_closing, push_colon, push_end, push_opening, pus
 pub(crate) use scalars::push_quoted;
 use scalars::{push_float, push_negative, push_number, push_simple, push_text};
 use std::alloc::{AllocError, Global};
-pub use straight::{bytes_to_diag, hex_to_diag, push_bytes_to_diag, push_bytes_to_diag_partial};
+pub use straight::{
+    bytes_to_diag, bytes_to_diag_pretty, hex_to_diag, hex_to_diag_pretty, push_bytes_to_diag,
+    push_bytes_to_diag_partial, push_bytes_to_diag_pretty, push_bytes_to_diag_pretty_partial,
+};
 
 /// Writes an item.
 ///
