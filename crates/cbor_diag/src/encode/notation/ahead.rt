@@ -96,7 +96,7 @@ impl Layout {
 
 /// The style of a container with blanks, by what a look at its members finds.
 fn style_of(indent: usize, members: Option<Ahead<'_>>) -> ContainerStyle
-    ensures { (size : ℕ) (rest : List ℕ) → Leaves members 60 size rest
+    ensures { (size : ℕ) (rest : List ℕ) → Leaves members.entry 60 size rest
         → style_view result ≡ container_style (shown.Pretty indent) size }
 {
     let left = match members {
@@ -106,8 +106,25 @@ fn style_of(indent: usize, members: Option<Ahead<'_>>) -> ContainerStyle
     pretty_style(indent, left)
 }
 
-/// Looks at a string of definite length after its head.
+/// Looks at a string after its head, with this length.
 fn string_ahead(
+    kind: StringKind,
+    len: Argument,
+    bytes: &[u8],
+    budget: usize,
+) -> Option<Ahead<'_>>
+    ensures leaves { Estimates result budget
+        (body_read (item_head.string (kind_view kind) (argument_view len)) bytes.now) }
+    ensures takes { IfSome result (λ ahead. ahead.left + 2 ≤ budget) }
+{
+    match len {
+        Argument::Number(count, _) => content_ahead(kind, count, bytes, budget),
+        Argument::Indefinite => chunks_ahead(kind, bytes, budget.saturating_sub(4)),
+    }
+}
+
+/// Looks at a string of definite length after its head.
+fn content_ahead(
     kind: StringKind,
     count: u64,
     bytes: &[u8],
@@ -139,7 +156,7 @@ fn chunks_ahead(kind: StringKind, bytes: &[u8], budget: usize) -> Option<Ahead<'
         let Some((count, _)) = length else {
             return Ahead::new(left, after);
         };
-        let chunk = string_ahead(kind, count, after, left)?;
+        let chunk = content_ahead(kind, count, after, left)?;
         left = chunk.left.saturating_sub(2);
         rest = chunk.rest;
     }
@@ -164,12 +181,7 @@ fn item_ahead(bytes: &[u8], budget: usize) -> Option<Ahead<'_>>
         ItemHead::Negative(value, _) => {
             Ahead::new(budget.saturating_sub(digit_count(value) + 3), rest)
         }
-        ItemHead::String(kind, Argument::Number(count, _)) => {
-            string_ahead(kind, count, rest, budget)
-        }
-        ItemHead::String(kind, Argument::Indefinite) => {
-            chunks_ahead(kind, rest, budget.saturating_sub(4))
-        }
+        ItemHead::String(kind, len) => string_ahead(kind, len, rest, budget),
         ItemHead::Array(count) => items_ahead(count, rest, budget.saturating_sub(4)),
         ItemHead::Map(count) => pairs_ahead(count, rest, budget.saturating_sub(4)),
         ItemHead::Tag(tag, _) => item_ahead(rest, budget.saturating_sub(digit_count(tag) + 2)),
