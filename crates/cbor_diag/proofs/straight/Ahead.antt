@@ -25,10 +25,23 @@ use Rattle.cbor_diag.proofs.turns.Frames.{left_less}
 
 -- ---- what is left of a budget
 
+-- what a part leaves is at most what it was given
+pub at_most : (found : Option Ahead) (left most : ℕ) → left ≤ most → IfSome found (λ a. (0 < a.left) × (a.left ≡ left))
+    → IfSome found (λ a. (0 < a.left) × (a.left ≤ most))
+at_most (Some a) left most le h = (h.0, omega (arith, h.1))
+at_most None left most le h = tt
+
+-- a container takes more than two
+pub takes_two : (found : Option Ahead) (budget left : ℕ) → left ≡ budget - 4
+    → IfSome found (λ a. (0 < a.left) × (a.left ≤ left)) → IfSome found (λ a. (0 < a.left) × (a.left + 2 ≤ budget))
+takes_two (Some a) budget left is h = (h.0, omega (arith, h.0, h.1, is))
+takes_two None budget left is h = tt
+
 -- the brackets of a container take four
 bracketed : (found : Option Ahead) (budget left size : ℕ) (rest : List ℕ) → left ≡ budget - 4
-    → IfSome found (λ a. a.left ≤ left) → Leaves found (4 + left) size rest → Leaves found budget size rest
-bracketed (Some a) budget left size rest is takes h = (omega (arith, h.0, h.1, takes, is), h.1, h.2)
+    → IfSome found (λ a. (0 < a.left) × (a.left ≤ left)) → Leaves found (4 + left) size rest
+    → Leaves found budget size rest
+bracketed (Some a) budget left size rest is takes h = (omega (arith, h.0, h.1, takes.1, is), h.1, h.2)
 bracketed None budget left size rest is takes h = omega (arith, h, is)
 
 -- what is before it takes something, too
@@ -75,7 +88,7 @@ atom_found found budget h i b whole finds levels j rest is =
     (ok_is (i, b) (j, rest) (sym (whole levels) ∙ is)) finds
 
 pub container_found : (found : Option Ahead) (budget left : ℕ) (h : ItemHead) (b : List ℕ) → left ≡ budget - 4
-    → IfSome found (λ a. a.left ≤ left) → Estimates found (4 + left) (body_read h b)
+    → IfSome found (λ a. (0 < a.left) × (a.left ≤ left)) → Estimates found (4 + left) (body_read h b)
     → Estimates found budget (body_read h b)
 container_found found budget left h b same takes finds levels i rest is =
     bracketed found budget left (estimated_length i) rest same takes (finds levels i rest is)

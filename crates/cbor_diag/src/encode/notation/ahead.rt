@@ -43,7 +43,7 @@ impl<'a> Ahead<'a> {
     fn new(left: usize, rest: &'a [u8]) -> Option<Ahead<'a>>
         ensures leaves { (budget size : ℕ) → left ≡ budget - size
             → Leaves result budget size rest.now }
-        ensures left { IfSome result (λ ahead. ahead.left ≡ left) }
+        ensures left { IfSome result (λ ahead. (0 < ahead.left) × (ahead.left ≡ left)) }
     {
         if left == 0 {
             return None;
@@ -115,7 +115,7 @@ fn string_ahead(
 ) -> Option<Ahead<'_>>
     ensures leaves { Estimates result budget
         (body_read (item_head.string (kind_view kind) (argument_view len)) bytes.now) }
-    ensures takes { IfSome result (λ ahead. ahead.left + 2 ≤ budget) }
+    ensures takes { IfSome result (λ ahead. (0 < ahead.left) × (ahead.left + 2 ≤ budget)) }
 {
     match len {
         Argument::Number(count, _) => content_ahead(kind, count, bytes, budget),
@@ -133,7 +133,7 @@ fn content_ahead(
     ensures leaves { (w : IntegerWidth) (c : Chunk) (rest : List ℕ)
         → read_content (kind_view kind) count w bytes.now ≡ Ok (c, rest)
         → Leaves result budget (estimated_string (kind_view kind) c) rest }
-    ensures takes { IfSome result (λ ahead. ahead.left + 2 ≤ budget) }
+    ensures takes { IfSome result (λ ahead. (0 < ahead.left) × (ahead.left + 2 ≤ budget)) }
 {
     let Ok((content, rest)) = split_at(bytes, count) else {
         return None;
@@ -145,7 +145,7 @@ fn content_ahead(
 fn chunks_ahead(kind: StringKind, bytes: &[u8], budget: usize) -> Option<Ahead<'_>>
     ensures leaves { Estimates result (4 + budget)
         (body_read (item_head.string (kind_view kind) indefinite) bytes.now) }
-    ensures takes { IfSome result (λ ahead. ahead.left ≤ budget) }
+    ensures takes { IfSome result (λ ahead. (0 < ahead.left) × (ahead.left ≤ budget)) }
 {
     let mut left = budget;
     let mut rest = bytes;
@@ -166,7 +166,7 @@ fn chunks_ahead(kind: StringKind, bytes: &[u8], budget: usize) -> Option<Ahead<'
 #[cycle(ahead)]
 fn item_ahead(bytes: &[u8], budget: usize) -> Option<Ahead<'_>>
     ensures leaves { Estimates result budget (front_read bytes.now) }
-    ensures takes { IfSome result (λ ahead. ahead.left + 2 ≤ budget) }
+    ensures takes { IfSome result (λ ahead. (0 < ahead.left) × (ahead.left + 2 ≤ budget)) }
 {
     if budget == 0 {
         return None;
@@ -197,7 +197,7 @@ fn item_ahead(bytes: &[u8], budget: usize) -> Option<Ahead<'_>>
 fn items_ahead(count: Argument, bytes: &[u8], budget: usize) -> Option<Ahead<'_>>
     ensures leaves { Estimates result (4 + budget)
         (body_read (item_head.array (argument_view count)) bytes.now) }
-    ensures takes { IfSome result (λ ahead. ahead.left ≤ budget) }
+    ensures takes { IfSome result (λ ahead. (0 < ahead.left) × (ahead.left ≤ budget)) }
 {
     let mut left = budget;
     let mut rest = bytes;
@@ -218,7 +218,7 @@ fn items_ahead(count: Argument, bytes: &[u8], budget: usize) -> Option<Ahead<'_>
 fn pairs_ahead(count: Argument, bytes: &[u8], budget: usize) -> Option<Ahead<'_>>
     ensures leaves { Estimates result (4 + budget)
         (body_read (item_head.map (argument_view count)) bytes.now) }
-    ensures takes { IfSome result (λ ahead. ahead.left ≤ budget) }
+    ensures takes { IfSome result (λ ahead. (0 < ahead.left) × (ahead.left ≤ budget)) }
 {
     let mut left = budget;
     let mut rest = bytes;

@@ -1,43 +1,46 @@
-use Rattle.std.proofs.Common.{rules, ◌≡◌, ℕ, ◌+◌, ◌-◌, ◌<◌, ◌≤◌, List, length, Ok, Option, IfSome, ◌*◌, ◌/◌, ◌%◌, Bool, true, false, nat_eq, nat_lt, [], ◌∷◌, ◌++◌, slice_index_or, slice_set, bit_and, bit_or, Fits, w8, w32, w64, Bor, MutBor}
-use Rattle.cbor_diag.specs.Argument.{indefinite}
-use Rattle.cbor_diag.specs.Estimate.{estimated_string, estimated_chunks, estimated_items, estimated_pairs}
-use Rattle.cbor_diag.specs.Item as spec
-use Rattle.cbor_diag.specs.ItemHead as item_head
-use Rattle.cbor_diag.specs.Layout as shown
-use Rattle.cbor_diag.specs.Item.{Chunk, Items, Pairs, atom, array, chunked_string}
-use Rattle.cbor_diag.specs.NotationText.{container_style}
-use Rattle.cbor_diag.specs.Reading.{read_content}
-use Rattle.cbor_diag.specs.declared.syntax.IntegerWidth.{IntegerWidth}
-use Rattle.cbor_diag.specs.mirror.Ahead.{Leaves, Estimates, front_read, body_read}
-use Rattle.cbor_diag.specs.mirror.HeadView.{argument_view}
-use Rattle.cbor_diag.specs.mirror.LayoutView.{layout_view, style_view}
+use Rattle.std.proofs.Common.{arith}
+use Rattle.cbor_diag.specs.Reading.{read_chunk_length}
+use Rattle.cbor_diag.specs.mirror.MajorNumber.{major_number}
 use Rattle.cbor_diag.specs.mirror.StringView.{kind_view}
+use Rattle.cbor_diag.proofs.straight.Ahead.{at_most}
+use Rattle.cbor_diag.proofs.straight.StringsAhead.{failed, no_chunks_yet, one_chunk_more, chunk_takes_all, chunks_found}
+use Rattle.cbor_diag.proofs.straight.StringsAhead.{chunk_unread}
 use Rattle.cbor_diag.proofs.encode.notation.ahead.chunks_ahead.Goals as goal
 
--- src/encode/notation/ahead.rt:135:5
 pub chunks-init : goal.chunks-init
-chunks-init c = ?
+chunks-init c = record {
+  so_far = no_chunks_yet c.args.budget (kind_view c.args.kind) c.args.bytes.now;
+  room = omega arith;
+}
 
--- src/encode/notation/ahead.rt:137:13
 pub returns-in_default-clause-leaves : goal.returns-in_default-clause-leaves
-returns-in_default-clause-leaves c = ?
+returns-in_default-clause-leaves c =
+    let fails = failed c.in_default.field-0 (read_chunk_length (major_number c.major.result) c.chunks.rest.now)
+        c.in_default.ensures.refused c.in_default.ensures.gives in
+    chunk_unread c.args.budget (kind_view c.args.kind) c.args.bytes.now c.chunks.left c.chunks.rest.now
+    c.in_default.field-0 c.chunks.invariant.so_far (rw c.major.ensures at fails)
 
--- src/encode/notation/ahead.rt:140:13
 pub returns-in_default-length-clause-leaves : goal.returns-in_default-length-clause-leaves
-returns-in_default-length-clause-leaves c = ?
+returns-in_default-length-clause-leaves c =
+    chunks_found c.new.result c.args.budget (kind_view c.args.kind) c.args.bytes.now c.chunks.left c.chunks.rest.now
+    c.in-Ok.after.now c.chunks.invariant.so_far (rw (c.major.ensures, c.in_default-length.is) at c.in-Ok.ensures.gives)
+    c.new.ensures.leaves
 
--- src/encode/notation/ahead.rt:140:13
 pub returns-in_default-length-clause-takes : goal.returns-in_default-length-clause-takes
-returns-in_default-length-clause-takes c = ?
+returns-in_default-length-clause-takes c =
+    at_most c.new.result c.chunks.left c.args.budget c.chunks.invariant.room c.new.ensures.left
 
--- src/encode/notation/ahead.rt:142:21
 pub returns-in_err-chunk-clause-leaves : goal.returns-in_err-chunk-clause-leaves
-returns-in_err-chunk-clause-leaves c = ?
+returns-in_err-chunk-clause-leaves c =
+    rw c.from_residual.ensures (chunk_takes_all c.args.budget (kind_view c.args.kind) c.args.bytes.now c.chunks.left
+    c.chunks.rest.now c.in-Some.count c.in-Some.field-0-1 c.in-Ok.after.now c.chunks.invariant.so_far
+    (rw (c.major.ensures, c.in-Some.is) at c.in-Ok.ensures.gives) (c.in_err-chunk.ensures.leaves c.in-Some.field-0-1))
 
--- src/encode/notation/ahead.rt:135:5
-pub chunks-smaller : goal.chunks-smaller
-chunks-smaller c = ?
-
--- src/encode/notation/ahead.rt:135:5
 pub chunks-preserved : goal.chunks-preserved
-chunks-preserved c = ?
+chunks-preserved c = record {
+  so_far = rw c.saturating_sub-left.ensures (one_chunk_more c.args.budget (kind_view c.args.kind) c.args.bytes.now
+      c.chunks.left c.chunks.rest.now c.in-Some.count c.in-Some.field-0-1 c.in-Ok.after.now c.in_ok-chunk.chunk
+      c.chunks.invariant.so_far (rw (c.major.ensures, c.in-Some.is) at c.in-Ok.ensures.gives)
+      (c.in_ok-chunk.ensures.leaves c.in-Some.field-0-1));
+  room = omega (arith, c.chunks.invariant.room, c.in_ok-chunk.ensures.takes.1);
+}

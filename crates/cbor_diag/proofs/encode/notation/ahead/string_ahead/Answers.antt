@@ -2,7 +2,7 @@ use Rattle.std.proofs.Common.{arith}
 use Rattle.cbor_diag.specs.Argument.{indefinite}
 use Rattle.cbor_diag.specs.ItemHead as item_head
 use Rattle.cbor_diag.specs.mirror.StringView.{kind_view}
-use Rattle.cbor_diag.proofs.straight.Ahead.{container_found}
+use Rattle.cbor_diag.proofs.straight.Ahead.{takes_two, container_found}
 use Rattle.cbor_diag.proofs.straight.StringsAhead.{string_found}
 use Rattle.cbor_diag.proofs.encode.notation.ahead.string_ahead.Goals as goal
 
@@ -16,3 +16,7 @@ returns-in-Indefinite-clause-leaves c =
     rw c.in-Indefinite.is (container_found c.chunks_ahead.result c.args.budget c.saturating_sub.result
     (item_head.string (kind_view c.args.kind) indefinite) c.args.bytes.now (omega arith)
     c.chunks_ahead.ensures.takes c.chunks_ahead.ensures.leaves)
+
+pub returns-in-Indefinite-clause-takes : goal.returns-in-Indefinite-clause-takes
+returns-in-Indefinite-clause-takes c =
+    takes_two c.chunks_ahead.result c.args.budget c.saturating_sub.result (omega arith) c.chunks_ahead.ensures.takes
