@@ -1,13 +1,12 @@
 -- A look at bytes that are still to be read finds how long what reading gives is.
-use Rattle.std.proofs.Common.{◌≡◌, ℕ, zero, suc, ◌+◌, ◌-◌, ◌<◌, ◌≤◌, List, [], ◌∷◌, length, Option, Some, None, Result}
+use Rattle.std.proofs.Common.{◌≡◌, ℕ, zero, suc, ◌+◌, ◌-◌, ◌<◌, ◌≤◌, List, Option, Some, None}
 use Rattle.std.proofs.Common.{Ok, Err, IfSome, ◌⊎◌, inl, inr, refl, sym, ap, subst, ◌∙◌, arith}
 use Rattle.cbor_diag.specs.declared.syntax.IntegerWidth.{IntegerWidth}
 use Rattle.cbor_diag.specs.declared.error.Error.{Error}
 use Rattle.cbor_diag.specs.declared.encode.notation.ahead.Ahead.{Ahead}
 use Rattle.cbor_diag.specs.declared.parse.binary.argument.Argument as code_argument
 use Rattle.cbor_diag.specs.Argument.{Argument}
-use Rattle.cbor_diag.specs.Estimate.{digit_count, estimated_length, estimated_items, estimated_pairs, estimated_chunks}
-use Rattle.cbor_diag.specs.Estimate.{estimated_string}
+use Rattle.cbor_diag.specs.Estimate.{digit_count, estimated_length, estimated_items, estimated_pairs}
 use Rattle.cbor_diag.specs.Item as spec
 use Rattle.cbor_diag.specs.Item.{Item, Items, no_items, item, Pairs, no_pairs, pair, array, tagged}
 use Rattle.cbor_diag.specs.ItemHead as item_head
@@ -53,8 +52,8 @@ leaves_after None budget left before size rest is h = omega (arith, h, is)
 -- ---- heads
 
 -- no item is read where no head is
-pub no_item : (levels : ℕ) (b : List ℕ) (e : Error) (x : Item × List ℕ) → read_head b ≡ Err e → read_item levels b ≡ Ok x
-    → ⊥
+pub no_item : (levels : ℕ) (b : List ℕ) (e : Error) (x : Item × List ℕ) → read_head b ≡ Err e
+    → read_item levels b ≡ Ok x → ⊥
 unfolding counted_item
 no_item zero b e x fails is = cc
 no_item (suc levels) b e x fails is =
@@ -73,8 +72,8 @@ item_after (suc levels) b h rest x head is = (
 )
 
 -- what was found after the head was found of the item
-pub headed : (found : Option Ahead) (budget : ℕ) (b : List ℕ) (h : ItemHead) (rest : List ℕ) → read_head b ≡ Ok (h, rest)
-    → Estimates found budget (body_read h rest) → Estimates found budget (front_read b)
+pub headed : (found : Option Ahead) (budget : ℕ) (b : List ℕ) (h : ItemHead) (rest : List ℕ)
+    → read_head b ≡ Ok (h, rest) → Estimates found budget (body_read h rest) → Estimates found budget (front_read b)
 headed found budget b h rest head finds levels i after is =
     let t = item_after levels b h rest (i, after) head is in
     finds t.0 i after t.1
@@ -160,10 +159,11 @@ grows : (n levels : ℕ) (f : Frame) (b : List ℕ) (x : Item × List ℕ) → (
 unfolding parts_from
 grows zero levels f b x e = absurd cc
 grows (suc n) levels f b x e =
-    elim (closes (closed f) (after_end f b) (counted_item levels b >>- λ i. parts_from n (counted_item levels) (put f i.0) i.1) x e) [
+    let next = λ (i : Item × List ℕ). parts_from n (counted_item levels) (put f i.0) i.1 in
+    elim (closes (closed f) (after_end f b) (counted_item levels b >>- next) x e) [
       | inl ended ↦ closed_longer f x.0 ended
       | inr more ↦
-          let t = then_ok (counted_item levels b) (λ i. parts_from n (counted_item levels) (put f i.0) i.1) x more in
+          let t = then_ok (counted_item levels b) next x more in
           omega (arith, put_longer f t.0.0, grows n levels (put f t.0.0) t.0.1 x t.2)
     ]
 
@@ -183,18 +183,18 @@ no_items_yet budget count b levels x is = (
   omega arith,
 )
 
-pub one_item_more : (budget : ℕ) (count : code_argument.Argument) (b : List ℕ) (held left : ℕ) (rest : List ℕ) (a : Ahead)
-    → ItemsSoFar budget count b held left rest → None ≡ after_members (left_of count held) rest
+pub one_item_more : (budget : ℕ) (count : code_argument.Argument) (b : List ℕ) (held left : ℕ) (rest : List ℕ)
+    (a : Ahead) → ItemsSoFar budget count b held left rest → None ≡ after_members (left_of count held) rest
     → Estimates (Some a) left (front_read rest) → ItemsSoFar budget count b (held + 1) (a.left - 2) a.rest.now
 one_item_more budget count b held left rest a so_far none finds levels x is =
     let s = so_far levels x is in
     let step = part_step levels (items_in s.0 (left_of count held)) rest x (sym none) s.1 in
     let found = finds levels step.0.0 step.0.1 step.1 in
     let next : parts_read levels (items_in (joined s.0 (item step.0.0 no_items)) (left_of count (held + 1))) a.rest.now
-        ≡ Ok x =
-        ap (λ z. parts_read levels (items_in (joined s.0 (item step.0.0 no_items)) z) a.rest.now) (left_less count held)
-        ∙ ap (λ z. parts_read levels (items_in (joined s.0 (item step.0.0 no_items)) (one_less (left_of count held))) z)
-        found.2 ∙ step.2 in (
+    ≡ Ok x =
+    ap (λ z. parts_read levels (items_in (joined s.0 (item step.0.0 no_items)) z) a.rest.now) (left_less count held)
+    ∙ ap (λ z. parts_read levels (items_in (joined s.0 (item step.0.0 no_items)) (one_less (left_of count held))) z)
+    found.2 ∙ step.2 in (
       joined s.0 (item step.0.0 no_items),
       next,
       omega (arith, items_longer s.0 step.0.0, found.0, found.1, s.2),
@@ -220,7 +220,7 @@ pub items_found : (found : Option Ahead) (budget : ℕ) (count : code_argument.A
 items_found found budget count b held left rest after so_far ends finds levels i end is =
     let s = so_far levels (i, end) is in
     let whole = parts_ended levels (items_in s.0 (left_of count held)) rest after
-        (array s.0 (count_width (left_of count held))) refl (sym ends) in
+    (array s.0 (count_width (left_of count held))) refl (sym ends) in
     subst (λ (x : Item × List ℕ). Leaves found (4 + budget) (estimated_length x.0) x.1)
     (ok_is (array s.0 (count_width (left_of count held)), after) (i, end) (sym whole ∙ s.1))
     (finds (4 + budget) (4 + estimated_items s.0) (omega (arith, s.2)))
@@ -260,12 +260,12 @@ one_pair_more budget count b held left rest key value so_far none finds_key find
     let step = pair_step levels s.0 (left_of count held) rest x (sym none) s.1 in
     let k = finds_key levels step.0.0 step.0.1 step.2 in
     let read_value : read_item levels key.rest.now ≡ Ok (step.1.0, step.1.1) =
-        ap (λ z. read_item levels z) k.2 ∙ step.3 in
+    ap (λ z. read_item levels z) k.2 ∙ step.3 in
     let v = finds_value levels step.1.0 step.1.1 read_value in
     let qs : Pairs = joined_pairs s.0 (pair step.0.0 step.1.0 no_pairs) in
     let next : parts_read levels (pairs_in qs (left_of count (held + 1))) value.rest.now ≡ Ok x =
-        ap (λ z. parts_read levels (pairs_in qs z) value.rest.now) (left_less count held)
-        ∙ ap (λ z. parts_read levels (pairs_in qs (one_less (left_of count held))) z) v.2 ∙ step.4 in
+    ap (λ z. parts_read levels (pairs_in qs z) value.rest.now) (left_less count held)
+    ∙ ap (λ z. parts_read levels (pairs_in qs (one_less (left_of count held))) z) v.2 ∙ step.4 in
     (qs, next, omega (arith, pairs_longer s.0 step.0.0 step.1.0, k.0, k.1, v.0, v.1, s.2))
 
 -- a key takes all that is left, or its value does
@@ -289,7 +289,7 @@ value_takes_all budget count b held left rest key so_far none finds_key finds_va
     let step = pair_step levels s.0 (left_of count held) rest (i, after) (sym none) s.1 in
     let k = finds_key levels step.0.0 step.0.1 step.2 in
     let read_value : read_item levels key.rest.now ≡ Ok (step.1.0, step.1.1) =
-        ap (λ z. read_item levels z) k.2 ∙ step.3 in
+    ap (λ z. read_item levels z) k.2 ∙ step.3 in
     let v : key.left ≤ estimated_length step.1.0 = finds_value levels step.1.0 step.1.1 read_value in
     let longer = grows _ levels _ step.1.1 (i, after) step.4 in
     omega (arith, pairs_longer s.0 step.0.0 step.1.0, k.0, k.1, v, s.2, longer)
@@ -302,7 +302,7 @@ pub pairs_found : (found : Option Ahead) (budget : ℕ) (count : code_argument.A
 pairs_found found budget count b held left rest after so_far ends finds levels i end is =
     let s = so_far levels (i, end) is in
     let whole = parts_ended levels (pairs_in s.0 (left_of count held)) rest after
-        (spec.map s.0 (count_width (left_of count held))) refl (sym ends) in
+    (spec.map s.0 (count_width (left_of count held))) refl (sym ends) in
     subst (λ (x : Item × List ℕ). Leaves found (4 + budget) (estimated_length x.0) x.1)
     (ok_is (spec.map s.0 (count_width (left_of count held)), after) (i, end) (sym whole ∙ s.1))
     (finds (4 + budget) (4 + estimated_pairs s.0) (omega (arith, s.2)))

@@ -1,5 +1,5 @@
 -- A look at a string finds how long it is, its content read or not.
-use Rattle.std.proofs.Common.{◌≡◌, ℕ, zero, suc, ◌+◌, ◌-◌, ◌<◌, ◌≤◌, List, [], ◌∷◌, length, Option, Some, None, Result}
+use Rattle.std.proofs.Common.{◌≡◌, ℕ, zero, suc, ◌+◌, ◌-◌, ◌≤◌, List, [], ◌∷◌, length, Option, Some, None, Result}
 use Rattle.std.proofs.Common.{◌≢◌, Ok, Err, Bool, true, false, cond, refl, sym, ap, subst, ◌∙◌, arith, ◌/◌, ◌%◌}
 use Rattle.std.specs.Prelude.{◌==◌}
 use Rattle.std.specs.Str.{is_utf8}
@@ -13,8 +13,8 @@ use Rattle.cbor_diag.specs.Estimate.{estimated_length, estimated_chunks, estimat
 use Rattle.cbor_diag.specs.Head.{break_byte}
 use Rattle.cbor_diag.specs.Item.{Chunk, string, chunked_string, Item, atom}
 use Rattle.cbor_diag.specs.ItemHead as item_head
-use Rattle.cbor_diag.specs.Reading.{Fails, Read, ◌>>=◌, split_at, checked_chunk, read_content, read_argument, length_of, chunk_of}
-use Rattle.cbor_diag.specs.Reading.{read_chunk_length, read_chunk, Counted, ◌>>-◌, more_chunks, read_chunks}
+use Rattle.cbor_diag.specs.Reading.{Fails, Read, ◌>>=◌, split_at, checked_chunk, read_content, read_argument}
+use Rattle.cbor_diag.specs.Reading.{length_of, chunk_of, read_chunk_length, read_chunk, more_chunks, read_chunks}
 use Rattle.cbor_diag.specs.StringKind.{StringKind, bytes_kind, text_kind, major_of}
 use Rattle.cbor_diag.specs.mirror.Ahead.{Leaves, Estimates, body_read}
 use Rattle.cbor_diag.proofs.bytes.Heads.{bind_ok, then_ok, ok_is, guard_held}
@@ -40,8 +40,7 @@ content_split kind n w b s after c rest split e =
     let a = bind_ok (split_at n b) (λ s. checked_chunk kind w s.0 >>= λ c. Ok (c, s.1)) (c, rest) e in
     let same : a.0 ≡ (s, after) = ok_is a.0 (s, after) (sym a.1 ∙ split) in
     let m = bind_ok (checked_chunk kind w a.0.0) (λ c. Ok (c, a.0.1)) (c, rest) a.2 in
-    let made = ok_is (m.0, a.0.1) (c, rest) m.2 in
-    (
+    let made = ok_is (m.0, a.0.1) (c, rest) m.2 in (
       ap (λ (x : Chunk × List ℕ). x.0.bytes) (sym made) ∙ content_of kind w a.0.0 m.0 m.1
           ∙ ap (λ (x : List ℕ × List ℕ). x.0) same,
       ap (λ (x : List ℕ × List ℕ). x.1) (sym same) ∙ ap (λ (x : Chunk × List ℕ). x.1) made,
@@ -81,6 +80,7 @@ by_length kind (first ∷ b) = go (first == break_byte) (first / 32 == major_of 
         → chunk_of kind a b ≡ (length_of a b >>= λ n. after_length kind n.0 n.1)
     at (number n w) b = refl
     at indefinite b = refl
+
     go : (ends same : Bool) (r : Read Argument)
         → cond ends (Ok (None, b)) (cond same (r >>= λ a. chunk_of kind a.0 a.1) (Err refusal.Head))
         ≡ (cond ends (Ok (None, b)) (cond same (r >>= λ a. length_of a.0 a.1) (Err refusal.Head))
@@ -117,13 +117,23 @@ one_chunk : (kind : StringKind) (n : ℕ) (b : List ℕ) (y : List Chunk × List
 one_chunk kind n b y k w mid len is =
     let t = next_read kind n b y is in
     let here : (read_content kind k w mid >>= λ c. Ok (Some c.0, c.1)) ≡ Ok t.1 =
-        sym (ap (λ r. r >>= λ n. after_length kind n.0 n.1) len) ∙ t.2 in
+    sym (ap (λ r. r >>= λ n. after_length kind n.0 n.1) len) ∙ t.2 in
     let c = bind_ok (read_content kind k w mid) (λ c. Ok (Some c.0, c.1)) t.1 here in
     let found = ok_is (Some c.0.0, c.0.1) t.1 c.2 in
     let more : (more_chunks (read_chunks t.0 kind) (Some c.0.0) c.0.1).1 ≡ Ok y =
-        subst (λ (o : Option Chunk × List ℕ). (more_chunks (read_chunks t.0 kind) o.0 o.1).1 ≡ Ok y) (sym found) t.3 in
+    subst (λ (o : Option Chunk × List ℕ). (more_chunks (read_chunks t.0 kind) o.0 o.1).1 ≡ Ok y) (sym found) t.3 in
     let z = then_ok (read_chunks t.0 kind c.0.1) (λ cs. (0, Ok (c.0.0 ∷ cs.0, cs.1))) y more in
     (t.0, c.0, z.0, c.1, z.1, ok_is (c.0.0 ∷ z.0.0, z.0.1) y z.2)
+
+-- the chunks of the string that was read
+whole_chunks : (kind : StringKind) (b : List ℕ) (levels : ℕ) (i : Item) (rest : List ℕ)
+    → body_read (item_head.string kind indefinite) b levels ≡ Ok (i, rest)
+    → (x : List Chunk × List ℕ) × ((read_chunks (length b) kind b).1 ≡ Ok x)
+    × ((atom (chunked_string kind x.0), x.1) ≡ (i, rest))
+whole_chunks kind b levels i rest is =
+    let f = λ (cs : List Chunk × List ℕ). (0, Ok (atom (chunked_string kind cs.0), cs.1)) in
+    let x = then_ok (read_chunks (length b) kind b) f (i, rest) is in
+    (x.0, x.1, ok_is (atom (chunked_string kind x.0.0), x.0.1) (i, rest) x.2)
 
 pub one_chunk_more : (budget : ℕ) (kind : StringKind) (b : List ℕ) (left : ℕ) (rest : List ℕ) (k : ℕ) (w : IntegerWidth)
     (mid : List ℕ) (a : Ahead) → ChunksSoFar budget kind b left rest
@@ -136,9 +146,8 @@ one_chunk_more budget kind b left rest k w mid a so_far len finds x is =
     let t = one_chunk kind s.0 rest s.1 k w mid len s.2 in
     let found = finds t.1.0 t.1.1 t.3 in
     let whole : estimated_chunks kind s.1.0 ≡ (estimated_string kind t.1.0 + 2) + estimated_chunks kind t.2.0 =
-        ap (λ (y : List Chunk × List ℕ). estimated_chunks kind y.0) (sym t.5)
-        ∙ sum_by-cons (λ c. estimated_string kind c + 2) t.1.0 t.2.0 in
-    (
+    ap (λ (y : List Chunk × List ℕ). estimated_chunks kind y.0) (sym t.5)
+    ∙ sum_by-cons (λ c. estimated_string kind c + 2) t.1.0 t.2.0 in (
       t.0,
       t.2,
       ap (λ z. (read_chunks t.0 kind z).1) found.2 ∙ t.4,
@@ -153,16 +162,16 @@ pub chunk_takes_all : (budget : ℕ) (kind : StringKind) (b : List ℕ) (left : 
     → Leaves None left (estimated_string kind c) after)
     → Estimates None (4 + budget) (body_read (item_head.string kind indefinite) b)
 chunk_takes_all budget kind b left rest k w mid so_far len finds levels i after is =
-    let x = then_ok (read_chunks (length b) kind b) (λ cs. (0, Ok (atom (chunked_string kind cs.0), cs.1))) (i, after) is in
+    let x = whole_chunks kind b levels i after is in
     let s = so_far x.0 x.1 in
     let t = one_chunk kind s.0 rest s.1 k w mid len s.2 in
     let found : left ≤ estimated_string kind t.1.0 = finds t.1.0 t.1.1 t.3 in
     let whole : estimated_chunks kind s.1.0 ≡ (estimated_string kind t.1.0 + 2) + estimated_chunks kind t.2.0 =
-        ap (λ (y : List Chunk × List ℕ). estimated_chunks kind y.0) (sym t.5)
-        ∙ sum_by-cons (λ c. estimated_string kind c + 2) t.1.0 t.2.0 in
+    ap (λ (y : List Chunk × List ℕ). estimated_chunks kind y.0) (sym t.5)
+    ∙ sum_by-cons (λ c. estimated_string kind c + 2) t.1.0 t.2.0 in
     let all : estimated_length i ≡ 4 + estimated_chunks kind x.0.0 =
-        ap (λ (y : Item × List ℕ). estimated_length y.0)
-        (sym (ok_is (atom (chunked_string kind x.0.0), x.0.1) (i, after) x.2)) in
+    ap (λ (y : Item × List ℕ). estimated_length y.0)
+    (sym (ok_is (atom (chunked_string kind x.0.0), x.0.1) (i, after) x.2)) in
     omega (arith, whole, found, s.4, all)
 
 pub chunks_found : (found : Option Ahead) (budget : ℕ) (kind : StringKind) (b : List ℕ) (left : ℕ) (rest after : List ℕ)
@@ -170,18 +179,18 @@ pub chunks_found : (found : Option Ahead) (budget : ℕ) (kind : StringKind) (b 
     → ((all size : ℕ) → left ≡ all - size → Leaves found all size after)
     → Estimates found (4 + budget) (body_read (item_head.string kind indefinite) b)
 chunks_found found budget kind b left rest after so_far len finds levels i end is =
-    let x = then_ok (read_chunks (length b) kind b) (λ cs. (0, Ok (atom (chunked_string kind cs.0), cs.1))) (i, end) is in
+    let x = whole_chunks kind b levels i end is in
     let s = so_far x.0 x.1 in
     let t = next_read kind s.0 rest s.1 s.2 in
     let here : (None, after) ≡ t.1 = ok_is (None, after) t.1
-        (sym (ap (λ r. r >>= λ n. after_length kind n.0 n.1) len) ∙ t.2) in
+    (sym (ap (λ r. r >>= λ n. after_length kind n.0 n.1) len) ∙ t.2) in
     let last : ([], after) ≡ s.1 = ok_is ([], after) s.1
-        (subst (λ (o : Option Chunk × List ℕ). (more_chunks (read_chunks t.0 kind) o.0 o.1).1 ≡ Ok s.1) (sym here) t.3) in
+    (subst (λ (o : Option Chunk × List ℕ). (more_chunks (read_chunks t.0 kind) o.0 o.1).1 ≡ Ok s.1) (sym here) t.3) in
     let none : estimated_chunks kind s.1.0 ≡ 0 =
-        ap (λ (y : List Chunk × List ℕ). estimated_chunks kind y.0) (sym last) in
+    ap (λ (y : List Chunk × List ℕ). estimated_chunks kind y.0) (sym last) in
     let rest_is : after ≡ x.0.1 = ap (λ (y : List Chunk × List ℕ). y.1) last ∙ s.3 in
     subst (λ (y : Item × List ℕ). Leaves found (4 + budget) (estimated_length y.0) y.1)
-    (ok_is (atom (chunked_string kind x.0.0), x.0.1) (i, end) x.2)
+    x.2
     (subst (λ z. Leaves found (4 + budget) (4 + estimated_chunks kind x.0.0) z) rest_is
     (finds (4 + budget) (4 + estimated_chunks kind x.0.0) (omega (arith, none, s.4))))
 
@@ -189,7 +198,7 @@ pub chunk_unread : (budget : ℕ) (kind : StringKind) (b : List ℕ) (left : ℕ
     → ChunksSoFar budget kind b left rest → read_chunk_length (major_of kind) rest ≡ Err e
     → Estimates None (4 + budget) (body_read (item_head.string kind indefinite) b)
 chunk_unread budget kind b left rest e so_far fails levels i after is =
-    let x = then_ok (read_chunks (length b) kind b) (λ cs. (0, Ok (atom (chunked_string kind cs.0), cs.1))) (i, after) is in
+    let x = whole_chunks kind b levels i after is in
     let s = so_far x.0 x.1 in
     let t = next_read kind s.0 rest s.1 s.2 in
     let wrong : Err e ≡ Ok t.1 = sym (ap (λ r. r >>= λ n. after_length kind n.0 n.1) fails) ∙ t.2 in

@@ -107,12 +107,7 @@ fn style_of(indent: usize, members: Option<Ahead<'_>>) -> ContainerStyle
 }
 
 /// Looks at a string after its head, with this length.
-fn string_ahead(
-    kind: StringKind,
-    len: Argument,
-    bytes: &[u8],
-    budget: usize,
-) -> Option<Ahead<'_>>
+fn string_ahead(kind: StringKind, len: Argument, bytes: &[u8], budget: usize) -> Option<Ahead<'_>>
     ensures leaves { Estimates result budget
         (body_read (item_head.string (kind_view kind) (argument_view len)) bytes.now) }
     ensures takes { IfSome result (λ ahead. (0 < ahead.left) × (ahead.left + 2 ≤ budget)) }
@@ -124,12 +119,7 @@ fn string_ahead(
 }
 
 /// Looks at a string of definite length after its head.
-fn content_ahead(
-    kind: StringKind,
-    count: u64,
-    bytes: &[u8],
-    budget: usize,
-) -> Option<Ahead<'_>>
+fn content_ahead(kind: StringKind, count: u64, bytes: &[u8], budget: usize) -> Option<Ahead<'_>>
     ensures leaves { (w : IntegerWidth) (c : Chunk) (rest : List ℕ)
         → read_content (kind_view kind) count w bytes.now ≡ Ok (c, rest)
         → Leaves result budget (estimated_string (kind_view kind) c) rest }
@@ -187,7 +177,10 @@ fn item_ahead(bytes: &[u8], budget: usize) -> Option<Ahead<'_>>
         ItemHead::Tag(tag, _) => item_ahead(rest, budget.saturating_sub(digit_count(tag) + 2)),
         ItemHead::Float(_, width) => Ahead::new(budget.saturating_sub(float_len(width)), rest),
         ItemHead::Simple(value) => {
-            Ahead::new(budget.saturating_sub(digit_count(u64::from(value)) + 8), rest)
+            Ahead::new(
+                budget.saturating_sub(digit_count(u64::from(value)) + 8),
+                rest,
+            )
         }
     }
 }

@@ -21,7 +21,8 @@ item_ahead-returns-in-Integer-clause-leaves t c =
     let h = item_head.integer c.in-Integer.value c.in-Integer.field-1 in
     headed c.new.result c.args.budget c.args.bytes.now h c.in-Ok.rest.now
     (rw c.in-Integer.is at c.in-Ok.ensures.gives)
-    (atom_found c.new.result c.args.budget h (atom (integer c.in-Integer.value c.in-Integer.field-1)) c.in-Ok.rest.now (λ n. refl)
+    (atom_found c.new.result c.args.budget h (atom (integer c.in-Integer.value c.in-Integer.field-1))
+    c.in-Ok.rest.now (λ n. refl)
     (c.new.ensures.leaves _ _ (omega arith)))
 
 pub item_ahead-returns-in-Negative-clause-leaves : goal.item_ahead-returns-in-Negative-clause-leaves
@@ -29,7 +30,8 @@ item_ahead-returns-in-Negative-clause-leaves t c =
     let h = item_head.negative c.in-Negative.value c.in-Negative.field-1 in
     headed c.new-in-Negative.result c.args.budget c.args.bytes.now h c.in-Ok.rest.now
     (rw c.in-Negative.is at c.in-Ok.ensures.gives)
-    (atom_found c.new-in-Negative.result c.args.budget h (atom (negative c.in-Negative.value c.in-Negative.field-1)) c.in-Ok.rest.now (λ n. refl)
+    (atom_found c.new-in-Negative.result c.args.budget h (atom (negative c.in-Negative.value c.in-Negative.field-1))
+    c.in-Ok.rest.now (λ n. refl)
     (c.new-in-Negative.ensures.leaves _ _ (omega arith)))
 
 pub item_ahead-returns-in-String-clause-leaves : goal.item_ahead-returns-in-String-clause-leaves
@@ -66,7 +68,8 @@ item_ahead-returns-in-Float-clause-leaves t c =
     let h = item_head.float c.in-Float.field-0 c.in-Float.width in
     headed c.new-in-Float.result c.args.budget c.args.bytes.now h c.in-Ok.rest.now
     (rw c.in-Float.is at c.in-Ok.ensures.gives)
-    (atom_found c.new-in-Float.result c.args.budget h (atom (float c.in-Float.field-0 c.in-Float.width)) c.in-Ok.rest.now (λ n. refl)
+    (atom_found c.new-in-Float.result c.args.budget h (atom (float c.in-Float.field-0 c.in-Float.width))
+    c.in-Ok.rest.now (λ n. refl)
     (c.new-in-Float.ensures.leaves _ _ (omega arith)))
 
 pub item_ahead-returns-in-Simple-clause-leaves : goal.item_ahead-returns-in-Simple-clause-leaves
@@ -92,12 +95,14 @@ items_ahead-returns-in-Some-clause-leaves t c =
 
 pub items_ahead-returns-in_err-item-clause-leaves : goal.items_ahead-returns-in_err-item-clause-leaves
 items_ahead-returns-in_err-item-clause-leaves t c =
-    rw c.from_residual.ensures (item_takes_all c.args.budget c.args.count c.args.bytes.now c.items.held c.items.left c.items.rest.now
+    rw c.from_residual.ensures (item_takes_all c.args.budget c.args.count c.args.bytes.now
+    c.items.held c.items.left c.items.rest.now
     c.items.invariant.so_far c.in_default.ensures c.in_err-item.ensures.leaves)
 
 pub items_ahead-items-preserved : goal.items_ahead-items-preserved
 items_ahead-items-preserved t c = record {
-  so_far = rw c.saturating_sub-left.ensures (one_item_more c.args.budget c.args.count c.args.bytes.now c.items.held c.items.left c.items.rest.now
+  so_far = rw c.saturating_sub-left.ensures (one_item_more c.args.budget c.args.count c.args.bytes.now
+      c.items.held c.items.left c.items.rest.now
       c.in_ok-item.item c.items.invariant.so_far c.in_default.ensures c.in_ok-item.ensures.leaves);
   room = omega (arith, c.items.invariant.room, c.in_ok-item.ensures.takes.0, c.in_ok-item.ensures.takes.1);
 }
@@ -117,20 +122,28 @@ pairs_ahead-returns-in-Some-clause-leaves t c =
 
 pub pairs_ahead-returns-in_err-key-clause-leaves : goal.pairs_ahead-returns-in_err-key-clause-leaves
 pairs_ahead-returns-in_err-key-clause-leaves t c =
-    rw c.from_residual.ensures (key_takes_all c.args.budget c.args.count c.args.bytes.now c.pairs.held c.pairs.left c.pairs.rest.now
+    rw c.from_residual.ensures (key_takes_all c.args.budget c.args.count c.args.bytes.now
+    c.pairs.held c.pairs.left c.pairs.rest.now
     c.pairs.invariant.so_far c.in_default.ensures c.in_err-key.ensures.leaves)
 
 pub pairs_ahead-returns-in_err-value-clause-leaves : goal.pairs_ahead-returns-in_err-value-clause-leaves
 pairs_ahead-returns-in_err-value-clause-leaves t c =
-    rw c.from_residual-in_err-value.ensures (value_takes_all c.args.budget c.args.count c.args.bytes.now c.pairs.held c.pairs.left c.pairs.rest.now
+    rw c.from_residual-in_err-value.ensures (value_takes_all c.args.budget c.args.count c.args.bytes.now
+    c.pairs.held c.pairs.left c.pairs.rest.now
     c.in_ok-key.key c.pairs.invariant.so_far c.in_default.ensures c.in_ok-key.ensures.leaves
     c.in_err-value.ensures.leaves)
 
 pub pairs_ahead-pairs-preserved : goal.pairs_ahead-pairs-preserved
 pairs_ahead-pairs-preserved t c = record {
-  so_far = rw c.saturating_sub-left.ensures (one_pair_more c.args.budget c.args.count c.args.bytes.now c.pairs.held c.pairs.left c.pairs.rest.now
+  so_far = rw c.saturating_sub-left.ensures (one_pair_more c.args.budget c.args.count c.args.bytes.now
+      c.pairs.held c.pairs.left c.pairs.rest.now
       c.in_ok-key.key c.in_ok-value.value c.pairs.invariant.so_far c.in_default.ensures c.in_ok-key.ensures.leaves
       c.in_ok-value.ensures.leaves);
-  room = omega (arith, c.pairs.invariant.room, c.in_ok-key.ensures.takes.1, c.in_ok-value.ensures.takes.0,
-      c.in_ok-value.ensures.takes.1);
+  room = omega (
+    arith,
+    c.pairs.invariant.room,
+    c.in_ok-key.ensures.takes.1,
+    c.in_ok-value.ensures.takes.0,
+    c.in_ok-value.ensures.takes.1,
+  );
 }

@@ -16,7 +16,7 @@ chunks-init c = record {
 pub returns-in_default-clause-leaves : goal.returns-in_default-clause-leaves
 returns-in_default-clause-leaves c =
     let fails = failed c.in_default.field-0 (read_chunk_length (major_number c.major.result) c.chunks.rest.now)
-        c.in_default.ensures.refused c.in_default.ensures.gives in
+    c.in_default.ensures.refused c.in_default.ensures.gives in
     chunk_unread c.args.budget (kind_view c.args.kind) c.args.bytes.now c.chunks.left c.chunks.rest.now
     c.in_default.field-0 c.chunks.invariant.so_far (rw c.major.ensures at fails)
 

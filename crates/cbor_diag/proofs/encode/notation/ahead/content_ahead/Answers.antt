@@ -15,7 +15,7 @@ pub returns-clause-leaves : goal.returns-clause-leaves
 returns-clause-leaves c w string rest e =
     let kind = kind_view c.args.kind in
     let s = content_split kind c.args.count w c.args.bytes.now c.in-Ok.content.now c.in-Ok.rest.now string rest
-        c.in-Ok.ensures.gives e in
+    c.in-Ok.ensures.gives e in
     subst (λ z. Leaves c.new.result c.args.budget (estimated_string kind string) z) s.1
     (c.new.ensures.leaves c.args.budget (estimated_string kind string)
     (c.left_after_content.ensures.leaves string (ap length s.0)))
