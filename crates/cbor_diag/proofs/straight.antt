@@ -1,3 +1,5 @@
+pub mod Ahead
+pub mod StringsAhead
 pub mod PublicCalls
 pub mod Readings
 pub mod Sequences

@@ -8,7 +8,7 @@
 //!
 //! Each head takes two characters of the budget or more, and nothing is read without a budget. So
 //! one look reads 28 heads at most, however long or deep the container is.
-ghost use Rattle.std.specs.Prelude.{◌≡◌, ℕ, ◌+◌, ◌-◌, ◌<◌, ◌≤◌, List, length, Ok, Option, IfSome};
+ghost use Rattle.std.specs.Prelude.{◌≡◌, ℕ, ◌+◌, ◌-◌, ◌*◌, ◌<◌, ◌≤◌, List, length, Ok, Option, IfSome};
 ghost use Rattle.cbor_diag.specs.Argument.{indefinite};
 ghost use Rattle.cbor_diag.specs.Estimate.{estimated_string, estimated_chunks};
 ghost use Rattle.cbor_diag.specs.Estimate.{estimated_items, estimated_pairs};
@@ -16,9 +16,7 @@ ghost use Rattle.cbor_diag.specs.Item as spec;
 ghost use Rattle.cbor_diag.specs.Item.{Chunk, Items, Pairs, atom, array, chunked_string};
 ghost use Rattle.cbor_diag.specs.ItemHead as item_head;
 ghost use Rattle.cbor_diag.specs.Layout as shown;
-ghost use Rattle.cbor_diag.specs.Embedded.{sequence_at};
-ghost use Rattle.cbor_diag.specs.WellFormed.{levels_left};
-ghost use Rattle.cbor_diag.specs.NotationText.{container_style, sequence_size, indent_of, style_indent};
+ghost use Rattle.cbor_diag.specs.NotationText.{container_style, indent_of, style_indent};
 ghost use Rattle.cbor_diag.specs.Reading.{read_content};
 ghost use Rattle.cbor_diag.specs.declared.syntax.IntegerWidth.{IntegerWidth};
 ghost use Rattle.cbor_diag.specs.mirror.Ahead.{Leaves, Estimates, front_read, body_read};
@@ -45,7 +43,7 @@ impl<'a> Ahead<'a> {
     fn new(left: usize, rest: &'a [u8]) -> Option<Ahead<'a>>
         ensures leaves { (budget size : ℕ) → left ≡ budget - size
             → Leaves result budget size rest.now }
-        ensures left { IfSome result (λ ahead. ahead.left ≡ left) }
+        ensures left { IfSome result (λ ahead. (0 < ahead.left) × (ahead.left ≡ left)) }
     {
         if left == 0 {
             return None;
@@ -98,20 +96,27 @@ impl Layout {
         }
     }
 
-    /// The style of the items that follow each other in the bytes, read from `level`.
-    pub(super) fn sequence_style_ahead(self, level: u8, bytes: &[u8]) -> ContainerStyle
-        ensures style { style_view result ≡ container_style (layout_view self)
-            (sequence_size (sequence_at (levels_left level) bytes.now)) }
-        ensures indent { style_indent (style_view result) ≡ indent_of (layout_view self) }
+    /// A style that is likely for items that follow each other in the bytes: that of an array with a
+    /// byte string of this length.
+    pub(super) fn likely_style(self, bytes: &[u8]) -> ContainerStyle
+        ensures { style_view result
+            ≡ container_style (layout_view self) (4 + 2 * length bytes.now) }
     {
-        ContainerStyle::Compact
+        match self {
+            Layout::Compact => ContainerStyle::Compact,
+            Layout::Pretty { indent } => {
+                let left = BUDGET.saturating_sub(bytes.len());
+                pretty_style(indent, left.saturating_sub(bytes.len()))
+            }
+        }
     }
 }
 
 /// The style of a container with blanks, by what a look at its members finds.
 fn style_of(indent: usize, members: Option<Ahead<'_>>) -> ContainerStyle
-    ensures { (size : ℕ) (rest : List ℕ) → Leaves members 60 size rest
+    ensures style { (size : ℕ) (rest : List ℕ) → Leaves members.entry 60 size rest
         → style_view result ≡ container_style (shown.Pretty indent) size }
+    ensures indent { style_indent (style_view result) ≡ indent }
 {
     let left = match members {
         Some(ahead) => ahead.left,
@@ -120,12 +125,24 @@ fn style_of(indent: usize, members: Option<Ahead<'_>>) -> ContainerStyle
     pretty_style(indent, left)
 }
 
+/// Looks at a string after its head, with this length.
+fn string_ahead(kind: StringKind, len: Argument, bytes: &[u8], budget: usize) -> Option<Ahead<'_>>
+    ensures leaves { Estimates result budget
+        (body_read (item_head.string (kind_view kind) (argument_view len)) bytes.now) }
+    ensures takes { IfSome result (λ ahead. (0 < ahead.left) × (ahead.left + 2 ≤ budget)) }
+{
+    match len {
+        Argument::Number(count, _) => content_ahead(kind, count, bytes, budget),
+        Argument::Indefinite => chunks_ahead(kind, bytes, budget.saturating_sub(4)),
+    }
+}
+
 /// Looks at a string of definite length after its head.
-fn string_ahead(kind: StringKind, count: u64, bytes: &[u8], budget: usize) -> Option<Ahead<'_>>
+fn content_ahead(kind: StringKind, count: u64, bytes: &[u8], budget: usize) -> Option<Ahead<'_>>
     ensures leaves { (w : IntegerWidth) (c : Chunk) (rest : List ℕ)
         → read_content (kind_view kind) count w bytes.now ≡ Ok (c, rest)
         → Leaves result budget (estimated_string (kind_view kind) c) rest }
-    ensures takes { IfSome result (λ ahead. ahead.left + 2 ≤ budget) }
+    ensures takes { IfSome result (λ ahead. (0 < ahead.left) × (ahead.left + 2 ≤ budget)) }
 {
     let Ok((content, rest)) = split_at(bytes, count) else {
         return None;
@@ -137,7 +154,7 @@ fn string_ahead(kind: StringKind, count: u64, bytes: &[u8], budget: usize) -> Op
 fn chunks_ahead(kind: StringKind, bytes: &[u8], budget: usize) -> Option<Ahead<'_>>
     ensures leaves { Estimates result (4 + budget)
         (body_read (item_head.string (kind_view kind) indefinite) bytes.now) }
-    ensures takes { IfSome result (λ ahead. ahead.left ≤ budget) }
+    ensures takes { IfSome result (λ ahead. (0 < ahead.left) × (ahead.left ≤ budget)) }
 {
     let mut left = budget;
     let mut rest = bytes;
@@ -148,7 +165,7 @@ fn chunks_ahead(kind: StringKind, bytes: &[u8], budget: usize) -> Option<Ahead<'
         let Some((count, _)) = length else {
             return Ahead::new(left, after);
         };
-        let chunk = string_ahead(kind, count, after, left)?;
+        let chunk = content_ahead(kind, count, after, left)?;
         left = chunk.left.saturating_sub(2);
         rest = chunk.rest;
     }
@@ -158,7 +175,7 @@ fn chunks_ahead(kind: StringKind, bytes: &[u8], budget: usize) -> Option<Ahead<'
 #[cycle(ahead)]
 fn item_ahead(bytes: &[u8], budget: usize) -> Option<Ahead<'_>>
     ensures leaves { Estimates result budget (front_read bytes.now) }
-    ensures takes { IfSome result (λ ahead. ahead.left + 2 ≤ budget) }
+    ensures takes { IfSome result (λ ahead. (0 < ahead.left) × (ahead.left + 2 ≤ budget)) }
 {
     if budget == 0 {
         return None;
@@ -173,12 +190,7 @@ fn item_ahead(bytes: &[u8], budget: usize) -> Option<Ahead<'_>>
         ItemHead::Negative(value, _) => {
             Ahead::new(budget.saturating_sub(digit_count(value) + 3), rest)
         }
-        ItemHead::String(kind, Argument::Number(count, _)) => {
-            string_ahead(kind, count, rest, budget)
-        }
-        ItemHead::String(kind, Argument::Indefinite) => {
-            chunks_ahead(kind, rest, budget.saturating_sub(4))
-        }
+        ItemHead::String(kind, len) => string_ahead(kind, len, rest, budget),
         ItemHead::Array(count) => items_ahead(count, rest, budget.saturating_sub(4)),
         ItemHead::Map(count) => pairs_ahead(count, rest, budget.saturating_sub(4)),
         ItemHead::Tag(tag, _) => item_ahead(rest, budget.saturating_sub(digit_count(tag) + 2)),
@@ -197,7 +209,7 @@ fn item_ahead(bytes: &[u8], budget: usize) -> Option<Ahead<'_>>
 fn items_ahead(count: Argument, bytes: &[u8], budget: usize) -> Option<Ahead<'_>>
     ensures leaves { Estimates result (4 + budget)
         (body_read (item_head.array (argument_view count)) bytes.now) }
-    ensures takes { IfSome result (λ ahead. ahead.left ≤ budget) }
+    ensures takes { IfSome result (λ ahead. (0 < ahead.left) × (ahead.left ≤ budget)) }
 {
     let mut left = budget;
     let mut rest = bytes;
@@ -218,7 +230,7 @@ fn items_ahead(count: Argument, bytes: &[u8], budget: usize) -> Option<Ahead<'_>
 fn pairs_ahead(count: Argument, bytes: &[u8], budget: usize) -> Option<Ahead<'_>>
     ensures leaves { Estimates result (4 + budget)
         (body_read (item_head.map (argument_view count)) bytes.now) }
-    ensures takes { IfSome result (λ ahead. ahead.left ≤ budget) }
+    ensures takes { IfSome result (λ ahead. (0 < ahead.left) × (ahead.left ≤ budget)) }
 {
     let mut left = budget;
     let mut rest = bytes;

@@ -18,7 +18,7 @@ use Rattle.cbor_diag.proofs.bytes.Frames.{count_more, pair_count_more}
 use Rattle.cbor_diag.proofs.bytes.Shorter.{item_shorter}
 use Rattle.cbor_diag.proofs.shared.Appending.{cut_back}
 use Rattle.cbor_diag.proofs.straight.Sequences.{sequence_begun, sequence_more, sequence_ends, begun_after, begun_member}
-use Rattle.cbor_diag.proofs.straight.Sequences.{sequence_printed}
+use Rattle.cbor_diag.proofs.straight.Sequences.{sequence_printed, sequence_array, same_style}
 use Rattle.cbor_diag.proofs.straight.Readings.{fails_is, head_fails, too_deep, after_head, atom_printed, float_fits}
 use Rattle.cbor_diag.proofs.straight.Readings.{parts_read, part_fails, parts_ended, none_held, member_read, pair_read}
 use Rattle.cbor_diag.proofs.straight.Readings.{value_fails, tag_read, content_read, below_read, below_fails}
@@ -348,22 +348,22 @@ push_string_front-returns-in_ok-push_definite-in-Number-clause-printed t c =
 
 -- ---- a sequence
 
-pub push_sequence-items-init : goal.push_sequence-items-init
-push_sequence-items-init t c = record {
+pub push_members-items-init : goal.push_members-items-init
+push_members-items-init t c = record {
   found = no_items;
   so_far = sequence_begun (levels_left (c.args.context.now.level + 1)) c.args.bytes.now;
   count = refl;
-  text = c.in_ok-push_str.ensures.bytes ∙ none_written (style_view c.sequence_style_ahead-style.result) _;
+  text = c.in_ok-push_str.ensures.bytes ∙ none_written (style_view c.args.style) _;
   room = omega arith;
 }
 
-pub push_sequence-items-smaller : goal.push_sequence-items-smaller
-push_sequence-items-smaller t c =
+pub push_members-items-smaller : goal.push_members-items-smaller
+push_members-items-smaller t c =
     let p = c.in-Ok.ensures.printed in
     item_shorter (levels_left c.inside-inner.result.level) c.items.rest.now p.0 c.in-Ok.after.now p.1
 
-pub push_sequence-items-preserved : goal.push_sequence-items-preserved
-push_sequence-items-preserved t c =
+pub push_members-items-preserved : goal.push_members-items-preserved
+push_members-items-preserved t c =
     let i = c.items.invariant in
     let p = c.in-Ok.ensures.printed in
     let left = levels_left (c.args.context.now.level + 1) in
@@ -375,46 +375,60 @@ push_sequence-items-preserved t c =
       found = joined i.found (item p.0 no_items);
       so_far = sequence_more left i.found p.0 c.items.rest.now after _ read i.so_far;
       count = omega (arith, count_more i.found p.0, i.count);
-      text = item_more (style_view c.sequence_style_ahead-style.result) (item_text c.inside-inner.result) i.found p.0 c.items.held _
+      text = item_more (style_view c.args.style) (item_text c.inside-inner.result) i.found p.0 c.items.held _
           (string_bytes c.items.out) (string_bytes c.push_start.new.out) (string_bytes c.push_front.new.out)
           (string_bytes c.push_end.new.out) i.count i.text c.in_ok-push_start.ensures p.2 c.in_ok-push_end-in-Ok.ensures;
       room = omega (arith, i.room, shorter);
     }
 
-pub push_sequence-returns-in-Memory : goal.push_sequence-returns-in-Memory
-push_sequence-returns-in-Memory t c =
+pub push_members-returns-in-Memory : goal.push_members-returns-in-Memory
+push_members-returns-in-Memory t c =
     let old = string_bytes c.args.out.now in
     begun_after old (old ++ codes "<<") (string_bytes c.items.out) (string_bytes c.push_start.new.out)
     (string_bytes c.push_front.new.out) (codes "<<") _ _ refl c.items.invariant.text c.in_ok-push_start.ensures
     c.in-Err.ensures.begun
 
-pub push_sequence-truncate-requires : goal.push_sequence-truncate-requires
-push_sequence-truncate-requires t c =
+pub push_members-truncate-requires : goal.push_members-truncate-requires
+push_members-truncate-requires t c =
     λ _. (cut_back c.items.out c.push_front.new.out c.len-start.result c.len-start.ensures
     (begun_member (string_bytes c.items.out) (string_bytes c.push_start.new.out) (string_bytes c.push_front.new.out) _
     c.in_ok-push_start.ensures c.in-Err.ensures.begun)).0
 
-pub push_sequence-returns-in_default : goal.push_sequence-returns-in_default
-push_sequence-returns-in_default t c =
+pub push_members-returns-in_default-clause-written : goal.push_members-returns-in_default-clause-written
+push_members-returns-in_default-clause-written t c =
     let i = c.items.invariant in
-    let l = style_view c.sequence_style_ahead-style.result in
+    let l = style_view c.args.style in
     let context = c.args.context.now in
     let left = levels_left (context.level + 1) in
-    let old = string_bytes c.args.out.now in
     let rest = c.items.rest.now in
+    let begun = string_bytes c.args.out.now ++ codes "<<" in
     let inside_it = c.inside-inner.ensures.context
     ∙ ap (λ x. inside x (context_view context)) c.members_layout.ensures in
     let whole = sequence_ends left i.found rest c.in-Err.error (sequence_at left c.args.bytes.now)
     c.in_default.not-Memory
     (below_fails c.in-Err.error c.inside-inner.result (context.level + 1) rest c.inside-inner.ensures.level
     c.in-Err.ensures.refused) i.so_far in
-    let same = c.sequence_style_ahead-style.ensures.style ∙ ap (λ n. container_style (layout_view context.layout) n)
-    (ap sequence_size (sym whole)) in
     let back = c.truncate.ensures.bytes ∙ (cut_back c.items.out c.push_front.new.out c.len-start.result
     c.len-start.ensures (begun_member (string_bytes c.items.out) (string_bytes c.push_start.new.out)
-    (string_bytes c.push_front.new.out) _ c.in_ok-push_start.ensures c.in-Err.ensures.begun)).1 in
-    sequence_printed c.push_sequence_end.result l context c.inside-inner.result i.found c.args.bytes.now rest old
-    (old ++ codes "<<") (string_bytes c.items.out) (string_bytes c.truncate.new.self)
-    (string_bytes c.push_sequence_end.new.out) c.inside-inner.ensures.level inside_it
-    same whole refl i.text back
-    c.push_sequence_end.ensures
+    (string_bytes c.push_front.new.out) _ c.in_ok-push_start.ensures c.in-Err.ensures.begun)).1 in (
+      ap (λ s. item_count s.0) (sym whole) ∙ i.count,
+      ap (λ s. s.1) (sym whole),
+      back ∙ i.text
+          ∙ ap (λ f. begun ++ members l (item_texts f i.found)) (writes_inner c.inside-inner.result (context.level + 1)
+          (inside (members_layout l) (context_view context)) c.inside-inner.ensures.level inside_it)
+          ∙ ap (λ s. begun ++ items_there context l s.0) whole,
+    )
+
+pub push_sequence-truncate-requires : goal.push_sequence-truncate-requires
+push_sequence-truncate-requires t c =
+    let old = string_bytes c.args.out.now in
+    let new = string_bytes c.push_members.new.out in
+    let w = c.in_ok-count.ensures.written in
+    λ _. (cut_back c.args.out.now c.push_members.new.out c.len-start.result c.len-start.ensures
+    (begins_two old (old ++ codes "<<") (codes "<<") _ new refl w.2)).0
+
+pub push_sequence-returns-then : goal.push_sequence-returns-then
+push_sequence-returns-then t c = ?
+
+pub push_sequence-returns : goal.push_sequence-returns
+push_sequence-returns t c = ?
