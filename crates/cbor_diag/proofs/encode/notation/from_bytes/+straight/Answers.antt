@@ -1,22 +1,24 @@
-use Rattle.std.proofs.Common.{◌+◌, ◌++◌, codes, Some, IfOk, IfErr, refl, ap, sym, subst, ◌∙◌, arith}
+use Rattle.std.proofs.Common.{◌≡◌, ◌+◌, ◌*◌, ◌++◌, length, codes, Some, IfOk, IfErr, refl, ap, sym, subst, ◌∙◌, arith}
 use Rattle.std.proofs.lemmas.Result.{err_from_is_err_and}
 use Rattle.std.specs.String.{string_bytes}
 use Rattle.cbor_diag.specs.Item as spec
-use Rattle.cbor_diag.specs.Item.{atom, integer, negative, string, float, simple, array, tagged, no_items, item, no_pairs, pair}
+use Rattle.cbor_diag.specs.Item.{atom, integer, negative, string, float, simple, array, tagged, no_items, item, no_pairs, pair, item_count}
 use Rattle.cbor_diag.specs.ItemHead as item_head
+use Rattle.cbor_diag.specs.declared.syntax.IntegerWidth.TheVariants as width
 use Rattle.cbor_diag.specs.Embedded.{sequence_at}
-use Rattle.cbor_diag.specs.NotationText.{container_style, sequence_size, opened, inside, below}
+use Rattle.cbor_diag.specs.Estimate.{estimated_items}
+use Rattle.cbor_diag.specs.NotationText.{opened, members, members_layout, inside, below}
 use Rattle.cbor_diag.specs.Reading.{Fails, items_in, pairs_in, tag_of, joined, joined_pairs, count_width}
 use Rattle.cbor_diag.specs.Reading.{read_head, no_level_left}
 use Rattle.cbor_diag.specs.WellFormed.{levels_left}
 use Rattle.cbor_diag.specs.mirror.HeadView.{argument_view}
-use Rattle.cbor_diag.specs.mirror.LayoutView.{layout_view, style_view, context_view, item_text}
+use Rattle.cbor_diag.specs.mirror.LayoutView.{layout_view, style_view, context_view, is_lines, items_there, item_text}
 use Rattle.cbor_diag.specs.mirror.Stack.{left_of}
 use Rattle.cbor_diag.specs.mirror.Straight.{Printed, read_there}
 use Rattle.cbor_diag.specs.mirror.StringView.{kind_of, borrowed_chunk}
 use Rattle.cbor_diag.proofs.bytes.Frames.{count_more, pair_count_more}
 use Rattle.cbor_diag.proofs.bytes.Shorter.{item_shorter}
-use Rattle.cbor_diag.proofs.shared.Appending.{cut_back}
+use Rattle.cbor_diag.proofs.shared.Appending.{begins_two, cut_back}
 use Rattle.cbor_diag.proofs.straight.Sequences.{sequence_begun, sequence_more, sequence_ends, begun_after, begun_member}
 use Rattle.cbor_diag.proofs.straight.Sequences.{sequence_printed, sequence_array, same_style}
 use Rattle.cbor_diag.proofs.straight.Readings.{fails_is, head_fails, too_deep, after_head, atom_printed, float_fits}
@@ -381,8 +383,8 @@ push_members-items-preserved t c =
       room = omega (arith, i.room, shorter);
     }
 
-pub push_members-returns-in-Memory : goal.push_members-returns-in-Memory
-push_members-returns-in-Memory t c =
+pub push_members-returns-in-Memory-clause-begun : goal.push_members-returns-in-Memory-clause-begun
+push_members-returns-in-Memory-clause-begun t c =
     let old = string_bytes c.args.out.now in
     begun_after old (old ++ codes "<<") (string_bytes c.items.out) (string_bytes c.push_start.new.out)
     (string_bytes c.push_front.new.out) (codes "<<") _ _ refl c.items.invariant.text c.in_ok-push_start.ensures
@@ -427,8 +429,38 @@ push_sequence-truncate-requires t c =
     λ _. (cut_back c.args.out.now c.push_members.new.out c.len-start.result c.len-start.ensures
     (begins_two old (old ++ codes "<<") (codes "<<") _ new refl w.2)).0
 
-pub push_sequence-returns-then : goal.push_sequence-returns-then
-push_sequence-returns-then t c = ?
+pub push_sequence-returns-then-is_lines : goal.push_sequence-returns-then-is_lines
+push_sequence-returns-then-is_lines t c =
+    let context = c.args.context.now in
+    let b = c.args.bytes.now in
+    let left = levels_left (context.level + 1) in
+    let found = sequence_at left b in
+    let likely = style_view c.likely_style-likely.result in
+    let style = style_view c.array_style_ahead-style.result in
+    let begun = c.in_ok-count.ensures.written in
+    let style_so = c.array_style_ahead-style.ensures.style left found.0 (Some width.Unknown) found.1
+    (sequence_array left width.Unknown b c.in_ok-count.count begun.0) in
+    let lines : is_lines likely ≡ is_lines style = cc (c.is_lines.ensures, c.is_lines-2.ensures) in
+    let same = c.likely_style-likely.ensures ∙ same_style (layout_view context.layout) (4 + 2 * length b)
+    (4 + estimated_items found.0) (ap is_lines (sym c.likely_style-likely.ensures) ∙ lines ∙ ap is_lines style_so) in
+    sequence_printed c.push_sequence_end.result likely context b c.in_ok-count.rest.now (string_bytes c.args.out.now)
+    (string_bytes c.push_members.new.out) (string_bytes c.args.out.now) (string_bytes c.push_sequence_end.new.out) same
+    begun.1 refl begun.2 c.push_sequence_end.ensures
 
 pub push_sequence-returns : goal.push_sequence-returns
-push_sequence-returns t c = ?
+push_sequence-returns t c =
+    let context = c.args.context.now in
+    let b = c.args.bytes.now in
+    let left = levels_left (context.level + 1) in
+    let found = sequence_at left b in
+    let old = string_bytes c.args.out.now in
+    let begun = c.in_ok-count.ensures.written in
+    let again = c.in_ok-rest.ensures.written in
+    let same = c.array_style_ahead-style.ensures.style left found.0 (Some width.Unknown) found.1
+    (sequence_array left width.Unknown b c.in_ok-count.count begun.0) in
+    let back = c.truncate.ensures.bytes ∙ (cut_back c.args.out.now c.push_members.new.out c.len-start.result
+    c.len-start.ensures (begins_two old (old ++ codes "<<") (codes "<<") _ (string_bytes c.push_members.new.out) refl
+    begun.2)).1 in
+    sequence_printed c.push_sequence_end-2.result (style_view c.array_style_ahead-style.result) context b
+    c.in_ok-rest.rest.now old (string_bytes c.push_members-2.new.out) (string_bytes c.truncate.new.self)
+    (string_bytes c.push_sequence_end-2.new.out) same again.1 back again.2 c.push_sequence_end-2.ensures
