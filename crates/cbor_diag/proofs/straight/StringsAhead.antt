@@ -125,15 +125,16 @@ one_chunk kind n b y k w mid len is =
     let z = then_ok (read_chunks t.0 kind c.0.1) (λ cs. (0, Ok (c.0.0 ∷ cs.0, cs.1))) y more in
     (t.0, c.0, z.0, c.1, z.1, ok_is (c.0.0 ∷ z.0.0, z.0.1) y z.2)
 
--- the chunks of the string that was read
-whole_chunks : (kind : StringKind) (b : List ℕ) (levels : ℕ) (i : Item) (rest : List ℕ)
-    → body_read (item_head.string kind indefinite) b levels ≡ Ok (i, rest)
-    → (x : List Chunk × List ℕ) × ((read_chunks (length b) kind b).1 ≡ Ok x)
-    × ((atom (chunked_string kind x.0), x.1) ≡ (i, rest))
-whole_chunks kind b levels i rest is =
-    let f = λ (cs : List Chunk × List ℕ). (0, Ok (atom (chunked_string kind cs.0), cs.1)) in
-    let x = then_ok (read_chunks (length b) kind b) f (i, rest) is in
-    (x.0, x.1, ok_is (atom (chunked_string kind x.0.0), x.0.1) (i, rest) x.2)
+-- the string that is read is one of these chunks
+abbrev as_item : StringKind → List Chunk × List ℕ → Item × List ℕ
+as_item kind x = (atom (chunked_string kind x.0), x.1)
+
+whole_chunks : (kind : StringKind) (b : List ℕ) (levels : ℕ) (y : Item × List ℕ)
+    → body_read (item_head.string kind indefinite) b levels ≡ Ok y
+    → (x : List Chunk × List ℕ) × ((read_chunks (length b) kind b).1 ≡ Ok x) × (as_item kind x ≡ y)
+whole_chunks kind b levels y is =
+    let x = then_ok (read_chunks (length b) kind b) (λ cs. (0, Ok (as_item kind cs))) y is in
+    (x.0, x.1, ok_is (as_item kind x.0) y x.2)
 
 pub one_chunk_more : (budget : ℕ) (kind : StringKind) (b : List ℕ) (left : ℕ) (rest : List ℕ) (k : ℕ) (w : IntegerWidth)
     (mid : List ℕ) (a : Ahead) → ChunksSoFar budget kind b left rest
@@ -162,7 +163,7 @@ pub chunk_takes_all : (budget : ℕ) (kind : StringKind) (b : List ℕ) (left : 
     → Leaves None left (estimated_string kind c) after)
     → Estimates None (4 + budget) (body_read (item_head.string kind indefinite) b)
 chunk_takes_all budget kind b left rest k w mid so_far len finds levels i after is =
-    let x = whole_chunks kind b levels i after is in
+    let x = whole_chunks kind b levels (i, after) is in
     let s = so_far x.0 x.1 in
     let t = one_chunk kind s.0 rest s.1 k w mid len s.2 in
     let found : left ≤ estimated_string kind t.1.0 = finds t.1.0 t.1.1 t.3 in
@@ -171,7 +172,7 @@ chunk_takes_all budget kind b left rest k w mid so_far len finds levels i after 
     ∙ sum_by-cons (λ c. estimated_string kind c + 2) t.1.0 t.2.0 in
     let all : estimated_length i ≡ 4 + estimated_chunks kind x.0.0 =
     ap (λ (y : Item × List ℕ). estimated_length y.0)
-    (sym (ok_is (atom (chunked_string kind x.0.0), x.0.1) (i, after) x.2)) in
+    (sym x.2) in
     omega (arith, whole, found, s.4, all)
 
 pub chunks_found : (found : Option Ahead) (budget : ℕ) (kind : StringKind) (b : List ℕ) (left : ℕ) (rest after : List ℕ)
@@ -179,7 +180,7 @@ pub chunks_found : (found : Option Ahead) (budget : ℕ) (kind : StringKind) (b 
     → ((all size : ℕ) → left ≡ all - size → Leaves found all size after)
     → Estimates found (4 + budget) (body_read (item_head.string kind indefinite) b)
 chunks_found found budget kind b left rest after so_far len finds levels i end is =
-    let x = whole_chunks kind b levels i end is in
+    let x = whole_chunks kind b levels (i, end) is in
     let s = so_far x.0 x.1 in
     let t = next_read kind s.0 rest s.1 s.2 in
     let here : (None, after) ≡ t.1 = ok_is (None, after) t.1
@@ -198,7 +199,7 @@ pub chunk_unread : (budget : ℕ) (kind : StringKind) (b : List ℕ) (left : ℕ
     → ChunksSoFar budget kind b left rest → read_chunk_length (major_of kind) rest ≡ Err e
     → Estimates None (4 + budget) (body_read (item_head.string kind indefinite) b)
 chunk_unread budget kind b left rest e so_far fails levels i after is =
-    let x = whole_chunks kind b levels i after is in
+    let x = whole_chunks kind b levels (i, after) is in
     let s = so_far x.0 x.1 in
     let t = next_read kind s.0 rest s.1 s.2 in
     let wrong : Err e ≡ Ok t.1 = sym (ap (λ r. r >>= λ n. after_length kind n.0 n.1) fails) ∙ t.2 in
