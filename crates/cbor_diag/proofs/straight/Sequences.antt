@@ -1,4 +1,5 @@
 -- Printing items that are embedded in bytes one after the other from these bytes.
+use mathlib.Core.Bool.{beq}
 use Rattle.std.specs.Prelude.{nat_lt, if◌then◌else◌}
 use Rattle.std.proofs.Common.{◌≡◌, ◌≢◌, ℕ, zero, suc, ◌+◌, ◌≤◌, Bool, true, false, List, ◌++◌, length, codes, Some}
 use Rattle.std.proofs.Common.{Result, Ok, Err, refl, sym, ap, ◌∙◌, append_assoc, arith}
@@ -139,6 +140,13 @@ pub sequence_array : (left : ℕ) (w : IntegerWidth) (b : List ℕ) (count : ℕ
     ≡ Ok (array (sequence_at left b).0 (Some w), (sequence_at left b).1)
 sequence_array left w b count is = ap (λ n. parts_read left (items_in no_items (number n w)) b) (sym is)
     ∙ array_from left (length b) w no_items b
+
+-- what an equality test of two answers says
+pub both_same : (a b : Bool) → beq a b ≡ true → b ≡ a
+both_same true true e = refl
+both_same false false e = refl
+both_same true false e = absurd cc
+both_same false true e = absurd cc
 
 -- the style of a container with blanks
 abbrev chosen : ℕ → Bool → ContainerStyle

@@ -7,7 +7,7 @@ use Rattle.cbor_diag.specs.ItemHead as item_head
 use Rattle.cbor_diag.specs.declared.syntax.IntegerWidth.TheVariants as width
 use Rattle.cbor_diag.specs.Embedded.{sequence_at}
 use Rattle.cbor_diag.specs.Estimate.{estimated_items}
-use Rattle.cbor_diag.specs.NotationText.{opened, members, members_layout, inside, below}
+use Rattle.cbor_diag.specs.NotationText.{opened, item_texts, members, members_layout, inside, below}
 use Rattle.cbor_diag.specs.Reading.{Fails, items_in, pairs_in, tag_of, joined, joined_pairs, count_width}
 use Rattle.cbor_diag.specs.Reading.{read_head, no_level_left}
 use Rattle.cbor_diag.specs.WellFormed.{levels_left}
@@ -20,7 +20,7 @@ use Rattle.cbor_diag.proofs.bytes.Frames.{count_more, pair_count_more}
 use Rattle.cbor_diag.proofs.bytes.Shorter.{item_shorter}
 use Rattle.cbor_diag.proofs.shared.Appending.{begins_two, cut_back}
 use Rattle.cbor_diag.proofs.straight.Sequences.{sequence_begun, sequence_more, sequence_ends, begun_after, begun_member}
-use Rattle.cbor_diag.proofs.straight.Sequences.{sequence_printed, sequence_array, same_style}
+use Rattle.cbor_diag.proofs.straight.Sequences.{sequence_printed, sequence_array, both_same, same_style}
 use Rattle.cbor_diag.proofs.straight.Readings.{fails_is, head_fails, too_deep, after_head, atom_printed, float_fits}
 use Rattle.cbor_diag.proofs.straight.Readings.{parts_read, part_fails, parts_ended, none_held, member_read, pair_read}
 use Rattle.cbor_diag.proofs.straight.Readings.{value_fails, tag_read, content_read, below_read, below_fails}
@@ -440,7 +440,8 @@ push_sequence-returns-then-is_lines t c =
     let begun = c.in_ok-count.ensures.written in
     let style_so = c.array_style_ahead-style.ensures.style left found.0 (Some width.Unknown) found.1
     (sequence_array left width.Unknown b c.in_ok-count.count begun.0) in
-    let lines : is_lines likely ≡ is_lines style = cc (c.is_lines.ensures, c.is_lines-2.ensures) in
+    let lines : is_lines likely ≡ is_lines style = sym c.is_lines-2.ensures
+    ∙ both_same c.is_lines.result c.is_lines-2.result c.if-is_lines.true ∙ c.is_lines.ensures in
     let same = c.likely_style-likely.ensures ∙ same_style (layout_view context.layout) (4 + 2 * length b)
     (4 + estimated_items found.0) (ap is_lines (sym c.likely_style-likely.ensures) ∙ lines ∙ ap is_lines style_so) in
     sequence_printed c.push_sequence_end.result likely context b c.in_ok-count.rest.now (string_bytes c.args.out.now)
