@@ -1,5 +1,5 @@
 //! Converts the bytes of an input to the bytes of its output.
-ghost use Rattle.std.specs.Prelude.{◌≡◌, [], ◌∷◌, ◌++◌, Ok, Err, IfOk, IfErr, IfSome};
+ghost use Rattle.std.specs.Prelude.{◌≡◌, [], ◌∷◌, ◌++◌, Ok, Err, IfOk, IfErr};
 ghost use Rattle.std.specs.String.{string_bytes};
 ghost use Rattle.cbor_diag.specs.View.{view};
 ghost use Rattle.cbor_diag.specs.Facts.{IsWellFormed};
@@ -8,8 +8,8 @@ ghost use Rattle.cbor_convert.specs.Output.{Reads, Refuses, output_of, IsOutput}
 
 use crate::form::{Source, To};
 use cbor_diag::{
-    DataItem, Error, bytes_to_bytes, bytes_to_diag, bytes_to_hex, hex_to_bytes, hex_to_diag,
-    hex_to_hex, parse_bytes, parse_diag, parse_hex,
+    DataItem, Error, bytes_to_bytes, bytes_to_diag, bytes_to_diag_pretty, bytes_to_hex,
+    hex_to_bytes, hex_to_diag, hex_to_diag_pretty, hex_to_hex, parse_bytes, parse_diag, parse_hex,
 };
 use std::alloc::Global;
 
@@ -22,46 +22,43 @@ pub fn convert(alloc: Global, from: Source, to: To, input: &[u8]) -> Result<Vec<
     ensures ok { IfOk result (λ output. IsOutput from to input.now (Ok output.items)) }
     ensures refused { RefusedSo result (λ e. IsOutput from to input.now (Err e)) }
 {
-    let straight = match from {
-        Source::Bytes => from_bytes(alloc, to, input)?,
-        Source::Hex => from_hex(alloc, to, input)?,
-        Source::Diag => None,
-    };
-    if let Some(output) = straight {
-        return Ok(output);
+    match from {
+        Source::Bytes => from_bytes(alloc, to, input),
+        Source::Hex => from_hex(alloc, to, input),
+        Source::Diag => {
+            let item = read_item(alloc, from, input)?;
+            write_item(alloc, to, &item, Vec::new(alloc))
+        }
     }
-    let item = read_item(alloc, from, input)?;
-    write_item(alloc, to, &item, Vec::new(alloc))
 }
 
-/// Returns the output for an input in bytes, and `None` where an item has to be built for it.
-fn from_bytes(alloc: Global, to: To, input: &[u8]) -> Result<Option<Vec<u8>>, Error>
-    ensures ok { IfOk result (λ o. IfSome o (λ output.
-        IsOutput Source.Bytes to input.now (Ok output.items))) }
+/// Returns the output for an input in bytes. No item is built, unless the input spells a simple value
+/// below 24 in two bytes and its encoding is wanted.
+fn from_bytes(alloc: Global, to: To, input: &[u8]) -> Result<Vec<u8>, Error>
+    ensures ok { IfOk result (λ output. IsOutput Source.Bytes to input.now (Ok output.items)) }
     ensures refused { RefusedSo result (Refuses Source.Bytes input.now) }
 {
     match to {
-        To::Bytes => Ok(Some(bytes_to_bytes(alloc, Vec::from_slice(alloc, input)?)?)),
-        To::Hex => Ok(Some(bytes_to_hex(alloc, input)?.into_bytes())),
-        To::Diag => Ok(Some(ended_line(bytes_to_diag(alloc, input)?)?)),
-        To::Pretty => Ok(None),
+        To::Bytes => bytes_to_bytes(alloc, Vec::from_slice(alloc, input)?),
+        To::Hex => Ok(bytes_to_hex(alloc, input)?.into_bytes()),
+        To::Diag => ended_line(bytes_to_diag(alloc, input)?),
+        To::Pretty => ended_line(bytes_to_diag_pretty(alloc, input)?),
     }
 }
 
 /// The same for an input in hex.
-fn from_hex(alloc: Global, to: To, input: &[u8]) -> Result<Option<Vec<u8>>, Error>
-    ensures ok { IfOk result (λ o. IfSome o (λ output.
-        IsOutput Source.Hex to input.now (Ok output.items))) }
+fn from_hex(alloc: Global, to: To, input: &[u8]) -> Result<Vec<u8>, Error>
+    ensures ok { IfOk result (λ output. IsOutput Source.Hex to input.now (Ok output.items)) }
     ensures refused { RefusedSo result (Refuses Source.Hex input.now) }
 {
     let Ok(text) = str::from_utf8(input) else {
         return Err(Error::Utf8);
     };
     match to {
-        To::Bytes => Ok(Some(hex_to_bytes(alloc, text)?)),
-        To::Hex => Ok(Some(hex_to_hex(alloc, text)?.into_bytes())),
-        To::Diag => Ok(Some(ended_line(hex_to_diag(alloc, text)?)?)),
-        To::Pretty => Ok(None),
+        To::Bytes => hex_to_bytes(alloc, text),
+        To::Hex => Ok(hex_to_hex(alloc, text)?.into_bytes()),
+        To::Diag => ended_line(hex_to_diag(alloc, text)?),
+        To::Pretty => ended_line(hex_to_diag_pretty(alloc, text)?),
     }
 }
 

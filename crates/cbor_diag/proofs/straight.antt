@@ -1,4 +1,7 @@
+pub mod Ahead
+pub mod StringsAhead
 pub mod PublicCalls
 pub mod Readings
 pub mod Levels
+pub mod Sequences
 pub mod Texts

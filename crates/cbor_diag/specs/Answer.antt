@@ -9,8 +9,6 @@ use Rattle.cbor_diag.specs.Item.{Atom, chunked_string, Item, atom, array, tagged
 use Rattle.cbor_diag.specs.Item.{Pairs, no_pairs, pair}
 use Rattle.cbor_diag.specs.View.{view}
 use Rattle.cbor_diag.specs.Bytes.{any, Spells}
-use Rattle.cbor_diag.specs.Compact.{compact}
-use Rattle.cbor_diag.specs.Encoding.{Base16}
 use Rattle.cbor_diag.specs.Refused.{Cut, Fault}
 use Rattle.cbor_diag.specs.Turns.{item_turns, cut_spent, fault_spent}
 
@@ -75,11 +73,11 @@ abbrev pub GaveItem : Result DataItem Error → Item → Type 0
 GaveItem result i = MatchResult result (λ x. view x ≡ i) (λ e. e ≡ refusal.Memory)
 
 -- A printer of the front of an input gave this outcome, and of an item its text after the old one, or memory ran out.
-abbrev pub GavePart : Result (Option ℕ) Error → List ℕ → List ℕ → Outcome → Type 0
-GavePart (Ok (Some n)) old new o = (i : Item) × (o ≡ spelled i n) × (new ≡ old ++ compact Base16 1 i)
-GavePart (Ok None) old new o = o ≡ cut
-GavePart (Err refusal.Memory) old new o = Unit {0}
-GavePart (Err e) old new o = o ≡ fault e
+abbrev pub GavePart : (Item → List ℕ) → Result (Option ℕ) Error → List ℕ → List ℕ → Outcome → Type 0
+GavePart text (Ok (Some n)) old new o = (i : Item) × (o ≡ spelled i n) × (new ≡ old ++ text i)
+GavePart text (Ok None) old new o = o ≡ cut
+GavePart text (Err refusal.Memory) old new o = Unit {0}
+GavePart text (Err e) old new o = o ≡ fault e
 
 -- A reader refused so, or memory ran out.
 abbrev pub GaveRefusal : {X : Type 0} → Result X Error → Error → Type 0

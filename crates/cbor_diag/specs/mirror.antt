@@ -8,6 +8,7 @@ pub mod Scanned
 pub mod NotationReading
 pub mod Appends
 pub mod Straight
+pub mod Ahead
 pub mod AtLevel
 pub mod Dumped
 pub mod Widths

@@ -29,8 +29,9 @@ mod rewrite;
 mod syntax;
 
 pub use encode::{
-    bytes_to_diag, bytes_to_hex, hex_to_diag, hex_to_hex, push_bytes_to_diag,
-    push_bytes_to_diag_partial, push_bytes_to_hex, push_bytes_to_hex_partial,
+    bytes_to_diag, bytes_to_diag_pretty, bytes_to_hex, hex_to_diag, hex_to_diag_pretty, hex_to_hex,
+    push_bytes_to_diag, push_bytes_to_diag_partial, push_bytes_to_diag_pretty,
+    push_bytes_to_diag_pretty_partial, push_bytes_to_hex, push_bytes_to_hex_partial,
 };
 pub use error::{Error, Result};
 pub use parse::{

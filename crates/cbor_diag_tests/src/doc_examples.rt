@@ -3,9 +3,10 @@
 // docs/DUMP.md.
 
 use cbor_diag::{
-    Error, Extent, Scanner, bytes_to_bytes, bytes_to_diag, bytes_to_hex, extent, hex_fault,
-    hex_place, hex_to_bytes, hex_to_diag, hex_to_hex, parse_bytes, parse_bytes_partial, parse_diag,
-    parse_hex, push_bytes_to_diag_partial, push_bytes_to_hex_partial,
+    Error, Extent, Scanner, bytes_to_bytes, bytes_to_diag, bytes_to_diag_pretty, bytes_to_hex,
+    extent, hex_fault, hex_place, hex_to_bytes, hex_to_diag, hex_to_diag_pretty, hex_to_hex,
+    parse_bytes, parse_bytes_partial, parse_diag, parse_hex, push_bytes_to_diag_partial,
+    push_bytes_to_diag_pretty_partial, push_bytes_to_hex_partial,
 };
 use std::alloc::Global;
 use std::process::Abort;
@@ -124,6 +125,20 @@ fn of_dumped_hex(rt: &impl Abort, alloc: Global) -> Result<(), Fail> {
     Ok(())
 }
 
+fn of_shown_lines(rt: &impl Abort, alloc: Global) -> Result<(), Fail> {
+    let text = bytes_to_diag_pretty(alloc, b"\x9f\x01\x82\x02\x03\xff")?;
+    assert_eq!(rt; text.as_str(), "[_ 1, [2, 3]]");
+    // An array, and after it an integer that is cut.
+    let mut out = String::new(alloc);
+    let bytes = b"\x82\x01\x02\x19";
+    let used = push_bytes_to_diag_pretty_partial(alloc, bytes, &mut out)?;
+    assert_eq!(rt; used, Some(3));
+    assert_eq!(rt; out.as_str(), "[1, 2]");
+    let text = hex_to_diag_pretty(alloc, "83       # array(3)\n   01 02 03\n")?;
+    assert_eq!(rt; text.as_str(), "[1, 2, 3]");
+    Ok(())
+}
+
 fn of_encodings(rt: &impl Abort, alloc: Global) -> Result<(), Fail> {
     let bytes = bytes_to_bytes(alloc, Vec::from_slice(alloc, b"\x82\xf8\x14\x19\x00\x05")?)?;
     assert_eq!(rt; bytes.as_slice(), b"\x82\xf4\x19\x00\x05".as_slice());
@@ -175,6 +190,7 @@ fn examples_of_doc_comments(rt: HostRuntime) -> Result<(), Fail> {
     of_dumped_bytes(&rt, rt.alloc())?;
     of_dumped_parts(&rt, rt.alloc())?;
     of_dumped_hex(&rt, rt.alloc())?;
+    of_shown_lines(&rt, rt.alloc())?;
     of_encodings(&rt, rt.alloc())?;
     of_extents(&rt);
     of_pieces(&rt);

@@ -1,9 +1,11 @@
 // Notation straight from bytes and from hex. Most items are examples of RFC 7049, appendix A; their
 // texts follow docs/NOTATION.md.
 
-use crate::calls::{bytes_of, check, nested};
+use crate::calls::{View, bytes_of, check, check_same, nested};
 use cbor_diag::{
-    Error, Result, bytes_to_diag, hex_to_diag, push_bytes_to_diag, push_bytes_to_diag_partial,
+    Error, Result, bytes_to_diag, bytes_to_diag_pretty, hex_to_diag, hex_to_diag_pretty,
+    push_bytes_to_diag, push_bytes_to_diag_partial, push_bytes_to_diag_pretty,
+    push_bytes_to_diag_pretty_partial,
 };
 use std::alloc::Global;
 use std::process::Abort;
@@ -41,6 +43,31 @@ const ITEMS: &[(&str, &str)] = &[
     ("d818456449455446", "24_0(<<\"IETF\">>)"),
     ("d8184164", "24_0(h'64')"),
     ("d83f43010264", "63_0(<<1,2>>h'64')"),
+];
+
+/// Bytes in hex of items whose pretty text has embedded items, containers of more than a line, or both.
+const LONG_ITEMS: &[&str] = &[
+    // arrays that are just too long for a line, and just short enough
+    "8e0001020304050607080900010203",
+    "8d00010203040506070809000102",
+    "9f0001020304050607080900010203ff",
+    // a map with an array in it, and an indefinite string
+    "a2781e414141414141414141414141414141414141414141414141414141414141781e424242424242424242424242424242424242424242424242424242424242029f01ff",
+    "5f5818000102030405060708090a0b0c0d0e0f10111213141516174101ff",
+    // tag 24 over an array of one line, over one of several, over bytes that are cut, and over two items
+    "d8184483010203",
+    "d8185190000102030405060708090a0b0c0d0e0f",
+    "d81843830102",
+    "d818420102",
+    // tag 63 over items on one line, on several, with a rest, in an array of several lines, and over none
+    "d83f4401820203",
+    "d83f50000102030405060708090a0b0c0d0e0f",
+    "d83f43018302",
+    "82781e414141414141414141414141414141414141414141414141414141414141d83f58388201027832414141414141414141414141414141414141414141414141414141414141414141414141414141414141414141414141414183",
+    "d83f40",
+    // one embedded in the other
+    "d81848d83f4501d8184183",
+    "d818582982d8185190000102030405060708090a0b0c0d0e0fd8185190000102030405060708090a0b0c0d0e0f",
 ];
 
 /// Bytes in hex, the error of all of them, and the result on them and what may follow.
@@ -126,4 +153,78 @@ fn levels_end_at_128(rt: HostRuntime) {
         Err(error) => panic!(rt; "{error:?}"),
     }
     check(&rt, levels(rt.alloc(), 128), "TooDeep", "128 arrays");
+}
+
+fn lines_of(alloc: Global, digits: &str) -> Result<String> {
+    bytes_to_diag_pretty(alloc, &bytes_of(alloc, digits)?)
+}
+
+/// The pretty text of bytes is that of the item that they are.
+fn check_lines(rt: &impl Abort, alloc: Global, digits: &str) {
+    let expected = crate::calls::of_bytes(alloc, View::Pretty, digits);
+    check_same(rt, lines_of(alloc, digits), expected, digits);
+}
+
+#[test]
+fn lines_are_those_of_the_item(rt: HostRuntime) {
+    for (digits, _) in ITEMS {
+        check_lines(&rt, rt.alloc(), digits);
+    }
+    for (digits, _, _) in REFUSED {
+        check_refused_lines(&rt, rt.alloc(), digits);
+    }
+    for digits in LONG_ITEMS {
+        check_lines(&rt, rt.alloc(), digits);
+    }
+    let text = hex_to_diag_pretty(rt.alloc(), "d8 18 44 # tag\n 83 01 02 03");
+    check(&rt, text, "24_0(<<[1, 2, 3]>>)", "hex");
+}
+
+/// Bytes that are not one item leave the text, and give the same errors for both texts.
+fn check_refused_lines(rt: &impl Abort, alloc: Global, digits: &str) {
+    check_same(rt, lines_appended(alloc, digits), appended(alloc, "", digits), digits);
+    check_same(rt, lines_found(alloc, digits), found(alloc, digits), digits);
+}
+
+/// The pretty text of bytes in hex digits, or the name of the error.
+fn lines_appended(alloc: Global, digits: &str) -> Result<String> {
+    let bytes = bytes_of(alloc, digits)?;
+    let mut out = String::new(alloc);
+    if let Err(error) = push_bytes_to_diag_pretty(alloc, &bytes, &mut out) {
+        out.push_str(format!(in alloc; "{error:?}")?.as_str())?;
+    }
+    Ok(out)
+}
+
+/// How many bytes the item takes that bytes begin with, by the one call and by the other.
+fn lines_found(alloc: Global, digits: &str) -> Result<String> {
+    let bytes = bytes_of(alloc, digits)?;
+    let mut out = String::new(alloc);
+    let used = push_bytes_to_diag_pretty_partial(alloc, &bytes, &mut out);
+    Ok(format!(in alloc; "{used:?}")?)
+}
+
+fn found(alloc: Global, digits: &str) -> Result<String> {
+    let bytes = bytes_of(alloc, digits)?;
+    let mut out = String::new(alloc);
+    let used = push_bytes_to_diag_partial(alloc, &bytes, &mut out);
+    Ok(format!(in alloc; "{used:?}")?)
+}
+
+/// Arrays one in the other, each with a text that makes it just too long for a line, many times one after
+/// the other: a look ahead at each ends at its text, so that all takes the time of one.
+#[test]
+fn each_container_is_too_long_for_a_line(rt: HostRuntime) {
+    let opening = "8278344141414141414141414141414141414141414141414141414141\
+        4141414141414141414141414141414141414141414141414141";
+    match nested(rt.alloc(), opening, 126, "00", "") {
+        Ok(one) => match nested(rt.alloc(), one.as_str(), 20, "", "") {
+            Ok(many) => match nested(rt.alloc(), "94", 1, many.as_str(), "") {
+                Ok(digits) => check_lines(&rt, rt.alloc(), digits.as_str()),
+                Err(error) => panic!(rt; "{error:?}"),
+            },
+            Err(error) => panic!(rt; "{error:?}"),
+        },
+        Err(error) => panic!(rt; "{error:?}"),
+    }
 }

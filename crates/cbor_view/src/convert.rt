@@ -7,8 +7,9 @@ use cbor_convert::{Source, To, read_item, write_item};
 use cbor_diag::{Error, bytes_to_bytes};
 use std::alloc::Global;
 
-/// Returns the output for an input. What is written of an item is written in the memory of the input
-/// if it can be: that was used already, and fresh memory takes longer.
+/// Returns the output for an input. The encoding of bytes is the input itself, in its memory. Of
+/// notation an item is built, and what is written of it is written in the memory of the input if it
+/// can be: that was used already, and fresh memory takes longer.
 ///
 /// The item is not dropped. Only the writing of the output comes after it, and to free its many
 /// small blocks one by one takes long.
@@ -16,15 +17,19 @@ pub(crate) fn convert(alloc: Global, from: Source, to: To, input: Vec<u8>) -> Re
     ensures ok { IfOk result (λ output. IsOutput from to input.items (Ok output.items)) }
     ensures refused { RefusedSo result (λ e. IsOutput from to input.items (Err e)) }
 {
-    if let (Source::Bytes, To::Bytes) = (from, to) {
-        return bytes_to_bytes(alloc, input);
+    match (from, to) {
+        (Source::Bytes, To::Bytes) => bytes_to_bytes(alloc, input),
+        (Source::Diag, _) => from_notation(alloc, to, input),
+        _ => cbor_convert::convert(alloc, from, to, &input),
     }
-    if let To::Bytes | To::Hex | To::Diag = to {
-        if let Source::Bytes | Source::Hex = from {
-            return cbor_convert::convert(alloc, from, to, &input);
-        }
-    }
-    let item = read_item(alloc, from, &input)?;
+}
+
+/// The same for an input in notation.
+fn from_notation(alloc: Global, to: To, input: Vec<u8>) -> Result<Vec<u8>, Error>
+    ensures ok { IfOk result (λ output. IsOutput Source.Diag to input.items (Ok output.items)) }
+    ensures refused { RefusedSo result (λ e. IsOutput Source.Diag to input.items (Err e)) }
+{
+    let item = read_item(alloc, Source::Diag, &input)?;
     let output = write_item(alloc, to, &item, input);
     std::mem::forget(item);
     output

@@ -12,7 +12,9 @@ use crate::error::ViewError;
 use crate::run::{read_to_end, write_whole};
 use crate::words::To;
 use cbor_convert::write_item;
-use cbor_diag::{Error, parse_bytes_partial, push_bytes_to_diag_partial};
+use cbor_diag::{
+    Error, parse_bytes_partial, push_bytes_to_diag_partial, push_bytes_to_diag_pretty_partial,
+};
 use std::alloc::Global;
 use std::io::{Read, Write};
 
@@ -158,8 +160,10 @@ fn append_first(alloc: Global, to: To, bytes: &[u8], block: &mut Vec<u8>) -> Res
     ensures refused { RefusedSo result (EndsTheItems bytes.now) }
     ensures unchanged { OnErr result (block.new.items ≡ block.old.items) }
 {
-    if let To::Diag = to {
-        return append_line(alloc, bytes, block);
+    match to {
+        To::Diag => return append_line(alloc, bytes, block),
+        To::Pretty => return append_pretty(alloc, bytes, block),
+        To::Bytes | To::Hex => {}
     }
     let Some((item, used)) = parse_bytes_partial(alloc, bytes)? else {
         return Err(Error::CutShort);
@@ -186,5 +190,24 @@ fn append_line(alloc: Global, bytes: &[u8], block: &mut Vec<u8>) -> Result<usize
     };
     line.push('\n')?;
     block.extend_from_slice(line.as_bytes())?;
+    Ok(used)
+}
+
+/// The same over several lines where it is long.
+fn append_pretty(alloc: Global, bytes: &[u8], block: &mut Vec<u8>) -> Result<usize, Error>
+    requires { 0 < length bytes.now }
+    ensures used { IfOk result (λ used. (1 ≤ used) × (used ≤ length bytes.now)) }
+    ensures output { IfOk result (λ used. (written : List ℕ)
+        × IsOutputOfFirst To.Pretty bytes.now written (drop used bytes.now)
+        × (block.new.items ≡ block.old.items ++ written)) }
+    ensures refused { RefusedSo result (EndsTheItems bytes.now) }
+    ensures unchanged { OnErr result (block.new.items ≡ block.old.items) }
+{
+    let mut lines = String::new(alloc);
+    let Some(used) = push_bytes_to_diag_pretty_partial(alloc, bytes, &mut lines)? else {
+        return Err(Error::CutShort);
+    };
+    lines.push('\n')?;
+    block.extend_from_slice(lines.as_bytes())?;
     Ok(used)
 }

@@ -122,7 +122,7 @@ pub joined_pairs-none : (ps : Pairs) → joined_pairs ps no_pairs ≡ ps
 joined_pairs-none no_pairs = refl
 joined_pairs-none (pair k v ps) = ap (pair k v) (joined_pairs-none ps)
 
-joined_one : (is : Items) (i : Item) (js : Items) → joined (joined is (item i no_items)) js ≡ joined is (item i js)
+pub joined_one : (is : Items) (i : Item) (js : Items) → joined (joined is (item i no_items)) js ≡ joined is (item i js)
 joined_one no_items i js = refl
 joined_one (item j is) i js = ap (item j) (joined_one is i js)
 

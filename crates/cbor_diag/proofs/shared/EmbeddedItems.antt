@@ -1,78 +1,24 @@
 -- Embedded items: what a reader answers is what `embedded` and `sequence` say.
-use Rattle.std.proofs.Common.{◌≡◌, ◌≢◌, ℕ, zero, suc, ◌+◌, ◌-◌, ◌<◌, ◌≤◌, List, [], ◌∷◌, ◌++◌, length, take, drop, Some}
-use Rattle.std.proofs.Common.{None, Ok, Err, refl, sym, ap, subst, ◌∙◌, arith}
-use Rattle.std.proofs.lemmas.List.{append-nil, length-append, length-drop, length-take, nil_from_length}
+use Rattle.std.proofs.Common.{◌≡◌, ◌≢◌, ℕ, zero, suc, ◌+◌, ◌-◌, ◌≤◌, List, [], ◌∷◌, ◌++◌, length, Some}
+use Rattle.std.proofs.Common.{Ok, Err, refl, sym, ap, subst, ◌∙◌, arith}
+use Rattle.std.proofs.lemmas.List.{append-nil, length-append, nil_from_length}
 use Rattle.cbor_diag.specs.declared.error.Error.{Error}
 use Rattle.cbor_diag.specs.declared.error.Error.TheVariants as refusal
-use Rattle.cbor_diag.specs.declared.syntax.DataItem.{DataItem}
 use Rattle.cbor_diag.specs.Item.{Item, Items, no_items, item}
-use Rattle.cbor_diag.specs.View.{view, items_view}
 use Rattle.cbor_diag.specs.Bytes.{any, Spells, SpellsItems}
 use Rattle.cbor_diag.specs.Answer.{spelled, cut, fault, IsOutcome, HasOutcome, HasAnswer, IsRefused}
 use Rattle.cbor_diag.specs.Reading.{Read, read_item}
-use Rattle.cbor_diag.specs.Embedded.{if_whole, embedded_at, before, and_then, sequence_of, sequence_at, EmbedsExactly}
+use Rattle.cbor_diag.specs.Embedded.{if_whole, embedded_at, before, and_then, sequence_of, EmbedsExactly}
 use Rattle.cbor_diag.specs.Embedded.{RejectsExactly}
 use Rattle.cbor_diag.specs.Refused.{Cut}
-use Rattle.cbor_diag.specs.WellFormed.{WellFormedItems}
-use Rattle.cbor_diag.proofs.bytes.Heads.{IsBytes, IsBytes-drop, IsBytes-take}
-use Rattle.cbor_diag.proofs.bytes.PublicReaders.{whole_well_formed}
+use Rattle.cbor_diag.proofs.bytes.Heads.{IsBytes}
 use Rattle.cbor_diag.proofs.bytes.Sizes.{one_byte}
 use Rattle.cbor_diag.proofs.bytes.Found.{item_takes}
 use Rattle.cbor_diag.proofs.bytes.FoundAgain.{item_again}
 use Rattle.cbor_diag.proofs.bytes.Refusals.{item_nothing}
 use Rattle.cbor_diag.proofs.bytes.ExactlyOne.{outcome_reads}
-use Rattle.cbor_diag.proofs.notation.ChunkLoops.{joined, joined-none, item_joins}
-use Rattle.cbor_diag.proofs.shared.Views.{items_push}
 
--- ---- one item
-
-bytes_after : (i : Item) (r : List ℕ) → r ≢ [] → if_whole (Ok (i, r)) ≡ None
-bytes_after i [] h = absurd (h refl)
-bytes_after i (x ∷ r) h = refl
-
-pub no_whole_item : (level : ℕ) (b : List ℕ) (e : Error) → level ≤ 129 → IsRefused level b e
-    → embedded_at (129 - level) b ≡ None
-no_whole_item level b refusal.CutShort le h = ap if_whole (outcome_reads level (129 - level) b cut (omega arith) h)
-no_whole_item level b refusal.Head le h = ap if_whole
-    (outcome_reads level (129 - level) b (fault refusal.Head) (omega arith) h)
-no_whole_item level b refusal.Utf8 le h = ap if_whole
-    (outcome_reads level (129 - level) b (fault refusal.Utf8) (omega arith) h)
-no_whole_item level b refusal.TooDeep le h =
-    ap if_whole (outcome_reads level (129 - level) b (fault refusal.TooDeep) (omega arith) h)
-no_whole_item level b refusal.Remaining le h =
-    let more : drop h.1 b ≢ [] = λ e. omega (arith, length-drop h.1 b, ap length e, h.2) in
-    ap if_whole (outcome_reads level (129 - level) b (spelled h.0 h.1) (omega arith) (omega (arith, h.2), h.3))
-    ∙ bytes_after h.0 (drop h.1 b) more
-no_whole_item level b _ le h = absurd h
-
--- ---- a sequence
-
--- items before a sequence
-abbrev pub onto : Items → Items × List ℕ → Items × List ℕ
-onto is s = (joined is s.0, s.1)
-
--- an item more was read
-pub sequence_more : (left steps used : ℕ) (vs : List DataItem) (v : DataItem) (b : List ℕ) (whole : Items × List ℕ)
-    → read_item left b ≡ Ok (view v, drop used b) → length b ≤ steps → 1 ≤ used → used ≤ length b
-    → onto (items_view vs) (sequence_of (read_item left) steps b) ≡ whole
-    → (m : ℕ) × (length (drop used b) ≤ m) × (onto (items_view (vs ++ v ∷ []))
-    (sequence_of (read_item left) m (drop used b)) ≡ whole)
-unfolding sequence_of
-sequence_more left zero used vs v b whole e enough some within h = absurd (omega arith)
-sequence_more left (suc m) used vs v b whole e enough some within h =
-    let s = sequence_of (read_item left) m (drop used b) in
-    let here : onto (items_view vs) (before (view v) s) ≡ whole = rw e at h in
-    (m, omega (arith, length-drop used b), ap (λ is. (is, s.1)) (sym (item_joins vs v s.0)) ∙ here)
-
--- no item more can be read
-pub sequence_end : (left steps : ℕ) (is : Items) (b : List ℕ) (e : Error) (whole : Items × List ℕ)
-    → read_item left b ≡ Err e
-    → onto is (sequence_of (read_item left) steps b) ≡ whole → (is, b) ≡ whole
-unfolding sequence_of
-sequence_end left zero is b e whole ends h = ap (λ js. (js, b)) (sym (joined-none is)) ∙ h
-sequence_end left (suc n) is b e whole ends h =
-    let here : onto is (no_items, b) ≡ whole = rw ends at h in
-    ap (λ js. (js, b)) (sym (joined-none is)) ∙ here
+-- ---- what a reader refuses
 
 -- the front of an input is at fault, where a reader refuses it for another reason than memory
 pub fault_is : (level : ℕ) (b : List ℕ) (e : Error) → e ≢ refusal.Memory → HasOutcome level b (Err e)
@@ -85,43 +31,6 @@ pub refused_is : (level : ℕ) (b : List ℕ) (e : Error) → e ≢ refusal.Memo
     → IsRefused level b e
 refused_is level b refusal.Memory other h = absurd (other refl)
 refused_is level b _ other h = h
-
--- ---- what the loop over a sequence keeps
-
--- the items so far and those of the rest are the whole sequence
-pub record SoFar (level : ℕ) (vs : List DataItem) (b : List ℕ) (whole : Items × List ℕ) : Type 0 where
-  pub steps : ℕ
-  pub enough : length b ≤ steps
-  pub same : onto (items_view vs) (sequence_of (read_item (129 - level)) steps b) ≡ whole
-  pub well_formed : WellFormedItems level (items_view vs)
-  pub bytes : IsBytes b
-
-pub at_first : (level : ℕ) (b : List ℕ) → IsBytes b → SoFar level [] b (sequence_at (129 - level) b)
-at_first level b fits = record { steps = length b; enough = omega arith; same = refl; well_formed = tt; bytes = fits }
-
-pub one_more : (level used : ℕ) (vs : List DataItem) (v : DataItem) (b : List ℕ) (whole : Items × List ℕ) → level ≤ 129
-    → IsOutcome level b (spelled (view v) used) → SoFar level vs b whole
-    → SoFar level (vs ++ v ∷ []) (drop used b) whole × (length (drop used b) < length b)
-one_more level used vs v b whole le h s =
-    let within : used ≤ length b = h.0 in
-    let some : 1 ≤ used = omega (arith, one_byte level (take used b) (view v) h.1, length-take used b) in
-    let more = sequence_more (129 - level) s.steps used vs v b whole
-    (outcome_reads level (129 - level) b (spelled (view v) used) (omega arith) h) s.enough some within s.same in
-    let well = whole_well_formed level (take used b) (Ok v) (IsBytes-take used b s.bytes) h.1 in (
-      record {
-        steps = more.0;
-        enough = more.1;
-        same = more.2;
-        well_formed =
-            items_push level vs v s.well_formed well;
-        bytes = IsBytes-drop used b s.bytes;
-      },
-      omega (arith, length-drop used b),
-    )
-
-pub no_more : (level : ℕ) (vs : List DataItem) (b : List ℕ) (e : Error) (whole : Items × List ℕ)
-    → read_item (129 - level) b ≡ Err e → SoFar level vs b whole → (items_view vs, b) ≡ whole
-no_more level vs b e whole ends s = sequence_end (129 - level) s.steps (items_view vs) b e whole ends s.same
 
 pub cut_ends : (level : ℕ) (b : List ℕ) → level ≤ 129 → Cut level b → read_item (129 - level) b ≡ Err refusal.CutShort
 cut_ends level b le h = outcome_reads level (129 - level) b cut (omega arith) h

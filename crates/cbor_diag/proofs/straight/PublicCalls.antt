@@ -10,7 +10,7 @@ use Rattle.cbor_diag.specs.Bytes.{any, Spells}
 use Rattle.cbor_diag.specs.Refused.{Cut, Fault}
 use Rattle.cbor_diag.specs.Answer.{Outcome, spelled, fault, IsOutcome, OneOutcome, IsRefused, RefusedSo}
 use Rattle.cbor_diag.specs.Answer.{GavePart, GaveRefusal}
-use Rattle.cbor_diag.specs.Facts.{BeginsWithItem, diag_of}
+use Rattle.cbor_diag.specs.Facts.{BeginsWithItem}
 use Rattle.cbor_diag.specs.Reading.{Fails, read_item}
 use Rattle.cbor_diag.proofs.bytes.Heads.{IsBytes}
 use Rattle.cbor_diag.proofs.bytes.CutShort.{cut_takes}
@@ -88,14 +88,15 @@ every_refusal b (Err f) P one ok refused e h =
 
 -- ---- the front
 
-pub gave_text : (b rest : List ℕ) (i : Item) (old new : List ℕ) (o : Outcome) → IsBytes b → OneOutcome 1 b
-    → read_item 128 b ≡ Ok (i, rest) → new ≡ old ++ diag_of i → IsOutcome 1 b o
-    → GavePart (Ok (Some (length b - length rest))) old new o
-gave_text b rest i old new o fits one e written h =
+pub gave_text : (text : Item → List ℕ) (b rest : List ℕ) (i : Item) (old new : List ℕ) (o : Outcome) → IsBytes b
+    → OneOutcome 1 b → read_item 128 b ≡ Ok (i, rest) → new ≡ old ++ text i → IsOutcome 1 b o
+    → GavePart text (Ok (Some (length b - length rest))) old new o
+gave_text text b rest i old new o fits one e written h =
     (i, same b (spelled i (length b - length rest)) o one (found_outcome 1 128 b i rest refl fits e) h, written)
 
-pub gave_fault : (b : List ℕ) (e : Error) (old new : List ℕ) (o : Outcome) → IsBytes b → OneOutcome 1 b
-    → e ≢ refusal.CutShort → Fails e (read_item 128 b) → IsOutcome 1 b o → GavePart (Err e) old new o
-gave_fault b refusal.Memory old new o fits one no_cut h is = tt
-gave_fault b e old new o fits one no_cut h is =
+pub gave_fault : (text : Item → List ℕ) (b : List ℕ) (e : Error) (old new : List ℕ) (o : Outcome) → IsBytes b
+    → OneOutcome 1 b → e ≢ refusal.CutShort → Fails e (read_item 128 b) → IsOutcome 1 b o
+    → GavePart text (Err e) old new o
+gave_fault text b refusal.Memory old new o fits one no_cut h is = tt
+gave_fault text b e old new o fits one no_cut h is =
     same b (fault e) o one (front_fault b e fits no_cut h (λ x. absurd cc)) is

@@ -1,16 +1,20 @@
 -- What is printed from bytes, in one pass with their reading.
-use Rattle.std.specs.Prelude.{◌≡◌, ℕ, zero, suc, ◌+◌, List, ◌++◌, codes, Ok}
+use Rattle.std.specs.Prelude.{◌≡◌, ℕ, zero, suc, ◌+◌, List, ◌++◌, codes, true, false, None, Ok}
+use Rattle.cbor_diag.specs.declared.encode.notation.context.Layout.{Layout}
 use Rattle.cbor_diag.specs.declared.encode.notation.context.NotationContext.{NotationContext}
 use Rattle.cbor_diag.specs.declared.syntax.strings.StringContent.{StringContent}
 use Rattle.cbor_diag.specs.declared.syntax.strings.StringContent.TheVariants as content
-use Rattle.cbor_diag.specs.Item.{Item}
+use Rattle.cbor_diag.specs.Encoding.{Base16}
+use Rattle.cbor_diag.specs.Embedded.{sequence_at}
+use Rattle.cbor_diag.specs.Item.{Item, item_count}
 use Rattle.cbor_diag.specs.ItemHead.{ItemHead}
-use Rattle.cbor_diag.specs.Layout.{Compact}
-use Rattle.cbor_diag.specs.NotationText.{text}
+use Rattle.cbor_diag.specs.ContainerStyle.{ContainerStyle}
+use Rattle.cbor_diag.specs.NotationText.{text, in_encoding, last_line, text_at_level}
+use Rattle.cbor_diag.specs.NotationText as shown
 use Rattle.cbor_diag.specs.StringKind.{StringKind, no_chunks}
 use Rattle.cbor_diag.specs.Reading.{Read, opened, read_body, counted_item, read_item}
 use Rattle.cbor_diag.specs.WellFormed.{levels_left}
-use Rattle.cbor_diag.specs.mirror.LayoutView.{layout_view, context_view, content_there}
+use Rattle.cbor_diag.specs.mirror.LayoutView.{layout_view, context_view, content_there, items_there, before_member}
 
 -- Reading gives an item before the rest, and its text is written after the old one.
 abbrev pub Printed : (Item → List ℕ) → Read Item → List ℕ → List ℕ → List ℕ → Type 0
@@ -24,20 +28,27 @@ read_there c b = read_item (levels_left c.level) b
 abbrev pub read_after : NotationContext → ItemHead → List ℕ → Read Item
 read_after c h b = (read_body (counted_item (levels_left (c.level + 1))) (opened h) h b).1
 
--- all is on one line
-abbrev pub IsCompact : NotationContext → Type 0
-IsCompact c = layout_view c.layout ≡ Compact
+-- the text of an item at the outermost level in this layout
+abbrev pub text_in : Layout → Item → List ℕ
+text_in layout i = text_at_level 1 (in_encoding (layout_view layout) Base16) i
 
 -- the text of a string of definite length there
 abbrev pub string_there : NotationContext → StringContent → List ℕ
 string_there c (content.Bytes bytes) = content_there c (context_view c).content bytes.now
 string_there c (content.Text t) = text t.now
 
--- what is written before a chunk after so many others, and after the last
-abbrev pub before_chunk : ℕ → List ℕ
-before_chunk zero = codes "(_"
-before_chunk (suc held) = codes ","
+-- So many items can be read from the bytes one after the other, and this is the rest; they are written in this style
+-- after the opening brackets.
+abbrev pub WritesSequence : NotationContext → ContainerStyle → List ℕ → ℕ → List ℕ → List ℕ → List ℕ → Type 0
+WritesSequence c l b count rest old new =
+    let found = sequence_at (levels_left (c.level + 1)) b in
+    (item_count found.0 ≡ count) × (found.1 ≡ rest) × (new ≡ (old ++ codes "<<") ++ items_there c l found.0)
 
-abbrev pub after_chunks : StringKind → ℕ → List ℕ
-after_chunks kind zero = no_chunks kind
-after_chunks kind (suc held) = codes ")"
+-- what is written before a chunk after so many others, and after the last
+abbrev pub before_chunk : ContainerStyle → ℕ → List ℕ
+before_chunk l zero = shown.opened l (codes "(") None ++ before_member l true
+before_chunk l (suc held) = before_member l false
+
+abbrev pub after_chunks : ContainerStyle → StringKind → ℕ → List ℕ
+after_chunks l kind zero = no_chunks kind
+after_chunks l kind (suc held) = last_line l ++ codes ")"

@@ -4,11 +4,12 @@
 //! Compact and pretty text are written by the same functions: they differ in their `Layout` alone.
 #![tactic(auto, using(crate::proofs::shared::Appending::appending_steps))]
 
+mod ahead;
 mod context;
-mod embedded;
 mod estimate;
 mod from_bytes;
 mod members;
+mod outermost;
 mod scalars;
 mod straight;
 
@@ -27,7 +28,6 @@ ghost use Rattle.cbor_diag.specs.Pretty.{pretty, in_one_line, in_lines, encoded_
 ghost use Rattle.cbor_diag.specs.Pretty.{sequence_in_one_line, sequence_in_lines};
 ghost use Rattle.cbor_diag.specs.Facts.{IsWellFormed, diag_of, pretty_of, normal_of};
 ghost use Rattle.cbor_diag.specs.WellFormed.{deepest, WellFormed, WellFormedItems, WellFormedPairs};
-ghost use Rattle.cbor_diag.specs.Layout as shown;
 ghost use Rattle.cbor_diag.specs.mirror.LayoutView.{layout_view, style_view, context_view};
 ghost use Rattle.cbor_diag.specs.mirror.LayoutView.{IsIndented, item_text, items_there};
 ghost use Rattle.cbor_diag.specs.mirror.LayoutView.{pairs_there, content_there};
@@ -37,15 +37,16 @@ ghost use Rattle.cbor_diag.specs.Embedded.{sequence, EmbedsExactly};
 
 use crate::error::Error;
 use crate::syntax::{ByteString, DataItem, IntegerWidth, Tag, TextString};
-use context::{ContainerStyle, Content, Layout, NotationContext};
-use embedded::{embedded, sequence};
-use members::{
-    push_chunks, push_closing, push_colon, push_end, push_opening, push_rest, push_start,
-};
+use context::{ContainerStyle, Layout, NotationContext};
+use from_bytes::push_content;
+use members::{push_chunks, push_closing, push_colon, push_end, push_opening, push_start};
 pub(crate) use scalars::push_quoted;
 use scalars::{push_float, push_negative, push_number, push_simple, push_text};
 use std::alloc::{AllocError, Global};
-pub use straight::{bytes_to_diag, hex_to_diag, push_bytes_to_diag, push_bytes_to_diag_partial};
+pub use straight::{
+    bytes_to_diag, bytes_to_diag_pretty, hex_to_diag, hex_to_diag_pretty, push_bytes_to_diag,
+    push_bytes_to_diag_partial, push_bytes_to_diag_pretty, push_bytes_to_diag_pretty_partial,
+};
 
 /// Writes an item.
 ///
@@ -190,69 +191,6 @@ fn push_pairs(
         first = false;
     }
     Ok(())
-}
-
-/// Writes the bytes of a byte string, or the items that they are where these are shown and can
-/// be read.
-#[cycle(text)]
-fn push_content(out: &mut String, bytes: &[u8], context: &NotationContext) -> Result<(), AllocError>
-    requires level { context.now.level ≤ deepest }
-    requires indent { IsIndented context.now }
-    ensures { AppendsText result out.old out.new
-        (content_there context.now (context_view context.now).content bytes.now) }
-{
-    match context.content {
-        Content::Bytes => push_quoted(out, bytes, context.encoding),
-        Content::Item => push_embedded(out, bytes, context),
-        Content::Sequence => push_sequence(out, bytes, context),
-    }
-}
-
-/// Writes the item that the bytes are, or the bytes where they are none.
-#[cycle(text)]
-#[inline(never)]
-fn push_embedded(
-    out: &mut String,
-    bytes: &[u8],
-    context: &NotationContext,
-) -> Result<(), AllocError>
-    requires level { context.now.level ≤ deepest }
-    requires indent { IsIndented context.now }
-    ensures { AppendsText result out.old out.new (content_there context.now shown.Item bytes.now) }
-{
-    let inner = context.inside(context.layout);
-    if bytes.is_empty() {
-        out.push_str("<<>>")?;
-    } else if let Some(item) = embedded(inner.alloc, bytes, inner.level)? {
-        out.push_str("<<")?;
-        push_item(out, &item, &inner)?;
-        out.push_str(">>")?;
-    } else {
-        push_quoted(out, bytes, context.encoding)?;
-    }
-    Ok(())
-}
-
-/// Writes as many items as can be read one after the other, and the rest as bytes.
-#[cycle(text)]
-#[inline(never)]
-fn push_sequence(
-    out: &mut String,
-    bytes: &[u8],
-    context: &NotationContext,
-) -> Result<(), AllocError>
-    requires level { context.now.level ≤ deepest }
-    requires indent { IsIndented context.now }
-    ensures { AppendsText result out.old out.new
-        (content_there context.now shown.Sequence bytes.now) }
-{
-    let (items, rest) = sequence(context.alloc, bytes, context.level + 1)?;
-    let style = context.layout.array_style(&items);
-    out.push_str("<<")?;
-    push_items(out, &items, style, context)?;
-    push_closing(out, style, '>')?;
-    out.push('>')?;
-    push_rest(out, rest, context)
 }
 
 /// Writes an item at the outermost level. After an error the text is what it was.

@@ -44,6 +44,7 @@ use stack::Stack;
 use std::alloc::Global;
 pub(crate) use strict::is_strict;
 use strings::{read_chunks, read_string};
+pub(crate) use strings::{read_chunk_length, split_at};
 
 /// The error below the deepest level: `TooDeep` if there are bytes for an item, otherwise
 /// `CutShort`.

@@ -4,22 +4,25 @@
 //! Each function takes a budget of characters and returns what its part leaves of it: 0 where
 //! the part takes all of it or more. Nothing after that is looked at, so an item is looked at
 //! in steps that the budget bounds, however large it is.
-ghost use Rattle.std.specs.Prelude.{◌≡◌, ◌+◌, ◌-◌, ◌*◌, ◌^◌, ◌≤◌, nat_lt, map, if◌then◌else◌};
+ghost use Rattle.std.specs.Prelude.{◌≡◌, ◌+◌, ◌-◌, ◌*◌, ◌^◌, ◌≤◌, nat_lt, length, map};
+ghost use Rattle.std.specs.Prelude.{if◌then◌else◌};
+ghost use Rattle.cbor_diag.specs.Item.{Chunk};
 ghost use Rattle.cbor_diag.specs.View.{view, items_view, pairs_view};
 ghost use Rattle.cbor_diag.specs.ContainerStyle as style;
 ghost use Rattle.cbor_diag.specs.mirror.LayoutView.{layout_view, style_view};
+ghost use Rattle.cbor_diag.specs.mirror.StringView.{kind_view};
 ghost use Rattle.cbor_diag.specs.NotationText.{container_style};
 ghost use Rattle.cbor_diag.specs.Estimate.{digit_count, estimated_string, estimated_chunks};
 ghost use Rattle.cbor_diag.specs.Estimate.{estimated_float, estimated_length};
 ghost use Rattle.cbor_diag.specs.Estimate.{estimated_items, estimated_pairs};
 
 use super::context::{ContainerStyle, Layout};
-use crate::syntax::strings::{DefiniteString, StringContent};
+use crate::syntax::strings::{DefiniteString, StringKind};
 use crate::syntax::{DataItem, FloatWidth};
 
 /// The budget for the members of a container, which is long where they take all of it: 60 less
 /// the 4 that are for its brackets.
-const BUDGET: usize = 56;
+pub(super) const BUDGET: usize = 56;
 
 impl Layout {
     /// The style of an array of these items, or of a sequence of them.
@@ -59,7 +62,7 @@ impl Layout {
 }
 
 /// The style of a container with blanks, by what its members leave of the budget.
-fn pretty_style(indent: usize, left: usize) -> ContainerStyle
+pub(super) fn pretty_style(indent: usize, left: usize) -> ContainerStyle
     ensures { style_view result
         ≡ (if nat_lt 0 left then style.OneLine indent else style.MultiLine indent) }
 {
@@ -72,7 +75,7 @@ fn pretty_style(indent: usize, left: usize) -> ContainerStyle
 
 /// How many decimal digits a number has.
 #[tactic(auto, using(std::proofs::lemmas::Fmt::decimal_digit, crate::proofs::text::DigitCounts::power_below))]
-fn digit_count(number: u64) -> usize
+pub(super) fn digit_count(number: u64) -> usize
     ensures count { result ≡ digit_count number }
     ensures small { result ≤ 2 ^ 32 }
 {
@@ -81,17 +84,26 @@ fn digit_count(number: u64) -> usize
         .map_or(1, |power| power as usize + 1)
 }
 
+/// What a string with so many bytes leaves of the budget.
+pub(super) fn left_after_content(kind: StringKind, len: usize, budget: usize) -> usize
+    ensures leaves { (c : Chunk) → length c.bytes ≡ len
+        → result ≡ budget - estimated_string (kind_view kind) c }
+    ensures takes { result ≤ budget - 2 }
+{
+    match kind {
+        StringKind::Bytes => budget
+            .saturating_sub(4)
+            .saturating_sub(len)
+            .saturating_sub(len),
+        StringKind::Text => budget.saturating_sub(2).saturating_sub(len),
+    }
+}
+
 /// What a string leaves of the budget.
 fn left_after_string<S: DefiniteString>(string: &S, budget: usize) -> usize
     ensures { result ≡ budget - estimated_string S.kind (S.chunk string.now) }
 {
-    match string.content() {
-        StringContent::Bytes(bytes) => budget
-            .saturating_sub(4)
-            .saturating_sub(bytes.len())
-            .saturating_sub(bytes.len()),
-        StringContent::Text(text) => budget.saturating_sub(2).saturating_sub(text.len()),
-    }
+    left_after_content(S::kind(), string.content().as_bytes().len(), budget)
 }
 
 /// What the chunks of a string leave of the budget, two characters more for each.
@@ -109,7 +121,7 @@ fn left_after_chunks<S: DefiniteString>(chunks: &[S], budget: usize) -> usize
 }
 
 /// How long a float is.
-fn float_len(width: FloatWidth) -> usize
+pub(super) fn float_len(width: FloatWidth) -> usize
     ensures { result ≡ estimated_float width }
 {
     match width {

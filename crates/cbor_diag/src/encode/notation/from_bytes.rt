@@ -1,28 +1,36 @@
-//! Writes an item straight from its bytes, on one line: each part is written as soon as it is read,
-//! and no item is built.
+//! Writes an item straight from its bytes: each part is written as soon as it is read, and no item is
+//! built. How long a container would be on one line is found by a look ahead (`ahead.rt`).
 //!
 //! Each function takes the remaining bytes and returns those after what it wrote. What was written
-//! before an error stays.
+//! before an error stays. Bytes that are embedded in a string are written by the same functions; what
+//! was written of them is cut back where they can't be read.
 #![tactic(auto, using(crate::proofs::shared::Appending::appending_steps))]
 
-ghost use Rattle.std.specs.Prelude.{◌≡◌, ◌+◌, ◌≤◌, IfOk, IfErr, OnErr};
+ghost use Rattle.std.specs.Prelude.{◌≡◌, ◌+◌, ◌*◌, ◌<◌, ◌≤◌, ◌^◌, ◌++◌, codes, IfOk, IfErr, OnErr};
 ghost use Rattle.std.specs.Io.{StartsWith};
 ghost use Rattle.std.specs.String.{string_bytes};
 ghost use Rattle.cbor_diag.specs.ItemHead as item_head;
+ghost use Rattle.cbor_diag.specs.Layout as shown;
+ghost use Rattle.cbor_diag.specs.NotationText.{last_line, rest_text, style_indent};
 ghost use Rattle.cbor_diag.specs.Reading.{Fails};
 ghost use Rattle.cbor_diag.specs.WellFormed.{deepest};
 ghost use Rattle.cbor_diag.specs.mirror.Appends.{AppendsText};
 ghost use Rattle.cbor_diag.specs.mirror.HeadView.{argument_view};
-ghost use Rattle.cbor_diag.specs.mirror.LayoutView.{IsIndented, item_text};
-ghost use Rattle.cbor_diag.specs.mirror.Straight.{IsCompact, Printed, read_there, read_after};
+ghost use Rattle.cbor_diag.specs.mirror.LayoutView.{context_view, style_view, item_text};
+ghost use Rattle.cbor_diag.specs.mirror.LayoutView.{IsIndented, content_there};
+ghost use Rattle.cbor_diag.specs.mirror.Straight.{WritesSequence, Printed, read_there, read_after};
 ghost use Rattle.cbor_diag.specs.mirror.Straight.{string_there, before_chunk, after_chunks};
 ghost use Rattle.cbor_diag.specs.mirror.StringView.{kind_view};
 ghost use Rattle.cbor_diag.specs.Argument.{indefinite};
 
-use super::context::{ContainerStyle, Layout, NotationContext};
-use super::members::{push_closing, push_colon, push_no_chunks, push_opening, push_start};
-use super::push_content;
-use super::scalars::{push_float, push_negative, push_number, push_simple, push_string, push_text};
+use super::context::{ContainerStyle, Content, NotationContext};
+use super::members::{
+    push_closing, push_colon, push_end, push_no_chunks, push_opening, push_rest, push_start,
+};
+use super::scalars::{
+    push_float, push_negative, push_number, push_quoted, push_simple, push_string, push_text,
+};
+use crate::error::Error;
 use crate::parse::{Argument, ItemHead, next_chunk, no_level_left, read_borrowed, read_head};
 use crate::syntax::strings::{StringContent, StringKind};
 use crate::syntax::{DEEPEST, IntegerWidth, Simple, Tag};
@@ -36,7 +44,7 @@ pub(super) fn push_front<'a>(
     context: &NotationContext,
 ) -> crate::Result<&'a [u8]>
     requires level { context.now.level ≤ deepest + 1 }
-    requires compact { IsCompact context.now }
+    requires indent { IsIndented context.now }
     ensures printed { IfOk result (λ rest. Printed (item_text context.now)
         (read_there context.now bytes.now) rest.now (string_bytes out.old) (string_bytes out.new)) }
     ensures refused { IfErr result (λ e. Fails e (read_there context.now bytes.now)) }
@@ -80,7 +88,7 @@ fn push_array_front<'a>(
     context: &NotationContext,
 ) -> crate::Result<&'a [u8]>
     requires level { context.now.level ≤ deepest }
-    requires compact { IsCompact context.now }
+    requires indent { IsIndented context.now }
     ensures printed { IfOk result (λ rest. Printed (item_text context.now)
         (read_after context.now (item_head.array (argument_view count)) bytes.now) rest.now
         (string_bytes out.old) (string_bytes out.new)) }
@@ -88,17 +96,19 @@ fn push_array_front<'a>(
         (read_after context.now (item_head.array (argument_view count)) bytes.now)) }
     ensures begun { OnErr result (StartsWith (string_bytes out.new) (string_bytes out.old)) }
 {
-    let inner = context.inside(Layout::Compact);
-    push_opening(out, '[', count.width(), ContainerStyle::Compact)?;
+    let style = context.layout.array_style_ahead(count, bytes);
+    let inner = context.inside(style.members_layout());
+    push_opening(out, '[', count.width(), style)?;
     let mut rest = bytes;
     let mut held = 0;
     'items: loop {
         if let Some(after) = count.after_end(held, rest) {
-            push_closing(out, ContainerStyle::Compact, ']')?;
+            push_closing(out, style, ']')?;
             return Ok(after);
         }
-        push_start(out, ContainerStyle::Compact, held == 0)?;
+        push_start(out, style, held == 0)?;
         rest = push_front(out, rest, &inner)?;
+        push_end(out, style)?;
         held += 1;
     }
 }
@@ -113,7 +123,7 @@ fn push_map_front<'a>(
     context: &NotationContext,
 ) -> crate::Result<&'a [u8]>
     requires level { context.now.level ≤ deepest }
-    requires compact { IsCompact context.now }
+    requires indent { IsIndented context.now }
     ensures printed { IfOk result (λ rest. Printed (item_text context.now)
         (read_after context.now (item_head.map (argument_view count)) bytes.now) rest.now
         (string_bytes out.old) (string_bytes out.new)) }
@@ -121,19 +131,21 @@ fn push_map_front<'a>(
         (read_after context.now (item_head.map (argument_view count)) bytes.now)) }
     ensures begun { OnErr result (StartsWith (string_bytes out.new) (string_bytes out.old)) }
 {
-    let inner = context.inside(Layout::Compact);
-    push_opening(out, '{', count.width(), ContainerStyle::Compact)?;
+    let style = context.layout.map_style_ahead(count, bytes);
+    let inner = context.inside(style.members_layout());
+    push_opening(out, '{', count.width(), style)?;
     let mut rest = bytes;
     let mut held = 0;
     'pairs: loop {
         if let Some(after) = count.after_end(held, rest) {
-            push_closing(out, ContainerStyle::Compact, '}')?;
+            push_closing(out, style, '}')?;
             return Ok(after);
         }
-        push_start(out, ContainerStyle::Compact, held == 0)?;
+        push_start(out, style, held == 0)?;
         let value = push_front(out, rest, &inner)?;
-        push_colon(out, ContainerStyle::Compact)?;
+        push_colon(out, style)?;
         rest = push_front(out, value, &inner)?;
+        push_end(out, style)?;
         held += 1;
     }
 }
@@ -148,7 +160,7 @@ fn push_tag_front<'a>(
     context: &NotationContext,
 ) -> crate::Result<&'a [u8]>
     requires level { context.now.level ≤ deepest }
-    requires compact { IsCompact context.now }
+    requires indent { IsIndented context.now }
     ensures printed { IfOk result (λ rest. Printed (item_text context.now)
         (read_after context.now (item_head.tag head.0 head.1) bytes.now) rest.now
         (string_bytes out.old) (string_bytes out.new)) }
@@ -165,6 +177,7 @@ fn push_tag_front<'a>(
 }
 
 /// Writes a string after its head, with this length.
+#[cycle(straight)]
 fn push_string_front<'a>(
     out: &mut String,
     head: (StringKind, Argument),
@@ -172,7 +185,7 @@ fn push_string_front<'a>(
     context: &NotationContext,
 ) -> crate::Result<&'a [u8]>
     requires level { context.now.level ≤ deepest }
-    requires compact { IsCompact context.now }
+    requires indent { IsIndented context.now }
     ensures printed { IfOk result (λ rest. Printed (item_text context.now) (read_after context.now
         (item_head.string (kind_view head.0) (argument_view head.1)) bytes.now) rest.now
         (string_bytes out.old) (string_bytes out.new)) }
@@ -192,19 +205,160 @@ fn push_string_front<'a>(
 }
 
 /// Writes a string of definite length.
+#[cycle(straight)]
 fn push_definite(
     out: &mut String,
     content: StringContent<'_>,
     context: &NotationContext,
 ) -> Result<(), AllocError>
     requires level { context.now.level ≤ deepest }
-    requires compact { IsCompact context.now }
+    requires indent { IsIndented context.now }
     ensures { AppendsText result out.old out.new (string_there context.now content.entry) }
 {
     match content {
         StringContent::Bytes(bytes) => push_content(out, bytes, context),
         StringContent::Text(text) => push_text(out, text),
     }
+}
+
+/// Writes the bytes of a byte string, or the items that they are where these are shown and can
+/// be read.
+#[cycle(straight)]
+pub(super) fn push_content(
+    out: &mut String,
+    bytes: &[u8],
+    context: &NotationContext,
+) -> Result<(), AllocError>
+    requires level { context.now.level ≤ deepest }
+    requires indent { IsIndented context.now }
+    ensures { AppendsText result out.old out.new
+        (content_there context.now (context_view context.now).content bytes.now) }
+{
+    match context.content {
+        Content::Bytes => push_quoted(out, bytes, context.encoding),
+        Content::Item => push_embedded(out, bytes, context),
+        Content::Sequence => push_sequence(out, bytes, context),
+    }
+}
+
+/// Writes the item that the bytes are, or the bytes where they are none.
+#[cycle(straight)]
+#[inline(never)]
+fn push_embedded(
+    out: &mut String,
+    bytes: &[u8],
+    context: &NotationContext,
+) -> Result<(), AllocError>
+    requires level { context.now.level ≤ deepest }
+    requires indent { IsIndented context.now }
+    ensures { AppendsText result out.old out.new (content_there context.now shown.Item bytes.now) }
+{
+    if bytes.is_empty() {
+        return out.push_str("<<>>");
+    }
+    let start = out.len();
+    out.push_str("<<")?;
+    match push_front(out, bytes, &context.inside(context.layout)) {
+        Ok(rest) => {
+            if rest.is_empty() {
+                return out.push_str(">>");
+            }
+            out.truncate(start);
+            push_quoted(out, bytes, context.encoding)
+        }
+        Err(error) => match error {
+            Error::Memory => Err(AllocError),
+            _ => {
+                out.truncate(start);
+                push_quoted(out, bytes, context.encoding)
+            }
+        },
+    }
+}
+
+/// Writes as many items as can be read one after the other, and the rest as bytes.
+///
+/// Their style depends on how many they are, and that is known once they are written. So they are
+/// written in a likely style, and again where they have another. A wrong style is likely only for few
+/// bytes, and one in the other only a few times.
+#[cycle(straight)]
+#[inline(never)]
+fn push_sequence(
+    out: &mut String,
+    bytes: &[u8],
+    context: &NotationContext,
+) -> Result<(), AllocError>
+    requires level { context.now.level ≤ deepest }
+    requires indent { IsIndented context.now }
+    ensures { AppendsText result out.old out.new
+        (content_there context.now shown.Sequence bytes.now) }
+{
+    let start = out.len();
+    let likely = context.layout.likely_style(bytes);
+    let (count, rest) = push_members(out, bytes, likely, context)?;
+    let count = Argument::Number(count, IntegerWidth::Unknown);
+    let style = context.layout.array_style_ahead(count, bytes);
+    if style.is_lines() == likely.is_lines() {
+        return push_sequence_end(out, rest, likely, context);
+    }
+    out.truncate(start);
+    let (_, rest) = push_members(out, bytes, style, context)?;
+    push_sequence_end(out, rest, style, context)
+}
+
+/// Writes the opening brackets of a sequence, and as many items as can be read one after the other.
+/// Returns how many they are, and the rest of the bytes.
+#[cycle(straight)]
+fn push_members<'a>(
+    out: &mut String,
+    bytes: &'a [u8],
+    style: ContainerStyle,
+    context: &NotationContext,
+) -> Result<(u64, &'a [u8]), AllocError>
+    requires level { context.now.level ≤ deepest }
+    requires indent { style_indent (style_view style) ≤ 4 * context.now.level }
+    ensures written { IfOk result (λ x. WritesSequence context.now (style_view style) bytes.now x.0
+        x.1.now (string_bytes out.old) (string_bytes out.new)) }
+    ensures begun { OnErr result (StartsWith (string_bytes out.new) (string_bytes out.old)) }
+{
+    let inner = context.inside(style.members_layout());
+    out.push_str("<<")?;
+    let mut rest = bytes;
+    let mut held = 0;
+    'items: loop {
+        let start = out.len();
+        push_start(out, style, held == 0)?;
+        match push_front(out, rest, &inner) {
+            Ok(after) => {
+                push_end(out, style)?;
+                rest = after;
+                held += 1;
+            }
+            Err(error) => match error {
+                Error::Memory => return Err(AllocError),
+                _ => {
+                    out.truncate(start);
+                    return Ok((held, rest));
+                }
+            },
+        }
+    }
+}
+
+/// Writes what follows the items of a sequence: the closing brackets, and the bytes that begin with no
+/// item.
+fn push_sequence_end(
+    out: &mut String,
+    rest: &[u8],
+    style: ContainerStyle,
+    context: &NotationContext,
+) -> Result<(), AllocError>
+    ensures { AppendsText result out.old out.new (last_line (style_view style)
+        ++ (codes ">>" ++ rest_text (context_view context.now) rest.now)) }
+{
+    push_closing(out, style, '>')?;
+    out.push('>')?;
+    push_rest(out, rest, context)
 }
 
 /// Writes an indefinite string after its opening byte.
@@ -216,7 +370,7 @@ fn push_chunks_front<'a>(
     context: &NotationContext,
 ) -> crate::Result<&'a [u8]>
     requires level { context.now.level ≤ deepest }
-    requires compact { IsCompact context.now }
+    requires indent { IsIndented context.now }
     ensures printed { IfOk result (λ rest. Printed (item_text context.now)
         (read_after context.now (item_head.string (kind_view kind) indefinite) bytes.now) rest.now
         (string_bytes out.old) (string_bytes out.new)) }
@@ -224,39 +378,49 @@ fn push_chunks_front<'a>(
         (read_after context.now (item_head.string (kind_view kind) indefinite) bytes.now)) }
     ensures begun { OnErr result (StartsWith (string_bytes out.new) (string_bytes out.old)) }
 {
+    let style = context.layout.chunks_style_ahead(kind, bytes);
     let mut rest = bytes;
     let mut held = 0;
     'chunks: loop {
         let (chunk, after) = next_chunk(kind, rest)?;
         let Some((content, _)) = chunk else {
-            push_chunks_end(out, kind, held)?;
+            push_chunks_end(out, kind, held, style)?;
             return Ok(after);
         };
-        push_chunk_start(out, held)?;
+        push_chunk_start(out, held, style)?;
         push_string(out, content, context.encoding)?;
+        push_end(out, style)?;
         rest = after;
         held += 1;
     }
 }
 
 /// Writes what is before a chunk, after `held` others.
-fn push_chunk_start(out: &mut String, held: usize) -> Result<(), AllocError>
-    ensures { AppendsText result out.old out.new (before_chunk held) }
+fn push_chunk_start(out: &mut String, held: usize, style: ContainerStyle) -> Result<(), AllocError>
+    requires { style_indent (style_view style) < 2 ^ 32 }
+    ensures { AppendsText result out.old out.new (before_chunk (style_view style) held) }
 {
     if held == 0 {
-        push_opening(out, '(', None, ContainerStyle::Compact)
+        push_opening(out, '(', None, style)?;
+        push_start(out, style, true)
     } else {
-        push_start(out, ContainerStyle::Compact, false)
+        push_start(out, style, false)
     }
 }
 
 /// Writes what is after the last of `held` chunks. A string without chunks keeps its kind.
-fn push_chunks_end(out: &mut String, kind: StringKind, held: usize) -> Result<(), AllocError>
-    ensures { AppendsText result out.old out.new (after_chunks (kind_view kind) held) }
+fn push_chunks_end(
+    out: &mut String,
+    kind: StringKind,
+    held: usize,
+    style: ContainerStyle,
+) -> Result<(), AllocError>
+    ensures { AppendsText result out.old out.new
+        (after_chunks (style_view style) (kind_view kind) held) }
 {
     if held == 0 {
         push_no_chunks(out, kind)
     } else {
-        push_closing(out, ContainerStyle::Compact, ')')
+        push_closing(out, style, ')')
     }
 }

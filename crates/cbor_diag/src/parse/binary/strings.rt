@@ -1,5 +1,6 @@
 //! Strings of definite length, and the chunks of indefinite ones (RFC 7049 sections 2.1 and 2.2.2).
-ghost use Rattle.std.specs.Prelude.{◌≡◌, ◌+◌, ◌*◌, ◌^◌, ◌<◌, ◌≤◌, length, IfOk, map, option_map};
+ghost use Rattle.std.specs.Prelude.{◌≡◌, ◌≢◌, ◌+◌, ◌*◌, ◌^◌, ◌<◌, ◌≤◌, length, IfOk};
+ghost use Rattle.std.specs.Prelude.{IfErr, map, option_map};
 ghost use Rattle.cbor_diag.specs.mirror.MajorNumber.{major_number};
 ghost use Rattle.cbor_diag.specs.Reading.{Gives, split_at, read_content, read_chunk_length};
 ghost use Rattle.cbor_diag.specs.Reading.{read_chunk, read_chunks};
@@ -15,8 +16,9 @@ use crate::syntax::strings::DefiniteString;
 use std::alloc::Global;
 
 /// The first `count` bytes.
-pub(super) fn split_at(bytes: &[u8], count: u64) -> Result<(&[u8], &[u8])>
+pub(crate) fn split_at(bytes: &[u8], count: u64) -> Result<(&[u8], &[u8])>
     ensures gives { Gives (λ x. (x.0.now, x.1.now)) result (split_at count bytes.now) }
+    ensures refused { IfErr result (λ e. e ≡ Error.CutShort) }
     ensures shorter { IfOk result (λ x. length x.1.now ≤ length bytes.now) }
 {
     if (bytes.len() as u64) < count {
@@ -45,12 +47,13 @@ pub(super) fn read_string<S: DefiniteString>(
 /// The length of the next chunk of an indefinite string of that major type, or `None` at its break.
 /// The first byte decides whether a chunk begins here, before more of its head is read.
 #[tactic(auto, unfolding(crate::specs::Reading::read_chunk_length))]
-pub(super) fn read_chunk_length(
+pub(crate) fn read_chunk_length(
     major: Major,
     bytes: &[u8],
 ) -> Result<(Option<(u64, IntegerWidth)>, &[u8])>
     ensures gives { Gives (λ x. (x.0, x.1.now)) result
         (read_chunk_length (major_number major) bytes.now) }
+    ensures refused { IfErr result (λ e. e ≢ Error.Memory) }
     ensures shorter { IfOk result (λ x. length x.1.now < length bytes.now) }
 {
     match bytes {

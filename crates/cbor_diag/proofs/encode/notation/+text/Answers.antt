@@ -10,14 +10,14 @@ use Rattle.cbor_diag.specs.Layout.{Context}
 use Rattle.cbor_diag.specs.StringKind.{bytes_kind, text_kind}
 use Rattle.cbor_diag.specs.mirror.LayoutView.{style_view, context_view, item_text, content_there, chunks_there}
 use Rattle.cbor_diag.specs.NotationText.{text, inside, members, members_layout, colon, item_texts, pair_texts}
-use Rattle.cbor_diag.specs.NotationText.{rest_text, array_text, map_text, below, sequence_text, sequence_listed}
+use Rattle.cbor_diag.specs.NotationText.{array_text, map_text, below}
 use Rattle.cbor_diag.specs.NotationText.{text_at_level}
 use Rattle.cbor_diag.specs.WellFormed.{WellFormedItems, WellFormedPairs}
-use Rattle.cbor_diag.proofs.shared.Appending.{begins_still, begins_two, begins_after_member, appends_last}
+use Rattle.cbor_diag.proofs.shared.Appending.{begins_two, begins_after_member, appends_last}
 use Rattle.cbor_diag.proofs.shared.Views.{view-Integer, view-Negative, view-ByteString, view-TextString}
 use Rattle.cbor_diag.proofs.shared.Views.{view-IndefiniteByteString, view-IndefiniteTextString, view-Float, view-Simple}
 use Rattle.cbor_diag.proofs.text.Scalars.{members_left, drop_here, member_more, members_end}
-use Rattle.cbor_diag.proofs.text.Parts.{write_below, shown, bracketed_written, opened_again, tag_shown, sequence_shown}
+use Rattle.cbor_diag.proofs.text.Parts.{write_below, shown, bracketed_written, opened_again, tag_shown}
 use Rattle.cbor_diag.proofs.text.Parts.{items_rest, pairs_rest}
 use Rattle.cbor_diag.proofs.encode.notation.+text.Goals as goal
 
@@ -241,28 +241,3 @@ push_pairs-returns t c =
     ∙ ap
     (λ f. string_bytes c.args.out.now ++ members l (pair_texts f (colon l) (pairs_view c.args.pairs.now.items)))
     writes
-
-pub push_sequence-returns : goal.push_sequence-returns
-push_sequence-returns t c =
-    let out = string_bytes c.args.out.now in
-    let context = context_view c.args.context.now in
-    let write = write_below c.args.context.now.level in
-    let l = style_view c.array_style-style.result in
-    let found : Items × List ℕ = (items_view c.in_ok-items.items.items, c.in_ok-items.rest.now) in
-    let closing = c.in_ok-push.ensures.bytes
-    ∙ ap (λ x. string_bytes c.push_closing.new.out ++ x) (c.in_ok-push.ensures.ascii (omega arith)) in
-    let open_begun = begins_two out (string_bytes c.push_str.new.self) _ _ (string_bytes c.push_items.new.out)
-    c.in_ok-push_str.ensures.bytes c.in_ok-push_items.ensures in
-    let begun = begins_still out (string_bytes c.push_closing.new.out) _ (string_bytes c.push.new.self)
-    (begins_still out (string_bytes c.push_items.new.out) _ (string_bytes c.push_closing.new.out) open_begun
-    c.in_ok-push_closing.ensures)
-    closing in
-    appends_last c.push_rest.result out (string_bytes c.push.new.self) (string_bytes c.push_rest.new.out)
-    (rest_text context found.1) _ begun
-    (λ e. sequence_shown write context l found out (string_bytes c.push_str.new.self)
-    (string_bytes c.push_items.new.out)
-    (string_bytes c.push_closing.new.out) (string_bytes c.push.new.self) (string_bytes c.push_rest.new.out)
-    c.in_ok-push_str.ensures.bytes c.in_ok-push_items.ensures c.in_ok-push_closing.ensures closing e
-    ∙ ap (λ k. out ++ sequence_listed write context k found) c.array_style-style.ensures
-    ∙ ap (λ s. out ++ sequence_text write context s) c.in_ok-items.ensures.items)
-    c.push_rest.ensures

@@ -8,34 +8,25 @@ use Rattle.cbor_diag.specs.NotationText.{colon, item_texts, pair_texts}
 use Rattle.cbor_diag.proofs.text.Scalars.{members_left}
 use Rattle.cbor_diag.proofs.encode.notation.+text.Given as goal
 
--- Each level is deeper than the one before; at one level an item is asked for its members or its bytes, and these
--- for the items of the level below.
+-- Each level is deeper than the one before; at one level an item is asked for its members, and these for the
+-- items of the level below.
 abbrev pub decreases-push_array : goal.decreases-push_array
-decreases-push_array l = (130 - l.context.now.level) * 5
+decreases-push_array l = (130 - l.context.now.level) * 3
 
 abbrev pub decreases-push_map : goal.decreases-push_map
-decreases-push_map l = (130 - l.context.now.level) * 5
+decreases-push_map l = (130 - l.context.now.level) * 3
 
 abbrev pub decreases-push_tagged : goal.decreases-push_tagged
-decreases-push_tagged l = (130 - l.context.now.level) * 5
+decreases-push_tagged l = (130 - l.context.now.level) * 3
 
 abbrev pub decreases-push_item : goal.decreases-push_item
-decreases-push_item l = (130 - l.context.now.level) * 5 + 1
+decreases-push_item l = (130 - l.context.now.level) * 3 + 1
 
 abbrev pub decreases-push_items : goal.decreases-push_items
-decreases-push_items l = (129 - l.context.now.level) * 5 + 2
+decreases-push_items l = (129 - l.context.now.level) * 3 + 2
 
 abbrev pub decreases-push_pairs : goal.decreases-push_pairs
-decreases-push_pairs l = (129 - l.context.now.level) * 5 + 2
-
-abbrev pub decreases-push_embedded : goal.decreases-push_embedded
-decreases-push_embedded l = (129 - l.context.now.level) * 5 + 3
-
-abbrev pub decreases-push_sequence : goal.decreases-push_sequence
-decreases-push_sequence l = (129 - l.context.now.level) * 5 + 3
-
-abbrev pub decreases-push_content : goal.decreases-push_content
-decreases-push_content l = (129 - l.context.now.level) * 5 + 4
+decreases-push_pairs l = (129 - l.context.now.level) * 3 + 2
 
 -- what is written and the members that are left are the whole
 abbrev pub invariant-push_items-items : goal.invariant-push_items-items

@@ -1,25 +1,31 @@
-use Rattle.std.proofs.Common.{◌+◌, ◌++◌, codes, Some, IfOk, IfErr, refl, ap, sym, subst, ◌∙◌, arith}
-use Rattle.std.proofs.lemmas.List.{append-nil}
+use Rattle.std.proofs.Common.{◌≡◌, ◌+◌, ◌*◌, ◌++◌, length, codes, Some, IfOk, IfErr, refl, ap, sym, subst, ◌∙◌, arith}
 use Rattle.std.proofs.lemmas.Result.{err_from_is_err_and}
 use Rattle.std.specs.String.{string_bytes}
-use Rattle.cbor_diag.specs.ContainerStyle as style
 use Rattle.cbor_diag.specs.Item as spec
-use Rattle.cbor_diag.specs.Item.{atom, integer, negative, float, simple, array, tagged, no_items, item, no_pairs, pair}
+use Rattle.cbor_diag.specs.Item.{atom, integer, negative, string, float, simple, array, tagged, no_items, item, no_pairs, pair, item_count}
 use Rattle.cbor_diag.specs.ItemHead as item_head
-use Rattle.cbor_diag.specs.NotationText.{opened, below}
+use Rattle.cbor_diag.specs.declared.syntax.IntegerWidth.TheVariants as width
+use Rattle.cbor_diag.specs.Embedded.{sequence_at}
+use Rattle.cbor_diag.specs.Estimate.{estimated_items}
+use Rattle.cbor_diag.specs.NotationText.{opened, item_texts, members, members_layout, inside, below}
 use Rattle.cbor_diag.specs.Reading.{Fails, items_in, pairs_in, tag_of, joined, joined_pairs, count_width}
 use Rattle.cbor_diag.specs.Reading.{read_head, no_level_left}
 use Rattle.cbor_diag.specs.WellFormed.{levels_left}
 use Rattle.cbor_diag.specs.mirror.HeadView.{argument_view}
-use Rattle.cbor_diag.specs.mirror.LayoutView.{context_view, item_text}
+use Rattle.cbor_diag.specs.mirror.LayoutView.{layout_view, style_view, context_view, is_lines, items_there, item_text}
 use Rattle.cbor_diag.specs.mirror.Stack.{left_of}
 use Rattle.cbor_diag.specs.mirror.Straight.{Printed, read_there}
+use Rattle.cbor_diag.specs.mirror.StringView.{kind_of, borrowed_chunk}
 use Rattle.cbor_diag.proofs.bytes.Frames.{count_more, pair_count_more}
 use Rattle.cbor_diag.proofs.bytes.Shorter.{item_shorter}
+use Rattle.cbor_diag.proofs.shared.Appending.{begins_two, cut_back}
+use Rattle.cbor_diag.proofs.straight.Sequences.{sequence_begun, sequence_more, sequence_ends, begun_after, begun_member}
+use Rattle.cbor_diag.proofs.straight.Sequences.{sequence_printed, sequence_array, both_same, same_style}
 use Rattle.cbor_diag.proofs.straight.Readings.{fails_is, head_fails, too_deep, after_head, atom_printed, float_fits}
 use Rattle.cbor_diag.proofs.straight.Readings.{parts_read, part_fails, parts_ended, none_held, member_read, pair_read}
-use Rattle.cbor_diag.proofs.straight.Readings.{value_fails, tag_read, below_read, below_fails}
-use Rattle.cbor_diag.proofs.straight.Texts.{item_more, pair_more, writes_inner, array_printed, map_printed}
+use Rattle.cbor_diag.proofs.straight.Readings.{value_fails, tag_read, content_read, below_read, below_fails}
+use Rattle.cbor_diag.proofs.straight.Texts.{none_written, item_more, pair_more, writes_inner}
+use Rattle.cbor_diag.proofs.straight.Texts.{array_printed, map_printed, string_printed}
 use Rattle.cbor_diag.proofs.text.Parts.{tag_shown}
 use Rattle.cbor_diag.proofs.encode.notation.from_bytes.+straight.Goals as goal
 
@@ -132,30 +138,36 @@ push_front-returns-in_ok-push_simple-in-Simple-clause-printed t c =
 pub push_array_front-items-init : goal.push_array_front-items-init
 push_array_front-items-init t c =
     let old = string_bytes c.args.out.now in
+    let l = style_view c.array_style_ahead-style.result in
     let width = c.width.ensures 0 ∙ ap count_width (none_held c.args.count) in
     record {
-      members = no_items;
+      found = no_items;
       so_far = ap
           (λ a. parts_read (levels_left (c.args.context.now.level + 1)) (items_in no_items a) c.args.bytes.now)
           (none_held c.args.count);
       count = refl;
-      text = c.in_ok-push_opening.ensures ∙ ap (λ w. old ++ opened style.Compact (codes "[") w) width
-          ∙ sym (append-nil _);
+      text = c.in_ok-push_opening.ensures ∙ ap (λ w. old ++ opened l (codes "[") w) width ∙ none_written l _;
       room = omega arith;
     }
 
 pub push_array_front-returns-in-Some-clause-printed : goal.push_array_front-returns-in-Some-clause-printed
 push_array_front-returns-in-Some-clause-printed t c =
     let i = c.items.invariant in
+    let l = style_view c.array_style_ahead-style.result in
+    let context = c.args.context.now in
     let w = count_width (argument_view c.args.count) in
     let width = sym (c.width.ensures c.items.held) ∙ c.width.ensures 0 ∙ ap count_width (none_held c.args.count) in
-    let f = items_in i.members (left_of c.args.count c.items.held) in (
-      array i.members w,
-      sym i.so_far ∙ parts_ended (levels_left (c.args.context.now.level + 1)) f c.items.rest.now c.in-Some.after.now
-          (array i.members w) (ap (λ x. Some (array i.members x)) width) (sym c.in-Some.ensures),
-      array_printed c.args.context.now c.inside-inner.result c.requires.level c.requires.compact
-          c.inside-inner.ensures.level c.inside-inner.ensures.context i.members w (string_bytes c.args.out.now) _
-          (string_bytes c.items.out) (string_bytes c.push_closing.new.out) refl i.text c.in_ok-push_closing.ensures,
+    let f = items_in i.found (left_of c.args.count c.items.held) in
+    let read = sym i.so_far ∙ parts_ended (levels_left (context.level + 1)) f c.items.rest.now c.in-Some.after.now
+    (array i.found w) (ap (λ x. Some (array i.found x)) width) (sym c.in-Some.ensures) in
+    let inside_it = c.inside-inner.ensures.context
+    ∙ ap (λ x. inside x (context_view context)) c.members_layout.ensures in (
+      array i.found w,
+      read,
+      array_printed l context c.inside-inner.result c.requires.level c.inside-inner.ensures.level inside_it i.found w
+          (string_bytes c.args.out.now) _ (string_bytes c.items.out) (string_bytes c.push_closing.new.out)
+          (c.array_style_ahead-style.ensures.style (levels_left (context.level + 1)) i.found w c.in-Some.after.now read) refl i.text
+          c.in_ok-push_closing.ensures,
     )
 
 pub push_array_front-returns-in_err-rest-clause-refused : goal.push_array_front-returns-in_err-rest-clause-refused
@@ -165,7 +177,7 @@ push_array_front-returns-in_err-rest-clause-refused t c =
     let e = c.in_err-rest.field-0.0 in
     let left = levels_left (c.args.context.now.level + 1) in
     rw (p.1, p.2) (subst (Fails e) i.so_far (part_fails e left
-    (items_in i.members (left_of c.args.count c.items.held)) c.items.rest.now (sym c.in_default.ensures)
+    (items_in i.found (left_of c.args.count c.items.held)) c.items.rest.now (sym c.in_default.ensures)
     (below_fails e c.inside-inner.result (c.args.context.now.level + 1) c.items.rest.now c.inside-inner.ensures.level
     c.in_err-rest.ensures.refused)))
 
@@ -183,13 +195,13 @@ push_array_front-items-preserved t c =
     c.in_ok-rest.rest.now c.inside-inner.ensures.level p.1 in
     let shorter = item_shorter left c.items.rest.now p.0 c.in_ok-rest.rest.now read in
     record {
-      members = joined i.members (item p.0 no_items);
-      so_far = sym (member_read left i.members c.args.count c.items.held c.items.rest.now c.in_ok-rest.rest.now p.0
+      found = joined i.found (item p.0 no_items);
+      so_far = sym (member_read left i.found c.args.count c.items.held c.items.rest.now c.in_ok-rest.rest.now p.0
           (sym c.in_default.ensures) read) ∙ i.so_far;
-      count = omega (arith, count_more i.members p.0, i.count);
-      text = item_more (item_text c.inside-inner.result) i.members p.0 c.items.held _ (string_bytes c.items.out)
-          (string_bytes c.push_start.new.out) (string_bytes c.push_front.new.out) i.count i.text
-          c.in_ok-push_start.ensures p.2;
+      count = omega (arith, count_more i.found p.0, i.count);
+      text = item_more (style_view c.array_style_ahead-style.result) (item_text c.inside-inner.result) i.found p.0 c.items.held _
+          (string_bytes c.items.out) (string_bytes c.push_start.new.out) (string_bytes c.push_front.new.out)
+          (string_bytes c.push_end.new.out) i.count i.text c.in_ok-push_start.ensures p.2 c.in_ok-push_end.ensures;
       room = omega (arith, i.room, shorter);
     }
 
@@ -198,30 +210,36 @@ push_array_front-items-preserved t c =
 pub push_map_front-pairs-init : goal.push_map_front-pairs-init
 push_map_front-pairs-init t c =
     let old = string_bytes c.args.out.now in
+    let l = style_view c.map_style_ahead-style.result in
     let width = c.width.ensures 0 ∙ ap count_width (none_held c.args.count) in
     record {
-      members = no_pairs;
+      found = no_pairs;
       so_far = ap
           (λ a. parts_read (levels_left (c.args.context.now.level + 1)) (pairs_in no_pairs a) c.args.bytes.now)
           (none_held c.args.count);
       count = refl;
-      text = c.in_ok-push_opening.ensures ∙ ap (λ w. old ++ opened style.Compact (codes "{") w) width
-          ∙ sym (append-nil _);
+      text = c.in_ok-push_opening.ensures ∙ ap (λ w. old ++ opened l (codes "{") w) width ∙ none_written l _;
       room = omega arith;
     }
 
 pub push_map_front-returns-in-Some-clause-printed : goal.push_map_front-returns-in-Some-clause-printed
 push_map_front-returns-in-Some-clause-printed t c =
     let i = c.pairs.invariant in
+    let l = style_view c.map_style_ahead-style.result in
+    let context = c.args.context.now in
     let w = count_width (argument_view c.args.count) in
     let width = sym (c.width.ensures c.pairs.held) ∙ c.width.ensures 0 ∙ ap count_width (none_held c.args.count) in
-    let f = pairs_in i.members (left_of c.args.count c.pairs.held) in (
-      spec.map i.members w,
-      sym i.so_far ∙ parts_ended (levels_left (c.args.context.now.level + 1)) f c.pairs.rest.now c.in-Some.after.now
-          (spec.map i.members w) (ap (λ x. Some (spec.map i.members x)) width) (sym c.in-Some.ensures),
-      map_printed c.args.context.now c.inside-inner.result c.requires.level c.requires.compact
-          c.inside-inner.ensures.level c.inside-inner.ensures.context i.members w (string_bytes c.args.out.now) _
-          (string_bytes c.pairs.out) (string_bytes c.push_closing.new.out) refl i.text c.in_ok-push_closing.ensures,
+    let f = pairs_in i.found (left_of c.args.count c.pairs.held) in
+    let read = sym i.so_far ∙ parts_ended (levels_left (context.level + 1)) f c.pairs.rest.now c.in-Some.after.now
+    (spec.map i.found w) (ap (λ x. Some (spec.map i.found x)) width) (sym c.in-Some.ensures) in
+    let inside_it = c.inside-inner.ensures.context
+    ∙ ap (λ x. inside x (context_view context)) c.members_layout.ensures in (
+      spec.map i.found w,
+      read,
+      map_printed l context c.inside-inner.result c.requires.level c.inside-inner.ensures.level inside_it i.found w
+          (string_bytes c.args.out.now) _ (string_bytes c.pairs.out) (string_bytes c.push_closing.new.out)
+          (c.map_style_ahead-style.ensures.style (levels_left (context.level + 1)) i.found w c.in-Some.after.now read) refl i.text
+          c.in_ok-push_closing.ensures,
     )
 
 pub push_map_front-returns-in_err-value-clause-refused : goal.push_map_front-returns-in_err-value-clause-refused
@@ -231,7 +249,7 @@ push_map_front-returns-in_err-value-clause-refused t c =
     let e = c.in_err-value.field-0.0 in
     let left = levels_left (c.args.context.now.level + 1) in
     rw (p.1, p.2) (subst (Fails e) i.so_far (part_fails e left
-    (pairs_in i.members (left_of c.args.count c.pairs.held)) c.pairs.rest.now (sym c.in_default.ensures)
+    (pairs_in i.found (left_of c.args.count c.pairs.held)) c.pairs.rest.now (sym c.in_default.ensures)
     (below_fails e c.inside-inner.result (c.args.context.now.level + 1) c.pairs.rest.now c.inside-inner.ensures.level
     c.in_err-value.ensures.refused)))
 
@@ -244,7 +262,7 @@ push_map_front-returns-in_err-rest-clause-refused t c =
     let k = c.in_ok-value.ensures.printed in
     let key = below_read c.inside-inner.result (c.args.context.now.level + 1) c.pairs.rest.now k.0
     c.in_ok-value.value.now c.inside-inner.ensures.level k.1 in
-    rw (p.1, p.2) (subst (Fails e) i.so_far (value_fails e left i.members c.args.count c.pairs.held c.pairs.rest.now
+    rw (p.1, p.2) (subst (Fails e) i.so_far (value_fails e left i.found c.args.count c.pairs.held c.pairs.rest.now
     c.in_ok-value.value.now k.0 (sym c.in_default.ensures) key
     (below_fails e c.inside-inner.result (c.args.context.now.level + 1) c.in_ok-value.value.now
     c.inside-inner.ensures.level c.in_err-rest.ensures.refused)))
@@ -273,14 +291,15 @@ push_map_front-pairs-preserved t c =
     let first = item_shorter left c.pairs.rest.now k.0 c.in_ok-value.value.now key in
     let second = item_shorter left c.in_ok-value.value.now v.0 c.in_ok-rest.rest.now value in
     record {
-      members = joined_pairs i.members (pair k.0 v.0 no_pairs);
-      so_far = sym (pair_read left i.members c.args.count c.pairs.held c.pairs.rest.now c.in_ok-value.value.now
+      found = joined_pairs i.found (pair k.0 v.0 no_pairs);
+      so_far = sym (pair_read left i.found c.args.count c.pairs.held c.pairs.rest.now c.in_ok-value.value.now
           c.in_ok-rest.rest.now k.0 v.0 (sym c.in_default.ensures) key value) ∙ i.so_far;
-      count = omega (arith, pair_count_more i.members k.0 v.0, i.count);
-      text = pair_more (item_text c.inside-inner.result) i.members k.0 v.0 c.pairs.held _ (string_bytes c.pairs.out)
-          (string_bytes c.push_start.new.out) (string_bytes c.push_front.new.out) (string_bytes c.push_colon.new.out)
-          (string_bytes c.push_front-in-pairs.new.out) i.count i.text c.in_ok-push_start.ensures k.2
-          c.in_ok-push_colon.ensures v.2;
+      count = omega (arith, pair_count_more i.found k.0 v.0, i.count);
+      text = pair_more (style_view c.map_style_ahead-style.result) (item_text c.inside-inner.result) i.found k.0 v.0 c.pairs.held _
+          (string_bytes c.pairs.out) (string_bytes c.push_start.new.out) (string_bytes c.push_front.new.out)
+          (string_bytes c.push_colon.new.out) (string_bytes c.push_front-in-pairs.new.out)
+          (string_bytes c.push_end.new.out) i.count i.text c.in_ok-push_start.ensures k.2 c.in_ok-push_colon.ensures v.2
+          c.in_ok-push_end.ensures;
       room = omega (arith, i.room, first, second);
     }
 
@@ -313,3 +332,136 @@ push_tag_front-returns-clause-printed t c =
           (string_bytes c.push_number.new.out) (string_bytes c.push.new.self) (string_bytes c.push_front.new.out)
           (string_bytes c.push-2.new.self) c.requires.level c.in_ok-push_number.ensures opening inner closing,
     )
+
+-- ---- a string
+
+pub push_string_front-returns-in_ok-push_definite-in-Number-clause-printed : goal.push_string_front-returns-in_ok-push_definite-in-Number-clause-printed
+push_string_front-returns-in_ok-push_definite-in-Number-clause-printed t c =
+    let w = c.in-Number.field-1 in
+    let content = c.in_ok-content-in-Number.content in
+    let read = content_read c.in-Number.count w content c.args.bytes.now c.in_ok-content-in-Number.rest.now _
+    c.in_ok-content-in-Number.ensures.kind (c.in_ok-content-in-Number.ensures.gives w) in
+    rw c.in-Number.is (
+      atom (string (kind_of content) (borrowed_chunk w content)),
+      read,
+      string_printed c.args.context.now w content (string_bytes c.args.out.now) (string_bytes c.push_definite.new.out)
+          c.requires.level c.in_ok-push_definite-in-Number.ensures,
+    )
+
+-- ---- a sequence
+
+pub push_members-items-init : goal.push_members-items-init
+push_members-items-init t c = record {
+  found = no_items;
+  so_far = sequence_begun (levels_left (c.args.context.now.level + 1)) c.args.bytes.now;
+  count = refl;
+  text = c.in_ok-push_str.ensures.bytes ∙ none_written (style_view c.args.style) _;
+  room = omega arith;
+}
+
+pub push_members-items-smaller : goal.push_members-items-smaller
+push_members-items-smaller t c =
+    let p = c.in-Ok.ensures.printed in
+    item_shorter (levels_left c.inside-inner.result.level) c.items.rest.now p.0 c.in-Ok.after.now p.1
+
+pub push_members-items-preserved : goal.push_members-items-preserved
+push_members-items-preserved t c =
+    let i = c.items.invariant in
+    let p = c.in-Ok.ensures.printed in
+    let left = levels_left (c.args.context.now.level + 1) in
+    let after = c.in-Ok.after.now in
+    let read = below_read c.inside-inner.result (c.args.context.now.level + 1) c.items.rest.now p.0 after
+    c.inside-inner.ensures.level p.1 in
+    let shorter = item_shorter left c.items.rest.now p.0 after read in
+    record {
+      found = joined i.found (item p.0 no_items);
+      so_far = sequence_more left i.found p.0 c.items.rest.now after _ read i.so_far;
+      count = omega (arith, count_more i.found p.0, i.count);
+      text = item_more (style_view c.args.style) (item_text c.inside-inner.result) i.found p.0 c.items.held _
+          (string_bytes c.items.out) (string_bytes c.push_start.new.out) (string_bytes c.push_front.new.out)
+          (string_bytes c.push_end.new.out) i.count i.text c.in_ok-push_start.ensures p.2 c.in_ok-push_end-in-Ok.ensures;
+      room = omega (arith, i.room, shorter);
+    }
+
+pub push_members-returns-in-Memory-clause-begun : goal.push_members-returns-in-Memory-clause-begun
+push_members-returns-in-Memory-clause-begun t c =
+    let old = string_bytes c.args.out.now in
+    begun_after old (old ++ codes "<<") (string_bytes c.items.out) (string_bytes c.push_start.new.out)
+    (string_bytes c.push_front.new.out) (codes "<<") _ _ refl c.items.invariant.text c.in_ok-push_start.ensures
+    c.in-Err.ensures.begun
+
+pub push_members-truncate-requires : goal.push_members-truncate-requires
+push_members-truncate-requires t c =
+    λ _. (cut_back c.items.out c.push_front.new.out c.len-start.result c.len-start.ensures
+    (begun_member (string_bytes c.items.out) (string_bytes c.push_start.new.out) (string_bytes c.push_front.new.out) _
+    c.in_ok-push_start.ensures c.in-Err.ensures.begun)).0
+
+pub push_members-returns-in_default-clause-written : goal.push_members-returns-in_default-clause-written
+push_members-returns-in_default-clause-written t c =
+    let i = c.items.invariant in
+    let l = style_view c.args.style in
+    let context = c.args.context.now in
+    let left = levels_left (context.level + 1) in
+    let rest = c.items.rest.now in
+    let begun = string_bytes c.args.out.now ++ codes "<<" in
+    let inside_it = c.inside-inner.ensures.context
+    ∙ ap (λ x. inside x (context_view context)) c.members_layout.ensures in
+    let whole = sequence_ends left i.found rest c.in-Err.error (sequence_at left c.args.bytes.now)
+    c.in_default.not-Memory
+    (below_fails c.in-Err.error c.inside-inner.result (context.level + 1) rest c.inside-inner.ensures.level
+    c.in-Err.ensures.refused) i.so_far in
+    let back = c.truncate.ensures.bytes ∙ (cut_back c.items.out c.push_front.new.out c.len-start.result
+    c.len-start.ensures (begun_member (string_bytes c.items.out) (string_bytes c.push_start.new.out)
+    (string_bytes c.push_front.new.out) _ c.in_ok-push_start.ensures c.in-Err.ensures.begun)).1 in (
+      ap (λ s. item_count s.0) (sym whole) ∙ i.count,
+      ap (λ s. s.1) (sym whole),
+      back ∙ i.text
+          ∙ ap (λ f. begun ++ members l (item_texts f i.found)) (writes_inner c.inside-inner.result (context.level + 1)
+          (inside (members_layout l) (context_view context)) c.inside-inner.ensures.level inside_it)
+          ∙ ap (λ s. begun ++ items_there context l s.0) whole,
+    )
+
+pub push_sequence-truncate-requires : goal.push_sequence-truncate-requires
+push_sequence-truncate-requires t c =
+    let old = string_bytes c.args.out.now in
+    let new = string_bytes c.push_members.new.out in
+    let w = c.in_ok-count.ensures.written in
+    λ _. (cut_back c.args.out.now c.push_members.new.out c.len-start.result c.len-start.ensures
+    (begins_two old (old ++ codes "<<") (codes "<<") _ new refl w.2)).0
+
+pub push_sequence-returns-then-is_lines : goal.push_sequence-returns-then-is_lines
+push_sequence-returns-then-is_lines t c =
+    let context = c.args.context.now in
+    let b = c.args.bytes.now in
+    let left = levels_left (context.level + 1) in
+    let found = sequence_at left b in
+    let likely = style_view c.likely_style-likely.result in
+    let style = style_view c.array_style_ahead-style.result in
+    let begun = c.in_ok-count.ensures.written in
+    let style_so = c.array_style_ahead-style.ensures.style left found.0 (Some width.Unknown) found.1
+    (sequence_array left width.Unknown b c.in_ok-count.count begun.0) in
+    let lines : is_lines likely ≡ is_lines style = sym c.is_lines-2.ensures
+    ∙ both_same c.is_lines.result c.is_lines-2.result c.if-is_lines.true ∙ c.is_lines.ensures in
+    let same = c.likely_style-likely.ensures ∙ same_style (layout_view context.layout) (4 + 2 * length b)
+    (4 + estimated_items found.0) (ap is_lines (sym c.likely_style-likely.ensures) ∙ lines ∙ ap is_lines style_so) in
+    sequence_printed c.push_sequence_end.result likely context b c.in_ok-count.rest.now (string_bytes c.args.out.now)
+    (string_bytes c.push_members.new.out) (string_bytes c.args.out.now) (string_bytes c.push_sequence_end.new.out) same
+    begun.1 refl begun.2 c.push_sequence_end.ensures
+
+pub push_sequence-returns : goal.push_sequence-returns
+push_sequence-returns t c =
+    let context = c.args.context.now in
+    let b = c.args.bytes.now in
+    let left = levels_left (context.level + 1) in
+    let found = sequence_at left b in
+    let old = string_bytes c.args.out.now in
+    let begun = c.in_ok-count.ensures.written in
+    let again = c.in_ok-rest.ensures.written in
+    let same = c.array_style_ahead-style.ensures.style left found.0 (Some width.Unknown) found.1
+    (sequence_array left width.Unknown b c.in_ok-count.count begun.0) in
+    let back = c.truncate.ensures.bytes ∙ (cut_back c.args.out.now c.push_members.new.out c.len-start.result
+    c.len-start.ensures (begins_two old (old ++ codes "<<") (codes "<<") _ (string_bytes c.push_members.new.out) refl
+    begun.2)).1 in
+    sequence_printed c.push_sequence_end-2.result (style_view c.array_style_ahead-style.result) context b
+    c.in_ok-rest.rest.now old (string_bytes c.push_members-2.new.out) (string_bytes c.truncate.new.self)
+    (string_bytes c.push_sequence_end-2.new.out) same again.1 back again.2 c.push_sequence_end-2.ensures

@@ -6,6 +6,7 @@ use Rattle.cbor_diag.specs.Item.{Chunk, atom, chunked_string}
 use Rattle.cbor_diag.specs.Reading.{Counted, read_chunks}
 use Rattle.cbor_diag.specs.NotationText.{string_text}
 use Rattle.cbor_diag.specs.mirror.EncodingView.{encoding_view}
+use Rattle.cbor_diag.specs.mirror.LayoutView.{style_view}
 use Rattle.cbor_diag.specs.mirror.StringView.{kind_view, borrowed_chunk}
 use Rattle.cbor_diag.proofs.bytes.Steps.{later_none}
 use Rattle.cbor_diag.proofs.straight.Readings.{fails_then, fails_stopped, ok_then, none_before}
@@ -44,12 +45,14 @@ returns-in_default-clause-printed c =
     let after = c.in_ok-chunk.after.now in
     let all = read_chunks (length c.args.bytes.now) kind c.args.bytes.now in
     let whole = no_more_chunk kind i.chunks i.turns i.bound c.chunks.rest.now after all
-    (rw c.in_default.is at c.in_ok-chunk.ensures.gives) c.in_ok-chunk.ensures.shorter i.enough i.so_far in (
+    (rw c.in_default.is at c.in_ok-chunk.ensures.gives) c.in_ok-chunk.ensures.shorter i.enough i.so_far in
+    let read = ok_then all (i.chunks, after) _ (ap (λ (d : Counted (List Chunk)). d.1) whole) in (
       atom (chunked_string kind i.chunks),
-      ok_then all (i.chunks, after) _ (ap (λ (d : Counted (List Chunk)). d.1) whole),
-      chunks_printed c.args.context.now kind i.chunks c.chunks.held (string_bytes c.args.out.now)
-          (string_bytes c.chunks.out) (string_bytes c.push_chunks_end.new.out) c.requires.level c.requires.compact
-          i.count i.text c.in_ok-push_chunks_end.ensures,
+      read,
+      chunks_printed (style_view c.chunks_style_ahead-style.result) c.args.context.now kind i.chunks c.chunks.held (string_bytes c.args.out.now)
+          (string_bytes c.chunks.out) (string_bytes c.push_chunks_end.new.out) c.requires.level
+          (c.chunks_style_ahead-style.ensures.style 0 i.chunks after read) i.count i.text
+          c.in_ok-push_chunks_end.ensures,
     )
 
 pub chunks-preserved : goal.chunks-preserved
@@ -72,8 +75,8 @@ chunks-preserved c =
       enough = next.1;
       so_far = next.2;
       count = omega (arith, length-append i.chunks (chunk ∷ []), i.count);
-      text = chunk_more kind encoding i.chunks chunk c.chunks.held (string_bytes c.args.out.now)
-          (string_bytes c.chunks.out) started (string_bytes c.push_string.new.out) i.count i.text
-          c.in_ok-push_chunk_start.ensures written;
+      text = chunk_more (style_view c.chunks_style_ahead-style.result) kind encoding i.chunks chunk c.chunks.held (string_bytes c.args.out.now)
+          (string_bytes c.chunks.out) started (string_bytes c.push_string.new.out) (string_bytes c.push_end.new.out)
+          i.count i.text c.in_ok-push_chunk_start.ensures written c.in_ok-push_end.ensures;
       room = omega (arith, i.room, c.in_ok-chunk.ensures.shorter);
     }

@@ -3,6 +3,7 @@ use Rattle.std.specs.String.{string_bytes}
 use Rattle.cbor_diag.specs.Item.{Chunk}
 use Rattle.cbor_diag.specs.Reading.{later, read_chunks}
 use Rattle.cbor_diag.specs.mirror.EncodingView.{encoding_view}
+use Rattle.cbor_diag.specs.mirror.LayoutView.{style_view}
 use Rattle.cbor_diag.specs.mirror.StringView.{kind_view}
 use Rattle.cbor_diag.proofs.straight.Texts.{chunks_begun, chunk_texts}
 use Rattle.cbor_diag.proofs.turns.ChunkLoops.{onto}
@@ -22,6 +23,6 @@ invariant-chunks l = record {
       ≡ read_chunks (length l.bytes) (kind_view l.kind) l.bytes;
   count : length chunks ≡ l.held;
   text : string_bytes l.out ≡ string_bytes l.fn.out
-      ++ chunks_begun (chunk_texts (kind_view l.kind) (encoding_view l.context.encoding) chunks);
+      ++ chunks_begun (style_view l.style) (chunk_texts (kind_view l.kind) (encoding_view l.context.encoding) chunks);
   room : l.held + length l.rest ≤ length l.bytes;
 }

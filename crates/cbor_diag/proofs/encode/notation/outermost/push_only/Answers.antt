@@ -3,11 +3,11 @@ use Rattle.std.proofs.lemmas.Bool.{eqb-true, eqb-false}
 use Rattle.std.proofs.lemmas.List.{nil_from_length}
 use Rattle.std.proofs.lemmas.Result.{err_from_is_err_and}
 use Rattle.std.specs.String.{string_bytes}
-use Rattle.cbor_diag.specs.Facts.{diag_of}
 use Rattle.cbor_diag.specs.Reading.{read_item}
+use Rattle.cbor_diag.specs.mirror.Straight.{text_in}
 use Rattle.cbor_diag.proofs.shared.Appending.{begins_still, begins_same, cut_back}
 use Rattle.cbor_diag.proofs.straight.PublicCalls.{whole_item, item_remains, front_refused}
-use Rattle.cbor_diag.proofs.encode.notation.straight.push_whole.Goals as goal
+use Rattle.cbor_diag.proofs.encode.notation.outermost.push_only.Goals as goal
 
 pub returns-in_err-rest-clause-refused : goal.returns-in_err-rest-clause-refused
 returns-in_err-rest-clause-refused c =
@@ -32,7 +32,7 @@ truncate-requires c =
     let old = string_bytes c.args.out.now in
     let p = c.in_ok-rest.ensures.printed in
     λ _. (cut_back c.args.out.now c.push_outermost_front.new.out c.len-start.result c.len-start.ensures
-    (begins_still old old (diag_of p.0) (string_bytes c.push_outermost_front.new.out) (begins_same old) p.2)).0
+    (begins_still old old (text_in c.args.layout p.0) (string_bytes c.push_outermost_front.new.out) (begins_same old) p.2)).0
 
 pub returns-clause-refused : goal.returns-clause-refused
 returns-clause-refused c =

@@ -1,12 +1,13 @@
 use Rattle.std.proofs.Common.{refl, subst, arith}
 use Rattle.std.specs.String.{string_bytes}
 use Rattle.cbor_diag.specs.Answer.{cut}
+use Rattle.cbor_diag.specs.mirror.Straight.{text_in}
 use Rattle.cbor_diag.specs.Reading.{Fails, read_item}
 use Rattle.cbor_diag.proofs.bytes.ExactlyOne.{one_outcome}
 use Rattle.cbor_diag.proofs.bytes.PublicReaders.{same}
 use Rattle.cbor_diag.proofs.bytes.Shorter.{item_shorter}
 use Rattle.cbor_diag.proofs.straight.PublicCalls.{begins_so, front_fault, front_cut_so, gave_text, gave_fault}
-use Rattle.cbor_diag.proofs.encode.notation.straight.push_bytes_to_diag_partial.Goals as goal
+use Rattle.cbor_diag.proofs.encode.notation.outermost.push_part.Goals as goal
 
 pub overflow_sub-result : goal.overflow_sub-result
 overflow_sub-result c =
@@ -25,7 +26,7 @@ pub returns-in-Ok-clause-exact : goal.returns-in-Ok-clause-exact
 returns-in-Ok-clause-exact c =
     let p = c.in-Ok.ensures.printed in
     let b = c.args.bytes.now in
-    λ o h. gave_text b c.in-Ok.rest.now p.0 (string_bytes c.args.out.now)
+    λ o h. gave_text (text_in c.args.layout) b c.in-Ok.rest.now p.0 (string_bytes c.args.out.now)
     (string_bytes c.push_outermost_front.new.out) o (λ i. omega (arith, c.type_inv.bytes i))
     (one_outcome 1 128 b refl (λ i. omega (arith, c.type_inv.bytes i))) p.1 p.2 h
 
@@ -59,7 +60,7 @@ returns-in_default c =
       cut = λ e. absurd cc;
       fault = front_fault b c.in-Err.error (λ i. omega (arith, c.type_inv.bytes i)) c.in_default.not-CutShort
           c.in-Err.ensures.refused;
-      exact = λ o h. gave_fault b c.in-Err.error (string_bytes c.args.out.now)
+      exact = λ o h. gave_fault (text_in c.args.layout) b c.in-Err.error (string_bytes c.args.out.now)
           (string_bytes c.push_outermost_front.new.out) o (λ i. omega (arith, c.type_inv.bytes i)) one
           c.in_default.not-CutShort c.in-Err.ensures.refused h;
       one_of_three = one;

@@ -2,7 +2,7 @@ use Rattle.std.proofs.Common.{◌∙◌}
 use Rattle.std.proofs.lemmas.Result.{err_from_is_err_and}
 use Rattle.cbor_diag.proofs.hex.Digits.{digits_want_memory, digits_refused, bytes_refused}
 use Rattle.cbor_notes.specs.Columns.{uncommented}
-use Rattle.cbor_diag.proofs.encode.notation.straight.hex_to_diag.Goals as goal
+use Rattle.cbor_diag.proofs.encode.notation.outermost.hex_text.Goals as goal
 
 pub returns-in_err-bytes-clause-every_item : goal.returns-in_err-bytes-clause-every_item
 returns-in_err-bytes-clause-every_item c = λ i w.
@@ -19,5 +19,5 @@ returns-in_err-bytes-clause-every_refusal c = λ e w.
 pub returns-clause-every_refusal : goal.returns-clause-every_refusal
 returns-clause-every_refusal c =
     let digits = c.in_ok-digits.ensures in
-    bytes_refused c.args.hex.now c.in_ok-bytes.bytes.items c.bytes_to_diag.result
-    (rw digits at c.in_ok-bytes.ensures.bytes) (rw c.deref.ensures.value at c.bytes_to_diag.ensures.every_refusal)
+    bytes_refused c.args.hex.now c.in_ok-bytes.bytes.items c.whole_text.result
+    (rw digits at c.in_ok-bytes.ensures.bytes) (rw c.deref.ensures.value at c.whole_text.ensures.every_refusal)
