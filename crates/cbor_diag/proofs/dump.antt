@@ -6,8 +6,8 @@ pub mod PublicDumps
 pub mod Digits
 pub mod Elements
 pub mod Walks
+pub mod HeadLines
 pub mod Members
-pub mod NoteSteps
 pub mod NoteTexts
 pub mod EmbeddedDumps
 pub mod WholeDumps
@@ -16,3 +16,4 @@ pub mod Fits
 pub mod NotesFit
 pub mod ItemsFit
 pub mod AllDigits
+pub mod Fronts

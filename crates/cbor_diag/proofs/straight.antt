@@ -1,3 +1,4 @@
 pub mod PublicCalls
 pub mod Readings
+pub mod Levels
 pub mod Texts

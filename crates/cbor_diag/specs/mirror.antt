@@ -8,9 +8,10 @@ pub mod Scanned
 pub mod NotationReading
 pub mod Appends
 pub mod Straight
-pub mod Passes
-pub mod ShownLines
+pub mod AtLevel
+pub mod Dumped
 pub mod Widths
+pub mod ShownLines
 pub mod HeadErrors
 pub mod HeadView
 pub mod EncodingView

@@ -10,7 +10,7 @@ use Rattle.std.proofs.lemmas.Str.{IsAscii-append}
 use Rattle.std.proofs.lemmas.List.{length-take}
 use Rattle.hex.specs.Hex.{encode_lower, lower_digits}
 use Rattle.cbor_notes.specs.Element.{element_size, element_text}
-use Rattle.cbor_notes.specs.Layout.{DumpLine, line_text, reach, width_of}
+use Rattle.cbor_notes.specs.Layout.{DumpLine, reach}
 use Rattle.cbor_notes.specs.Columns.{IsPlain, Lacks}
 use Rattle.cbor_notes.specs.LineTree.{IsFit}
 use Rattle.cbor_notes.proofs.columns.CommentTexts.{element_line}
@@ -37,8 +37,9 @@ use Rattle.cbor_diag.specs.Dump.{string_word, string_content_lines, chunks_lines
 use Rattle.cbor_diag.specs.Dump.{sized_lines, tagged_lines}
 use Rattle.cbor_diag.specs.Dump.{count_if_definite, break_line, atom_lines, container_line, close_lines, inside, below}
 use Rattle.cbor_diag.proofs.dump.Elements.{Small, element_small, element_cut}
-use Rattle.cbor_diag.specs.mirror.ShownLines.{Takes}
-use Rattle.cbor_diag.specs.mirror.Passes.{taken, step, widest, written}
+use Rattle.cbor_diag.specs.declared.encode.dump.hex_style.HexStyle.{HexStyle}
+use Rattle.cbor_diag.specs.declared.encode.dump.hex_style.HexStyle.TheVariants.{Head, Content}
+use Rattle.cbor_diag.specs.mirror.ShownLines.{style_hex}
 use Rattle.cbor_diag.proofs.dump.Digits.{length-hex, length-head_short, length-head_long}
 use Rattle.cbor_diag.proofs.dump.Pieces.{byte_cut, text_short, text_long}
 
@@ -57,18 +58,31 @@ ascii_head bytes =
     (IsAscii-append (encode_lower (take 1 bytes)) (codes " ") (IsAscii-encode_lower (take 1 bytes))
     (IsAscii-from_test (codes " ") refl)) (IsAscii-encode_lower (drop 1 bytes)))
 
-head_fits : (bytes : List ℕ) → length bytes ≤ 9 → length (head_hex bytes) ≤ 64
+head_fits : (bytes : List ℕ) → length bytes ≤ 24 → length (head_hex bytes) ≤ 64
 head_fits bytes few =
     elim (cases_lt 1 (length bytes)) [
       | inl long ↦ let digits = length-head_long bytes long in omega arith
       | inr short ↦ let digits = length-head_short bytes short in omega arith
     ]
 
+-- the digits of a line
+pub style_ascii : (style : HexStyle) (bytes : List ℕ) → IsAscii (style_hex style bytes)
+style_ascii Head bytes = ascii_head bytes
+style_ascii Content bytes = IsAscii-encode_lower bytes
+
+pub style_short : (style : HexStyle) (bytes : List ℕ) → length bytes ≤ 24 → length (style_hex style bytes) ≤ 64
+style_short Head bytes few = head_fits bytes few
+style_short Content bytes few = let digits = length-hex bytes in omega arith
+
+pub reach_low : (depth : ℕ) (hex : List ℕ) → depth < 140 → length hex ≤ 64
+    → reach (record { depth = depth; hex = hex; comment = [] }) ≤ 484
+reach_low depth hex low short = cond_both (length hex == 0) _ _ (λ n. n ≤ 484) (λ _. omega arith) (λ _. omega arith)
+
 -- a head at a depth that isn't too deep
 pub fit_head : (depth : ℕ) (bytes comment : List ℕ) → depth < 140 → length bytes ≤ 9 → Free 10 comment
     → IsGood (head_line depth bytes comment)
 fit_head depth bytes comment low few said = record {
-  fit = record { level = low; short = head_fits bytes few; ascii = ascii_head bytes };
+  fit = record { level = low; short = head_fits bytes (omega arith); ascii = ascii_head bytes };
   plain = record {
     no_hash = lacks_of 35 (head_hex bytes)
         (free_head 35 (λ e. cc e) (λ e. cc e) (from_test 35 lower_digits refl) bytes);
@@ -95,7 +109,7 @@ pub head_length : (major n : ℕ) (w : IntegerWidth) → length (head major n w)
 head_length major n width.Unknown = omega arith
 head_length major n _ = omega arith
 
-float_length : (bits : ℕ) (w : FloatWidth) → length (encoded_float bits w) ≤ 9
+pub float_length : (bits : ℕ) (w : FloatWidth) → length (encoded_float bits w) ≤ 9
 float_length bits float_width.Unknown = omega arith
 float_length bits _ = omega arith
 
@@ -272,26 +286,3 @@ pub one_line_of : (lines : List DumpLine) → AllByRecursion IsPlain lines
     → AllByRecursion (λ line. Lacks 10 line.comment) lines
 one_line_of [] plain = tt
 one_line_of (line ∷ lines) plain = (plain.0.one_line, one_line_of lines plain.1)
-
--- lines that fit, and do not reach past the room
-pub takes_all : (room : ℕ) (lines : List DumpLine) → AllByRecursion IsFit lines → width_of lines ≤ room
-    → AllByRecursion (Takes room) lines
-takes_all room [] fit wide = tt
-takes_all room (line ∷ lines) fit wide = (
-  record { fit = fit.0; reach = (omega arith) },
-  takes_all room lines fit.1 (omega arith),
-)
-
--- what the first walk finds
-pub widest_is : (width : ℕ) (lines : List DumpLine)
-    → taken step (widest width) lines ≡ widest (max width (width_of lines))
-widest_is width [] = ap widest (omega arith)
-widest_is width (line ∷ lines) = widest_is (max width (reach line)) lines ∙ ap widest (omega arith)
-
--- what the second walk writes
-pub written_is : (width : ℕ) (text : List ℕ) (lines : List DumpLine)
-    → taken step (written width text) lines ≡ written width (text ++ flat_map (line_text width) lines)
-written_is width text [] = ap (written width) (sym (append-nil text))
-written_is width text (line ∷ lines) =
-    written_is width (text ++ line_text width line) lines
-    ∙ ap (written width) (append_assoc text (line_text width line) (flat_map (line_text width) lines))

@@ -21,48 +21,24 @@ use Rattle.cbor_diag.specs.ItemHead as item_head
 use Rattle.cbor_diag.specs.ItemHead.{ItemHead}
 use Rattle.cbor_diag.specs.Head.{head, stated, FitsStated, HeadThen}
 use Rattle.cbor_diag.specs.Bytes.{any, SpellsSimple}
-use Rattle.cbor_diag.specs.Reading.{Fails, ◌>>=◌, count_width, joined, joined_pairs, opened, read_head, read_content}
-use Rattle.cbor_diag.specs.Reading.{read_chunk, read_body, counted_item, read_item, no_level_left, tag_of}
+use Rattle.cbor_diag.specs.Reading.{Fails, ◌>>=◌, count_width, joined, joined_pairs, read_head, read_content}
+use Rattle.cbor_diag.specs.Reading.{read_chunk, read_item, tag_of}
 use Rattle.cbor_diag.specs.StringKind.{StringKind, major_of}
 use Rattle.cbor_diag.specs.WellFormed.{levels_left}
 use Rattle.cbor_diag.specs.Written.{encoded_head, encoded_open, encoded_simple}
 use Rattle.cbor_diag.specs.mirror.HeadView.{argument_view, head_view}
-use Rattle.cbor_diag.specs.mirror.Passes.{tag_number}
+use Rattle.cbor_diag.specs.mirror.Dumped.{tag_number}
 use Rattle.cbor_diag.specs.mirror.Stack.{left_of}
 use Rattle.cbor_diag.specs.mirror.StringView.{borrowed_chunk, bytes_of, kind_of}
 use Rattle.cbor_diag.specs.mirror.Widths.{head_reach, longest_piece, content_width, string_width, chunks_width}
 use Rattle.cbor_diag.specs.mirror.Widths.{piece_reach, head_length, close_width, items_width, pairs_width, width_at}
-use Rattle.cbor_diag.specs.mirror.Widths.{width_there, inner_there, read_at, read_behind, Measured, MeasuredBehind}
+use Rattle.cbor_diag.specs.mirror.AtLevel.{read_at, read_behind}
+use Rattle.cbor_diag.specs.mirror.Widths.{width_there, inner_there, Measured, MeasuredBehind}
 use Rattle.cbor_diag.specs.mirror.Widths.{HasHead, shown_length}
 use Rattle.cbor_diag.proofs.bytes.Chunks.{chunk_takes}
 use Rattle.cbor_diag.proofs.bytes.Heads.{IsBytes, ArgumentThen, HeadIs, head_takes}
-use Rattle.cbor_diag.proofs.straight.Readings.{ok_then, fails_then, part_fails, tag_read}
-
--- ---- reading
-
-one_more : (level : ℕ) → level ≤ 128 → levels_left level ≡ suc (levels_left (level + 1))
-one_more level le = omega arith
-
-head_reads : (level : ℕ) (b : List ℕ) (h : ItemHead) (rest : List ℕ) → level ≤ 128 → read_head b ≡ Ok (h, rest)
-    → read_at level b ≡ read_behind level h rest
-unfolding counted_item
-head_reads level b h rest le e = ap (λ n. read_item n b) (one_more level le)
-    ∙ ok_then (1, read_head b) (h, rest) (λ x. read_body (counted_item (levels_left (level + 1))) (opened x.0) x.0 x.1)
-    e
-
--- an error after a head
-pub behind_fails : (level : ℕ) (b : List ℕ) (h : ItemHead) (rest : List ℕ) (e : Error) → level ≤ 128
-    → read_head b ≡ Ok (h, rest) → Fails e (read_behind level h rest) → Fails e (read_at level b)
-behind_fails level b h rest e le is fails = subst (Fails e) (sym (head_reads level b h rest le is)) fails
-
-pub head_fails : (level : ℕ) (b : List ℕ) (e : Error) → level ≤ 128 → Fails e (read_head b) → Fails e (read_at level b)
-unfolding counted_item
-head_fails level b e le h = subst (λ n. Fails e (read_item n b)) (sym (one_more level le))
-    (fails_then e (1, read_head b) (λ x. read_body (counted_item (levels_left (level + 1))) (opened x.0) x.0 x.1) h)
-
-pub too_deep : (level : ℕ) (b : List ℕ) → 128 < level → read_at level b ≡ Err (no_level_left b)
-unfolding counted_item
-too_deep level b lt = let none : levels_left level ≡ 0 = omega arith in ap (λ n. read_item n b) none
+use Rattle.cbor_diag.proofs.straight.Levels.{head_reads}
+use Rattle.cbor_diag.proofs.straight.Readings.{ok_then, one_more, part_fails, tag_read}
 
 -- ---- the bytes of a head
 

@@ -1,28 +1,28 @@
 -- What the walk does with an item, its notes, a container and its members.
-use Rattle.std.proofs.Common.{◌≡◌, ℕ, suc, ◌+◌, ◌<◌, ◌≤◌, refl, false, List, [], None, ◌∷◌, ◌++◌, length, drop, get_or}
-use Rattle.std.proofs.Common.{Option, Result, OnOk, sym, ap, subst, append-nil, ◌∙◌, arith}
-use Rattle.std.specs.List.{flat_map}
+use Rattle.std.proofs.Common.{◌≡◌, ℕ, suc, ◌+◌, ◌-◌, ◌==◌, ◌<◌, ◌≤◌, true, false, cond, List, [], ◌∷◌, ◌++◌, Option, Some}
+use Rattle.std.proofs.Common.{None, codes, refl, sym, ap, subst, append-nil, append_assoc, inl, inr, ◌∙◌, arith}
+use Rattle.std.proofs.lemmas.Bool.{cases_lt}
 use Rattle.cbor_notes.specs.Layout.{DumpLine}
-use Rattle.cbor_diag.specs.declared.syntax.DataItem.{DataItem}
 use Rattle.cbor_diag.specs.declared.syntax.IntegerWidth.{IntegerWidth}
 use Rattle.cbor_diag.specs.declared.encode.dump.context.DumpContext.{DumpContext}
-use Rattle.cbor_diag.specs.declared.encode.dump.pass.Pass.{Pass}
-use Rattle.cbor_diag.specs.declared.encode.dump.pass.Pass.TheVariants as pass
-use Rattle.cbor_diag.specs.Comments.{tag_comment}
-use Rattle.cbor_diag.specs.Item.{Item, tagged}
-use Rattle.cbor_diag.specs.Notes.{Note}
-use Rattle.cbor_diag.specs.View.{view, items_view, pairs_view}
-use Rattle.cbor_diag.specs.WellFormed.{levels_left, WellFormed, WellFormedItems, WellFormedPairs}
+use Rattle.cbor_diag.specs.declared.encode.dump.walk.Walk.{Walk}
+use Rattle.cbor_diag.specs.declared.encode.dump.writer.Writer.{Writer}
+use Rattle.cbor_diag.specs.declared.parse.binary.argument.Argument as code_argument
+use Rattle.cbor_diag.specs.declared.parse.binary.argument.Argument.TheVariants.{Number, Indefinite}
+use Rattle.cbor_diag.specs.Argument.{number}
+use Rattle.cbor_diag.specs.Comments.{counted_comment}
+use Rattle.cbor_diag.specs.Item.{Item, Items, no_items, item, Pairs, no_pairs, pair}
+use Rattle.cbor_diag.specs.Reading.{joined, joined_pairs, after_members, count_width}
+use Rattle.cbor_diag.specs.WellFormed.{levels_left}
 use Rattle.cbor_diag.specs.Written.{encoded_head}
-use Rattle.cbor_diag.specs.Dump.{Context, below, inside, head_line, container_line, close_lines, lines_at}
-use Rattle.cbor_diag.specs.Dump.{lines_at_level, note_lines, notes_lines, parts_lines, shared_from, shared_in}
-use Rattle.cbor_diag.specs.Dump.{shared_in_items, shared_in_pairs, top}
-use Rattle.cbor_diag.specs.mirror.Passes.{context_view, writes, CanTake, Took, item_lines, embedded_lines, notes_there}
-use Rattle.cbor_diag.specs.mirror.Passes.{IsUntagged, items_there, pairs_there}
-use Rattle.cbor_diag.proofs.text.Parts.{well_level}
-use Rattle.cbor_diag.proofs.text.Scalars.{drop_here}
-use Rattle.cbor_diag.proofs.dump.NoteSteps.{notes_passed}
-use Rattle.cbor_diag.proofs.dump.Walks.{part_here, part_left, left_then, Left}
+use Rattle.cbor_diag.specs.Dump.{Context, below, head_line, container_line, lines_at, lines_at_level, notes_lines}
+use Rattle.cbor_diag.specs.Dump.{items_lines, pairs_lines, parts_lines, shared_from, shared_in, shared_in_items}
+use Rattle.cbor_diag.specs.Dump.{shared_in_pairs, top}
+use Rattle.cbor_diag.specs.mirror.Dumped.{context_view, tag_number, item_lines, items_there, pairs_there, embedded_lines}
+use Rattle.cbor_diag.specs.mirror.Dumped.{notes_there, argument_bytes, Wrote}
+use Rattle.cbor_diag.specs.mirror.HeadView.{argument_view, argument_count}
+use Rattle.cbor_diag.specs.mirror.Stack.{left_of}
+use Rattle.cbor_diag.proofs.dump.Walks.{wrote_then}
 
 -- An item is its parts and its notes.
 pub item_opens : (level : ℕ) (p : Context) (known : ℕ) (i : Item) → level ≤ 128
@@ -48,215 +48,162 @@ pub written_in : (c : DumpContext) (level : ℕ) (p : Context) → c.level ≡ l
     → lines_at_level c.level (context_view c) ≡ lines_at_level level p
 written_in c level p deep here = ap (λ n. lines_at_level n (context_view c)) deep ∙ ap (lines_at_level level) here
 
--- the pass that measures leaves the notes out
-pub notes_left : (now : Pass) → writes now ≡ false → (depth : ℕ) (all : List Note)
-    → Took now now (flat_map (note_lines depth) all)
-notes_left (pass.Measure width) silent depth all = (sym (notes_passed width depth all), refl)
-notes_left (pass.Write w) silent depth all = absurd cc
+-- ---- tags
 
--- A tag is a line, the value right below it, and the notes on the value.
-module _ (outer inner : DumpContext) (t : ℕ) (w : IntegerWidth) (known shared : ℕ)
-    (counted : shared ≡ shared_from t known) (i : Item) (deep : inner.level ≡ outer.level + 1)
-    (here : context_view inner ≡ below t known (context_view outer)) (le : inner.level ≤ 128) (old : Pass)
-    (takes : CanTake old (item_lines outer known (tagged t w i))) where
-  abbrev tag_line : DumpLine
-  tag_line = head_line outer.depth (encoded_head 6 t w) (tag_comment t)
+-- The value right below a tag, and the notes on it.
+pub below_opens : (outer inner : DumpContext) (t known shared : ℕ) (i : Item) → shared ≡ shared_from t known
+    → inner.level ≡ outer.level + 1 → context_view inner ≡ below t known (context_view outer) → inner.level ≤ 128
+    → lines_at_level (outer.level + 1) (below t known (context_view outer)) (shared_from t known) i
+    ≡ item_lines inner shared i ++ notes_there inner t i
+below_opens outer inner t known shared i counted deep here le =
+    let p = below t known (context_view outer) in
+    ap (λ n. lines_at_level (outer.level + 1) p n i) (sym counted)
+    ∙ sym (ap (λ write. write shared i) (written_in inner (outer.level + 1) p deep here))
+    ∙ item_opens inner.level (context_view inner) shared i le
+    ∙ ap (λ (tag : Option ℕ). item_lines inner shared i
+    ++ notes_lines inner.depth (levels_left (inner.level + 1)) (embedded_lines inner) inner.shared tag i)
+    (ap (λ (c : Context). c.tag) here)
 
-  abbrev below_tag : List DumpLine
-  below_tag = lines_at_level (outer.level + 1) (below t known (context_view outer)) (shared_from t known) i
-
-  abbrev value : List DumpLine
-  value = item_lines inner shared i
-
-  below_opens : below_tag ≡ value ++ notes_there inner t i
-  below_opens =
-      ap (λ n. lines_at_level (outer.level + 1) (below t known (context_view outer)) n i) (sym counted)
-      ∙ sym (ap (λ write. write shared i)
-      (written_in inner (outer.level + 1) (below t known (context_view outer)) deep here))
-      ∙ item_opens inner.level (context_view inner) shared i le
-      ∙ ap (λ (tag : Option ℕ). value
-      ++ notes_lines inner.depth (levels_left (inner.level + 1)) (embedded_lines inner) inner.shared tag i)
-      (ap (λ (p : Context). p.tag) here)
-
-  module _ (opened : Pass) (took : Took old opened (tag_line ∷ [])) where
-    below_left : Left old opened below_tag (tag_line ∷ below_tag)
-    below_left = part_left (tag_line ∷ below_tag) (tag_line ∷ []) below_tag refl old old opened (tag_line ∷ below_tag)
-        took (refl, takes, refl)
-
-    pub below_takes : CanTake opened value
-    below_takes = part_here below_tag value (notes_there inner t i) below_opens opened below_left.1
-
-    pub tag_took : {T E : Type 0} (r : Result T E) (filled next : Pass) → Took opened filled value
-        → OnOk r (Took filled next (notes_there inner t i))
-        → OnOk r (Took old next (item_lines outer known (tagged t w i)))
-    tag_took r filled next took_value =
-        left_then r old filled next (notes_there inner t i) (tag_line ∷ below_tag)
-        (part_left below_tag value (notes_there inner t i) below_opens old opened filled (tag_line ∷ below_tag)
-        took_value below_left)
-
--- A container is a line, the lines of its members, and those after them. Its members are `count`, and the code has
--- counted as many.
-module _ (major : ℕ) (name : List ℕ) (count counted : ℕ) (same : count ≡ counted) (w : Option IntegerWidth)
-    (outer : DumpContext) (members : (ℕ → Item → List DumpLine) → List DumpLine) where
-  abbrev count_line : ℕ → DumpLine
-  count_line n = container_line outer.depth major name n w
-
-  abbrev members_lines : List DumpLine
-  members_lines = members (lines_at_level (outer.level + 1) (inside (context_view outer)))
-
-  abbrev end : List DumpLine
-  end = close_lines (outer.depth + 1) w
-
-  abbrev whole : List DumpLine
-  whole = count_line count ∷ (members_lines ++ end)
-
-  module _ (old : Pass) (takes : CanTake old whole) where
-    pub line_takes : CanTake old (count_line counted ∷ [])
-    line_takes = subst (λ n. CanTake old (count_line n ∷ [])) same (takes.0, tt)
-
-    module _ (opened : Pass) (took : Took old opened (count_line counted ∷ [])) (inner : DumpContext)
-        (deep : inner.level ≡ outer.level + 1) (here : context_view inner ≡ inside (context_view outer)) where
-      abbrev members_there : List DumpLine
-      members_there = members (lines_at_level inner.level (context_view inner))
-
-      there : members_there ≡ members_lines
-      there = ap members (written_in inner (outer.level + 1) (inside (context_view outer)) deep here)
-
-      members_left : Left old opened (members_lines ++ end) whole
-      members_left = part_left whole (count_line count ∷ []) (members_lines ++ end) refl old old opened whole
-          (subst (λ n. Took old opened (count_line n ∷ [])) (sym same) took) (refl, takes, refl)
-
-      pub members_take : CanTake opened members_there
-      members_take = subst (CanTake opened) (sym there)
-          (part_here (members_lines ++ end) members_lines end refl opened members_left.1)
-
-      module _ (filled : Pass) (took_members : Took opened filled members_there) where
-        end_left : Left old filled end whole
-        end_left = part_left (members_lines ++ end) members_lines end refl old opened filled whole
-            (subst (Took opened filled) there took_members) members_left
-
-        pub end_takes : CanTake filled end
-        end_takes = end_left.1
-
-        pub container_took : {T E : Type 0} (r : Result T E) (closed : Pass) → OnOk r (Took filled closed end)
-            → OnOk r (Took old closed whole)
-        container_took r closed = left_then r old filled closed end whole end_left
+pub tag_shared : (t known n : ℕ) → shared_from t known + n ≡ known + shared_from t n
+tag_shared t known n = elim (t == 28) as (λ v. cond v (suc known) known + n ≡ known + cond v (suc n) n) [
+  | true ↦ omega arith
+  | false ↦ refl
+]
 
 -- ---- members
 
--- what the members in a context are written by
 abbrev written : DumpContext → ℕ → Item → List DumpLine
 written here = lines_at_level here.level (context_view here)
 
 -- they have no notes
-member_lines : (here : DumpContext) → IsUntagged here → (known : ℕ) (i : Item) → WellFormed here.level i
-    → written here known i ≡ item_lines here known i
-member_lines here none known i well =
-    untagged here.level (context_view here) known i (well_level here.level i well) none
+member_lines : (here : DumpContext) → tag_number here.tag ≡ None → (known shared : ℕ) (i : Item) → here.level ≤ 128
+    → shared ≡ known → item_lines here shared i ≡ written here known i
+member_lines here none known shared i le counted =
+    ap (λ n. item_lines here n i) counted ∙ sym (untagged here.level (context_view here) known i le none)
 
--- Of items, some are left.
-abbrev pub ItemsLeft : DumpContext → Pass → Pass → ℕ → List DataItem → List DumpLine → ℕ → Type 0
-ItemsLeft here old now shared rest all total =
-    Left old now (items_there here shared (items_view rest)) all
-    × (shared + shared_in_items (items_view rest) ≡ total) × WellFormedItems here.level (items_view rest)
+items_more : (write : ℕ → Item → List DumpLine) (known : ℕ) (is : Items) (i : Item)
+    → items_lines write known (joined is (item i no_items))
+    ≡ items_lines write known is ++ write (known + shared_in_items is) i
+items_more write known no_items i =
+    let none : known ≡ known + 0 = omega arith in
+    append-nil (write known i) ∙ ap (λ n. write n i) none
+items_more write known (item j is) i =
+    let sum : known + shared_in j + shared_in_items is ≡ known + (shared_in j + shared_in_items is) = omega arith in
+    ap (λ ls. write known j ++ ls) (items_more write (known + shared_in j) is i)
+    ∙ sym (append_assoc (write known j) (items_lines write (known + shared_in j) is)
+    (write (known + shared_in j + shared_in_items is) i))
+    ∙ ap (λ n. (write known j ++ items_lines write (known + shared_in j) is) ++ write n i) sum
 
-abbrev pub PairsLeft : DumpContext → Pass → Pass → ℕ → List (DataItem × DataItem) → List DumpLine → ℕ → Type 0
-PairsLeft here old now shared rest all total =
-    Left old now (pairs_there here shared (pairs_view rest)) all
-    × (shared + shared_in_pairs (pairs_view rest) ≡ total) × WellFormedPairs here.level (pairs_view rest)
+shared_items_more : (is : Items) (i : Item)
+    → shared_in_items (joined is (item i no_items)) ≡ shared_in_items is + shared_in i
+shared_items_more no_items i = omega arith
+shared_items_more (item j is) i = omega (arith, shared_items_more is i)
 
--- A loop over members is at its i-th one.
-module _ (here : DumpContext) (none : IsUntagged here) (members : List DataItem) (i : ℕ) (member : DataItem)
-    (is : member ≡ get_or members i member) (inside : i < length members) (old now : Pass) (shared : ℕ)
-    (all : List DumpLine) (total : ℕ) (left : ItemsLeft here old now shared (drop i members) all total) where
-  items_split : drop i members ≡ member ∷ drop (i + 1) members
-  items_split = drop_here members i member inside is
+pairs_more : (write : ℕ → Item → List DumpLine) (known : ℕ) (ps : Pairs) (k v : Item)
+    → pairs_lines write known (joined_pairs ps (pair k v no_pairs))
+    ≡ pairs_lines write known ps ++ (write (known + shared_in_pairs ps) k
+    ++ write (known + shared_in_pairs ps + shared_in k) v)
+pairs_more write known no_pairs k v =
+    let none : known ≡ known + 0 = omega arith in
+    ap (λ ls. write known k ++ ls) (append-nil (write (known + shared_in k) v))
+    ∙ ap (λ n. write n k ++ write (n + shared_in k) v) none
+pairs_more write known (pair j u ps) k v =
+    let after = known + shared_in j + shared_in u in
+    let both = λ (n : ℕ). write n k ++ write (n + shared_in k) v in
+    let sum : after + shared_in_pairs ps ≡ known + (shared_in j + (shared_in u + shared_in_pairs ps)) = omega arith in
+    ap (λ ls. write known j ++ (write (known + shared_in j) u ++ ls)) (pairs_more write after ps k v)
+    ∙ ap (λ ls. write known j ++ ls)
+    (sym (append_assoc (write (known + shared_in j) u) (pairs_lines write after ps) (both (after + shared_in_pairs ps))))
+    ∙ sym (append_assoc (write known j) (write (known + shared_in j) u ++ pairs_lines write after ps)
+    (both (after + shared_in_pairs ps)))
+    ∙ ap (λ n. (write known j ++ (write (known + shared_in j) u ++ pairs_lines write after ps)) ++ both n) sum
 
-  abbrev others : List DumpLine
-  others = items_there here (shared + shared_in (view member)) (items_view (drop (i + 1) members))
+shared_pairs_more : (ps : Pairs) (k v : Item)
+    → shared_in_pairs (joined_pairs ps (pair k v no_pairs)) ≡ shared_in_pairs ps + (shared_in k + shared_in v)
+shared_pairs_more no_pairs k v = omega arith
+shared_pairs_more (pair j u ps) k v = omega (arith, shared_pairs_more ps k v)
 
-  lines_split : items_there here shared (items_view (drop i members)) ≡ written here shared (view member) ++ others
-  lines_split = ap (λ ms. items_there here shared (items_view ms)) items_split
+-- one member more is written
+module _ (here : DumpContext) (none : tag_number here.tag ≡ None) (le : here.level ≤ 128) (old now : Walk) where
+  module _ (next : Walk) (is : Items) (i : Item)
+      (wrote : Wrote old.writer now.writer (items_there here old.shared is))
+      (counted : now.shared ≡ old.shared + shared_in_items is)
+      (member : Wrote now.writer next.writer (item_lines here now.shared i))
+      (shares : next.shared ≡ now.shared + shared_in i) where
+    pub item_done : Wrote old.writer next.writer (items_there here old.shared (joined is (item i no_items)))
+    item_done =
+        let known = old.shared + shared_in_items is in
+        subst (Wrote old.writer next.writer) (sym (items_more (written here) old.shared is i))
+        (wrote_then old.writer now.writer next.writer (items_there here old.shared is) (written here known i) wrote
+        (subst (Wrote now.writer next.writer) (member_lines here none known now.shared i le counted) member))
 
-  pub item_well : WellFormed here.level (view member)
-  item_well = (subst (λ ms. WellFormedItems here.level (items_view ms)) items_split left.2).0
+    pub item_shares : next.shared ≡ old.shared + shared_in_items (joined is (item i no_items))
+    item_shares = omega (arith, shares, counted, shared_items_more is i)
 
-  own_lines : written here shared (view member) ≡ item_lines here shared (view member)
-  own_lines = member_lines here none shared (view member) item_well
+  module _ (mid next : Walk) (ps : Pairs) (k v : Item)
+      (wrote : Wrote old.writer now.writer (pairs_there here old.shared ps))
+      (counted : now.shared ≡ old.shared + shared_in_pairs ps)
+      (key : Wrote now.writer mid.writer (item_lines here now.shared k)) (key_shares : mid.shared ≡ now.shared + shared_in k)
+      (value : Wrote mid.writer next.writer (item_lines here mid.shared v))
+      (shares : next.shared ≡ mid.shared + shared_in v) where
+    pub pair_done : Wrote old.writer next.writer (pairs_there here old.shared (joined_pairs ps (pair k v no_pairs)))
+    pair_done =
+        let known = old.shared + shared_in_pairs ps in
+        let after : mid.shared ≡ known + shared_in k = key_shares ∙ ap (λ n. n + shared_in k) counted in
+        subst (Wrote old.writer next.writer) (sym (pairs_more (written here) old.shared ps k v))
+        (wrote_then old.writer now.writer next.writer (pairs_there here old.shared ps)
+        (written here known k ++ written here (known + shared_in k) v) wrote
+        (wrote_then now.writer mid.writer next.writer (written here known k) (written here (known + shared_in k) v)
+        (subst (Wrote now.writer mid.writer) (member_lines here none known now.shared k le counted) key)
+        (subst (Wrote mid.writer next.writer) (member_lines here none (known + shared_in k) mid.shared v le after) value)))
 
-  pub item_takes : CanTake now (item_lines here shared (view member))
-  item_takes = subst (CanTake now) own_lines
-      (part_here (items_there here shared (items_view (drop i members))) (written here shared (view member)) others
-      lines_split now left.0.1)
+    pub pair_shares : next.shared ≡ old.shared + shared_in_pairs (joined_pairs ps (pair k v no_pairs))
+    pair_shares = omega (arith, shares, key_shares, counted, shared_pairs_more ps k v)
 
-  pub item_done : (next : Pass) (count : ℕ) → Took now next (item_lines here shared (view member))
-      → count ≡ shared + shared_in (view member) → ItemsLeft here old next count (drop (i + 1) members) all total
-  item_done next count took counted =
-      let split = ap (λ ms. shared_in_items (items_view ms)) items_split in
-      subst (λ n. ItemsLeft here old next n (drop (i + 1) members) all total) (sym counted) (
-        part_left (items_there here shared (items_view (drop i members))) (written here shared (view member)) others
-            lines_split old now next all (subst (Took now next) (sym own_lines) took) left.0,
-        omega (arith, left.1, split),
-        (subst (λ ms. WellFormedItems here.level (items_view ms)) items_split left.2).1,
-      )
+-- ---- counts
 
-module _ (here : DumpContext) (none : IsUntagged here) (members : List (DataItem × DataItem)) (i : ℕ)
-    (member : DataItem × DataItem) (is : member ≡ get_or members i member) (inside : i < length members)
-    (old now : Pass) (shared : ℕ) (all : List DumpLine) (total : ℕ)
-    (left : PairsLeft here old now shared (drop i members) all total) where
-  pairs_split : drop i members ≡ member ∷ drop (i + 1) members
-  pairs_split = drop_here members i member inside is
+-- no more members are held than were announced
+abbrev pub Announced : code_argument.Argument → ℕ → Type 0
+Announced (Number n w) held = held ≤ n
+Announced Indefinite held = Unit {0}
 
-  abbrev after_key : ℕ
-  after_key = shared + shared_in (view member.0)
+pub none_announced : (count : code_argument.Argument) → Announced count 0
+none_announced (Number n w) = omega arith
+none_announced Indefinite = tt
 
-  abbrev value_lines : List DumpLine
-  value_lines = written here after_key (view member.1)
+pub more_announced : (count : code_argument.Argument) (held : ℕ) (b : List ℕ)
+    → after_members (left_of count held) b ≡ None → Announced count held → Announced count (held + 1)
+more_announced (Number n w) held b more h =
+    elim (cases_lt held n) [
+      | inl lt ↦ omega arith
+      | inr le ↦
+          let none : n - held ≡ 0 = omega arith in
+          absurd (let wrong = sym (ap (λ k. after_members (number k w) b) none) ∙ more in cc)
+    ]
+more_announced Indefinite held b more h = tt
 
-  abbrev other_pairs : List DumpLine
-  other_pairs = pairs_there here (after_key + shared_in (view member.1)) (pairs_view (drop (i + 1) members))
+all_held : (n : ℕ) (w : IntegerWidth) (held : ℕ) (b after : List ℕ) → held ≤ n
+    → after_members (number (n - held) w) b ≡ Some after → held ≡ n
+all_held n w held b after h ends =
+    elim (cases_lt held n) [
+      | inl lt ↦
+          let some : n - held ≡ suc (n - held - 1) = omega arith in
+          absurd (let wrong = sym (ap (λ k. after_members (number k w) b) some) ∙ ends in cc)
+      | inr le ↦ omega arith
+    ]
 
-  pair_lines : pairs_there here shared (pairs_view (drop i members)) ≡ written here shared (view member.0)
-      ++ (value_lines ++ other_pairs)
-  pair_lines = ap (λ ms. pairs_there here shared (pairs_view ms)) pairs_split
+-- the head of a container has the count of its members
+pub count_line : (depth major : ℕ) (name : List ℕ) (count : code_argument.Argument) (held members : ℕ) (b after : List ℕ)
+    → members ≡ held → Announced count held → after_members (left_of count held) b ≡ Some after
+    → container_line depth major name members (count_width (argument_view count))
+    ≡ head_line depth (argument_bytes major (argument_view count))
+    (counted_comment name (argument_count (argument_view count)))
+count_line depth major name (Number n w) held members b after same h ends =
+    ap (λ k. head_line depth (encoded_head major k w) (counted_comment name (Some k)))
+    (same ∙ all_held n w held b after h ends)
+count_line depth major name Indefinite held members b after same h ends = refl
 
-  pub pair_well : WellFormed here.level (view member.0) × WellFormed here.level (view member.1)
-      × WellFormedPairs here.level (pairs_view (drop (i + 1) members))
-  pair_well = subst (λ ms. WellFormedPairs here.level (pairs_view ms)) pairs_split left.2
-
-  key_lines : written here shared (view member.0) ≡ item_lines here shared (view member.0)
-  key_lines = member_lines here none shared (view member.0) pair_well.0
-
-  pub key_takes : CanTake now (item_lines here shared (view member.0))
-  key_takes = subst (CanTake now) key_lines
-      (part_here (pairs_there here shared (pairs_view (drop i members))) (written here shared (view member.0))
-      (value_lines ++ other_pairs) pair_lines now left.0.1)
-
-  module _ (between : Pass) (count : ℕ) (took : Took now between (item_lines here shared (view member.0)))
-      (counted : count ≡ after_key) where
-    value_left : Left old between (value_lines ++ other_pairs) all
-    value_left = part_left (pairs_there here shared (pairs_view (drop i members))) (written here shared (view member.0))
-        (value_lines ++ other_pairs) pair_lines old now between all (subst (Took now between) (sym key_lines) took)
-        left.0
-
-    after_lines : value_lines ≡ item_lines here count (view member.1)
-    after_lines = ap (λ n. written here n (view member.1)) (sym counted)
-        ∙ member_lines here none count (view member.1) pair_well.1
-
-    pub value_takes : CanTake between (item_lines here count (view member.1))
-    value_takes = subst (CanTake between) after_lines
-        (part_here (value_lines ++ other_pairs) value_lines other_pairs refl between value_left.1)
-
-    pub pair_done : (next : Pass) (last : ℕ) → Took between next (item_lines here count (view member.1))
-        → last ≡ count + shared_in (view member.1)
-        → PairsLeft here old next last (drop (i + 1) members) all total
-    pair_done next last took_value counted_value =
-        let split = ap (λ ms. shared_in_pairs (pairs_view ms)) pairs_split in
-        let at_end : last ≡ after_key + shared_in (view member.1) = counted_value
-        ∙ ap (λ n. n + shared_in (view member.1)) counted in
-        subst (λ n. PairsLeft here old next n (drop (i + 1) members) all total) (sym at_end) (
-          part_left (value_lines ++ other_pairs) value_lines other_pairs refl old between next all
-              (subst (Took between next) (sym after_lines) took_value) value_left,
-          omega (arith, left.1, split),
-          pair_well.2,
-        )
+pub width_held : (count : code_argument.Argument) (held : ℕ)
+    → count_width (left_of count held) ≡ count_width (argument_view count)
+width_held (Number n w) held = refl
+width_held Indefinite held = refl

@@ -126,6 +126,9 @@ floor_is text f utf8 some low here nearest =
 pub some_left : (n : ℕ) → false ≡ (n == 0) → 0 < n
 some_left n e = grind (arith, nat_tests)
 
+pub none_left : (n : ℕ) → true ≡ (n == 0) → n ≡ 0
+none_left n e = grind (arith, nat_tests)
+
 -- a text that is short is in one line
 pub text_short : (text : List ℕ) → 0 < length text → length text ≤ short_text → text_pieces text ≡ text ∷ []
 text_short [] some short = absurd (omega arith)

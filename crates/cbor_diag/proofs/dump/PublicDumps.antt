@@ -11,7 +11,7 @@ use Rattle.cbor_notes.specs.Layout.{width_of}
 use Rattle.cbor_notes.proofs.columns.OneColumn.{digits_left, one_column}
 use Rattle.cbor_diag.specs.declared.error.Error.{Error}
 use Rattle.cbor_diag.specs.declared.error.Error.TheVariants as refusal
-use Rattle.cbor_diag.specs.Answer.{Outcome, spelled, fault, IsOutcome, HasOutcome, OneOutcome}
+use Rattle.cbor_diag.specs.Answer.{Outcome, spelled, fault, IsOutcome, OneOutcome}
 use Rattle.cbor_diag.specs.Appended.{GaveText}
 use Rattle.cbor_diag.specs.Dump.{dump, lines, top}
 use Rattle.cbor_diag.specs.Facts.{IsItem, IsWellFormed}
@@ -19,7 +19,6 @@ use Rattle.cbor_diag.specs.HexText.{IsHexOf}
 use Rattle.cbor_diag.specs.Item.{Item}
 use Rattle.cbor_diag.specs.Reading.{Fails, read_item}
 use Rattle.cbor_diag.specs.Written.{encoded, resolve}
-use Rattle.cbor_diag.proofs.bytes.ExactlyOne.{outcome_reads}
 use Rattle.cbor_diag.proofs.bytes.Heads.{IsBytes}
 use Rattle.cbor_diag.proofs.bytes.Laws.{bytes_at, item_bytes}
 use Rattle.cbor_diag.proofs.bytes.Outcomes.{found_outcome}
@@ -89,11 +88,6 @@ pub lines_shown : (b : List ℕ) → IsBytes b → (i : Item) → IsItem b i
 lines_shown b fits i is = dump_one_line i (spells_well 1 b i fits is)
 
 -- ---- the front
-
--- what a reader gave of it
-pub outcome_fails : (b : List ℕ) (e : Error) → HasOutcome 1 b (Err e) → Fails e (read_item 128 b)
-outcome_fails b refusal.Memory h = tt
-outcome_fails b e h = outcome_reads 1 128 b (fault e) refl h
 
 pub gave_dump : (b rest : List ℕ) (i : Item) (text old new : List ℕ) (o : Outcome) → IsBytes b → OneOutcome 1 b
     → read_item 128 b ≡ Ok (i, rest) → text ≡ dump i → new ≡ old ++ text → IsOutcome 1 b o

@@ -1,24 +1,60 @@
--- What the walk over an item does with the pieces of a string, and with one line after the other.
-use Rattle.std.proofs.Common.{◌≡◌, Result, OnOk, ℕ, ◌+◌, ◌<◌, List, [], ◌∷◌, ◌++◌, map, length, take, drop, get_or}
-use Rattle.std.proofs.Common.{refl, sym, ap, subst, ◌∙◌, append_assoc}
-use Rattle.std.specs.List.{AllByRecursion, flat_map}
-use Rattle.std.proofs.lemmas.List.{drop_more}
-use Rattle.std.proofs.lemmas.Result.{on_ok_weaker}
-use Rattle.cbor_notes.proofs.columns.Trees.{all_front, all_back}
-use Rattle.cbor_diag.specs.Item.{Chunk}
-use Rattle.cbor_notes.specs.Layout.{DumpLine}
+-- What a writer does with one line after the other, with the pieces of a string, and with its chunks.
+use Rattle.std.proofs.Common.{◌≡◌, ℕ, ◌<◌, ◌≤◌, List, [], ◌∷◌, ◌++◌, map, length, take, drop, refl, sym, ap, subst, ◌∙◌}
+use Rattle.std.proofs.Common.{append_assoc, append-nil, arith}
+use Rattle.std.specs.List.{flat_map}
+use Rattle.std.specs.String.{string_bytes}
+use Rattle.std.proofs.lemmas.Grind.{flat_map-append}
+use Rattle.std.proofs.lemmas.List.{length-take}
+use Rattle.cbor_notes.specs.Layout.{DumpLine, line_text}
+use Rattle.cbor_diag.specs.declared.encode.dump.writer.Writer.{Writer}
 use Rattle.cbor_diag.specs.Dump.{content_lines, piece_line}
 use Rattle.cbor_diag.specs.Pieces.{pieces_of}
-use Rattle.cbor_diag.specs.declared.encode.dump.pass.Pass.{Pass}
-use Rattle.cbor_diag.specs.mirror.ShownLines.{Takes}
-use Rattle.cbor_diag.specs.mirror.Passes.{held, room, step, taken, CanTake, Took}
+use Rattle.cbor_diag.specs.mirror.Dumped.{Wrote}
 use Rattle.cbor_diag.proofs.dump.Pieces.{Cuts, pieces_more}
 
--- one line after the other
-pub taken-append : {View : Type 0} (step : View → DumpLine → View) (view : View) (xs ys : List DumpLine)
-    → taken step view (xs ++ ys) ≡ taken step (taken step view xs) ys
-taken-append step view [] ys = refl
-taken-append step view (x ∷ xs) ys = taken-append step (step view x) xs ys
+-- ---- lines
+
+pub wrote_none : (w : Writer) → Wrote w w []
+wrote_none w = record { text = sym (append-nil (string_bytes w.out)); width = refl }
+
+pub wrote_then : (old mid new : Writer) (xs ys : List DumpLine) → Wrote old mid xs → Wrote mid new ys
+    → Wrote old new (xs ++ ys)
+wrote_then old mid new xs ys a b =
+    let line = line_text old.width in
+    record {
+      text = b.text ∙ ap (λ n. string_bytes mid.out ++ flat_map (line_text n) ys) a.width
+          ∙ ap (λ t. t ++ flat_map line ys) a.text
+          ∙ append_assoc (string_bytes old.out) (flat_map line xs) (flat_map line ys)
+          ∙ ap (λ t. string_bytes old.out ++ t) (sym (flat_map-append line xs ys));
+      width = b.width ∙ a.width;
+    }
+
+-- Of all lines that are to be written, some are left.
+pub record Left (old now : Writer) (left all : List DumpLine) : Type 0 where
+  pub text : string_bytes now.out ++ flat_map (line_text old.width) left
+      ≡ string_bytes old.out ++ flat_map (line_text old.width) all
+  pub width : now.width ≡ old.width
+
+pub left_all : (w : Writer) (all : List DumpLine) → Left w w all all
+left_all w all = record { text = refl; width = refl }
+
+pub left_none : (old now : Writer) (all : List DumpLine) → Left old now [] all → Wrote old now all
+left_none old now all l = record { text = sym (append-nil (string_bytes now.out)) ∙ l.text; width = l.width }
+
+pub left_less : (left here others : List DumpLine) → left ≡ here ++ others → (old now next : Writer)
+    (all : List DumpLine) → Wrote now next here → Left old now left all → Left old next others all
+left_less left here others split old now next all w l =
+    let line = line_text old.width in
+    record {
+      text = ap (λ t. t ++ flat_map line others) (w.text
+          ∙ ap (λ n. string_bytes now.out ++ flat_map (line_text n) here) l.width)
+          ∙ append_assoc (string_bytes now.out) (flat_map line here) (flat_map line others)
+          ∙ ap (λ t. string_bytes now.out ++ t) (sym (flat_map-append line here others) ∙ sym (ap (flat_map line) split))
+          ∙ l.text;
+      width = w.width ∙ l.width;
+    }
+
+-- ---- pieces
 
 abbrev pub lines_of : (List ℕ → DumpLine) → (List ℕ → ℕ) → List ℕ → List DumpLine
 lines_of line cut bytes = map line (pieces_of cut (length bytes) bytes)
@@ -37,57 +73,16 @@ content_is depth comment cut cuts bytes some =
     content_some depth comment (take (cut bytes) bytes) (pieces_of cut (length bytes) bytes)
     (pieces_of cut (length (drop (cut bytes) bytes)) (drop (cut bytes) bytes)) (pieces_more cut cuts bytes some)
 
--- Of all lines that a pass takes, some are left.
-abbrev pub Left : Pass → Pass → List DumpLine → List DumpLine → Type 0
-Left old now left all = (taken step (held now) left ≡ taken step (held old) all) × CanTake now left
-    × (room now ≡ room old)
-
--- the last call takes them
-pub left_then : {T E : Type 0} (r : Result T E) (old now next : Pass) (left all : List DumpLine) → Left old now left all
-    → OnOk r (Took now next left) → OnOk r (Took old next all)
-left_then r old now next left all l took = on_ok_weaker r (λ t. (t.0 ∙ l.0, t.1 ∙ l.2)) took
-
--- The lines that are left are those of a part, and others.
-module _ (left here others : List DumpLine) (split : left ≡ here ++ others) where
-  pub part_here : (p : Pass) → CanTake p left → CanTake p here
-  part_here p all = all_front (Takes (room p)) here others (subst (CanTake p) split all)
-
-  pub part_left : (old now next : Pass) (all : List DumpLine) → Took now next here → Left old now left all
-      → Left old next others all
-  part_left old now next all took l =
-      let same = ap (λ v. taken step v others) took.0 ∙ sym (taken-append step (held now) here others) in
-      let rest = all_back (Takes (room now)) here others (subst (CanTake now) split l.1) in (
-        same ∙ sym (ap (taken step (held now)) split) ∙ l.0,
-        subst (λ n. AllByRecursion (Takes n) others) (sym took.1) rest,
-        took.1 ∙ l.2,
-      )
-
 -- A loop over pieces: one is cut off what is left.
 module _ (line : List ℕ → DumpLine) (cut : List ℕ → ℕ) (cuts : Cuts cut) (rest piece after : List ℕ)
     (some : 0 < length rest) (front : piece ≡ take (cut rest) rest) (back : after ≡ drop (cut rest) rest) where
   split_off : lines_of line cut rest ≡ (line piece ∷ []) ++ lines_of line cut after
   split_off = rw (front, back) (ap (map line) (pieces_more cut cuts rest some))
 
-  pub piece_here : (p : Pass) → CanTake p (lines_of line cut rest) → CanTake p (line piece ∷ [])
-  piece_here = part_here (lines_of line cut rest) (line piece ∷ []) (lines_of line cut after) split_off
-
-  pub pieces_left : (old now next : Pass) (all : List DumpLine) → Took now next (line piece ∷ [])
+  pub pieces_left : (old now next : Writer) (all : List DumpLine) → Wrote now next (line piece ∷ [])
       → Left old now (lines_of line cut rest) all → Left old next (lines_of line cut after) all
-  pieces_left = part_left (lines_of line cut rest) (line piece ∷ []) (lines_of line cut after) split_off
+  pieces_left = left_less (lines_of line cut rest) (line piece ∷ []) (lines_of line cut after) split_off
 
--- A loop over chunks is at its i-th one.
-module _ {X : Type 0} (chunk_of : X → Chunk) (chunks : List X) (i : ℕ) (chunk : X) (is : chunk ≡ get_or chunks i chunk)
-    (inside : i < length chunks) where
-  chunks_split : drop i chunks ≡ chunk ∷ drop (i + 1) chunks
-  chunks_split = drop_more chunks i chunk inside ∙ ap (λ c. c ∷ drop (i + 1) chunks) (sym is)
-
-  pub chunk_lines : (lines : Chunk → List DumpLine) (end : List DumpLine)
-      → flat_map lines (map chunk_of (drop i chunks)) ++ end ≡ lines (chunk_of chunk)
-      ++ (flat_map lines (map chunk_of (drop (i + 1) chunks)) ++ end)
-  chunk_lines lines end =
-      ap (λ cs. flat_map lines (map chunk_of cs) ++ end) chunks_split
-      ∙ append_assoc (lines (chunk_of chunk)) (flat_map lines (map chunk_of (drop (i + 1) chunks))) end
-
-  pub chunks_after : (P : Chunk → Type 0) → AllByRecursion P (map chunk_of (drop i chunks))
-      → AllByRecursion P (map chunk_of (drop (i + 1) chunks))
-  chunks_after P all = (subst (λ cs. AllByRecursion P (map chunk_of cs)) chunks_split all).1
+-- no piece is longer than its cut
+pub piece_few : (rest piece : List ℕ) (n : ℕ) → piece ≡ take n rest → n ≤ 16 → length piece ≤ 24
+piece_few rest piece n front few = omega (arith, ap length front, length-take n rest)

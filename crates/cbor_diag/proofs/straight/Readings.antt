@@ -60,7 +60,7 @@ ok_then c x f h = then_first c (0, Ok x) f h
 
 -- ---- heads
 
-one_more : (level : ℕ) → level ≤ 128 → levels_left level ≡ suc (levels_left (level + 1))
+pub one_more : (level : ℕ) → level ≤ 128 → levels_left level ≡ suc (levels_left (level + 1))
 one_more level le = omega arith
 
 pub head_reads : (c : NotationContext) (b : List ℕ) (h : ItemHead) (rest : List ℕ) → c.level ≤ 128

@@ -1,4 +1,5 @@
 -- What the code's own types of heads are.
+use Rattle.std.specs.Prelude.{ℕ, Option, Some, None}
 use Rattle.cbor_diag.specs.declared.parse.binary.argument.Argument as code_argument
 use Rattle.cbor_diag.specs.declared.parse.binary.argument.Argument.TheVariants.{Number, Indefinite}
 use Rattle.cbor_diag.specs.declared.parse.binary.head.ItemHead as code_head
@@ -10,6 +11,11 @@ use Rattle.cbor_diag.specs.mirror.StringView.{kind_view}
 abbrev pub argument_view : code_argument.Argument → Argument
 argument_view (Number n w) = number n w
 argument_view Indefinite = indefinite
+
+-- the number, where there is one
+abbrev pub argument_count : Argument → Option ℕ
+argument_count (number n w) = Some n
+argument_count indefinite = None
 
 abbrev pub head_view : code_head.ItemHead → ItemHead
 head_view (code.Integer n w) = integer n w

@@ -1,9 +1,9 @@
--- The lines that the code hands to a pass over an item. No public clause names them.
-use Rattle.std.specs.Prelude.{ℕ, ◌+◌, ◌*◌, ◌≤◌, List, [], Some, codes, unwrap_or}
+-- The lines that the code writes. No public clause names them.
+use Rattle.std.specs.Prelude.{ℕ, ◌+◌, ◌*◌, List, [], Some, codes, unwrap_or}
 use Rattle.hex.specs.Hex.{encode_lower}
 use Rattle.cbor_notes.specs.Element.{element_text}
-use Rattle.cbor_notes.specs.Layout.{DumpLine, reach}
-use Rattle.cbor_notes.specs.LineTree.{IsFit, most_hex, most_levels}
+use Rattle.cbor_notes.specs.Layout.{DumpLine}
+use Rattle.cbor_notes.specs.LineTree.{most_hex, most_levels}
 use Rattle.cbor_diag.specs.declared.syntax.major.Major.{Major}
 use Rattle.cbor_diag.specs.declared.syntax.major.Major.TheVariants as major
 use Rattle.cbor_diag.specs.declared.encode.dump.comment.Comment.{Comment}
@@ -54,8 +54,3 @@ shown_line depth style bytes said = record { depth = depth; hex = style_hex styl
 -- the digits of lines that fit reach no farther
 abbrev pub most_width : ℕ
 most_width = 3 * most_levels + most_hex
-
--- a line that fits, and whose digits do not reach past the room
-pub record Takes (room : ℕ) (line : DumpLine) : Type 0 where
-  pub fit : IsFit line
-  pub reach : reach line ≤ room

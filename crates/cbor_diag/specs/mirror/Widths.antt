@@ -11,11 +11,12 @@ use Rattle.cbor_diag.specs.Item.{array, tagged, Items, no_items, item, Pairs, no
 use Rattle.cbor_diag.specs.ItemHead as item_head
 use Rattle.cbor_diag.specs.ItemHead.{ItemHead}
 use Rattle.cbor_diag.specs.Pieces.{piece_size, text_pieces}
-use Rattle.cbor_diag.specs.Reading.{Read, count_width, opened, read_body, counted_item, read_item}
+use Rattle.cbor_diag.specs.Reading.{Read, count_width}
 use Rattle.cbor_diag.specs.StringKind.{StringKind, bytes_kind, text_kind, major_of}
 use Rattle.cbor_diag.specs.WellFormed.{deepest, levels_left}
 use Rattle.cbor_diag.specs.Written.{encoded_head, encoded_open, encoded_float, encoded_simple}
-use Rattle.cbor_diag.specs.mirror.Passes.{tag_number}
+use Rattle.cbor_diag.specs.mirror.AtLevel.{read_behind}
+use Rattle.cbor_diag.specs.mirror.Dumped.{tag_number}
 
 -- ---- lines
 
@@ -124,13 +125,6 @@ width_there p i = width_at (levels_left p.level) p.depth (tag_number p.tag) i
 
 abbrev pub inner_there : Place → Item → ℕ
 inner_there p i = inner_width (width_at (levels_left (p.level + 1))) p.depth (tag_number p.tag) i
-
--- what reading gives at a level, before a head and after it
-abbrev pub read_at : ℕ → List ℕ → Read Item
-read_at level b = read_item (levels_left level) b
-
-abbrev pub read_behind : ℕ → ItemHead → List ℕ → Read Item
-read_behind level h b = (read_body (counted_item (levels_left (level + 1))) (opened h) h b).1
 
 -- ---- what was measured
 

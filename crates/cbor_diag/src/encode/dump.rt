@@ -1,7 +1,7 @@
 //! Writes an item as a dump: annotated hex.
 //!
-//! One recursion over the item hands its lines to a pass, one after the other. The first pass
-//! measures the column of the digits, and the second one writes each line at once.
+//! One recursion over the bytes finds the column of the digits, and one writes each line as soon as
+//! it is read.
 ghost use Rattle.std.specs.Prelude.{◌≡◌, ◌+◌, IfOk, IfErr};
 ghost use Rattle.std.specs.List.{AllByRecursion};
 ghost use Rattle.std.specs.String.{string_bytes};
@@ -19,20 +19,19 @@ ghost use Rattle.cbor_diag.specs.Dump as spec;
 mod comment;
 mod context;
 mod hex_style;
-mod items;
 mod lines;
 mod note_lines;
 mod notes;
-mod pass;
 mod straight;
+mod walk;
 mod width;
 mod writer;
 
 use crate::error::Error;
 use crate::syntax::DataItem;
-use items::dump;
 use std::alloc::Global;
 pub use straight::{bytes_to_hex, hex_to_hex, push_bytes_to_hex, push_bytes_to_hex_partial};
+use walk::dump;
 
 impl DataItem {
     /// Returns the item as a dump: its bytes in hex, as [`DataItem::to_bytes`] writes them, each
@@ -69,6 +68,8 @@ impl DataItem {
         ensures not_embedded { RejectsExactly }
         ensures refused { IfErr result (λ e. e ≡ Error.Memory) }
     {
-        Ok(dump(alloc, self, 1)?)
+        let bytes = self.to_bytes(alloc)?;
+        let (text, _) = dump(alloc, &bytes, 1)?;
+        Ok(text)
     }
 }

@@ -3,7 +3,6 @@
 #![tactic(auto, using(crate::proofs::shared::Appending::appending_steps))]
 
 ghost use Rattle.cbor_diag.specs.mirror.Appends.{Appends};
-ghost use Rattle.std.specs.Prelude.{◌≡◌};
 ghost use Rattle.cbor_diag.specs.Head.{FitsWidth};
 ghost use Rattle.cbor_diag.specs.mirror.MajorNumber.{major_number};
 ghost use Rattle.cbor_diag.specs.WellFormed.{FitsFloat, FitsCount};
@@ -13,41 +12,6 @@ ghost use Rattle.cbor_diag.specs.Written.{encoded_open, encoded_close};
 use crate::syntax::major::Major;
 use crate::syntax::{FloatWidth, IntegerWidth};
 use std::alloc::AllocError;
-
-/// A head: a major type, and a number in a width that it fits.
-#[derive(Clone, Copy)]
-pub(crate) struct Head {
-    /// The major type.
-    pub(crate) major: Major,
-    /// The number.
-    pub(crate) number: u64,
-    /// The width of the number.
-    pub(crate) width: IntegerWidth,
-}
-
-impl Head {
-    /// The head of this major type and number.
-    pub(crate) fn new(major: Major, number: u64, width: IntegerWidth) -> Head
-        ensures { result ≡ record { major = major; number = number; width = width } }
-    {
-        Head {
-            major,
-            number,
-            width,
-        }
-    }
-}
-
-/// The head of a container with its count, or its opening byte.
-#[derive(Clone, Copy)]
-pub(crate) struct Opening {
-    /// The major type.
-    pub(crate) major: Major,
-    /// The number of members.
-    pub(crate) count: usize,
-    /// The width of the count, which is written where the length is definite.
-    pub(crate) width: Option<IntegerWidth>,
-}
 
 /// Writes a head: the major type, and a number that fits its width.
 pub(crate) fn push_head(

@@ -88,6 +88,16 @@ pub(crate) enum StringContent<'a> {
 }
 
 impl<'a> StringContent<'a> {
+    /// The kind of the string.
+    pub(crate) fn kind(self) -> StringKind
+        ensures { kind_view result ≡ kind_of self.entry }
+    {
+        match self {
+            StringContent::Bytes(_) => StringKind::Bytes,
+            StringContent::Text(_) => StringKind::Text,
+        }
+    }
+
     /// The bytes, or the UTF-8 of the text.
     pub(crate) fn as_bytes(self) -> &'a [u8]
         ensures bytes { result.now ≡ bytes_of self.entry }

@@ -3,11 +3,14 @@ ghost use Rattle.std.specs.Prelude.{◌≡◌, ◌++◌, OnOk, decimal};
 ghost use Rattle.std.specs.String.{string_bytes};
 ghost use Rattle.cbor_notes.specs.TagNames.{tag_name};
 ghost use Rattle.cbor_diag.specs.Comments as spec;
+ghost use Rattle.cbor_diag.specs.mirror.Dumped.{IsHead, head_said};
 ghost use Rattle.cbor_diag.specs.mirror.EncodingView.{in_force};
+ghost use Rattle.cbor_diag.specs.mirror.HeadView.{head_view};
 ghost use Rattle.cbor_diag.specs.mirror.ShownLines.{comment_text, head_comment, major_word};
 
 use crate::encode::encoding::Encoding;
 use crate::encode::notation::push_quoted;
+use crate::parse::ItemHead;
 use crate::syntax::Tag;
 use crate::syntax::major::Major;
 use cbor_notes::{
@@ -38,6 +41,25 @@ pub(super) enum Comment<'a> {
     Element(Tag, &'a [u8]),
     /// A line of a note.
     Note(&'a str),
+}
+
+impl<'a> Comment<'a> {
+    /// What is said of a head, whose bytes these are.
+    pub(super) fn of(head: ItemHead, bytes: &'a [u8]) -> Comment<'a>
+        requires { IsHead (head_view head) bytes.now }
+        ensures { comment_text result ≡ head_said (head_view head) }
+    {
+        match head {
+            ItemHead::Integer(number, _) => Comment::Head(Major::Unsigned, number),
+            ItemHead::Negative(number, _) => Comment::Head(Major::Negative, number),
+            ItemHead::String(kind, length) => Comment::Counted(kind.major(), length.number()),
+            ItemHead::Array(count) => Comment::Counted(Major::Array, count.number()),
+            ItemHead::Map(count) => Comment::Counted(Major::Map, count.number()),
+            ItemHead::Tag(number, _) => Comment::Head(Major::Tag, number),
+            ItemHead::Float(..) => Comment::Float(bytes),
+            ItemHead::Simple(value) => Comment::Simple(value),
+        }
+    }
 }
 
 impl Comment<'_> {

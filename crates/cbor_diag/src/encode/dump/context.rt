@@ -1,7 +1,7 @@
 //! Where in a dump an item is.
 ghost use Rattle.std.specs.Prelude.{◌≡◌, ◌+◌};
 ghost use Rattle.cbor_diag.specs.Dump as spec;
-ghost use Rattle.cbor_diag.specs.mirror.Passes.{context_view, IsContext};
+ghost use Rattle.cbor_diag.specs.mirror.Dumped.{context_view, IsContext};
 
 use crate::encode::encoding::{Encoding, encoding_below};
 use crate::syntax::Tag;
@@ -22,6 +22,21 @@ pub(crate) struct DumpContext {
 }
 
 impl DumpContext {
+    /// Outside of any item, where the next one is at `level`.
+    pub(crate) fn top(level: u8) -> DumpContext
+        ensures context { context_view result ≡ spec.top }
+        ensures depth { result.depth ≡ 0 }
+        ensures level { result.level ≡ level }
+    {
+        DumpContext {
+            level,
+            depth: 0,
+            encoding: None,
+            tag: None,
+            shared: 0,
+        }
+    }
+
     /// In a container, or in a string in chunks.
     pub(crate) fn inside(&self) -> DumpContext
         requires { IsContext self.now }

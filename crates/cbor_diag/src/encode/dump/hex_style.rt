@@ -1,5 +1,5 @@
 //! The digits of a line.
-ghost use Rattle.std.specs.Prelude.{◌≡◌, ◌++◌, length, OnOk};
+ghost use Rattle.std.specs.Prelude.{◌≡◌, ◌++◌, OnOk};
 ghost use Rattle.std.specs.String.{string_bytes};
 ghost use Rattle.cbor_diag.specs.Dump.{head_hex};
 ghost use Rattle.cbor_diag.specs.mirror.ShownLines.{style_hex};
@@ -17,16 +17,6 @@ pub(super) enum HexStyle {
 }
 
 impl HexStyle {
-    /// The number of digits and blanks.
-    pub(super) fn len(self, bytes: &[u8]) -> usize
-        ensures { result ≡ length (style_hex self bytes.now) }
-    {
-        match self {
-            HexStyle::Head => head_len(bytes),
-            HexStyle::Content => 2 * bytes.len(),
-        }
-    }
-
     /// Appends the digits to a text.
     pub(super) fn push(self, out: &mut String, bytes: &[u8]) -> Result<(), AllocError>
         ensures { OnOk result (string_bytes out.new ≡ string_bytes out.old
@@ -36,16 +26,6 @@ impl HexStyle {
             HexStyle::Head => push_head_hex(out, bytes),
             HexStyle::Content => push_hex(out, bytes),
         }
-    }
-}
-
-fn head_len(bytes: &[u8]) -> usize
-    ensures { result ≡ length (head_hex bytes.now) }
-{
-    if bytes.len() <= 1 {
-        2 * bytes.len()
-    } else {
-        2 * bytes.len() + 1
     }
 }
 

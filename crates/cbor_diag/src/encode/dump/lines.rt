@@ -1,39 +1,31 @@
 //! The lines of heads and of strings.
-ghost use Rattle.std.specs.Prelude.{◌≡◌, ◌<◌, ◌≤◌, ◌+◌, ◌^◌, ◌∷◌, [], length, map, OnOk, IfOk};
-ghost use Rattle.std.specs.List.{AllByRecursion};
+ghost use Rattle.std.specs.Prelude.{◌≡◌, ◌<◌, ◌≤◌, ◌+◌, ◌∷◌, [], length, OnOk};
 ghost use Rattle.std.specs.Str.{IsCharBoundary};
-ghost use Rattle.cbor_diag.specs.Head.{FitsWidth};
-ghost use Rattle.cbor_diag.specs.mirror.MajorNumber.{major_number};
-ghost use Rattle.cbor_diag.specs.WellFormed.{deepest, FitsCount, FitsFloat, IsChunk};
-ghost use Rattle.cbor_diag.specs.mirror.StringView.{bytes_of, kind_of};
-ghost use Rattle.cbor_diag.specs.Written.{encoded_head, encoded_float, encoded_simple};
-ghost use Rattle.cbor_diag.specs.Comments.{float_comment, text_comment, simple_comment};
-ghost use Rattle.cbor_diag.specs.Pieces.{text_pieces, text_cut as cut_of};
+ghost use Rattle.cbor_notes.specs.Layout.{reach};
+ghost use Rattle.cbor_diag.specs.Comments.{simple_comment, text_comment};
 ghost use Rattle.cbor_diag.specs.Dump as spec;
-ghost use Rattle.cbor_diag.specs.mirror.ShownLines.{comment_text, head_comment, major_word};
+ghost use Rattle.cbor_diag.specs.Pieces.{text_pieces, text_cut as cut_of};
+ghost use Rattle.cbor_diag.specs.Reading.{count_width};
+ghost use Rattle.cbor_diag.specs.WellFormed.{deepest};
+ghost use Rattle.cbor_diag.specs.Written.{encoded_head, encoded_simple};
+ghost use Rattle.cbor_diag.specs.StringKind.{major_of};
+ghost use Rattle.cbor_diag.specs.mirror.Dumped.{context_view, tag_number, IsContext, Wrote};
+ghost use Rattle.cbor_diag.specs.mirror.Dumped.{IsHead, line_of_head};
 ghost use Rattle.cbor_diag.specs.mirror.EncodingView.{in_force};
-ghost use Rattle.cbor_diag.specs.mirror.Passes.{context_view, tag_number, IsContext, CanTake, Took};
+ghost use Rattle.cbor_diag.specs.mirror.HeadView.{argument_view, head_view};
+ghost use Rattle.cbor_diag.specs.mirror.ShownLines.{comment_text, shown_line};
+ghost use Rattle.cbor_diag.specs.mirror.StringView.{borrowed_chunk, bytes_of, kind_of};
 
 use super::comment::Comment;
 use super::context::DumpContext;
 use super::hex_style::HexStyle;
-use super::pass::Pass;
+use super::writer::Writer;
 use crate::encode::encoding::Encoding;
-use crate::encode::head::{Head, Opening, push_float, push_head, push_open, push_simple};
-use crate::syntax::major::Major;
-use crate::syntax::strings::{DefiniteString, StringContent};
-use crate::syntax::{FloatWidth, IntegerWidth, Tag};
-use cbor_notes::element_size;
-use std::alloc::{AllocError, Global};
-
-/// The lines of a dump, handed to a pass one after the other.
-#[derive(Drop)]
-pub(crate) struct Lines {
-    /// The pass.
-    pub(crate) pass: Pass,
-    /// The bytes of a head, kept to reuse their memory.
-    pub(crate) head: Vec<u8>,
-}
+use crate::parse::{Argument, ItemHead};
+use crate::syntax::strings::StringContent;
+use crate::syntax::{IntegerWidth, Tag};
+use cbor_notes::{element_size, put_line};
+use std::alloc::AllocError;
 
 /// The elements of a typed array (RFC 8746).
 #[derive(Clone, Copy)]
@@ -44,123 +36,90 @@ pub(crate) struct Elements {
     pub(crate) size: usize,
 }
 
-impl Lines {
-    /// No lines yet.
-    pub(super) fn new(alloc: Global, pass: Pass) -> Result<Lines, AllocError>
-        ensures { IfOk result (λ lines. lines.pass ≡ pass) }
-    {
-        Ok(Lines {
-            pass,
-            head: Vec::with_capacity(alloc, 9)?,
-        })
+/// Where digits end that begin at a depth, or 0 if there are none.
+fn reach(depth: usize, hex: &str) -> usize
+    requires depth { depth < 140 }
+    requires short { length hex.now ≤ 64 }
+    ensures { result ≡ reach (record { depth = depth; hex = hex.now; comment = [] }) }
+{
+    if hex.is_empty() {
+        0
+    } else {
+        3 * depth + hex.len()
     }
+}
 
-    /// The line of a head with its number.
-    pub(super) fn number(&mut self, depth: usize, head: Head) -> Result<(), AllocError>
-        requires fits { FitsWidth head.width head.number }
-        requires takes { CanTake self.old.pass (spec.head_line depth
-            (encoded_head (major_number head.major) head.number head.width)
-            (head_comment head.major head.number) ∷ []) }
-        ensures { OnOk result (Took self.old.pass self.new.pass (spec.head_line depth
-            (encoded_head (major_number head.major) head.number head.width)
-            (head_comment head.major head.number) ∷ [])) }
-    {
-        self.head.clear();
-        push_head(&mut self.head, head.major, head.number, head.width)?;
-        let comment = Comment::Head(head.major, head.number);
-        self.pass.line(depth, HexStyle::Head, &self.head, &comment)
-    }
-
-    /// The line of a float.
-    pub(super) fn float(
+impl Writer {
+    /// Writes a line at a depth: bytes, the style of their digits, and a comment. Digits that reach
+    /// past the left column stay whole. The only error is out of memory.
+    pub(super) fn line(
         &mut self,
         depth: usize,
-        bits: u64,
-        width: FloatWidth,
+        style: HexStyle,
+        bytes: &[u8],
+        comment: &Comment<'_>,
     ) -> Result<(), AllocError>
-        requires fits { FitsFloat width bits }
-        requires takes { CanTake self.old.pass (spec.head_line depth
-            (encoded_float bits width) (float_comment (encoded_float bits width)) ∷ []) }
-        ensures { OnOk result (Took self.old.pass self.new.pass (spec.head_line depth
-            (encoded_float bits width) (float_comment (encoded_float bits width)) ∷ [])) }
+        requires depth { depth < 140 }
+        requires few { length bytes.now ≤ 24 }
+        ensures { OnOk result
+            (Wrote self.old self.new (shown_line depth style bytes.now comment.now ∷ [])) }
     {
-        self.head.clear();
-        push_float(&mut self.head, bits, width)?;
-        self.pass.line(
-            depth,
-            HexStyle::Head,
-            &self.head,
-            &Comment::Float(&self.head),
-        )
+        self.hex.clear();
+        style.push(&mut self.hex, bytes)?;
+        self.comment.clear();
+        comment.push(&mut self.comment)?;
+        let width = self.width.max(reach(depth, &self.hex));
+        put_line(&mut self.out, width, depth, &self.hex, &self.comment)
+    }
+
+    /// The line of a head, whose bytes these are.
+    pub(super) fn head_line(
+        &mut self,
+        depth: usize,
+        head: ItemHead,
+        bytes: &[u8],
+    ) -> Result<(), AllocError>
+        requires depth { depth < 140 }
+        requires bytes { IsHead (head_view head) bytes.now }
+        ensures { OnOk result (Wrote self.old self.new (line_of_head depth (head_view head) ∷ [])) }
+    {
+        match head {
+            ItemHead::Simple(value) => self.simple(depth, value),
+            _ => self.line(depth, HexStyle::Head, bytes, &Comment::of(head, bytes)),
+        }
     }
 
     /// The line of a simple value.
-    pub(super) fn simple(&mut self, depth: usize, value: u8) -> Result<(), AllocError>
-        requires { CanTake self.old.pass
-            (spec.head_line depth (encoded_simple value) (simple_comment value) ∷ []) }
-        ensures { OnOk result (Took self.old.pass self.new.pass
+    fn simple(&mut self, depth: usize, value: u8) -> Result<(), AllocError>
+        requires { depth < 140 }
+        ensures { OnOk result (Wrote self.old self.new
             (spec.head_line depth (encoded_simple value) (simple_comment value) ∷ [])) }
     {
-        self.head.clear();
-        push_simple(&mut self.head, value)?;
-        self.pass
-            .line(depth, HexStyle::Head, &self.head, &Comment::Simple(value))
-    }
-
-    /// The line of the opening byte of an indefinite length.
-    fn open(&mut self, depth: usize, major: Major) -> Result<(), AllocError>
-        requires { CanTake self.old.pass
-            (spec.open_line depth (major_number major) (major_word major) ∷ []) }
-        ensures { OnOk result (Took self.old.pass self.new.pass
-            (spec.open_line depth (major_number major) (major_word major) ∷ [])) }
-    {
-        let opening = [major.high_bits() + 31];
-        let comment = Comment::Counted(major, None);
-        self.pass.line(depth, HexStyle::Head, &opening, &comment)
+        let comment = Comment::Simple(value);
+        if value < 24 {
+            self.line(depth, HexStyle::Head, &[0xe0 + value], &comment)
+        } else {
+            self.line(depth, HexStyle::Head, &[0xf8, value], &comment)
+        }
     }
 
     /// The line of a break.
-    fn break_line(&mut self, depth: usize) -> Result<(), AllocError>
-        requires { CanTake self.old.pass (spec.break_line depth ∷ []) }
-        ensures { OnOk result (Took self.old.pass self.new.pass (spec.break_line depth ∷ [])) }
+    pub(super) fn break_line(&mut self, depth: usize) -> Result<(), AllocError>
+        requires { depth < 140 }
+        ensures { OnOk result (Wrote self.old self.new (spec.break_line depth ∷ [])) }
     {
-        self.pass
-            .line(depth, HexStyle::Head, &[0xff], &Comment::Break)
+        self.line(depth, HexStyle::Head, &[0xff], &Comment::Break)
     }
 
-    /// The line before the members of a container.
-    pub(super) fn container(&mut self, depth: usize, opening: Opening) -> Result<(), AllocError>
-        requires fits { FitsCount opening.width opening.count }
-        requires takes { CanTake self.old.pass (spec.container_line depth
-            (major_number opening.major) (major_word opening.major) opening.count opening.width
-            ∷ []) }
-        ensures { OnOk result (Took self.old.pass self.new.pass (spec.container_line depth
-            (major_number opening.major) (major_word opening.major) opening.count opening.width
-            ∷ [])) }
+    /// The line after the members of a container of that length, if there is one.
+    pub(super) fn close(&mut self, depth: usize, length: Argument) -> Result<(), AllocError>
+        requires { depth < 140 }
+        ensures { OnOk result (Wrote self.old self.new
+            (spec.close_lines depth (count_width (argument_view length)))) }
     {
-        self.head.clear();
-        push_open(&mut self.head, opening.major, opening.count, opening.width)?;
-        let count = if opening.width.is_some() {
-            Some(opening.count as u64)
-        } else {
-            None
-        };
-        let comment = Comment::Counted(opening.major, count);
-        self.pass.line(depth, HexStyle::Head, &self.head, &comment)
-    }
-
-    /// The line after the members of a container, if there is one.
-    pub(super) fn close(
-        &mut self,
-        depth: usize,
-        width: Option<IntegerWidth>,
-    ) -> Result<(), AllocError>
-        requires { CanTake self.old.pass (spec.close_lines depth width) }
-        ensures { OnOk result (Took self.old.pass self.new.pass (spec.close_lines depth width)) }
-    {
-        match width {
-            Some(_) => Ok(()),
-            None => self.break_line(depth),
+        match length {
+            Argument::Number(..) => Ok(()),
+            Argument::Indefinite => self.break_line(depth),
         }
     }
 
@@ -171,12 +130,12 @@ impl Lines {
         piece: &[u8],
         comment: &Comment<'_>,
     ) -> Result<(), AllocError>
-        requires { CanTake self.old.pass
-            (spec.piece_line depth piece.now (comment_text comment.now) ∷ []) }
-        ensures { OnOk result (Took self.old.pass self.new.pass
+        requires depth { depth < 140 }
+        requires few { length piece.now ≤ 24 }
+        ensures { OnOk result (Wrote self.old self.new
             (spec.piece_line depth piece.now (comment_text comment.now) ∷ [])) }
     {
-        self.pass.line(depth, HexStyle::Content, piece, comment)
+        self.line(depth, HexStyle::Content, piece, comment)
     }
 
     /// The content of a byte string, a line for each piece.
@@ -186,8 +145,8 @@ impl Lines {
         encoding: Option<Encoding>,
         bytes: &[u8],
     ) -> Result<(), AllocError>
-        requires { CanTake self.old.pass (spec.bytes_lines depth (in_force encoding) bytes.now) }
-        ensures { OnOk result (Took self.old.pass self.new.pass
+        requires { depth < 140 }
+        ensures { OnOk result (Wrote self.old self.new
             (spec.bytes_lines depth (in_force encoding) bytes.now)) }
     {
         if bytes.is_empty() {
@@ -204,10 +163,10 @@ impl Lines {
 
     /// The elements of a typed array, a line for each.
     fn elements(&mut self, depth: usize, of: Elements, bytes: &[u8]) -> Result<(), AllocError>
-        requires size { 0 < of.size }
-        requires takes { CanTake self.old.pass
-            (spec.element_lines depth of.tag.0 of.size bytes.now) }
-        ensures { OnOk result (Took self.old.pass self.new.pass
+        requires depth { depth < 140 }
+        requires some { 0 < of.size }
+        requires few { of.size ≤ 16 }
+        ensures { OnOk result (Wrote self.old self.new
             (spec.element_lines depth of.tag.0 of.size bytes.now)) }
     {
         let mut rest = bytes;
@@ -222,10 +181,8 @@ impl Lines {
     /// The content of a byte string, one deeper than the context: its elements where the tag above
     /// is that of a typed array and the bytes are whole elements.
     fn tagged_content(&mut self, context: &DumpContext, bytes: &[u8]) -> Result<(), AllocError>
-        requires context { IsContext context.now }
-        requires takes { CanTake self.old.pass (spec.tagged_lines (context.now.depth + 1)
-            (in_force context.now.encoding) (tag_number context.now.tag) bytes.now) }
-        ensures { OnOk result (Took self.old.pass self.new.pass
+        requires { IsContext context.now }
+        ensures { OnOk result (Wrote self.old self.new
             (spec.tagged_lines (context.now.depth + 1)
             (in_force context.now.encoding) (tag_number context.now.tag) bytes.now)) }
     {
@@ -243,9 +200,8 @@ impl Lines {
 
     /// The content of a text, in one line or a line for each piece.
     fn text_content(&mut self, depth: usize, text: &str) -> Result<(), AllocError>
-        requires { CanTake self.old.pass
-            (spec.content_lines depth text_comment (text_pieces text.now)) }
-        ensures { OnOk result (Took self.old.pass self.new.pass
+        requires { depth < 140 }
+        ensures { OnOk result (Wrote self.old self.new
             (spec.content_lines depth text_comment (text_pieces text.now))) }
     {
         if text.is_empty() {
@@ -264,17 +220,14 @@ impl Lines {
     }
 
     /// The content of a string, one deeper than the context.
-    fn string_content(
+    pub(super) fn string_content(
         &mut self,
         context: &DumpContext,
         content: StringContent<'_>,
     ) -> Result<(), AllocError>
-        requires context { IsContext context.now }
-        requires takes { CanTake self.old.pass (spec.string_content_lines (kind_of content)
-            (context_view context.now) (bytes_of content)) }
-        ensures { OnOk result (Took self.old.pass self.new.pass
-            (spec.string_content_lines (kind_of content.entry)
-            (context_view context.now) (bytes_of content.entry))) }
+        requires { IsContext context.now }
+        ensures { OnOk result (Wrote self.old self.new (spec.string_content_lines
+            (kind_of content.entry) (context_view context.now) (bytes_of content.entry))) }
     {
         match content {
             StringContent::Bytes(bytes) => self.tagged_content(context, bytes),
@@ -282,48 +235,27 @@ impl Lines {
         }
     }
 
-    /// A string of definite length.
-    pub(super) fn string<S: DefiniteString>(
+    /// A chunk, whose length has this width: its head, whose bytes these are, and its content.
+    pub(super) fn chunk(
         &mut self,
         context: &DumpContext,
-        string: &S,
+        chunk: (StringContent<'_>, IntegerWidth),
+        head: &[u8],
     ) -> Result<(), AllocError>
         requires context { IsContext context.now }
-        requires well_formed { IsChunk S.kind (S.chunk string.now) }
-        requires takes { CanTake self.old.pass
-            (spec.string_lines S.kind (context_view context.now) (S.chunk string.now)) }
-        ensures { OnOk result (Took self.old.pass self.new.pass
-            (spec.string_lines S.kind (context_view context.now) (S.chunk string.now))) }
+        requires head { head.now ≡ encoded_head (major_of (kind_of chunk.0))
+            (length (bytes_of chunk.0)) chunk.1 }
+        ensures { OnOk result (Wrote self.old self.new (spec.string_lines (kind_of chunk.entry.0)
+            (context_view context.now) (borrowed_chunk chunk.entry.1 chunk.entry.0))) }
     {
-        let content = string.content();
-        let length = content.as_bytes().len() as u64;
-        self.number(
+        let (content, width) = chunk;
+        let length = Argument::Number(content.as_bytes().len() as u64, width);
+        self.head_line(
             context.depth,
-            Head::new(S::kind().major(), length, string.width()),
+            ItemHead::String(content.kind(), length),
+            head,
         )?;
         self.string_content(context, content)
-    }
-
-    /// A string in chunks.
-    pub(super) fn chunks<S: DefiniteString>(
-        &mut self,
-        context: &DumpContext,
-        chunks: &[S],
-    ) -> Result<(), AllocError>
-        requires context { IsContext context.now }
-        requires level { context.now.level ≤ deepest }
-        requires well_formed { AllByRecursion (IsChunk S.kind) (map S.chunk chunks.now) }
-        requires takes { CanTake self.old.pass
-            (spec.chunks_lines S.kind (context_view context.now) (map S.chunk chunks.now)) }
-        ensures { OnOk result (Took self.old.pass self.new.pass
-            (spec.chunks_lines S.kind (context_view context.now) (map S.chunk chunks.now))) }
-    {
-        self.open(context.depth, S::kind().major())?;
-        let inner = context.inside();
-        'chunks: for chunk in chunks {
-            self.string(&inner, chunk)?;
-        }
-        self.break_line(context.depth + 1)
     }
 }
 

@@ -1,7 +1,8 @@
 //! The notes of a dump: what is said of the value of a tag, by the value alone.
-ghost use Rattle.std.specs.Prelude.{◌≡◌, ◌<◌, option_map, Some, IfOk};
+ghost use Rattle.std.specs.Prelude.{◌≡◌, ◌<◌, ℕ, false, option_map, Some, None, IfOk};
 ghost use Rattle.std.specs.String.{string_bytes};
 ghost use Rattle.cbor_diag.specs.Comments as comments;
+ghost use Rattle.cbor_diag.specs.Item.{Item};
 ghost use Rattle.cbor_diag.specs.View.{view};
 ghost use Rattle.cbor_diag.specs.Notes as spec;
 ghost use Rattle.cbor_diag.specs.mirror.NotesView.{note_view};
@@ -44,6 +45,29 @@ impl Note {
         ensures { IfOk result (λ note. note_view note ≡ spec.plain_note text.now) }
     {
         Ok(Note::plain(alloc, String::from_str(alloc, text)?))
+    }
+}
+
+/// Whether `value_note` may have a note on a value right below this tag.
+#[tactic(auto, unfolding(crate::specs::Notes::value_note))]
+pub(super) fn may_have_note(tag: Tag) -> bool
+    ensures { result ≡ false → (known : ℕ) (i : Item) → spec.value_note known tag.0 i ≡ None }
+{
+    match tag {
+        Tag::DATETIME
+        | Tag::EPOCH_DATETIME
+        | Tag::SHAREABLE
+        | Tag::SHARED_REF
+        | Tag::URI
+        | Tag::BASE64URL
+        | Tag::BASE64
+        | Tag::UUID
+        | Tag::IPV4
+        | Tag::IPV6
+        | Tag::EPOCH_DATE
+        | Tag::NETWORK_ADDRESS
+        | Tag::DATE => true,
+        _ => element_size(tag.0).is_some(),
     }
 }
 

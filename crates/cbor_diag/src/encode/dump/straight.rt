@@ -1,4 +1,4 @@
-//! From bytes and hex to dumps, in one call.
+//! From bytes and hex to dumps, without an item between them.
 ghost use Rattle.std.specs.Prelude.{◌≡◌, ℕ, ◌+◌, ◌++◌, IfOk, IfErr, IfSome, OnOk, OnErr, MatchResult};
 ghost use Rattle.std.specs.Prelude.{None, Ok};
 ghost use Rattle.std.specs.List.{AllByRecursion};
@@ -15,31 +15,12 @@ ghost use Rattle.cbor_diag.specs.Facts.{IsItem, BeginsWithItem, IsCut, HasFault,
 ghost use Rattle.cbor_diag.specs.Facts.{BeginsSo, BeginsInOneWay};
 ghost use Rattle.cbor_diag.specs.HexText.{IsHexOf, IsHexRefused};
 ghost use Rattle.cbor_diag.specs.Item.{Item};
-ghost use Rattle.cbor_diag.specs.Reading.{Fails, read_item};
-ghost use Rattle.cbor_diag.specs.WellFormed.{deepest};
 ghost use Rattle.cbor_diag.specs.Written.{encoded};
 
-use super::items::dump;
+use super::walk::dump;
 use crate::error::Error;
-use crate::parse::{decode, read_front, uncommented};
+use crate::parse::{decode, uncommented};
 use std::alloc::Global;
-
-/// The dump of the item at the front, and the bytes after it.
-fn dump_front(alloc: Global, bytes: &[u8]) -> crate::Result<(String, &[u8])>
-    ensures dumped { IfOk result (λ x. (i : Item)
-        × (read_item deepest bytes.now ≡ Ok (i, x.1.now)) × (string_bytes x.0 ≡ spec.dump i)) }
-    ensures refused { IfErr result (λ e. Fails e (read_item deepest bytes.now)) }
-{
-    match read_front(alloc, bytes, 1) {
-        Ok(Some((item, used))) => {
-            let text = dump(alloc, &item, 1)?;
-            let (_, rest) = bytes.split_at(used);
-            Ok((text, rest))
-        }
-        Ok(None) => Err(Error::CutShort),
-        Err(error) => Err(error),
-    }
-}
 
 /// The dump of the one item that the bytes are, all of them.
 fn dump_whole(alloc: Global, bytes: &[u8]) -> crate::Result<String>
@@ -47,7 +28,7 @@ fn dump_whole(alloc: Global, bytes: &[u8]) -> crate::Result<String>
         × (string_bytes s ≡ spec.dump i)) }
     ensures refused { RefusedSo result (IsNoItem bytes.now) }
 {
-    let (text, rest) = dump_front(alloc, bytes)?;
+    let (text, rest) = dump(alloc, bytes, 1)?;
     if rest.is_empty() {
         Ok(text)
     } else {
@@ -58,7 +39,7 @@ fn dump_whole(alloc: Global, bytes: &[u8]) -> crate::Result<String>
 /// Returns the one item that the bytes are as a dump: their hex digits, each line with a comment.
 ///
 /// It returns what [`parse_bytes`] and [`DataItem::to_hex`] return one after the other, the errors
-/// of [`parse_bytes`] included.
+/// of [`parse_bytes`] included. It builds no item, so it takes less time and less memory.
 ///
 /// ```rust
 /// use cbor_diag::{Error, bytes_to_hex};
@@ -172,7 +153,7 @@ pub fn push_bytes_to_hex_partial(
     ensures cut_unchanged { result ≡ Ok None → string_bytes out.new ≡ string_bytes out.old }
     ensures unchanged { OnErr result (string_bytes out.new ≡ string_bytes out.old) }
 {
-    match dump_front(alloc, bytes) {
+    match dump(alloc, bytes, 1) {
         Ok((text, rest)) => {
             out.push_str(&text)?;
             Ok(Some(bytes.len() - rest.len()))
@@ -187,7 +168,7 @@ pub fn push_bytes_to_hex_partial(
 /// Returns the item of hex with comments as a dump.
 ///
 /// It returns what [`parse_hex`] and [`DataItem::to_hex`] return one after the other, the errors of
-/// [`parse_hex`] included.
+/// [`parse_hex`] included. It builds no item, so it takes less time and less memory.
 ///
 /// ```rust
 /// use cbor_diag::hex_to_hex;

@@ -12,7 +12,8 @@ ghost use Rattle.cbor_diag.specs.Pieces.{text_cut as cut_of, text_pieces};
 ghost use Rattle.cbor_diag.specs.Reading.{Fails, count_width};
 ghost use Rattle.cbor_diag.specs.WellFormed.{deepest};
 ghost use Rattle.cbor_diag.specs.mirror.HeadView.{argument_view, head_view};
-ghost use Rattle.cbor_diag.specs.mirror.Passes.{tag_number};
+ghost use Rattle.cbor_diag.specs.mirror.AtLevel.{read_at, read_behind};
+ghost use Rattle.cbor_diag.specs.mirror.Dumped.{tag_number};
 ghost use Rattle.cbor_diag.specs.mirror.StringView.{bytes_of, kind_of, kind_view};
 ghost use Rattle.cbor_diag.specs.mirror.Widths as spec;
 ghost use Rattle.cbor_diag.specs.mirror.Widths.{IsPlace, Measured, MeasuredBehind};
@@ -77,8 +78,8 @@ pub(super) fn dump_width(bytes: &[u8], level: u8) -> crate::Result<(usize, &[u8]
     requires some { 1 ≤ level }
     requires level { level ≤ deepest + 1 }
     ensures width { IfOk result (λ found. Measured (λ i. width_of (lines_at_level level top 0 i))
-        (spec.read_at level bytes.now) found.1.now 0 found.0) }
-    ensures refused { IfErr result (λ e. Fails e (spec.read_at level bytes.now)) }
+        (read_at level bytes.now) found.1.now 0 found.0) }
+    ensures refused { IfErr result (λ e. Fails e (read_at level bytes.now)) }
 {
     let mut reach = Reach { widest: 0 };
     let place = Place {
@@ -145,8 +146,8 @@ impl Reach {
     fn front<'a>(&mut self, bytes: &'a [u8], place: Place) -> crate::Result<&'a [u8]>
         requires { IsPlace place }
         ensures measured { IfOk result (λ rest. Measured (spec.width_there place)
-            (spec.read_at place.level bytes.now) rest.now self.old.widest self.new.widest) }
-        ensures refused { IfErr result (λ e. Fails e (spec.read_at place.level bytes.now)) }
+            (read_at place.level bytes.now) rest.now self.old.widest self.new.widest) }
+        ensures refused { IfErr result (λ e. Fails e (read_at place.level bytes.now)) }
     {
         if place.level > DEEPEST {
             return Err(no_level_left(bytes));
@@ -176,7 +177,7 @@ impl Reach {
         ensures measured { IfOk result (λ rest. MeasuredBehind place
             (item_head.array (argument_view count)) bytes.now rest.now self.old.widest
             self.new.widest) }
-        ensures refused { IfErr result (λ e. Fails e (spec.read_behind place.level
+        ensures refused { IfErr result (λ e. Fails e (read_behind place.level
             (item_head.array (argument_view count)) bytes.now)) }
     {
         let inner = place.inside();
@@ -206,7 +207,7 @@ impl Reach {
         ensures measured { IfOk result (λ rest. MeasuredBehind place
             (item_head.map (argument_view count)) bytes.now rest.now self.old.widest
             self.new.widest) }
-        ensures refused { IfErr result (λ e. Fails e (spec.read_behind place.level
+        ensures refused { IfErr result (λ e. Fails e (read_behind place.level
             (item_head.map (argument_view count)) bytes.now)) }
     {
         let inner = place.inside();
@@ -235,7 +236,7 @@ impl Reach {
         ensures measured { IfOk result (λ rest. MeasuredBehind place
             (item_head.string (kind_view head.0) (argument_view head.1)) bytes.now rest.now
             self.old.widest self.new.widest) }
-        ensures refused { IfErr result (λ e. Fails e (spec.read_behind place.level
+        ensures refused { IfErr result (λ e. Fails e (read_behind place.level
             (item_head.string (kind_view head.0) (argument_view head.1)) bytes.now)) }
     {
         let (kind, len) = head;
@@ -262,7 +263,7 @@ impl Reach {
         ensures measured { IfOk result (λ rest. MeasuredBehind place
             (item_head.string (kind_view kind) indefinite) bytes.now rest.now self.old.widest
             self.new.widest) }
-        ensures refused { IfErr result (λ e. Fails e (spec.read_behind place.level
+        ensures refused { IfErr result (λ e. Fails e (read_behind place.level
             (item_head.string (kind_view kind) indefinite) bytes.now)) }
     {
         let depth = place.depth + 1;

@@ -1,13 +1,9 @@
 //! Writes the lines of a dump.
-ghost use Rattle.std.specs.Prelude.{◌≡◌, ◌≤◌, ◌++◌, [], OnOk};
+ghost use Rattle.std.specs.Prelude.{◌≡◌, ◌≤◌, []};
 ghost use Rattle.std.specs.String.{string_bytes};
-ghost use Rattle.cbor_notes.specs.Layout.{line_text};
-ghost use Rattle.cbor_diag.specs.mirror.ShownLines.{shown_line, Takes, most_width};
+ghost use Rattle.cbor_diag.specs.mirror.ShownLines.{most_width};
 
-use super::comment::Comment;
-use super::hex_style::HexStyle;
-use cbor_notes::put_line;
-use std::alloc::{AllocError, Global};
+use std::alloc::Global;
 
 /// The text of the lines so far.
 #[derive(Drop)]
@@ -36,26 +32,5 @@ impl Writer {
             hex: String::new(alloc),
             comment: String::new(alloc),
         }
-    }
-
-    /// Appends a line, as `Pass::line` takes it.
-    pub(super) fn line(
-        &mut self,
-        depth: usize,
-        style: HexStyle,
-        bytes: &[u8],
-        comment: &Comment<'_>,
-    ) -> Result<(), AllocError>
-        requires { Takes self.old.width (shown_line depth style bytes.now comment.now) }
-        ensures text { OnOk result (string_bytes self.new.out
-            ≡ string_bytes self.old.out
-            ++ line_text self.old.width (shown_line depth style bytes.now comment.now)) }
-        ensures width { OnOk result (self.new.width ≡ self.old.width) }
-    {
-        self.hex.clear();
-        style.push(&mut self.hex, bytes)?;
-        self.comment.clear();
-        comment.push(&mut self.comment)?;
-        put_line(&mut self.out, self.width, depth, &self.hex, &self.comment)
     }
 }

@@ -1,6 +1,7 @@
 //! What a head says beside its major type (RFC 8949 section 3 calls it the argument).
 ghost use Rattle.std.specs.Prelude.{◌≡◌, ℕ, option_map};
 ghost use Rattle.cbor_diag.specs.Reading.{after_break, after_members, count_width};
+ghost use Rattle.cbor_diag.specs.mirror.HeadView.{argument_count, argument_view};
 ghost use Rattle.cbor_diag.specs.mirror.Stack.{left_of};
 
 use crate::syntax::IntegerWidth;
@@ -26,6 +27,16 @@ pub(super) fn after_break(bytes: &[u8]) -> Option<&[u8]>
 }
 
 impl Argument {
+    /// The number, where there is one.
+    pub(crate) fn number(self) -> Option<u64>
+        ensures { result ≡ argument_count (argument_view self) }
+    {
+        match self {
+            Argument::Number(number, _) => Some(number),
+            Argument::Indefinite => None,
+        }
+    }
+
     /// The width of a count, where there is one.
     pub(crate) fn width(self) -> Option<IntegerWidth>
         ensures { (held : ℕ) → result ≡ count_width (left_of self held) }

@@ -7,9 +7,11 @@ use Rattle.cbor_diag.specs.Reading.{read_head, no_level_left}
 use Rattle.cbor_diag.specs.WellFormed.{levels_left}
 use Rattle.cbor_diag.specs.mirror.HeadView.{argument_view, head_view}
 use Rattle.cbor_diag.specs.mirror.Stack.{left_of}
-use Rattle.cbor_diag.specs.mirror.Widths.{head_reach, read_at, width_there}
+use Rattle.cbor_diag.specs.mirror.AtLevel.{read_at}
+use Rattle.cbor_diag.specs.mirror.Widths.{head_reach, width_there}
 use Rattle.cbor_diag.proofs.bytes.Shorter.{item_shorter}
-use Rattle.cbor_diag.proofs.dump.FrontWidths.{behind_fails, head_fails, too_deep, head_low, front_measured}
+use Rattle.cbor_diag.proofs.straight.Levels.{behind_fails, head_fails, too_deep}
+use Rattle.cbor_diag.proofs.dump.FrontWidths.{head_low, front_measured}
 use Rattle.cbor_diag.proofs.dump.FrontWidths.{alone_measured, tag_measured, tag_behind_fails, item_counted, pair_counted}
 use Rattle.cbor_diag.proofs.dump.FrontWidths.{array_measured, map_measured, none_yet, held_width, level_read}
 use Rattle.cbor_diag.proofs.dump.FrontWidths.{level_fails}

@@ -1,0 +1,12 @@
+use Rattle.std.proofs.Common.{◌+◌, map, drop}
+use Rattle.std.specs.String.{string_bytes}
+use Rattle.cbor_diag.specs.Dump.{note_line, note_lines}
+use Rattle.cbor_diag.specs.mirror.NotesView.{note_view}
+use Rattle.cbor_diag.proofs.dump.Walks.{Left}
+use Rattle.cbor_diag.proofs.encode.dump.writer.Writer.note.Given as goal
+
+-- the texts that are left, and those that are written, are the whole
+abbrev pub invariant-below : goal.invariant-below
+invariant-below l =
+    Left l.fn.self l.self (map (note_line (l.depth + 1)) (map string_bytes (drop l.text-index l.text-items)))
+    (note_lines l.depth (note_view l.note))
