@@ -1,7 +1,7 @@
 -- The lines of a dump can be laid out: they are not too deep, and their digits not too long.
-use Rattle.std.proofs.Common.{◌≡◌, ◌≢◌, ℕ, zero, suc, ◌+◌, ◌%◌, ◌==◌, ◌<◌, ◌≤◌, true, false, cond, max, unwrap_or, List}
+use Rattle.std.proofs.Common.{◌≢◌, ℕ, zero, suc, ◌+◌, ◌%◌, ◌==◌, ◌<◌, ◌≤◌, true, false, cond, unwrap_or, List}
 use Rattle.std.proofs.Common.{[], ◌∷◌, ◌++◌, map, length, take, drop, slice_index, nat_le, inl, inr, codes, Option}
-use Rattle.std.proofs.Common.{Some, None, refl, sym, ap, subst, ◌∙◌, arith, append_assoc, append-nil}
+use Rattle.std.proofs.Common.{Some, None, refl, sym, subst, arith}
 use Rattle.std.specs.List.{AllByRecursion, flat_map}
 use Rattle.std.specs.Str.{IsAscii}
 use Rattle.std.proofs.lemmas.Bool.Decides.{nat_tests}

@@ -1,6 +1,6 @@
 -- What is measured of an item, part by part as its bytes are read.
-use Rattle.std.proofs.Common.{◌≡◌, ℕ, suc, ◌+◌, ◌-◌, ◌<◌, ◌≤◌, max, List, [], ◌∷◌, ◌++◌, length, Some, None, Ok}
-use Rattle.std.proofs.Common.{Err, inl, inr, refl, sym, ap, subst, ◌∙◌, arith, length-append}
+use Rattle.std.proofs.Common.{◌≡◌, ℕ, ◌+◌, ◌-◌, ◌≤◌, max, List, [], ◌∷◌, ◌++◌, length, Some, None, Ok}
+use Rattle.std.proofs.Common.{inl, inr, refl, sym, ap, subst, ◌∙◌, arith, length-append}
 use Rattle.std.proofs.lemmas.Bool.Decides.{nat_tests}
 use Rattle.cbor_diag.specs.declared.error.Error.{Error}
 use Rattle.cbor_diag.specs.declared.syntax.IntegerWidth.{IntegerWidth}
@@ -38,7 +38,7 @@ use Rattle.cbor_diag.specs.mirror.Widths.{HasHead, shown_length}
 use Rattle.cbor_diag.proofs.bytes.Chunks.{chunk_takes}
 use Rattle.cbor_diag.proofs.bytes.Heads.{IsBytes, ArgumentThen, HeadIs, head_takes}
 use Rattle.cbor_diag.proofs.straight.Levels.{head_reads}
-use Rattle.cbor_diag.proofs.straight.Readings.{ok_then, one_more, part_fails, tag_read}
+use Rattle.cbor_diag.proofs.straight.Readings.{one_more, part_fails, tag_read}
 
 -- ---- the bytes of a head
 

@@ -1,5 +1,5 @@
 -- The bytes of a head and of a chunk's head, where they were read.
-use Rattle.std.proofs.Common.{◌≡◌, ◌≢◌, ℕ, ◌+◌, ◌-◌, ◌≤◌, List, [], ◌∷◌, ◌++◌, length, take, Ok, Some, refl, sym, ap, subst, ◌∙◌, arith}
+use Rattle.std.proofs.Common.{◌≡◌, ◌≢◌, ℕ, ◌+◌, ◌-◌, ◌≤◌, List, [], ◌∷◌, ◌++◌, length, take, Ok, Some, refl, sym, ap, ◌∙◌, arith}
 use Rattle.std.specs.Int.{w16, w32, w64, to_be_bytes}
 use Rattle.std.proofs.lemmas.List.{take_at, length-append}
 use Rattle.cbor_diag.specs.declared.syntax.IntegerWidth.{IntegerWidth}
@@ -14,7 +14,7 @@ use Rattle.cbor_diag.specs.ItemHead as item_head
 use Rattle.cbor_diag.specs.ItemHead.{ItemHead}
 use Rattle.cbor_diag.specs.Reading.{read_head, read_chunk}
 use Rattle.cbor_diag.specs.StringKind.{StringKind, major_of}
-use Rattle.cbor_diag.specs.Written.{encoded_head, encoded_float}
+use Rattle.cbor_diag.specs.Written.{encoded_head}
 use Rattle.cbor_diag.specs.mirror.Dumped.{argument_bytes, head_bytes, IsHead}
 use Rattle.cbor_diag.specs.mirror.HeadView.{argument_view, head_view}
 use Rattle.cbor_diag.proofs.bytes.Chunks.{chunk_takes}

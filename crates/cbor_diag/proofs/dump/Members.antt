@@ -1,12 +1,11 @@
 -- What the walk does with an item, its notes, a container and its members.
-use Rattle.std.proofs.Common.{◌≡◌, ℕ, suc, ◌+◌, ◌-◌, ◌==◌, ◌<◌, ◌≤◌, true, false, cond, List, [], ◌∷◌, ◌++◌, Option, Some}
-use Rattle.std.proofs.Common.{None, codes, refl, sym, ap, subst, append-nil, append_assoc, inl, inr, ◌∙◌, arith}
+use Rattle.std.proofs.Common.{◌≡◌, ℕ, suc, ◌+◌, ◌-◌, ◌==◌, ◌≤◌, true, false, cond, List, ◌++◌, Option, Some}
+use Rattle.std.proofs.Common.{None, refl, sym, ap, subst, append-nil, append_assoc, inl, inr, ◌∙◌, arith}
 use Rattle.std.proofs.lemmas.Bool.{cases_lt}
 use Rattle.cbor_notes.specs.Layout.{DumpLine}
 use Rattle.cbor_diag.specs.declared.syntax.IntegerWidth.{IntegerWidth}
 use Rattle.cbor_diag.specs.declared.encode.dump.context.DumpContext.{DumpContext}
 use Rattle.cbor_diag.specs.declared.encode.dump.walk.Walk.{Walk}
-use Rattle.cbor_diag.specs.declared.encode.dump.writer.Writer.{Writer}
 use Rattle.cbor_diag.specs.declared.parse.binary.argument.Argument as code_argument
 use Rattle.cbor_diag.specs.declared.parse.binary.argument.Argument.TheVariants.{Number, Indefinite}
 use Rattle.cbor_diag.specs.Argument.{number}

@@ -1,5 +1,5 @@
 -- A dump says nothing of unstated widths: that of an item is that of the item with these widths resolved.
-use Rattle.std.proofs.Common.{◌≡◌, ℕ, zero, suc, ◌+◌, List, [], ◌∷◌, ◌++◌, map, length, codes, Option, Some, None, Ok, Err}
+use Rattle.std.proofs.Common.{◌≡◌, ℕ, zero, suc, ◌+◌, List, [], ◌∷◌, ◌++◌, map, length, codes, Option, Some, None, Ok}
 use Rattle.std.proofs.Common.{refl, sym, ap, ◌∙◌, append-nil}
 use Rattle.std.specs.List.{flat_map}
 use Rattle.cbor_notes.specs.Element.{element_size}
@@ -14,7 +14,7 @@ use Rattle.cbor_diag.specs.Dump.{notes_lines, items_lines, pairs_lines, parts_li
 use Rattle.cbor_diag.specs.Item as spec
 use Rattle.cbor_diag.specs.Item.{Chunk, Atom, integer, negative, string, chunked_string, float, simple, Item, atom, array}
 use Rattle.cbor_diag.specs.Item.{tagged, Items, no_items, item, Pairs, no_pairs, pair, item_count, pair_count}
-use Rattle.cbor_diag.specs.Notes.{Family, ipv4, ipv6, zone_at, interface_note, members_note, with_length, with_zone}
+use Rattle.cbor_diag.specs.Notes.{Family, ipv4, ipv6, zone_at, interface_note, members_note, with_length}
 use Rattle.cbor_diag.specs.Notes.{value_note, typed_array_note}
 use Rattle.cbor_diag.specs.Reading.{Fails, read_item}
 use Rattle.cbor_diag.specs.StringKind.{StringKind, bytes_kind, text_kind, major_of}

@@ -1,5 +1,5 @@
 -- The lines of a whole dump keep to themselves, and can be laid out.
-use Rattle.std.proofs.Common.{ℕ, ◌+◌, ◌≤◌, List, arith}
+use Rattle.std.proofs.Common.{ℕ, ◌≤◌, List, arith}
 use Rattle.std.specs.List.{AllByRecursion}
 use Rattle.cbor_notes.specs.Columns.{IsPlain}
 use Rattle.cbor_notes.specs.Layout.{DumpLine, width_of}

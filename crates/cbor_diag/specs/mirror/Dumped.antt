@@ -12,7 +12,7 @@ use Rattle.cbor_diag.specs.Argument.{Argument, number, indefinite}
 use Rattle.cbor_diag.specs.Comments.{unsigned_comment, negative_comment, float_comment, simple_comment}
 use Rattle.cbor_diag.specs.Comments.{counted_comment, tag_comment}
 use Rattle.cbor_diag.specs.Dump.{Context, head_line, string_word, lines_at_level, parts_lines, items_lines, pairs_lines}
-use Rattle.cbor_diag.specs.Dump.{notes, note_lines, top, embedded_note, whole_note, sequence_notes, shared_in}
+use Rattle.cbor_diag.specs.Dump.{notes, note_lines, top, whole_note, sequence_notes, shared_in}
 use Rattle.cbor_diag.specs.Embedded.{sequence}
 use Rattle.cbor_diag.specs.Head.{opening}
 use Rattle.cbor_diag.specs.Item.{Item, Items, Pairs}

@@ -9,7 +9,7 @@ use Rattle.cbor_diag.specs.Reading.{Fails, items_in, pairs_in, tag_of, joined, j
 use Rattle.cbor_diag.specs.WellFormed.{levels_left}
 use Rattle.cbor_diag.specs.mirror.AtLevel.{read_at}
 use Rattle.cbor_diag.specs.mirror.Dumped.{embedded_lines, Wrote}
-use Rattle.cbor_diag.specs.mirror.HeadView.{argument_view, head_view}
+use Rattle.cbor_diag.specs.mirror.HeadView.{head_view}
 use Rattle.cbor_diag.specs.mirror.Stack.{left_of}
 use Rattle.cbor_diag.proofs.bytes.Frames.{count_more, pair_count_more}
 use Rattle.cbor_diag.proofs.bytes.Heads.{ok_is}

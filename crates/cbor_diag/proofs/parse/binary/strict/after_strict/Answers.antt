@@ -1,5 +1,5 @@
-use Rattle.std.proofs.Common.{sym, arith}
-use Rattle.cbor_diag.proofs.bytes.StrictHeads.{with_break, with_head, strictly_spelled}
+use Rattle.std.proofs.Common.{sym}
+use Rattle.cbor_diag.proofs.bytes.StrictHeads.{with_break}
 use Rattle.cbor_diag.proofs.parse.binary.strict.after_strict.Goals as goal
 
 pub returns-in-Some-clause-strict : goal.returns-in-Some-clause-strict

@@ -1,4 +1,4 @@
-use Rattle.std.proofs.Common.{◌∙◌, ◌≡◌, ◌≤◌, ℕ, List, [], ◌∷◌, length, take, drop, min, ap, sym, subst, refl, arith}
+use Rattle.std.proofs.Common.{◌∙◌, ℕ, List, length, take, drop, ap, subst, arith}
 use Rattle.std.proofs.lemmas.List.{nil_from_length}
 use Rattle.cbor_notes.specs.Layout.{DumpLine}
 use Rattle.cbor_diag.specs.Comments.{bytes_comment}

@@ -1,4 +1,4 @@
-use Rattle.std.proofs.Common.{◌≡◌, [], ◌∷◌, ℕ, length, ap, subst, ◌∙◌}
+use Rattle.std.proofs.Common.{[], ◌∷◌, ℕ, length, ap, subst, ◌∙◌}
 use Rattle.std.proofs.lemmas.Result.{on_ok_weaker}
 use Rattle.cbor_diag.specs.Argument.{number}
 use Rattle.cbor_diag.specs.Dump.{string_content_lines}

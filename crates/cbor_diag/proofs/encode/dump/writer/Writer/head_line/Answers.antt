@@ -1,4 +1,4 @@
-use Rattle.std.proofs.Common.{◌≡◌, [], ◌∷◌, List, ℕ, OnOk, ap, subst, ◌∙◌}
+use Rattle.std.proofs.Common.{[], ◌∷◌, List, ℕ, OnOk, ap, subst, ◌∙◌}
 use Rattle.cbor_diag.specs.Dump.{head_line}
 use Rattle.cbor_diag.specs.mirror.Dumped.{Wrote, head_bytes}
 use Rattle.cbor_diag.specs.mirror.HeadView.{head_view}

@@ -1,4 +1,4 @@
-use Rattle.std.proofs.Common.{◌≡◌, ◌≤◌, ◌++◌, List, ℕ, length, ap, sym, subst, ◌∙◌, arith}
+use Rattle.std.proofs.Common.{◌≤◌, ◌++◌, List, ℕ, length, ap, sym, subst, ◌∙◌, arith}
 use Rattle.std.specs.Str.{IsAscii}
 use Rattle.cbor_diag.specs.mirror.ShownLines.{style_hex}
 use Rattle.cbor_diag.proofs.dump.Fits.{reach_low, style_ascii, style_short}

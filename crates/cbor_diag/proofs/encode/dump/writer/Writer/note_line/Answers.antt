@@ -1,9 +1,8 @@
-use Rattle.std.proofs.Common.{◌≡◌, [], ◌∷◌, Bor, ℕ, List, OnOk, subst, refl}
+use Rattle.std.proofs.Common.{◌≡◌, [], Bor, ℕ, List, refl}
 use Rattle.hex.specs.Hex.{encode_with}
 use Rattle.cbor_diag.specs.declared.encode.dump.comment.Comment.TheVariants as comment
 use Rattle.cbor_diag.specs.declared.encode.dump.hex_style.HexStyle.TheVariants.{Content}
 use Rattle.cbor_diag.specs.Dump.{note_line}
-use Rattle.cbor_diag.specs.mirror.Dumped.{Wrote}
 use Rattle.cbor_diag.specs.mirror.ShownLines.{shown_line}
 use Rattle.cbor_diag.proofs.encode.dump.writer.Writer.note_line.Goals as goal
 

@@ -1,4 +1,4 @@
-use Rattle.std.proofs.Common.{◌∙◌, Some, None, map, arith}
+use Rattle.std.proofs.Common.{Some, None, map, arith}
 use Rattle.std.proofs.lemmas.Str.Pattern.{split_once_first, split_parts}
 use Rattle.cbor_notes.specs.Layout.{row}
 use Rattle.cbor_diag.specs.Dump.{note_line}
