@@ -14,6 +14,7 @@ use crate::words::To;
 use cbor_convert::write_item;
 use cbor_diag::{
     Error, parse_bytes_partial, push_bytes_to_diag_partial, push_bytes_to_diag_pretty_partial,
+    push_bytes_to_hex_partial,
 };
 use std::alloc::Global;
 use std::io::{Read, Write};
@@ -161,15 +162,34 @@ fn append_first(alloc: Global, to: To, bytes: &[u8], block: &mut Vec<u8>) -> Res
     ensures unchanged { OnErr result (block.new.items ≡ block.old.items) }
 {
     match to {
+        To::Bytes => {}
+        To::Hex => return append_dump(alloc, bytes, block),
         To::Diag => return append_line(alloc, bytes, block),
         To::Pretty => return append_pretty(alloc, bytes, block),
-        To::Bytes | To::Hex => {}
     }
     let Some((item, used)) = parse_bytes_partial(alloc, bytes)? else {
         return Err(Error::CutShort);
     };
     let written = write_item(alloc, to, &item, Vec::new(alloc))?;
     block.extend_from_slice(&written)?;
+    Ok(used)
+}
+
+/// Appends the dump of the item at the front of the bytes, as [`append_first`] does. No item is built.
+fn append_dump(alloc: Global, bytes: &[u8], block: &mut Vec<u8>) -> Result<usize, Error>
+    requires { 0 < length bytes.now }
+    ensures used { IfOk result (λ used. (1 ≤ used) × (used ≤ length bytes.now)) }
+    ensures output { IfOk result (λ used. (written : List ℕ)
+        × IsOutputOfFirst To.Hex bytes.now written (drop used bytes.now)
+        × (block.new.items ≡ block.old.items ++ written)) }
+    ensures refused { RefusedSo result (EndsTheItems bytes.now) }
+    ensures unchanged { OnErr result (block.new.items ≡ block.old.items) }
+{
+    let mut dump = String::new(alloc);
+    let Some(used) = push_bytes_to_hex_partial(alloc, bytes, &mut dump)? else {
+        return Err(Error::CutShort);
+    };
+    block.extend_from_slice(dump.as_bytes())?;
     Ok(used)
 }
 
