@@ -228,7 +228,8 @@ pub none_yet : (a : ℕ) → a ≡ max a 0
 none_yet a = no_more a
 
 -- however many members are held, the width of their count is the same
-pub held_width : (len : code_argument.Argument) (held : ℕ) → count_width (left_of len held) ≡ count_width (argument_view len)
+pub held_width : (len : code_argument.Argument) (held : ℕ) → count_width (left_of len held) ≡ count_width
+    (argument_view len)
 held_width (Number n w) held = refl
 held_width Indefinite held = refl
 

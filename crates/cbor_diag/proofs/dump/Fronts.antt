@@ -1,5 +1,6 @@
 -- What the walk over bytes has dumped, by what its parts have.
-use Rattle.std.proofs.Common.{◌≡◌, ◌≢◌, ℕ, ◌+◌, ◌≤◌, List, [], ◌∷◌, ◌++◌, length, drop, codes, Option, Some, None, Result, Ok, Err, IfOk, OnOk}
+use Rattle.std.proofs.Common.{◌≡◌, ◌≢◌, ℕ, ◌+◌, ◌≤◌, List, [], ◌∷◌, ◌++◌, length, drop, codes, Option, Some, None}
+use Rattle.std.proofs.Common.{Result, Ok, Err, IfOk, OnOk}
 use Rattle.std.proofs.Common.{refl, sym}
 use Rattle.std.proofs.Common.{ap, subst, ◌∙◌, append_assoc, arith}
 use Rattle.std.specs.List.{flat_map}
@@ -25,11 +26,14 @@ use Rattle.cbor_diag.specs.declared.syntax.strings.StringKind.TheVariants as cod
 use Rattle.cbor_diag.specs.Answer.{spelled, IsOutcome}
 use Rattle.cbor_diag.specs.Argument.{number, indefinite}
 use Rattle.cbor_diag.specs.Dump.{below, inside, break_line, close_lines, items_lines, pairs_lines, lines_at_level}
-use Rattle.cbor_diag.specs.Dump.{shared_from, shared_in, shared_in_items, shared_in_pairs, string_content_lines, string_lines}
-use Rattle.cbor_diag.specs.Dump.{bytes_in, note_line, note_lines, encoded_item_note, encoded_sequence_notes, parts_lines, top}
+use Rattle.cbor_diag.specs.Dump.{shared_from, shared_in, shared_in_items, shared_in_pairs, string_content_lines}
+use Rattle.cbor_diag.specs.Dump.{string_lines}
+use Rattle.cbor_diag.specs.Dump.{bytes_in, note_line, note_lines, encoded_item_note, encoded_sequence_notes}
+use Rattle.cbor_diag.specs.Dump.{parts_lines, top}
 use Rattle.cbor_diag.specs.Head.{head}
 use Rattle.cbor_diag.specs.Item as spec
-use Rattle.cbor_diag.specs.Item.{Chunk, Item, atom, integer, negative, float, simple, string, chunked_string, array, tagged, Items, no_items, Pairs, no_pairs}
+use Rattle.cbor_diag.specs.Item.{Chunk, Item, atom, integer, negative, float, simple, string, chunked_string, array}
+use Rattle.cbor_diag.specs.Item.{tagged, Items, no_items, Pairs, no_pairs}
 use Rattle.cbor_diag.specs.Item.{item_count, pair_count}
 use Rattle.cbor_diag.specs.ItemHead as item_head
 use Rattle.cbor_diag.specs.ItemHead.{ItemHead}
@@ -40,7 +44,8 @@ use Rattle.cbor_diag.specs.StringKind.{StringKind, bytes_kind}
 use Rattle.cbor_diag.specs.WellFormed.{levels_left}
 use Rattle.cbor_diag.specs.mirror.AtLevel.{read_at, read_behind}
 use Rattle.cbor_diag.specs.mirror.Dumped.{context_view, item_lines, items_there, pairs_there, notes_there, line_of_head}
-use Rattle.cbor_diag.specs.mirror.Dumped.{value_note_there, whole_note_there, sequence_notes_there, embedded_lines, dump_at}
+use Rattle.cbor_diag.specs.mirror.Dumped.{value_note_there, whole_note_there, sequence_notes_there, embedded_lines}
+use Rattle.cbor_diag.specs.mirror.Dumped.{dump_at}
 use Rattle.cbor_diag.specs.mirror.Dumped.{Wrote, Dumped, DumpedBehind}
 use Rattle.cbor_diag.specs.mirror.HeadView.{argument_view, head_view}
 use Rattle.cbor_diag.specs.mirror.Stack.{left_of}
@@ -51,7 +56,8 @@ use Rattle.cbor_diag.proofs.bytes.Found.{item_takes}
 use Rattle.cbor_diag.proofs.bytes.Heads.{IsBytes, head_again, ok_is}
 use Rattle.cbor_diag.proofs.straight.Levels.{head_reads, level_read}
 use Rattle.cbor_diag.proofs.straight.Readings.{parts_read, parts_ended, tag_read, content_read, ok_then}
-use Rattle.cbor_diag.proofs.dump.Members.{written_in, untagged, below_opens, tag_shared, Announced, count_line, width_held}
+use Rattle.cbor_diag.proofs.dump.Members.{written_in, untagged, below_opens, tag_shared, Announced, count_line}
+use Rattle.cbor_diag.proofs.dump.Members.{width_held}
 use Rattle.cbor_diag.proofs.dump.Walks.{wrote_none, wrote_then}
 
 -- ---- a head and what is behind it
@@ -125,18 +131,21 @@ module _ (c inner : DumpContext) (deeper : inner.level ≡ c.level + 1) (down : 
       → parts_read (levels_left (c.level + 1)) (items_in is (left_of count held)) rest
       ≡ parts_read (levels_left (c.level + 1)) (items_in no_items (argument_view count)) b
       → item_count is ≡ held → Wrote old.writer now.writer (items_there inner old.shared is)
-      → new.shared ≡ old.shared + shared_in_items is → DumpedBehind c (item_head.array (argument_view count)) b after old new
+      → new.shared ≡ old.shared + shared_in_items is → DumpedBehind c (item_head.array
+      (argument_view count)) b after old new
   items_dumped is so_far counted wrote shares =
       let w = count_width (argument_view count) in
       let write = lines_at_level (c.level + 1) (inside (context_view c)) in
       let members = items_lines write old.shared is in
-      let same = ap (λ f. items_lines f old.shared is) (written_in inner (c.level + 1) (inside (context_view c)) deeper here) in
+      let same = ap (λ f. items_lines f old.shared is) (written_in inner (c.level + 1) (inside
+      (context_view c)) deeper here) in
       record {
         item = array is w;
         reads = sym so_far ∙ parts_ended (levels_left (c.level + 1)) (items_in is (left_of count held)) rest after
             (array is w) (ap (λ x. Some (array is x)) (width_held count held)) ends;
         lines = members ++ close;
-        parts = ap (λ l. l ∷ (members ++ close)) (count_line c.depth 4 (codes "array") count held (item_count is) rest after
+        parts = ap (λ l. l ∷ (members ++ close)) (count_line c.depth 4 (codes "array") count held
+            (item_count is) rest after
             counted announced ends);
         wrote = wrote_then old.writer now.writer new.writer members close
             (subst (Wrote old.writer now.writer) same wrote) closed;
@@ -147,18 +156,21 @@ module _ (c inner : DumpContext) (deeper : inner.level ≡ c.level + 1) (down : 
       → parts_read (levels_left (c.level + 1)) (pairs_in ps (left_of count held)) rest
       ≡ parts_read (levels_left (c.level + 1)) (pairs_in no_pairs (argument_view count)) b
       → pair_count ps ≡ held → Wrote old.writer now.writer (pairs_there inner old.shared ps)
-      → new.shared ≡ old.shared + shared_in_pairs ps → DumpedBehind c (item_head.map (argument_view count)) b after old new
+      → new.shared ≡ old.shared + shared_in_pairs ps → DumpedBehind c (item_head.map
+      (argument_view count)) b after old new
   pairs_dumped ps so_far counted wrote shares =
       let w = count_width (argument_view count) in
       let write = lines_at_level (c.level + 1) (inside (context_view c)) in
       let members = pairs_lines write old.shared ps in
-      let same = ap (λ f. pairs_lines f old.shared ps) (written_in inner (c.level + 1) (inside (context_view c)) deeper here) in
+      let same = ap (λ f. pairs_lines f old.shared ps) (written_in inner (c.level + 1) (inside
+      (context_view c)) deeper here) in
       record {
         item = spec.map ps w;
         reads = sym so_far ∙ parts_ended (levels_left (c.level + 1)) (pairs_in ps (left_of count held)) rest after
             (spec.map ps w) (ap (λ x. Some (spec.map ps x)) (width_held count held)) ends;
         lines = members ++ close;
-        parts = ap (λ l. l ∷ (members ++ close)) (count_line c.depth 5 (codes "map") count held (pair_count ps) rest after
+        parts = ap (λ l. l ∷ (members ++ close)) (count_line c.depth 5 (codes "map") count held
+            (pair_count ps) rest after
             counted announced ends);
         wrote = wrote_then old.writer now.writer new.writer members close
             (subst (Wrote old.writer now.writer) same wrote) closed;
@@ -288,7 +300,8 @@ pub own_content : (level n : ℕ) (w : IntegerWidth) (content : StringContent) (
     → kind_of content ≡ bytes_kind → read_content bytes_kind n w behind ≡ Ok (borrowed_chunk w content, after)
     → bytes_in i ≡ Some (bytes_of content)
 own_content level n w content b rest behind after i e begins same read =
-    let here = sym (head_reads level b (item_head.string bytes_kind (number n w)) behind (level_read level b rest i e) begins)
+    let here = sym (head_reads level b (item_head.string bytes_kind (number n w)) behind
+    (level_read level b rest i e) begins)
     ∙ e in
     let own = content_read n w content behind after bytes_kind same read in
     let both = ok_is (i, rest) (atom (string (kind_of content) (borrowed_chunk w content)), after) (sym here ∙ own) in
@@ -299,8 +312,8 @@ own_content level n w content b rest behind after i e begins same read =
 -- ---- notes
 
 -- the note of a tag other than those of what is embedded
-pub note_written : {T E : Type 0} (r : Result T E) (old new : Writer) (c : DumpContext) (t : ℕ) (i : Item) (note : Note)
-    → Some note ≡ value_note c.shared t i → OnOk r (Wrote old new (note_lines c.depth note))
+pub note_written : {T E : Type 0} (r : Result T E) (old new : Writer) (c : DumpContext) (t : ℕ) (i : Item)
+    (note : Note) → Some note ≡ value_note c.shared t i → OnOk r (Wrote old new (note_lines c.depth note))
     → OnOk r (Wrote old new (value_note_there c t i))
 note_written r old new c t i note is wrote =
     let one : note_lines c.depth note ≡ value_note_there c t i =

@@ -1,5 +1,6 @@
 -- The bytes of a head and of a chunk's head, where they were read.
-use Rattle.std.proofs.Common.{◌≡◌, ◌≢◌, ℕ, ◌+◌, ◌-◌, ◌≤◌, List, [], ◌∷◌, ◌++◌, length, take, Ok, Some, refl, sym, ap, ◌∙◌, arith}
+use Rattle.std.proofs.Common.{◌≡◌, ◌≢◌, ℕ, ◌+◌, ◌-◌, ◌≤◌, List, [], ◌∷◌, ◌++◌, length, take, Ok, Some, refl, sym, ap}
+use Rattle.std.proofs.Common.{◌∙◌, arith}
 use Rattle.std.specs.Int.{w16, w32, w64, to_be_bytes}
 use Rattle.std.proofs.lemmas.List.{take_at, length-append}
 use Rattle.cbor_diag.specs.declared.syntax.IntegerWidth.{IntegerWidth}
@@ -109,7 +110,8 @@ chunk_parts kind b after c fits e =
     let h = (chunk_takes kind b after c fits e).0.1 in
     h.2 ∙ ap (λ (x : List ℕ). head (major_of kind) (length c.bytes) c.width ++ x)
     (h.3.1 ∙ ap (λ (x : List ℕ). c.bytes ++ x) h.3.2)
-    ∙ ap (λ w. head (major_of kind) (length c.bytes) w ++ (c.bytes ++ after)) (sym (stated_is c.width (length c.bytes) h.0))
+    ∙ ap (λ w. head (major_of kind) (length c.bytes) w ++ (c.bytes ++ after)) (sym (stated_is c.width (length
+    c.bytes) h.0))
 
 pub chunk_fits : (kind : StringKind) (b after : List ℕ) (c : Chunk) → IsBytes b
     → read_chunk kind b ≡ Ok (Some c, after) → length c.bytes + length after ≤ length b

@@ -17,7 +17,8 @@ use Rattle.cbor_diag.specs.Written.{encoded_head}
 use Rattle.cbor_diag.specs.Dump.{Context, below, head_line, container_line, lines_at, lines_at_level, notes_lines}
 use Rattle.cbor_diag.specs.Dump.{items_lines, pairs_lines, parts_lines, shared_from, shared_in, shared_in_items}
 use Rattle.cbor_diag.specs.Dump.{shared_in_pairs, top}
-use Rattle.cbor_diag.specs.mirror.Dumped.{context_view, tag_number, item_lines, items_there, pairs_there, embedded_lines}
+use Rattle.cbor_diag.specs.mirror.Dumped.{context_view, tag_number, item_lines, items_there, pairs_there}
+use Rattle.cbor_diag.specs.mirror.Dumped.{embedded_lines}
 use Rattle.cbor_diag.specs.mirror.Dumped.{notes_there, argument_bytes, Wrote}
 use Rattle.cbor_diag.specs.mirror.HeadView.{argument_view, argument_count}
 use Rattle.cbor_diag.specs.mirror.Stack.{left_of}
@@ -112,7 +113,8 @@ pairs_more write known (pair j u ps) k v =
     let sum : after + shared_in_pairs ps ≡ known + (shared_in j + (shared_in u + shared_in_pairs ps)) = omega arith in
     ap (λ ls. write known j ++ (write (known + shared_in j) u ++ ls)) (pairs_more write after ps k v)
     ∙ ap (λ ls. write known j ++ ls)
-    (sym (append_assoc (write (known + shared_in j) u) (pairs_lines write after ps) (both (after + shared_in_pairs ps))))
+    (sym (append_assoc (write (known + shared_in j) u) (pairs_lines write after ps) (both
+    (after + shared_in_pairs ps))))
     ∙ sym (append_assoc (write known j) (write (known + shared_in j) u ++ pairs_lines write after ps)
     (both (after + shared_in_pairs ps)))
     ∙ ap (λ n. (write known j ++ (write (known + shared_in j) u ++ pairs_lines write after ps)) ++ both n) sum
@@ -142,7 +144,8 @@ module _ (here : DumpContext) (none : tag_number here.tag ≡ None) (le : here.l
   module _ (mid next : Walk) (ps : Pairs) (k v : Item)
       (wrote : Wrote old.writer now.writer (pairs_there here old.shared ps))
       (counted : now.shared ≡ old.shared + shared_in_pairs ps)
-      (key : Wrote now.writer mid.writer (item_lines here now.shared k)) (key_shares : mid.shared ≡ now.shared + shared_in k)
+      (key : Wrote now.writer mid.writer (item_lines here now.shared k))
+      (key_shares : mid.shared ≡ now.shared + shared_in k)
       (value : Wrote mid.writer next.writer (item_lines here mid.shared v))
       (shares : next.shared ≡ mid.shared + shared_in v) where
     pub pair_done : Wrote old.writer next.writer (pairs_there here old.shared (joined_pairs ps (pair k v no_pairs)))
@@ -154,7 +157,8 @@ module _ (here : DumpContext) (none : tag_number here.tag ≡ None) (le : here.l
         (written here known k ++ written here (known + shared_in k) v) wrote
         (wrote_then now.writer mid.writer next.writer (written here known k) (written here (known + shared_in k) v)
         (subst (Wrote now.writer mid.writer) (member_lines here none known now.shared k le counted) key)
-        (subst (Wrote mid.writer next.writer) (member_lines here none (known + shared_in k) mid.shared v le after) value)))
+        (subst (Wrote mid.writer next.writer) (member_lines here none
+        (known + shared_in k) mid.shared v le after) value)))
 
     pub pair_shares : next.shared ≡ old.shared + shared_in_pairs (joined_pairs ps (pair k v no_pairs))
     pair_shares = omega (arith, shares, key_shares, counted, shared_pairs_more ps k v)
@@ -192,7 +196,8 @@ all_held n w held b after h ends =
     ]
 
 -- the head of a container has the count of its members
-pub count_line : (depth major : ℕ) (name : List ℕ) (count : code_argument.Argument) (held members : ℕ) (b after : List ℕ)
+pub count_line : (depth major : ℕ) (name : List ℕ) (count : code_argument.Argument) (held members : ℕ)
+    (b after : List ℕ)
     → members ≡ held → Announced count held → after_members (left_of count held) b ≡ Some after
     → container_line depth major name members (count_width (argument_view count))
     ≡ head_line depth (argument_bytes major (argument_view count))

@@ -9,17 +9,20 @@ use Rattle.cbor_diag.specs.declared.error.Error.TheVariants as refusal
 use Rattle.cbor_diag.specs.declared.syntax.IntegerWidth.{IntegerWidth}
 use Rattle.cbor_diag.specs.Comments.{float_comment, tag_comment}
 use Rattle.cbor_diag.specs.Dump.{Context, dump, top, inside, below, bytes_in, string_lines, atom_lines, container_line}
-use Rattle.cbor_diag.specs.Dump.{close_lines, shared_in, shared_in_items, shared_in_pairs, shared_from, notes, note_lines}
+use Rattle.cbor_diag.specs.Dump.{close_lines, shared_in, shared_in_items, shared_in_pairs, shared_from, notes}
+use Rattle.cbor_diag.specs.Dump.{note_lines}
 use Rattle.cbor_diag.specs.Dump.{notes_lines, items_lines, pairs_lines, parts_lines, lines_at, head_line}
 use Rattle.cbor_diag.specs.Item as spec
-use Rattle.cbor_diag.specs.Item.{Chunk, Atom, integer, negative, string, chunked_string, float, simple, Item, atom, array}
+use Rattle.cbor_diag.specs.Item.{Chunk, Atom, integer, negative, string, chunked_string, float, simple, Item, atom}
+use Rattle.cbor_diag.specs.Item.{array}
 use Rattle.cbor_diag.specs.Item.{tagged, Items, no_items, item, Pairs, no_pairs, pair, item_count, pair_count}
 use Rattle.cbor_diag.specs.Notes.{Family, ipv4, ipv6, zone_at, interface_note, members_note, with_length}
 use Rattle.cbor_diag.specs.Notes.{value_note, typed_array_note}
 use Rattle.cbor_diag.specs.Reading.{Fails, read_item}
 use Rattle.cbor_diag.specs.StringKind.{StringKind, bytes_kind, text_kind, major_of}
 use Rattle.cbor_diag.specs.WellFormed.{WellFormed}
-use Rattle.cbor_diag.specs.Written.{encoded, encoded_head, resolve_chunk, resolve_atom, resolve_count, resolve, resolve_items}
+use Rattle.cbor_diag.specs.Written.{encoded, encoded_head, resolve_chunk, resolve_atom, resolve_count, resolve}
+use Rattle.cbor_diag.specs.Written.{resolve_items}
 use Rattle.cbor_diag.specs.Written.{resolve_pairs}
 use Rattle.cbor_diag.proofs.bytes.Heads.{ok_is}
 use Rattle.cbor_diag.proofs.bytes.Resolved.{written_again}

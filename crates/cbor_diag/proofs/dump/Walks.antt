@@ -49,7 +49,8 @@ left_less left here others split old now next all w l =
       text = ap (λ t. t ++ flat_map line others) (w.text
           ∙ ap (λ n. string_bytes now.out ++ flat_map (line_text n) here) l.width)
           ∙ append_assoc (string_bytes now.out) (flat_map line here) (flat_map line others)
-          ∙ ap (λ t. string_bytes now.out ++ t) (sym (flat_map-append line here others) ∙ sym (ap (flat_map line) split))
+          ∙ ap (λ t. string_bytes now.out ++ t) (sym (flat_map-append line here others)
+          ∙ sym (ap (flat_map line) split))
           ∙ l.text;
       width = w.width ∙ l.width;
     }

@@ -21,7 +21,8 @@ use Rattle.cbor_diag.specs.Pieces.{pieces_of, byte_pieces, text_cut, text_pieces
 use Rattle.cbor_diag.specs.StringKind.{StringKind, bytes_kind, text_kind, major_of}
 use Rattle.cbor_diag.specs.Written.{encoded_head, encoded_open, encoded_float, encoded_simple}
 use Rattle.cbor_diag.specs.Dump.{Context, head_hex, head_line, piece_line, content_lines, string_lines}
-use Rattle.cbor_diag.specs.Dump.{string_content_lines, bytes_lines, element_lines, sized_lines, tagged_lines, atom_lines}
+use Rattle.cbor_diag.specs.Dump.{string_content_lines, bytes_lines, element_lines, sized_lines, tagged_lines}
+use Rattle.cbor_diag.specs.Dump.{atom_lines}
 use Rattle.cbor_diag.specs.Dump.{break_line, close_lines, inside, below, shared_in, shared_from, note_line, note_lines}
 use Rattle.cbor_diag.specs.Dump.{notes, notes_lines, items_lines, pairs_lines, parts_lines, lines_at, top}
 use Rattle.cbor_diag.specs.mirror.Widths.{reached, head_digits, head_reach, piece_reach, longest, sized_piece}

@@ -21,18 +21,21 @@ returns-clause-every_refusal c =
 
 pub returns-clause-digits : goal.returns-clause-digits
 returns-clause-digits c =
-    digits_shown string_bytes c.args.bytes.now (λ i. omega (arith, c.type_inv.bytes i)) c.dump_whole.result c.dump_whole.ensures.ok
+    digits_shown string_bytes c.args.bytes.now (λ i. omega (arith, c.type_inv.bytes i)) c.dump_whole.result
+    c.dump_whole.ensures.ok
 
 pub returns-clause-read_back : goal.returns-clause-read_back
 returns-clause-read_back c =
-    reads_back string_bytes c.args.bytes.now (λ i. omega (arith, c.type_inv.bytes i)) c.dump_whole.result c.dump_whole.ensures.ok
+    reads_back string_bytes c.args.bytes.now (λ i. omega (arith, c.type_inv.bytes i)) c.dump_whole.result
+    c.dump_whole.ensures.ok
 
 pub returns-clause-one_line : goal.returns-clause-one_line
 returns-clause-one_line c = lines_shown c.args.bytes.now (λ i. omega (arith, c.type_inv.bytes i))
 
 pub returns-clause-one_column : goal.returns-clause-one_column
 returns-clause-one_column c =
-    column_shown string_bytes c.args.bytes.now (λ i. omega (arith, c.type_inv.bytes i)) c.dump_whole.result c.dump_whole.ensures.ok
+    column_shown string_bytes c.args.bytes.now (λ i. omega (arith, c.type_inv.bytes i)) c.dump_whole.result
+    c.dump_whole.ensures.ok
 
 pub returns-clause-embedded : goal.returns-clause-embedded
 returns-clause-embedded c = embeds_exactly

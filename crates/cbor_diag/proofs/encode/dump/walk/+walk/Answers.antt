@@ -1,4 +1,5 @@
-use Rattle.std.proofs.Common.{◌≡◌, ◌+◌, ◌≤◌, ℕ, List, Ok, OnOk, length, option_copied, refl, ap, sym, subst, ◌∙◌, arith, rules}
+use Rattle.std.proofs.Common.{◌≡◌, ◌+◌, ◌≤◌, ℕ, List, Ok, OnOk, length, option_copied, refl, ap, sym, subst, ◌∙◌}
+use Rattle.std.proofs.Common.{arith, rules}
 use Rattle.std.proofs.lemmas.Bool.{eqb-true, eqb-false}
 use Rattle.std.proofs.lemmas.List.{nil_from_length}
 use Rattle.std.proofs.lemmas.Result.{err_from_is_err_and, IfErr-weaker, on_ok_weaker}
@@ -16,10 +17,12 @@ use Rattle.cbor_diag.proofs.bytes.Heads.{ok_is}
 use Rattle.cbor_diag.proofs.bytes.Shorter.{item_shorter}
 use Rattle.cbor_diag.proofs.dump.EmbeddedDumps.{well_read, sequence_more, sequence_empty, sequence_failed}
 use Rattle.cbor_diag.proofs.dump.EmbeddedDumps.{whole_dumped, more_failed, whole_failed}
-use Rattle.cbor_diag.proofs.dump.Fronts.{dumped_front, whole_dump, real_error, item_note, no_item_note, sequence_note, no_sequence_note}
+use Rattle.cbor_diag.proofs.dump.Fronts.{dumped_front, whole_dump, real_error, item_note, no_item_note, sequence_note}
+use Rattle.cbor_diag.proofs.dump.Fronts.{no_sequence_note}
 use Rattle.cbor_diag.proofs.dump.Fronts.{front_ok, alone_dumped, items_dumped, pairs_dumped, tag_dumped}
 use Rattle.cbor_diag.proofs.dump.HeadLines.{head_shown}
-use Rattle.cbor_diag.proofs.dump.Members.{none_announced, more_announced, item_done, item_shares, pair_done, pair_shares}
+use Rattle.cbor_diag.proofs.dump.Members.{none_announced, more_announced, item_done, item_shares, pair_done}
+use Rattle.cbor_diag.proofs.dump.Members.{pair_shares}
 use Rattle.cbor_diag.proofs.dump.Pieces.{none_left, some_left}
 use Rattle.cbor_diag.proofs.dump.Walks.{wrote_none}
 use Rattle.cbor_diag.proofs.dump.WholeDumps.{narrow, plain}
@@ -134,7 +137,8 @@ pub dump_items-returns-in-Some-clause-dumped : goal.dump_items-returns-in-Some-c
 dump_items-returns-in-Some-clause-dumped t c =
     let i = c.items.invariant in
     let inner = c.inside-inner.ensures in
-    items_dumped c.args.context.now c.inside-inner.result inner.level inner.depth inner.context c.args.count c.items.held
+    items_dumped c.args.context.now c.inside-inner.result inner.level inner.depth inner.context c.args.count
+    c.items.held
     c.args.bytes.now c.items.rest.now c.in-Some.after.now c.args.walk.now c.items.walk _ i.announced
     (sym c.in-Some.ensures) c.in_ok-close.ensures i.members i.so_far i.count i.wrote i.shared
 
@@ -197,7 +201,8 @@ pub dump_pairs-returns-in-Some-clause-dumped : goal.dump_pairs-returns-in-Some-c
 dump_pairs-returns-in-Some-clause-dumped t c =
     let i = c.pairs.invariant in
     let inner = c.inside-inner.ensures in
-    pairs_dumped c.args.context.now c.inside-inner.result inner.level inner.depth inner.context c.args.count c.pairs.held
+    pairs_dumped c.args.context.now c.inside-inner.result inner.level inner.depth inner.context c.args.count
+    c.pairs.held
     c.args.bytes.now c.pairs.rest.now c.in-Some.after.now c.args.walk.now c.pairs.walk _ i.announced
     (sym c.in-Some.ensures) c.in_ok-close.ensures i.members i.so_far i.count i.wrote i.shared
 
@@ -387,7 +392,8 @@ embedded_item-returns-in-Ok-clause-wrote t c =
     let d = c.in-Ok.ensures.dumped in
     let rest = c.in-Ok.rest.now in
     let some = eqb-false (length rest) 0 (sym c.is_empty.ensures ∙ c.if-is_empty.false) in
-    let failed = more_failed (embedded_lines context) (read_at level c.args.bytes.now) d.0 rest d.1 (omega (arith, some)) in
+    let failed = more_failed (embedded_lines context) (read_at level c.args.bytes.now) d.0 rest d.1 (omega
+    (arith, some)) in
     subst (λ n. OnOk c.failed_note.result (Wrote c.args.walk.now.writer c.failed_note.new.self
     (note_lines context.depth n))) (sym failed) c.failed_note.ensures
 
@@ -421,7 +427,8 @@ embedded_sequence-items-preserved t c =
     let after = c.in-Ok.after.now in
     let le : level ≤ 129 = omega (arith, c.requires.level) in
     let well = well_read level rest after d.0 le i.left.bytes d.1 in
-    let wrote = c.in_ok-embedded_note-in-Ok.ensures (lines_at_level level top 0 d.0) (plain level d.0 (omega arith) well)
+    let wrote = c.in_ok-embedded_note-in-Ok.ensures (lines_at_level level top 0 d.0) (plain level d.0
+    (omega arith) well)
     (c.deref.ensures ∙ d.2) in
     record {
       left = (sequence_more level context.depth le c.args.walk.now.writer c.items.walk.writer rest _ i.left d.0 after
@@ -440,7 +447,8 @@ embedded_sequence-returns-in_default t c =
     record {
       wrote = on_ok_weaker c.failed_note.result
           (sequence_failed level context.depth (omega (arith, c.requires.level)) c.args.walk.now.writer
-          c.items.walk.writer rest _ i.left e c.failed_note.new.self (some_left (length rest) c.items-test.ensures) read)
+          c.items.walk.writer rest _ i.left e c.failed_note.new.self (some_left (length rest)
+          c.items-test.ensures) read)
           c.failed_note.ensures;
       shared = on_ok_weaker c.failed_note.result (λ _. i.shared) c.failed_note.ensures;
     }

@@ -12,7 +12,8 @@ use Rattle.cbor_diag.specs.mirror.Widths.{head_reach, width_there}
 use Rattle.cbor_diag.proofs.bytes.Shorter.{item_shorter}
 use Rattle.cbor_diag.proofs.straight.Levels.{behind_fails, head_fails, too_deep}
 use Rattle.cbor_diag.proofs.dump.FrontWidths.{head_low, front_measured}
-use Rattle.cbor_diag.proofs.dump.FrontWidths.{alone_measured, tag_measured, tag_behind_fails, item_counted, pair_counted}
+use Rattle.cbor_diag.proofs.dump.FrontWidths.{alone_measured, tag_measured, tag_behind_fails, item_counted}
+use Rattle.cbor_diag.proofs.dump.FrontWidths.{pair_counted}
 use Rattle.cbor_diag.proofs.dump.FrontWidths.{array_measured, map_measured, none_yet, held_width, level_read}
 use Rattle.cbor_diag.proofs.dump.FrontWidths.{level_fails}
 use Rattle.cbor_diag.proofs.straight.Readings.{fails_is, parts_read, part_fails, parts_ended, none_held, member_read}

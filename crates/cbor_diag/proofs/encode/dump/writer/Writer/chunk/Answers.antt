@@ -13,7 +13,8 @@ returns c =
     let content = c.args.chunk.0 in
     let w = c.args.chunk.1 in
     let p = context_view c.args.context.now in
-    let same = ap (λ k. line_of_head p.depth (item_head.string k (number (length c.as_bytes.result.now) w))) c.kind.ensures
+    let same = ap (λ k. line_of_head p.depth (item_head.string k (number (length c.as_bytes.result.now) w)))
+    c.kind.ensures
     ∙ ap (λ (n : ℕ). line_of_head p.depth (item_head.string (kind_of content) (number n w)))
     (ap length c.as_bytes.ensures.bytes) in
     let head = subst (λ l. Wrote c.args.self.now c.head_line.new.self (l ∷ [])) same c.in_ok-head_line.ensures in

@@ -33,5 +33,6 @@ rows-preserved c =
 
 pub returns : goal.returns
 returns c = λ width lines plain text.
-    rows_end c.args.depth width c.args.self.now c.rows.self c.rows.rest.now _ (c.rows.invariant.1 width lines plain text)
+    rows_end c.args.depth width c.args.self.now c.rows.self c.rows.rest.now _
+    (c.rows.invariant.1 width lines plain text)
     (split_once_first 10 c.rows.rest.now None c.in_default.ensures.cases (omega arith))
