@@ -1,3 +1,4 @@
 pub mod Forms
 pub mod Answers
 pub mod Beginnings
+pub mod Pieces

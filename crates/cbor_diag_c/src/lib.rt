@@ -15,4 +15,5 @@ mod answer;
 mod conversion;
 mod error;
 mod extents;
+mod scanner;
 mod version;
