@@ -151,6 +151,38 @@ static inline int64_t cbor_diag_extent_checked(const void *input, size_t input_l
 }
 #define cbor_diag_extent cbor_diag_extent_checked
 
+/* What `*place` is set to where there is no place. */
+#define CBOR_DIAG_NO_PLACE SIZE_MAX
+
+/*
+ * Reports why and where an input is no item in the form `from`: the error that cbor_diag_convert has for it, with the
+ * place. Call it after a conversion has failed.
+ *
+ * Returns 0 if the input is an item, and otherwise minus a number of enum cbor_diag_error. `*place` is set to how many
+ * bytes of the input come before the fault, or to CBOR_DIAG_NO_PLACE if there is no error, out of memory, for no form,
+ * and in notation, whose errors have no place yet.
+ *
+ * - In bytes the fault is the byte at fault, or the last byte of a text that is not UTF-8: `*end` - 1 of
+ *   cbor_diag_extent. It is the end of bytes that are cut, and the first byte after an item that is not the last.
+ * - In hex it is the first digit of that byte; or the digit that is wrong, which is the last of an odd number; or the
+ *   end of a text whose bytes are cut.
+ * - In hex or notation that is not UTF-8 it is the first byte that is not.
+ *
+ * `input` may be null if its length is 0, and `place` may be null.
+ */
+static inline int64_t cbor_diag_fault_checked(uint32_t from, const void *input, size_t input_len, size_t *place)
+{
+    const uint8_t *in = input ? (const uint8_t *)input : cbor_diag_no_bytes();
+    size_t unused;
+    size_t *at = place ? place : &unused;
+    if (input_len > (size_t)PTRDIFF_MAX) {
+        *at = CBOR_DIAG_NO_PLACE;
+        return -CBOR_DIAG_ERROR_MEMORY; /* no object is that large */
+    }
+    return cbor_diag_fault(from, in, input_len, at);
+}
+#define cbor_diag_fault cbor_diag_fault_checked
+
 /*
  * Reports how bytes begin that come in pieces, without memory: feed each piece as it comes, for example from a socket.
  * The time grows with the new bytes alone: each byte is looked at once.

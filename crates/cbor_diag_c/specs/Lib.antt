@@ -2,3 +2,4 @@ pub mod Forms
 pub mod Answers
 pub mod Beginnings
 pub mod Pieces
+pub mod Places
