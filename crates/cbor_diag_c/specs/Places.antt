@@ -24,9 +24,10 @@ no_place = 2 ^ 64 - 1
 -- In bytes: their end where they are cut, the end of the item where more follow, and otherwise the last of the first
 -- bytes that have the error, of which fewer are cut.
 abbrev pub IsBytesPlace : List ℕ → Error → ℕ → Type 0
-IsBytesPlace b refusal.CutShort place = place ≡ length b
-IsBytesPlace b refusal.Remaining place = (i : Item) × BeginsWithItem b i place × (place < length b)
-IsBytesPlace b e place = FaultEnds b e (place + 1) × ((n : ℕ) → n ≤ place → IsCut (take n b))
+IsBytesPlace b e place =
+    ((e ≡ refusal.CutShort) × IsCut b × (place ≡ length b))
+    ⊎ ((e ≡ refusal.Remaining) × (i : Item) × BeginsWithItem b i place × (place < length b))
+    ⊎ (FaultEnds b e (place + 1) × ((n : ℕ) → n ≤ place → IsCut (take n b)))
 
 -- the first digit of byte n in hex, or the end of the text if it has no such byte
 abbrev pub IsDigitsPlace : List ℕ → ℕ → ℕ → Type 0

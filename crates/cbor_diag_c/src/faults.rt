@@ -24,7 +24,7 @@ type Fault = Option<(Error, usize)>;
 const NO_PLACE: usize = usize::MAX;
 
 /// The fault of bytes.
-#[tactic(auto, using(crate::proofs::Faults::refused))]
+#[tactic(auto, using(crate::proofs::Refusals::refused, crate::proofs::Refusals::fault_place))]
 fn in_bytes(bytes: &[u8]) -> Fault
     ensures none { result ≡ None → (i : Item) × IsItem bytes.now i }
     ensures refused { IfSome result (λ x. IsNoItem bytes.now x.0) }
@@ -53,7 +53,7 @@ fn digits_place(text: &str, n: usize) -> usize
 }
 
 /// The fault of hex. The only error is `Memory`.
-#[tactic(auto, using(crate::proofs::Faults::hex_refused))]
+#[tactic(auto, using(crate::proofs::Refusals::hex_refused))]
 fn in_hex(alloc: Global, text: &str) -> Result<Fault, Error>
     ensures none { IfOk result (λ f. f ≡ None → (i : Item) × IsHexOf text.now i) }
     ensures refused { IfOk result (λ f. IfSome f (λ x. IsHexRefused text.now x.0)) }
