@@ -93,9 +93,8 @@ impl fmt::Display for Error {
     fn fmt(&self, f: &mut fmt::Formatter<'_>) -> fmt::Result {
         let mut text = [0; 64];
         // SAFETY: so many bytes stand at the pointer.
-        let length = unsafe {
-            library::cbor_diag_error_text(self.number(), text.as_mut_ptr(), text.len())
-        };
+        let length =
+            unsafe { library::cbor_diag_error_text(self.number(), text.as_mut_ptr(), text.len()) };
         let written = &text[..length as usize];
         f.pad(std::str::from_utf8(written).expect("the text is ASCII"))
     }
