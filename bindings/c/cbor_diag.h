@@ -83,8 +83,8 @@ _Static_assert(_Alignof(struct cbor_diag_scanner) == 8, "the alignment that the 
 
 /*
  * The functions of the library, as it exports them. No pointer is null, a length is at most PTRDIFF_MAX, and the
- * output does not overlap the input. The memory at a scanner overlaps nothing else. In C and C++, call the functions of the same names below, which allow null
- * pointers; other languages call these.
+ * output does not overlap the input. The memory at a scanner overlaps nothing else. In C and C++, call the functions of
+ * the same names below, which allow null pointers; other languages call these.
  */
 int64_t cbor_diag_convert(uint32_t from, uint32_t to, const uint8_t *input, size_t input_len, uint8_t *output,
                           size_t output_len);

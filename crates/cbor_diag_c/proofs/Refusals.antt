@@ -20,7 +20,8 @@ fault_place b e end shown cuts =
     let same : end - 1 + 1 ≡ end = omega arith in
     (subst (λ (k : ℕ). FaultEnds b e k) (sym same) shown, λ n low. cuts n (omega arith))
 
-pub hex_refused : (text b : List ℕ) (e : Error) → decode_of (uncommented text) ≡ Ok b → IsNoItem b e → IsHexRefused text e
+pub hex_refused : (text b : List ℕ) (e : Error) → decode_of (uncommented text) ≡ Ok b → IsNoItem b e
+    → IsHexRefused text e
 hex_refused text b refusal.Memory d h = absurd h
 hex_refused text b refusal.CutShort d h = (b, d, h)
 hex_refused text b refusal.Head d h = (b, d, h)

@@ -115,15 +115,10 @@ fn fault(alloc: Global, from: Source, input: &[u8]) -> Result<Fault, Error>
 ///
 /// In bytes it is the last of the first bytes that have the error, as `cbor_diag_extent` counts
 /// them; their end if they are cut; or the end of the item if more follow. In hex it is the first
-/// digit of that byte; or the digit that is wrong, which is the last one of an odd number. In a text
-/// that is not UTF-8 it is the end of the longest front that is.
+/// digit of that byte; or the digit that is wrong, which is the last one of an odd number. In a
+/// text that is not UTF-8 it is the end of the longest front that is.
 #[unsafe(no_mangle)]
-pub extern "C" fn cbor_diag_fault(
-    alloc: Global,
-    from: u32,
-    input: &[u8],
-    place: &mut usize,
-) -> i64
+pub extern "C" fn cbor_diag_fault(alloc: Global, from: u32, input: &[u8], place: &mut usize) -> i64
     ensures none { IfLength result (λ n. (n ≡ 0) × IsItemIn from input.now
         × (place.new ≡ no_place)) }
     ensures error { IfError result (λ n. n ≢ 1 → IsFaultIn from input.now n place.new) }

@@ -1,7 +1,7 @@
 //! The calls for bytes that come in pieces.
 //!
-//! C has the memory for the scanner, as a [`ScannerRoom`]. Each call casts its pointer, so these two
-//! are proved by hand; the rest is in [`CountedScanner`].
+//! C has the memory for the scanner, as a [`ScannerRoom`]. Each call casts its pointer, so these
+//! two are proved by hand; the rest is in [`CountedScanner`].
 ghost use Rattle.std.specs.Prelude.{◌≡◌, ◌≢◌, ◌<◌, ◌^◌, List, ℕ, [], length};
 ghost use Rattle.std.specs.Borrow.{full_share, sem};
 ghost use Rattle.std.specs.Ptr.{lies_at, room_at};
@@ -23,7 +23,9 @@ pub struct ScannerRoom {
 }
 
 const _: () = prove!(size_of::<ScannerRoom>() == 2048);
+
 const _: () = prove!(size_of::<CountedScanner>() <= 2048);
+
 const _: () = prove!(align_of::<CountedScanner>() == align_of::<ScannerRoom>());
 
 /// A scanner, and how many bytes it was fed.

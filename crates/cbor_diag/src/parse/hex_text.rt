@@ -149,8 +149,8 @@ pub(crate) fn decode(alloc: Global, digits: Vec<u8>) -> crate::Result<Vec<u8>>
 /// Decodes hex with comments, by the rules of [`parse_hex`]: two digits, of either case, for each
 /// byte. The bytes may be no item, and [`extent`] reports how they begin.
 ///
-/// Returns `OddHex` if the number of kept bytes is odd, and otherwise `BadHex` if one of them is not
-/// a hex digit. Returns `Memory` if an allocation fails.
+/// Returns `OddHex` if the number of kept bytes is odd, and otherwise `BadHex` if one of them is
+/// not a hex digit. Returns `Memory` if an allocation fails.
 ///
 /// ```rust
 /// use cbor_diag::hex_bytes;

@@ -9,8 +9,10 @@ use prog.Wp.{WpFn}
 use contract.Monad.{fact}
 use contract.Running.{tables}
 use types.Logic.{sem}
-use types.Kit.{‵, raw, ◌⊛◌, some, later, prop, at_ret, ◌$◌, ◌∵◌, !, qed, done, move, keep, drop, use1, use2, split, join, fsplit, fjoin, feq_i, feq_l, pick, await, rewrite, regoal, suffices, frame, group, show}
-use types.Run.{enter, of_opd, lit, unit_lit, load, look, store, init, stop, no_more, and_then, assigns, assigns_last, first, blocks, exec, returns}
+use types.Kit.{‵, raw, ◌⊛◌, some, later, prop, at_ret, ◌$◌, ◌∵◌, !, qed, done, move, keep, drop, use1, use2, split}
+use types.Kit.{join, fsplit, fjoin, feq_i, feq_l, pick, await, rewrite, regoal, suffices, frame, group, show}
+use types.Run.{enter, of_opd, lit, unit_lit, load, look, store, init, stop, no_more, and_then, assigns}
+use types.Run.{assigns_last, first, blocks, exec, returns}
 use types.ByLocal.{alloc_all, pass_all, free_all, look_at, get, through, sets, lands_as, env}
 use denote.Exit.{yes}
 use denote.Laws.{shows, Is}
@@ -53,9 +55,12 @@ cbor_diag_scanner_init_spec 𝓤 𝓛 𝓜 𝓡 wired =
     sets ! (of_opd ! (get ! refl)) refl (tt, tt) $
     first ! $ blocks ! $
     nothing ! $ nothing ! $ join ! $ nothing ! $ move ! (1 ∷ 0 ∷ []) $ join ! $ use1 𝓛 (raw (G.pre z)) (id⊢ 𝓤 _) $
-    calls_at ! (framed 𝓤 𝓛.H 𝓜 𝓣) G (met 𝓤 𝓛 𝓜 𝓡 (code.calls-cbor_diag_c::scanner::CountedScanner::new 𝓡.env wired)) z (no_more !) (λ v.
-    use1 𝓛 (later (some (λ (r : R.Denot). (‵ ftrue ⊛ ‵ (R.own_val r (v ∷ []))) ⊛ some (λ (ws : Unit {0}). ‵ (lasts g.ended tt tt ws) ⊛ raw (fact 𝓤 (HasScanned r [])))))) (id⊢ 𝓤 _) $
-    await ! tt $ pick ! (λ r. split ! $ split ! $ drop ! $ move ! (1 ∷ []) $ pick ! (λ ws. split ! $ drop ! $ heard ! (HasScanned r []) (λ scanned.
+    calls_at ! (framed 𝓤 𝓛.H 𝓜 𝓣) G (met 𝓤 𝓛 𝓜 𝓡 (code.calls-cbor_diag_c::scanner::CountedScanner::new 𝓡.env wired)) z
+    (no_more !) (λ v.
+    use1 𝓛 (later (some (λ (r : R.Denot). (‵ ftrue ⊛ ‵ (R.own_val r (v ∷ [])))
+    ⊛ some (λ (ws : Unit {0}). ‵ (lasts g.ended tt tt ws) ⊛ raw (fact 𝓤 (HasScanned r [])))))) (id⊢ 𝓤 _) $
+    await ! tt $ pick ! (λ r. split ! $ split ! $ drop ! $ move ! (1 ∷ []) $ pick ! (λ ws. split ! $ drop ! $
+    heard ! (HasScanned r []) (λ scanned.
     peeks ! R (Is R) (shows 𝓛 R) r (v ∷ []) (λ is.
     let tu = ((the_row_laws.lawful 𝓛).typed r (v ∷ []) is).0 in
     lands_as ! refl refl tu $
@@ -66,4 +71,5 @@ cbor_diag_scanner_init_spec 𝓤 𝓛 𝓜 𝓡 wired =
     use2 𝓛 (‵ (part_at R full_share r b o)) (part_in 𝓛 R refl full_share r b o v) $ keep ! (0 ∷ []) $
     suffices ! _ (ends_at 𝓛 f.ended stayed c (y (block_ptr b o)) vunit tt (tt, tt) (tt, tt)) $
     feq_i ! _ (vunit ∷ []) _ refl $ nothing ! $ nothing ! $ join ! $ nothing ! $ group ! 3 $ frame ! $
-    show ! (λ (h : R.Denot). sep 𝓤 (sem 𝓛 (lies_at R full_share (block_ptr b o) h)) (fact 𝓤 (HasScanned h []))) r $ says ! scanned $ done !))))))))
+    show ! (λ (h : R.Denot). sep 𝓤 (sem 𝓛 (lies_at R full_share (block_ptr b o) h)) (fact 𝓤 (HasScanned h []))) r $
+    says ! scanned $ done !))))))))
