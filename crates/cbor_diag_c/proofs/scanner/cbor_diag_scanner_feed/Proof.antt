@@ -1,19 +1,19 @@
 -- `cbor_diag_scanner_feed` lends the scanner at its pointer to `CountedScanner::feed`, and hands `end` on to it: a walk
 -- of its MIR by hand.
-use Rattle.std.proofs.Common.{◌≡◌, ◌≢◌, ℕ, ℤ, ◌^◌, ◌<◌, List, [], ◌∷◌, length, ◌++◌, ◌+◌, refl, ap, w64, MutBor}
+use Rattle.std.proofs.Common.{◌≢◌, ℕ, ℤ, ◌^◌, ◌<◌, List, [], ◌∷◌, length, refl, w64, MutBor}
 use Rattle.std.proofs.raw_atomic.Walks.{proved}
 use base.Fraction.{full_share}
 use base.Logic.{id⊢, sep, ex, ex_i}
-use base.Fml.{ftrue, fat, flft, flent, fsep}
+use base.Fml.{ftrue, flft, flent}
 use mir.Syntax.{named}
-use mir.Val.{Val, vptr}
+use mir.Val.{vptr}
 use prog.Wp.{WpFn}
 use contract.Monad.{fact}
 use contract.Running.{tables}
 use types.Logic.{sem}
-use types.Kit.{‵, raw, ◌⊛◌, some, later, prop, at_ret, ◌$◌, ◌∵◌, !, qed, done, move, keep, drop, use1, use2, use3}
-use types.Kit.{split, split3, join, fsplit, fsplit3, fjoin, feq_i, feq_l, pick, await, rewrite, regoal, suffices}
-use types.Kit.{frame, group, show}
+use types.Kit.{‵, raw, ◌⊛◌, some, later, prop, at_ret, ◌$◌, ◌∵◌, !, qed, done, move, keep, use1, use2, use3}
+use types.Kit.{split, split3, join, fsplit, fsplit3, fjoin, pick, await, regoal, suffices}
+use types.Kit.{group}
 use types.Run.{enter, of_opd, addr, stop, no_more, and_then, first, blocks, exec, returns}
 use types.ByLocal.{alloc_all, pass_all, free_all, look_at, get, through, sets, sets_last, lands_as, env}
 use types.Tokens.{lft_new, lft_end}
@@ -21,20 +21,19 @@ use denote.Builtin.{SliceRefOf, u8, usize, i64}
 use denote.Exit.{yes}
 use denote.Laws.{shows, Is}
 use denote.Lend.{lends_ref, ref_back}
-use denote.Memory.{part_at, mem}
+use denote.Memory.{mem}
 use types.SemTy.{Body}
 use denote.RattleType.{owns}
 use denote.RawPtr.{Ptr, RawPtr, block_ptr, lies_at, in_a_block, rawptr_vals, rawptr_Tells}
 use denote.Ref.{MutRef, mut_vals, mut_Tells}
 use denote.Signature.{plain, types_at}
 use denote.Signed.{sint_Lawful}
-use denote.Slice.{ShrSlice, shr_slice_vals, shr_slice_Tells, Room}
-use denote.Steps.{nothing, peeks, heard}
+use denote.Slice.{shr_slice_vals, shr_slice_Tells}
+use denote.Steps.{nothing, peeks}
 use denote.Triple.Call.{calls_at}
 use denote.Triple.Clauses.{lasts, Lasts}
-use denote.Triple.Entry.{on_entry}
 use denote.Triple.Spec.{triple_of}
-use denote.Triple.Walked.{Stays, walk_of, says, stay_dropped, Goes-dropped, gave_ref, Goes-gave_ref, ends_at}
+use denote.Triple.Walked.{Stays, walk_of, stay_dropped, Goes-dropped, gave_ref, Goes-gave_ref, ends_at}
 use denote.Triple.Table.{framed}
 use Rattle.cbor_diag.specs.declared.parse.binary.skip.answer.Extent.{Extent}
 use Rattle.cbor_diag.specs.declared.parse.binary.skip.answer.Extent.TheVariants.{Cut}
@@ -55,9 +54,13 @@ stayed = (stay_dropped _ yes, (stay_dropped _ yes, (gave_ref (1 ∷ []) tt (plai
 pub cbor_diag_scanner_feed_spec : {M : Type 1} → statement M
 cbor_diag_scanner_feed_spec 𝓤 𝓛 𝓜 𝓡 wired =
     let c = f.clauses 𝓛 𝓜.mem 𝓡.returns in let W = walk_of 𝓛 f.ended stayed c in let 𝓣 = tables 𝓤 𝓛.H 𝓜 𝓡 𝓡.env in
-    proved 𝓛 f.ended stayed c 𝓜 𝓡 (Goes-dropped 𝓛 2 (plain (λ _. RawPtr)) yes (λ κs x w. refl),
-    (Goes-dropped 𝓛 2 (SliceRefOf (0 ∷ []) tt (plain (λ _. u8)) (λ _. tt)) yes (λ κs x w. refl),
-    (Goes-gave_ref 𝓛 2 1 tt (plain (λ _. usize)), tt)))
+    proved 𝓛 f.ended stayed c 𝓜 𝓡 (
+      Goes-dropped 𝓛 2 (plain (λ _. RawPtr)) yes (λ κs x w. refl),
+      (
+        Goes-dropped 𝓛 2 (SliceRefOf (0 ∷ []) tt (plain (λ _. u8)) (λ _. tt)) yes (λ κs x w. refl),
+        (Goes-gave_ref 𝓛 2 1 tt (plain (λ _. usize)), tt),
+      ),
+    )
     f.Key.name code.function (code.unfolded 𝓤 𝓛.H 𝓜 𝓡 wired)
     (λ κs. (rawptr_vals, (shr_slice_vals, (mut_vals, tt))))
     (λ κs. (rawptr_Tells, (shr_slice_Tells (named 0) κs.0 u8, (mut_Tells (named 1) κs.1.0 usize, tt))))
@@ -93,17 +96,25 @@ cbor_diag_scanner_feed_spec 𝓤 𝓛 𝓜 𝓡 wired =
     let Kept = λ (h : R.Denot).
     sep 𝓤 (sem 𝓛 (lies_at R full_share (block_ptr b o) h)) (fact 𝓤 (IfFed n input.now (HasScanned h))) in
     let Answers = λ (r : ℤ) (last : ℕ).
-        raw (fact 𝓤 (IfFed n input.now (λ bytes. IfLength r (λ k. IsItemOf bytes k last))))
-        ⊛ raw (fact 𝓤 (IfFed n input.now (λ bytes. IfError r (λ k. IsCutOrFault bytes k last))))
-        ⊛ raw (fact 𝓤 ((found : Extent) → IfFed n input.now
+    raw (fact 𝓤 (IfFed n input.now (λ bytes. IfLength r (λ k. IsItemOf bytes k last))))
+    ⊛ raw (fact 𝓤 (IfFed n input.now (λ bytes. IfError r (λ k. IsCutOrFault bytes k last))))
+    ⊛ raw (fact 𝓤 ((found : Extent) → IfFed n input.now
     (λ bytes. IsExtent bytes found → IsReturned found (length bytes) r last)))
-        ⊛ raw (fact 𝓤 ((fed : List ℕ) (found : Extent) → HasScanned n fed → IsExtent fed found → found ≢ Cut
+    ⊛ raw (fact 𝓤 ((fed : List ℕ) (found : Extent) → HasScanned n fed → IsExtent fed found → found ≢ Cut
     → IsReturned found (length fed) r last)) in
     -- [the loan; what comes back of it; the token of α; end; input; the two tokens]
     let G = triple_of 𝓛 g.signature (g.spec 𝓛 𝓜.mem 𝓡.returns) in
     let loan : MutBor R.Denot = record { ref_ptr = (b, o); ghost_name = γ; now = n } in
-    let z : G.Ghost = (((α ∷ [], (κ₀, (κ₁, tt))), (full_share, (q₀, (q₁, tt))), tt,
-    (loan, (input, (end, tt))), (mut_vals loan, (shr_slice_vals input, (mut_vals end, tt)))), tt) in
+    let z : G.Ghost = (
+      (
+        (α ∷ [], (κ₀, (κ₁, tt))),
+        (full_share, (q₀, (q₁, tt))),
+        tt,
+        (loan, (input, (end, tt))),
+        (mut_vals loan, (shr_slice_vals input, (mut_vals end, tt))),
+      ),
+      tt,
+    ) in
     nothing ! $ move ! (4 ∷ 0 ∷ []) $ fjoin ! $ move ! (4 ∷ 0 ∷ []) $ fjoin ! $ move ! (1 ∷ 0 ∷ []) $ fjoin ! $
     nothing ! $ move ! (5 ∷ 0 ∷ []) $ join ! $ move ! (4 ∷ 0 ∷ []) $ join ! $ move ! (3 ∷ 0 ∷ []) $ join ! $ join ! $
     nothing ! $ move ! (1 ∷ 0 ∷ []) $ join ! $ use1 𝓛 (raw (G.pre z)) (id⊢ 𝓤 _) $

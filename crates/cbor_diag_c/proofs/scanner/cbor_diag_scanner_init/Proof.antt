@@ -1,17 +1,17 @@
 -- `cbor_diag_scanner_init` writes a new scanner into the room at its pointer: a walk of its MIR by hand.
-use Rattle.std.proofs.Common.{◌≡◌, List, [], ◌∷◌, refl, ap}
+use Rattle.std.proofs.Common.{[], ◌∷◌, refl}
 use Rattle.std.proofs.raw_atomic.Walks.{proved}
 use base.Fraction.{full_share}
 use base.Logic.{id⊢, sep}
-use base.Fml.{ftrue, froom, fat}
-use mir.Val.{Val, vunit}
+use base.Fml.{ftrue}
+use mir.Val.{vunit}
 use prog.Wp.{WpFn}
 use contract.Monad.{fact}
 use contract.Running.{tables}
 use types.Logic.{sem}
 use types.Kit.{‵, raw, ◌⊛◌, some, later, prop, at_ret, ◌$◌, ◌∵◌, !, qed, done, move, keep, drop, use1, use2, split}
-use types.Kit.{join, fsplit, fjoin, feq_i, feq_l, pick, await, rewrite, regoal, suffices, frame, group, show}
-use types.Run.{enter, of_opd, lit, unit_lit, load, look, store, init, stop, no_more, and_then, assigns}
+use types.Kit.{join, feq_i, pick, await, regoal, suffices, frame, group, show}
+use types.Run.{enter, of_opd, unit_lit, init, stop, no_more}
 use types.Run.{assigns_last, first, blocks, exec, returns}
 use types.ByLocal.{alloc_all, pass_all, free_all, look_at, get, through, sets, lands_as, env}
 use denote.Exit.{yes}
@@ -19,7 +19,7 @@ use denote.Laws.{shows, Is}
 use denote.Memory.{part_at}
 use denote.RawPtr.{Ptr, RawPtr, block_ptr, lies_at, room_at, in_a_block, rawptr_vals, rawptr_Tells}
 use denote.Signature.{plain}
-use denote.Steps.{nothing, peeks, heard, only}
+use denote.Steps.{nothing, peeks, heard}
 use denote.Triple.Call.{calls_at}
 use denote.Triple.Clauses.{lasts}
 use denote.Triple.Entry.{on_entry}
