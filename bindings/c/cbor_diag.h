@@ -13,7 +13,7 @@
  * The library keeps nothing between calls: any number of threads may call it at once. Nobody may change an input, or
  * use an output, during a call. It frees all memory that it takes before a call returns. Do not call it from a signal
  * handler, nor in the forked child of a process that has threads, since it calls malloc. CBOR_DIAG_STACK_SIZE bytes of
- * stack are enough for each call.
+ * stack are enough for each call. A scanner is the caller's: one thread at a time may use it.
  */
 #ifndef CBOR_DIAG_H
 #define CBOR_DIAG_H
@@ -64,13 +64,34 @@ enum cbor_diag_error {
 #define CBOR_DIAG_ERROR_TEXT_SIZE 64
 
 /*
+ * What a scanner keeps of the bytes that it was fed. The caller has this memory, on the stack or anywhere else, and
+ * cbor_diag_scanner_init makes a scanner of it; nothing has to be freed. What is in it is the library's alone. It holds
+ * no pointers, so a copy of it is a scanner that was fed the same bytes.
+ */
+#define CBOR_DIAG_SCANNER_SIZE 2048
+struct cbor_diag_scanner {
+    uint64_t room[CBOR_DIAG_SCANNER_SIZE / 8];
+};
+
+#ifdef __cplusplus
+static_assert(sizeof(struct cbor_diag_scanner) == CBOR_DIAG_SCANNER_SIZE, "the size that the library is built for");
+static_assert(alignof(struct cbor_diag_scanner) == 8, "the alignment that the library is built for");
+#elif __STDC_VERSION__ >= 201112L
+_Static_assert(sizeof(struct cbor_diag_scanner) == CBOR_DIAG_SCANNER_SIZE, "the size that the library is built for");
+_Static_assert(_Alignof(struct cbor_diag_scanner) == 8, "the alignment that the library is built for");
+#endif
+
+/*
  * The functions of the library, as it exports them. No pointer is null, a length is at most PTRDIFF_MAX, and the
- * output does not overlap the input. In C and C++, call the functions of the same names below, which allow null
- * pointers; other languages call these.
+ * output does not overlap the input. The memory at a scanner overlaps nothing else. In C and C++, call the functions of
+ * the same names below, which allow null pointers; other languages call these.
  */
 int64_t cbor_diag_convert(uint32_t from, uint32_t to, const uint8_t *input, size_t input_len, uint8_t *output,
                           size_t output_len);
 int64_t cbor_diag_extent(const uint8_t *input, size_t input_len, size_t *end);
+int64_t cbor_diag_fault(uint32_t from, const uint8_t *input, size_t input_len, size_t *place);
+void cbor_diag_scanner_init(struct cbor_diag_scanner *scanner);
+int64_t cbor_diag_scanner_feed(struct cbor_diag_scanner *scanner, const uint8_t *input, size_t input_len, size_t *end);
 int64_t cbor_diag_error_text(uint32_t error, uint8_t *output, size_t output_len);
 uint32_t cbor_diag_version(void);
 
@@ -129,6 +150,67 @@ static inline int64_t cbor_diag_extent_checked(const void *input, size_t input_l
     return cbor_diag_extent(in, input_len, end ? end : &unused);
 }
 #define cbor_diag_extent cbor_diag_extent_checked
+
+/* What `*place` is set to where there is no place. */
+#define CBOR_DIAG_NO_PLACE SIZE_MAX
+
+/*
+ * Reports why and where an input is no item in the form `from`: the error that cbor_diag_convert has for it, with the
+ * place. Call it after a conversion has failed.
+ *
+ * Returns 0 if the input is an item, and otherwise minus a number of enum cbor_diag_error. `*place` is set to how many
+ * bytes of the input come before the fault, or to CBOR_DIAG_NO_PLACE if there is no error, out of memory, for no form,
+ * and in notation, whose errors have no place yet.
+ *
+ * - In bytes the fault is the byte at fault, or the last byte of a text that is not UTF-8: `*end` - 1 of
+ *   cbor_diag_extent. It is the end of bytes that are cut, and the first byte after an item that is not the last.
+ * - In hex it is the first digit of that byte; or the digit that is wrong, which is the last of an odd number; or the
+ *   end of a text whose bytes are cut.
+ * - In hex or notation that is not UTF-8 it is the first byte that is not.
+ *
+ * `input` may be null if its length is 0, and `place` may be null.
+ */
+static inline int64_t cbor_diag_fault_checked(uint32_t from, const void *input, size_t input_len, size_t *place)
+{
+    const uint8_t *in = input ? (const uint8_t *)input : cbor_diag_no_bytes();
+    size_t unused;
+    size_t *at = place ? place : &unused;
+    if (input_len > (size_t)PTRDIFF_MAX) {
+        *at = CBOR_DIAG_NO_PLACE;
+        return -CBOR_DIAG_ERROR_MEMORY; /* no object is that large */
+    }
+    return cbor_diag_fault(from, in, input_len, at);
+}
+#define cbor_diag_fault cbor_diag_fault_checked
+
+/*
+ * Reports how bytes begin that come in pieces, without memory: feed each piece as it comes, for example from a socket.
+ * The time grows with the new bytes alone: each byte is looked at once.
+ *
+ * Returns, and sets `*end` to, what cbor_diag_extent does for all bytes that the scanner was fed since
+ * cbor_diag_scanner_init, counts included: minus CBOR_DIAG_ERROR_CUT_SHORT as long as more are needed. Once it returns
+ * the length of the item or another error, that stays, whatever is fed. Bytes of the last piece after the item are not
+ * looked at: the next item begins with them, in a new scanner. The counts are right as long as fewer than 2^63 bytes
+ * were fed.
+ *
+ *     struct cbor_diag_scanner scanner;
+ *     cbor_diag_scanner_init(&scanner);
+ *     cbor_diag_scanner_feed(&scanner, "\x82\x01", 2, NULL);  // -CBOR_DIAG_ERROR_CUT_SHORT
+ *     cbor_diag_scanner_feed(&scanner, "\x02\xff", 2, NULL);  // 3
+ *
+ * `input` may be null if its length is 0, and `end` may be null. The scanner has to be initialized.
+ */
+static inline int64_t cbor_diag_scanner_feed_checked(struct cbor_diag_scanner *scanner, const void *input,
+                                                     size_t input_len, size_t *end)
+{
+    const uint8_t *in = input ? (const uint8_t *)input : cbor_diag_no_bytes();
+    size_t unused;
+    if (input_len > (size_t)PTRDIFF_MAX) {
+        return -CBOR_DIAG_ERROR_MEMORY; /* no object is that large */
+    }
+    return cbor_diag_scanner_feed(scanner, in, input_len, end ? end : &unused);
+}
+#define cbor_diag_scanner_feed cbor_diag_scanner_feed_checked
 
 /*
  * Writes the text of an error into `text`, with a zero byte at its end, and returns `text`. `answer` is the negative

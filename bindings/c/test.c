@@ -7,6 +7,7 @@
  */
 #include <pthread.h>
 #include <stdarg.h>
+#include <stddef.h>
 #include <stdio.h>
 #include <stdlib.h>
 #include <string.h>
@@ -311,6 +312,206 @@ static void test_deep_extent(void)
     free(openings);
 }
 
+/* ---- bytes in pieces */
+
+/* Items, cuts and faults of each kind, with bytes after some: heads of each width, texts whose characters have one to
+   four bytes, chunks, containers of both kinds, tags. */
+static const struct text in_pieces[] = {
+    TEXT(""),
+    TEXT("\x17\x00"),
+    TEXT("\x18\x18"),
+    TEXT("\x39\x03\xe7"),
+    TEXT("\x1a\x00\x0f\x42\x40"),
+    TEXT("\x1b\x00\x00\x00\xe8\xd4\xa5\x10\x00\xff"),
+    TEXT("\xf9\x3c\x00"),
+    TEXT("\xfb\x3f\xf1\x99\x99\x99\x99\x99\x9a"),
+    TEXT("\xf8\xff"),
+    TEXT("\xc1\x1a\x51\x4b\x67\xb0"),
+    TEXT("\xd9\xd9\xf7\x83\x01\x02\x03\x04"),
+    TEXT("\x43\x01\x02\x03\x04"),
+    TEXT("\x59\x00\x03\x01\x02\x03"),
+    TEXT("\x6a" "a\xc3\xbc\xe6\xb0\xb4\xf0\x90\x85\x91"),
+    TEXT("\x7f\x63" "a\xc3\xbc\x78\x03\xe6\xb0\xb4\x64\xf0\x90\x85\x91\xff\x00"),
+    TEXT("\x5f\x41\x01\x58\x02\x02\x03\x40\xff"),
+    TEXT("\x9f\x18\x20\x82\x04\x05\x9f\xff\xff\xff"),
+    TEXT("\xa2\x61\x61\x01\x61\x62\xbf\x01\x02\xff"),
+    TEXT("\xbf\x01\x02\x03\xff"),
+    TEXT("\x82\x01\x1c\x00"),
+    TEXT("\x9f\xfe"),
+    TEXT("\xff"),
+    TEXT("\x5f\x61\x61\xff"),
+    TEXT("\x7f\x7f\xff\xff"),
+    TEXT("\x81\x62\xff\x00\x00"),
+    TEXT("\x65" "ab\xc3" "de"),
+    TEXT("\x65" "abcd\xc3"),
+    TEXT("\x68\xf0\x90\x85" "abcde\x00"),
+    TEXT("\x64\xed\xa0\x80" "a"),
+    TEXT("\x7f\x61\xc3\x61\xbc\xff"),
+    TEXT("\x9a\xff\xff\xff\xff\x01"),
+    TEXT("\x7b\xff\xff\xff\xff\xff\xff\xff\xff" "abc"),
+    TEXT("\x5b\x7f\xff\xff\xff\xff\xff\xff\xff" "abc"),
+};
+
+/* Feeds the next bytes in memory of their own, and compares with the extent of all that came. */
+static void feed_and_compare(struct cbor_diag_scanner *scanner, const struct text *input, size_t fed, size_t count)
+{
+    char name[80];
+    snprintf(name, sizeof name, "%zu bytes after %zu of row %td", count, fed, input - in_pieces);
+    size_t expected_end, end = 99;
+    int64_t expected = cbor_diag_extent(input->bytes, fed + count, &expected_end);
+    unsigned char *piece = malloc(count);
+    memcpy(piece, (const unsigned char *)input->bytes + fed, count);
+    check_answer(name, expected, cbor_diag_scanner_feed(scanner, piece, count, &end));
+    check(end == expected_end, "%s: expected the end %zu, came %zu", name, expected_end, end);
+    free(piece);
+}
+
+/* The size of the next piece: at least 1 if more are left. */
+static size_t some_piece(uint32_t *seed, size_t left)
+{
+    *seed = *seed * 1664525 + 1013904223;
+    return left == 0 ? 0 : 1 + (*seed >> 16) % left;
+}
+
+static void test_scanner(void)
+{
+    uint32_t seed = 1;
+    for (const struct text *input = in_pieces; input < in_pieces + sizeof in_pieces / sizeof *in_pieces; input++) {
+        /* The scanner in memory of its own. */
+        struct cbor_diag_scanner *scanner = malloc(sizeof *scanner);
+        for (size_t cut = 0; cut <= input->length; cut++) {
+            cbor_diag_scanner_init(scanner);
+            feed_and_compare(scanner, input, 0, cut);
+            feed_and_compare(scanner, input, cut, input->length - cut);
+            feed_and_compare(scanner, input, input->length, 0);
+        }
+        cbor_diag_scanner_init(scanner);
+        for (size_t fed = 0; fed < input->length; fed++) {
+            feed_and_compare(scanner, input, fed, 1);
+        }
+        for (int round = 0; round < 20; round++) {
+            cbor_diag_scanner_init(scanner);
+            for (size_t fed = 0, count; fed < input->length; fed += count) {
+                count = some_piece(&seed, input->length - fed);
+                feed_and_compare(scanner, input, fed, count);
+            }
+        }
+        free(scanner);
+    }
+}
+
+/* A copy of a scanner goes on by itself; null pointers, and lengths that no object has. */
+static void test_scanner_limits(void)
+{
+    struct cbor_diag_scanner scanner, copy;
+    size_t end = 99;
+    cbor_diag_scanner_init(&scanner);
+    check_answer("null input", -CBOR_DIAG_ERROR_CUT_SHORT, cbor_diag_scanner_feed(&scanner, NULL, 0, &end));
+    check(end == 0, "null input: expected the end 0, came %zu", end);
+    check_answer("null end", -CBOR_DIAG_ERROR_CUT_SHORT, cbor_diag_scanner_feed(&scanner, "\x82\x19\x03", 3, NULL));
+    copy = scanner;
+    check_answer("2^64 - 1 bytes", -CBOR_DIAG_ERROR_MEMORY, cbor_diag_scanner_feed(&scanner, "\x01", SIZE_MAX, NULL));
+    check_answer("the scanner", 5, cbor_diag_scanner_feed(&scanner, "\xe8\x02\xff", 3, &end));
+    check(end == 5, "the scanner: expected the end 5, came %zu", end);
+    check_answer("the copy", -CBOR_DIAG_ERROR_HEAD, cbor_diag_scanner_feed(&copy, "\xe8\x1c", 2, &end));
+    check(end == 5, "the copy: expected the end 5, came %zu", end);
+    check_answer("the scanner after its item", 5, cbor_diag_scanner_feed(&scanner, "\x00\x00", 2, &end));
+    check(end == 5, "the scanner after its item: expected the end 5, came %zu", end);
+    check_answer("the copy after its error", -CBOR_DIAG_ERROR_HEAD, cbor_diag_scanner_feed(&copy, "\x00", 1, &end));
+    check(end == 5, "the copy after its error: expected the end 5, came %zu", end);
+}
+
+/* Arrays in arrays in pieces of 100 bytes, and no memory is taken. */
+static void test_deep_scanner(void)
+{
+    unsigned char openings[100];
+    struct cbor_diag_scanner scanner;
+    size_t end = 0;
+    memset(openings, 0x81, sizeof openings);
+    allocations = 0;
+    counting = 1;
+    cbor_diag_scanner_init(&scanner);
+    int64_t cut = cbor_diag_scanner_feed(&scanner, openings, sizeof openings, NULL);
+    int64_t deep = cbor_diag_scanner_feed(&scanner, openings, sizeof openings, &end);
+    counting = 0;
+    check_answer("100 arrays", -CBOR_DIAG_ERROR_CUT_SHORT, cut);
+    check_answer("200 arrays", -CBOR_DIAG_ERROR_TOO_DEEP, deep);
+    check(end == 129, "200 arrays: expected the end 129, came %zu", end);
+    check(allocations == 0, "200 arrays: expected no allocation, came %ld", allocations);
+}
+
+/* ---- places of faults */
+
+static void test_faults(void)
+{
+    const struct {
+        uint32_t from;
+        struct text input;
+        int error;
+        size_t place;
+    } rows[] = {
+        {BYTES, TEXT("\x82\x01\x02"), 0, CBOR_DIAG_NO_PLACE},
+        {BYTES, TEXT(""), CBOR_DIAG_ERROR_CUT_SHORT, 0},
+        {BYTES, TEXT("\x82\x01"), CBOR_DIAG_ERROR_CUT_SHORT, 2},
+        {BYTES, TEXT("\x82\x01\x1c\x00"), CBOR_DIAG_ERROR_HEAD, 2},
+        {BYTES, TEXT("\x81\x62\xff\x00\x00"), CBOR_DIAG_ERROR_UTF8, 3},
+        {BYTES, TEXT("\x81\x02\x03\x04"), CBOR_DIAG_ERROR_REMAINING, 2},
+        {HEX, TEXT("82 01 02"), 0, CBOR_DIAG_NO_PLACE},
+        {HEX, TEXT(""), CBOR_DIAG_ERROR_CUT_SHORT, 0},
+        {HEX, TEXT("82 01 # two"), CBOR_DIAG_ERROR_CUT_SHORT, 11},
+        {HEX, TEXT("82 01 # one\n 1c # 28"), CBOR_DIAG_ERROR_HEAD, 13},
+        {HEX, TEXT("82 01 0#\n2 03 04"), CBOR_DIAG_ERROR_REMAINING, 11},
+        {HEX, TEXT("82 01 0#\n2 "), 0, CBOR_DIAG_NO_PLACE},
+        {HEX, TEXT("82 0g"), CBOR_DIAG_ERROR_BAD_HEX, 4},
+        {HEX, TEXT("82 01 0 # half"), CBOR_DIAG_ERROR_ODD_HEX, 6},
+        {HEX, TEXT("82 # \xff"), CBOR_DIAG_ERROR_UTF8, 5},
+        {DIAG, TEXT("[1, 2]"), 0, CBOR_DIAG_NO_PLACE},
+        {DIAG, TEXT("[1, 2.5]"), CBOR_DIAG_ERROR_NOTATION, CBOR_DIAG_NO_PLACE},
+        {PRETTY, TEXT("300_0"), CBOR_DIAG_ERROR_PAST_WIDTH, CBOR_DIAG_NO_PLACE},
+        {PRETTY, TEXT("[\"\xc3\xbc\", \xff]"), CBOR_DIAG_ERROR_UTF8, 7},
+        {4, TEXT("\x01"), CBOR_DIAG_ERROR_NO_FORM, CBOR_DIAG_NO_PLACE},
+    };
+    for (size_t i = 0; i < sizeof rows / sizeof *rows; i++) {
+        char name[40], other[8];
+        snprintf(name, sizeof name, "the fault of row %zu", i);
+        size_t length = rows[i].input.length, place = 99;
+        unsigned char *input = malloc(length);
+        memcpy(input, rows[i].input.bytes, length);
+        check_answer(name, -rows[i].error, cbor_diag_fault(rows[i].from, input, length, &place));
+        check(place == rows[i].place, "%s: expected the place %zu, came %zu", name, rows[i].place, place);
+        check_answer(name, -rows[i].error, cbor_diag_fault(rows[i].from, input, length, NULL));
+        if (rows[i].error) {
+            check_answer(name, -rows[i].error,
+                         cbor_diag_convert(rows[i].from, BYTES, input, length, other, sizeof other));
+        }
+        free(input);
+    }
+    size_t place = 99;
+    check_answer("null input", -CBOR_DIAG_ERROR_CUT_SHORT, cbor_diag_fault(BYTES, NULL, 0, &place));
+    check(place == 0, "null input: expected the place 0, came %zu", place);
+    check_answer("2^64 - 1 bytes", -CBOR_DIAG_ERROR_MEMORY, cbor_diag_fault(BYTES, "\x01", SIZE_MAX, &place));
+    check(place == CBOR_DIAG_NO_PLACE, "2^64 - 1 bytes: expected no place, came %zu", place);
+}
+
+/* Each allocation fails in turn. */
+static void test_faults_without_memory(int from, const char *input, int error)
+{
+    int64_t came = -CBOR_DIAG_ERROR_MEMORY;
+    for (failing = 0; came == -CBOR_DIAG_ERROR_MEMORY && failing < 1000; failing++) {
+        size_t place = 99;
+        allocations = held = 0;
+        counting = 1;
+        came = cbor_diag_fault(from, input, strlen(input), &place);
+        counting = 0;
+        check(held == 0, "allocation %ld fails: expected no block held, came %ld", failing, held);
+        if (came == -CBOR_DIAG_ERROR_MEMORY) {
+            check(place == CBOR_DIAG_NO_PLACE, "out of memory: expected no place, came %zu", place);
+        }
+    }
+    check(failing > 1, "no allocation was made to fail in the fault of \"%s\"", input);
+    check_answer(input, -error, came);
+}
+
 /* ---- arguments at their limits */
 
 static void test_limits(void)
@@ -358,6 +559,8 @@ static void test_memory(void)
             test_failing_memory(from, to, uri[from], uri[to]);
         }
     }
+    test_faults_without_memory(HEX, "82 01 1c # 28", CBOR_DIAG_ERROR_HEAD);
+    test_faults_without_memory(DIAG, "[h'00', \"a\", 1.5]", CBOR_DIAG_ERROR_NOTATION);
 }
 
 /* ---- openings */
@@ -493,6 +696,10 @@ int main(int argc, char **argv)
     test_error_texts();
     test_extents();
     test_deep_extent();
+    test_scanner();
+    test_scanner_limits();
+    test_deep_scanner();
+    test_faults();
     test_limits();
     test_memory();
     test_openings();

@@ -1,9 +1,12 @@
 """Tests of the Python module. Expected values are worked out by hand from RFC 7049 and the documents in docs/."""
 import array
+import io
 import mmap
 import os
 import pathlib
 import pickle
+import random
+import socket
 import subprocess
 import sys
 import threading
@@ -58,6 +61,17 @@ TEXTS = {
     Error.PAST_WIDTH: "a number does not fit its width",
     Error.NO_FORM: "no such form",
 }
+
+
+# Items, cuts and faults of each kind, with bytes after some: heads of each width, texts whose characters have one to
+# four bytes, chunks, containers of both kinds, tags.
+IN_PIECES = [bytes.fromhex(row) for row in """
+    1700 1818 3903e7 1a000f4240 1b000000e8d4a51000ff f93c00 fb3ff199999999999a f8ff c11a514b67b0 d9d9f78301020304
+    4301020304 590003010203 6a61c3bce6b0b4f0908591 7f6361c3bc7803e6b0b464f0908591ff00 5f4101580202034041ffff
+    9f18208204059fffffff a26161016162bf0102ff bf010203ff 82011c00 9ffe ff 5f6161ff 7f7fffff 8162ff0000 656162c36465
+    6561626364c3 68f090856162636465 64eda08061 7f61c361bcff 9affffffff01 7bffffffffffffffff616263
+    5b7fffffffffffffff616263
+""".split()] + [b""]
 
 
 class Conversions(unittest.TestCase):
@@ -203,6 +217,164 @@ class Extents(unittest.TestCase):
                     cbor_diag.extent(data)
                 self.assertIs(raised.exception.error, error)
                 self.assertEqual(raised.exception.end, end)
+                self.assertEqual(raised.exception.offset, end if error is Error.CUT_SHORT else end - 1)
+
+
+def beginning(call, data):
+    """What a call tells of how bytes begin: a length, or an error with its places; None if they are cut."""
+    try:
+        return call(data)
+    except CborDiagError as failure:
+        if failure.error is Error.CUT_SHORT:
+            return None
+        return failure.error, failure.end, failure.offset
+
+
+class Scanners(unittest.TestCase):
+    def assert_fed(self, pieces):
+        """After each piece, the scanner tells what `extent` does of all bytes that were fed."""
+        scanner, fed = cbor_diag.Scanner(), b""
+        for piece in pieces:
+            fed += piece
+            self.assertEqual(beginning(scanner.feed, piece), beginning(cbor_diag.extent, fed), pieces)
+
+    def test_each_cut(self):
+        for data in IN_PIECES:
+            for cut in range(len(data) + 1):
+                self.assert_fed([data[:cut], data[cut:], b""])
+
+    def test_byte_by_byte(self):
+        for data in IN_PIECES:
+            self.assert_fed([data[at : at + 1] for at in range(len(data))])
+
+    def test_random_pieces(self):
+        chance = random.Random(1)
+        for data in IN_PIECES:
+            for _ in range(20):
+                cuts = sorted(chance.choices(range(len(data) + 1), k=4))
+                self.assert_fed([data[i:j] for i, j in zip([0, *cuts], [*cuts, len(data)])])
+
+    def test_each_kind_of_data(self):
+        for piece in (b"\x02", bytearray(b"\x02"), memoryview(b"\x00\x02")[1:], "\x02"):
+            scanner = cbor_diag.Scanner()
+            self.assertIsNone(scanner.feed(b"\x82\x01"))
+            self.assertEqual(scanner.feed(piece), 3)
+        self.assertRaises(TypeError, cbor_diag.Scanner().feed, 1)
+
+    def test_a_deep_stream(self):
+        scanner = cbor_diag.Scanner()
+        self.assertIsNone(scanner.feed(b"\x81" * 100))
+        with self.assertRaises(CborDiagError) as raised:
+            scanner.feed(b"\x81" * 100000)
+        self.assertIs(raised.exception.error, Error.TOO_DEEP)
+        self.assertEqual(raised.exception.end, 129)
+
+
+class Dripping(io.RawIOBase):
+    """A raw stream that gives its bytes in reads of these sizes, and then all that is left."""
+
+    def __init__(self, data, sizes=()):
+        super().__init__()
+        self.data, self.sizes = data, list(sizes)
+
+    def readable(self):
+        return True
+
+    def readinto(self, buffer):
+        size = min(self.sizes.pop(0) if self.sizes else len(self.data), len(self.data), len(buffer))
+        buffer[:size], self.data = self.data[:size], self.data[size:]
+        return size
+
+
+class OnlyReadinto:
+    """No more than `readinto`."""
+
+    def __init__(self, stream):
+        self.readinto = stream.readinto
+
+
+class Items(unittest.TestCase):
+    WHOLE = [data[: cbor_diag.extent(data)] for data in IN_PIECES if isinstance(beginning(cbor_diag.extent, data), int)]
+
+    def assert_fails(self, found, error, offset, end):
+        with self.assertRaises(CborDiagError) as raised:
+            next(found)
+        self.assertIs(raised.exception.error, error)
+        self.assertEqual((raised.exception.offset, raised.exception.end), (offset, end))
+        self.assertRaises(StopIteration, next, found)
+
+    def test_reads_of_each_size(self):
+        self.assertGreater(len(self.WHOLE), 15)
+        log = b"".join(self.WHOLE)
+        for size in range(1, len(log) + 1):
+            self.assertEqual(list(cbor_diag.items(Dripping(log, [size] * len(log)))), self.WHOLE)
+
+    def test_random_reads(self):
+        chance = random.Random(2)
+        for _ in range(100):
+            given = chance.choices(self.WHOLE, k=50)
+            stream = Dripping(b"".join(given), chance.choices(range(1, 40), k=500))
+            self.assertEqual(list(cbor_diag.items(stream)), given)
+
+    def test_each_kind_of_stream(self):
+        log = b"".join(self.WHOLE)
+        for stream in (io.BytesIO(log), Dripping(log), OnlyReadinto(Dripping(log, [3] * 30)),
+                       io.BufferedReader(Dripping(log, [5] * 30))):
+            self.assertEqual(list(cbor_diag.items(stream)), self.WHOLE)
+        self.assertEqual(list(cbor_diag.items(io.BytesIO())), [])
+        self.assertRaises(TypeError, next, cbor_diag.items(io.StringIO("01")))
+
+    def test_items_come_as_soon_as_they_are_complete(self):
+        left, right = socket.socketpair()
+        with left, right, right.makefile("rb") as stream:
+            found = cbor_diag.items(stream)
+            for sent, expected in ((b"\x82\x01\x02\x83", b"\x82\x01\x02"), (b"\x01\x02\x03", b"\x83\x01\x02\x03")):
+                left.sendall(sent)
+                self.assertEqual(next(found), expected)
+            left.sendall(b"\x01\x02\x81")
+            self.assertEqual((next(found), next(found)), (b"\x01", b"\x02"))
+            left.shutdown(socket.SHUT_WR)
+            self.assert_fails(found, Error.CUT_SHORT, 10, 10)
+
+    def test_a_pipe_without_buffer(self):
+        reading, writing = os.pipe()
+        with open(reading, "rb", buffering=0) as stream, open(writing, "wb", buffering=0) as sink:
+            found = cbor_diag.items(stream)
+            sink.write(b"\x61a\x62b")
+            self.assertEqual(next(found), b"\x61a")
+            sink.write(b"c")
+            self.assertEqual(next(found), b"\x62bc")
+            os.set_blocking(reading, False)
+            self.assertRaises(BlockingIOError, next, found)
+
+    def test_faults(self):
+        for size in range(1, 8):
+            for log, error, offset, end in (
+                (b"\x01\x82\x01", Error.CUT_SHORT, 3, 3),
+                (b"\x01\x82\x01\x1c\x00", Error.HEAD, 3, 4),
+                (b"\x01\x81\x62\xff\x00\x00", Error.UTF8, 4, 5),
+                (b"\x01" + b"\x81" * 200, Error.TOO_DEEP, 129, 130),
+            ):
+                found = cbor_diag.items(Dripping(log, [size] * len(log)))
+                self.assertEqual(next(found), b"\x01")
+                self.assert_fails(found, error, offset, end)
+
+    def test_no_byte_is_looked_at_twice(self):
+        # A text of 16 MB in reads of 64 bytes: to look at it again after each read would take minutes.
+        count = 2**24
+        text = b"\x7a" + count.to_bytes(4, "big") + b"a" * count
+        self.assertEqual([len(item) for item in cbor_diag.items(Dripping64(text))], [len(text)])
+
+
+class Dripping64:
+    """Gives its bytes in reads of 64, without a copy of the rest."""
+
+    def __init__(self, data):
+        self.data, self.at = data, 0
+
+    def read(self, _):
+        self.at += 64
+        return self.data[self.at - 64 : self.at]
 
 
 class Errors(unittest.TestCase):
@@ -214,6 +386,32 @@ class Errors(unittest.TestCase):
                         cbor_diag.convert(source, target, given)
                     self.assertIs(raised.exception.error, error)
                     self.assertIsNone(raised.exception.end)
+
+    def test_places(self):
+        for source, given, error, offset in (
+            (Form.BYTES, b"", Error.CUT_SHORT, 0),
+            (Form.BYTES, b"\x82\x01", Error.CUT_SHORT, 2),
+            (Form.BYTES, bytearray(b"\x82\x01\x1c\x00"), Error.HEAD, 2),
+            (Form.BYTES, b"\x81\x62\xff\x00\x00", Error.UTF8, 3),
+            (Form.BYTES, b"\x81\x02\x03\x04", Error.REMAINING, 2),
+            (Form.HEX, "82 01 # two", Error.CUT_SHORT, 11),
+            (Form.HEX, "82 01 # one\n 1c # 28", Error.HEAD, 13),
+            (Form.HEX, "82 01 # \u00e9\n 1c # 28", Error.HEAD, 11),  # characters
+            (Form.HEX, "82 01 # \u00e9\n 1c # 28".encode(), Error.HEAD, 12),  # bytes
+            (Form.HEX, "82 01 0#\n2 03 04", Error.REMAINING, 11),
+            (Form.HEX, "82 0g", Error.BAD_HEX, 4),
+            (Form.HEX, "82 01 0 # half", Error.ODD_HEX, 6),
+            (Form.HEX, b"82 # \xff", Error.UTF8, 5),
+            (Form.HEX, "82 # \u00e9\ud800", Error.UTF8, 6),
+            (Form.PRETTY, b'["\xc3\xbc", \xff]', Error.UTF8, 7),
+            (Form.DIAG, "[1, 2.5]", Error.NOTATION, None),
+        ):
+            for target in Form:
+                with self.subTest(source=source, target=target, given=given):
+                    with self.assertRaises(CborDiagError) as raised:
+                        cbor_diag.convert(source, target, given)
+                    self.assertIs(raised.exception.error, error)
+                    self.assertEqual(raised.exception.offset, offset)
 
     def test_no_form(self):
         for number in (4, 2**32 - 1, 2**32, 2**32 + 2, 2**64, -1, -(2**32)):
@@ -231,9 +429,9 @@ class Errors(unittest.TestCase):
             self.assertEqual(str(CborDiagError(error)), text)
 
     def test_an_error_can_be_pickled(self):
-        error = pickle.loads(pickle.dumps(CborDiagError(Error.HEAD, 3)))
+        error = pickle.loads(pickle.dumps(CborDiagError(Error.HEAD, 3, 2)))
         self.assertIs(error.error, Error.HEAD)
-        self.assertEqual(error.end, 3)
+        self.assertEqual((error.end, error.offset), (3, 2))
         self.assertEqual(str(error), TEXTS[Error.HEAD])
 
 

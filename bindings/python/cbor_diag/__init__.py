@@ -9,7 +9,8 @@ The library libcbor_diag does the work. It is searched for at the path in the en
 then beside this module, then in this repository's dist/lib, then where the system looks for libraries.
 
 Data is read where it is, without a copy. Calls may be made from any number of threads. A call on `str`, `bytes` or a
-part of `bytes` releases the interpreter's lock. A call on other data holds it, so that no thread changes the data.
+part of `bytes` releases the interpreter's lock. A call on other data holds it, so that no thread changes the data, and
+so does a call of a `Scanner`.
 """
 from __future__ import annotations
 
@@ -18,12 +19,13 @@ import ctypes.util
 import enum
 import operator
 import os
-from typing import Any, Callable, Optional, TypeVar, Union
+from typing import Any, BinaryIO, Callable, Iterator, Optional, TypeVar, Union
 
 __all__ = [
     "CborDiagError",
     "Error",
     "Form",
+    "Scanner",
     "bytes_to_diag",
     "bytes_to_diag_pretty",
     "bytes_to_hex",
@@ -34,6 +36,7 @@ __all__ = [
     "hex_to_bytes",
     "hex_to_diag",
     "hex_to_diag_pretty",
+    "items",
     "library_version",
 ]
 
@@ -85,16 +88,25 @@ class Error(enum.IntEnum):
 class CborDiagError(ValueError):
     """The input is not an item, or memory ran out. The text is the library's.
 
-    `error` says which error it is. If `extent` raised it, `end` is the number of first bytes that have the error.
+    `error` says which error it is. `offset` says where: how many bytes of the input come before the fault, or how many
+    characters if `convert` was given a `str`. It is `None` where there is no place: out of memory, for no form, and in
+    notation.
+
+    The fault is the byte that no item can have there; the last byte of a text that is not UTF-8; the end of what is cut
+    short; or the first byte after the item. In hex it is the first digit of that byte, or the digit that is wrong, which
+    is the last of an odd number. In hex or notation that is not UTF-8 it is the first byte that is not.
+
+    If `extent`, `Scanner.feed` or `items` raised it, `end` is the number of first bytes that have the error.
     """
 
-    def __init__(self, error: Error, end: Optional[int] = None) -> None:
+    def __init__(self, error: Error, end: Optional[int] = None, offset: Optional[int] = None) -> None:
         super().__init__(_error_text(error))
         self.error = error
         self.end = end
+        self.offset = offset
 
-    def __reduce__(self) -> tuple[type[CborDiagError], tuple[Error, Optional[int]]]:
-        return type(self), (self.error, self.end)
+    def __reduce__(self) -> tuple[type[CborDiagError], tuple[Error, Optional[int], Optional[int]]]:
+        return type(self), (self.error, self.end, self.offset)
 
 
 def _library_path() -> str:
@@ -128,6 +140,15 @@ class _Library:
         self.extent = library.cbor_diag_extent
         self.extent.restype = ctypes.c_int64
         self.extent.argtypes = [pointer, size, ctypes.POINTER(size)]
+        self.fault = library.cbor_diag_fault
+        self.fault.restype = ctypes.c_int64
+        self.fault.argtypes = [ctypes.c_uint32, pointer, size, ctypes.POINTER(size)]
+        self.scanner_init = library.cbor_diag_scanner_init
+        self.scanner_init.restype = None
+        self.scanner_init.argtypes = [pointer]
+        self.scanner_feed = library.cbor_diag_scanner_feed
+        self.scanner_feed.restype = ctypes.c_int64
+        self.scanner_feed.argtypes = [pointer, pointer, size, ctypes.POINTER(size)]
         self.error_text = library.cbor_diag_error_text
         self.error_text.restype = ctypes.c_int64
         self.error_text.argtypes = [ctypes.c_uint32, ctypes.c_char_p, size]
@@ -204,6 +225,16 @@ def _form_number(form: Form) -> int:
     return number
 
 
+def _place(library: _Library, given: Any, length: int, source: int) -> Optional[int]:
+    """How many bytes come before the fault of an input, if it has a place."""
+    place = ctypes.c_size_t()
+    library.fault(source, given, length, ctypes.byref(place))
+    return None if place.value == _NO_PLACE else place.value
+
+
+_NO_PLACE = ctypes.c_size_t(-1).value
+
+
 def _converted(library: _Library, given: Any, length: int, source: int, target: int) -> bytes:
     # Enough for most outputs. If it is not, the first call returns the length.
     room = (8 if target == Form.HEX else 3) * length + 64
@@ -211,7 +242,7 @@ def _converted(library: _Library, given: Any, length: int, source: int, target: 
         output = ctypes.create_string_buffer(room)
         wanted = library.convert(source, target, given, length, output, room)
         if wanted < 0:
-            raise CborDiagError(Error(-wanted))
+            raise CborDiagError(Error(-wanted), offset=_place(library, given, length, source))
         if wanted <= room:
             return ctypes.string_at(output, wanted)
         room = wanted
@@ -224,7 +255,23 @@ def convert(source: Form, target: Form, data: Data) -> bytes:
     A `str` is taken as its UTF-8. An output in notation ends with a line feed. Raises `CborDiagError` if the input is
     not an item in its form, and `TypeError` if it has no bytes.
     """
-    return _on_bytes(data, _converted, _form_number(source), _form_number(target))
+    numbers = _form_number(source), _form_number(target)
+    try:
+        return _on_bytes(data, _converted, *numbers)
+    except CborDiagError as failure:
+        if isinstance(data, str) and failure.offset is not None:
+            before = data.encode("utf-8", "surrogatepass")[: failure.offset]
+            failure.offset = len(before.decode("utf-8", "ignore"))
+        raise
+
+
+def _beginning(found: int, end: int, before: int = 0) -> int:
+    """The length that the library found, or its error, with `before` bytes before those that it was given."""
+    if found >= 0:
+        return found
+    error = Error(-found)
+    last = end if error is Error.CUT_SHORT else end - 1
+    raise CborDiagError(error, before + end, before + last)
 
 
 def _found(library: _Library, given: Any, length: int, end: ctypes.c_size_t) -> int:
@@ -239,9 +286,103 @@ def extent(data: Data) -> int:
     """
     end = ctypes.c_size_t()
     found = _on_bytes(data, _found, end)
-    if found < 0:
-        raise CborDiagError(Error(-found), end.value)
-    return found
+    return _beginning(found, end.value)
+
+
+class Scanner:
+    """Reports how bytes begin that come in pieces, as `extent` does for all of them at once.
+
+    >>> scanner = Scanner()
+    >>> scanner.feed(b"\x82\x19\x03")
+    >>> scanner.feed(b"\xe8\x02\xff")
+    5
+
+    It looks at each byte once, and takes two kilobytes.
+    """
+
+    __slots__ = ("_end", "_room")
+
+    def __init__(self) -> None:
+        self._end = ctypes.c_size_t()
+        self._room = (ctypes.c_uint64 * 256)()
+        self._renew()
+
+    def _renew(self) -> None:
+        """Makes it a scanner that was fed no bytes."""
+        _holding.scanner_init(self._room)
+
+    def _feed(self, given: Any, length: int) -> int:
+        """Feeds bytes, and returns what the library does."""
+        return _holding.scanner_feed(self._room, given, length, self._end)
+
+    def feed(self, data: Data) -> Optional[int]:
+        """Feeds the bytes that come next, and returns how many bytes the item at the front of all of them takes; or
+        `None` if they end before the item does, so that more are needed.
+
+        Raises `CborDiagError` if no item begins with these bytes, whatever follows them. Its `end` and `offset` count
+        from the first byte that was fed. Once there is a length or an error, it stays.
+        """
+        found = _on_bytes(data, lambda _, given, length: self._feed(given, length))
+        if found == -Error.CUT_SHORT:
+            return None
+        return _beginning(found, self._end.value)
+
+
+def _reader(stream: BinaryIO) -> Callable[[], bytes]:
+    """A function that reads what has come of a stream: no bytes at its end."""
+    size = 65536
+    read = getattr(stream, "read1", None) or getattr(stream, "read", None)
+    if read is None:
+        buffer = bytearray(size)
+
+        def read(_: int) -> Any:
+            count = stream.readinto(buffer)
+            return None if count is None else buffer[:count]
+
+    def pieces() -> bytes:
+        piece = read(size)
+        if piece is None:
+            raise BlockingIOError("the stream has no bytes yet: items reads streams that wait for them")
+        if isinstance(piece, str):
+            raise TypeError("the stream has to be binary, and gave a str")
+        return bytes(piece)
+
+    return pieces
+
+
+def items(stream: BinaryIO) -> Iterator[bytes]:
+    """Yields the bytes of each item of a binary stream, as soon as it is complete: of a file, a pipe or the file of a
+    socket.
+
+    It calls `read1`, `read` or `readinto` of the stream, the first that it has, and looks at each byte once. It keeps
+    the bytes of one item, and of one read.
+
+    Raises `CborDiagError` after the last whole item if the stream goes on with bytes that are no item, or if it ends
+    inside of an item (`CUT_SHORT`). Its `end` and `offset` count from where the stream was.
+    """
+    read = _reader(stream)
+    scanner = Scanner()
+    before = 0  # the bytes of the items that are complete
+    begun: list[bytes] = []  # the pieces of the next one
+    held = 0  # and how many bytes these are
+    while piece := read():
+        start = ctypes.cast(piece, ctypes.c_void_p).value
+        at = 0
+        while at < len(piece):
+            found = scanner._feed(start + at, len(piece) - at)
+            if found == -Error.CUT_SHORT:
+                begun.append(piece[at:])
+                held += len(piece) - at
+                break
+            end = at + _beginning(found, scanner._end.value, before) - held
+            begun.append(piece[at:end])
+            yield b"".join(begun)
+            begun.clear()
+            before += found
+            held, at = 0, end
+            scanner._renew()
+    if held:
+        _beginning(-Error.CUT_SHORT, held, before)
 
 
 def bytes_to_hex(data: Data) -> str:

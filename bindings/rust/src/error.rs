@@ -1,5 +1,6 @@
 //! Errors.
 
+use crate::{library, Form};
 use std::fmt;
 
 /// Why a conversion failed. Its `Display` is the text of the library.
@@ -54,6 +55,34 @@ impl Error {
             .unwrap_or_else(|| unreachable!("the library answered {answer}"))
     }
 
+    /// Finds the place of this error in the input of a conversion that failed: how many bytes of the input come before
+    /// the fault.
+    ///
+    /// In bytes the fault is the byte that no item can have there, or the last byte of a text that is not UTF-8; the
+    /// end of bytes that are cut short; or the first byte after an item that is not the last. In hex it is the first
+    /// digit of that byte; or the digit that is wrong, which is the last of an odd number. In hex or notation that is
+    /// not UTF-8 it is the first byte that is not.
+    ///
+    /// Returns `None` if the input does not have this error, if memory runs out, and in notation, whose errors have no
+    /// place yet.
+    ///
+    /// ```rust
+    /// use semphluk::{convert, Form};
+    ///
+    /// let hex = b"82 01 # one\n1f # what?";
+    /// let error = convert(Form::Hex, Form::Diag, hex).unwrap_err();
+    /// assert_eq!(error.place(Form::Hex, hex), Some(12));
+    /// ```
+    pub fn place(self, from: Form, input: &[u8]) -> Option<usize> {
+        let mut place = 0;
+        // SAFETY: the pointers are those of the slice, with its length, and of the variable.
+        let answer = unsafe {
+            library::cbor_diag_fault(from.number(), input.as_ptr(), input.len(), &mut place)
+        };
+        let found = answer == -i64::from(self.number()) && place != usize::MAX;
+        found.then_some(place)
+    }
+
     /// Returns the number of the error, from 1 for `Memory` to 10 for `PastWidth`, in the order of the variants.
     pub fn number(self) -> u32 {
         self as u32 + 1
@@ -64,9 +93,8 @@ impl fmt::Display for Error {
     fn fmt(&self, f: &mut fmt::Formatter<'_>) -> fmt::Result {
         let mut text = [0; 64];
         // SAFETY: so many bytes stand at the pointer.
-        let length = unsafe {
-            crate::library::cbor_diag_error_text(self.number(), text.as_mut_ptr(), text.len())
-        };
+        let length =
+            unsafe { library::cbor_diag_error_text(self.number(), text.as_mut_ptr(), text.len()) };
         let written = &text[..length as usize];
         f.pad(std::str::from_utf8(written).expect("the text is ASCII"))
     }

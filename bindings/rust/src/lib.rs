@@ -2,8 +2,10 @@
 #![warn(missing_docs)]
 
 mod error;
+mod scanner;
 
 pub use error::{Error, Result};
+pub use scanner::Scanner;
 
 /// The form of an input or of an output.
 #[derive(Clone, Copy, PartialEq, Eq, Hash, Debug)]
@@ -30,6 +32,11 @@ impl Form {
 }
 
 mod library {
+    /// The memory of a scanner, in which only the library looks. It holds no pointers.
+    #[repr(C)]
+    #[derive(Clone)]
+    pub struct ScannerRoom(pub [u64; 256]);
+
     extern "C" {
         /// Returns the length of the whole output, of which as much is written as fits, or minus the number of an
         /// error. It reads no byte of the output.
@@ -44,6 +51,23 @@ mod library {
         /// Returns how many bytes the item takes, or minus the number of an error, and writes to `end` how many first
         /// bytes decide that.
         pub fn cbor_diag_extent(input: *const u8, input_len: usize, end: *mut usize) -> i64;
+        /// Returns minus the number of the error for which the input is no item, or 0, and writes to `place` how many
+        /// bytes come before the fault, or `usize::MAX`.
+        pub fn cbor_diag_fault(
+            from: u32,
+            input: *const u8,
+            input_len: usize,
+            place: *mut usize,
+        ) -> i64;
+        /// Makes a scanner of the memory.
+        pub fn cbor_diag_scanner_init(scanner: *mut ScannerRoom);
+        /// Does what `cbor_diag_extent` does for all bytes that the scanner was fed.
+        pub fn cbor_diag_scanner_feed(
+            scanner: *mut ScannerRoom,
+            input: *const u8,
+            input_len: usize,
+            end: *mut usize,
+        ) -> i64;
         pub fn cbor_diag_error_text(error: u32, output: *mut u8, output_len: usize) -> i64;
         pub fn cbor_diag_version() -> u32;
     }
@@ -55,7 +79,7 @@ fn likely_room(to: Form, input: &[u8]) -> usize {
     input.len().saturating_mul(factor).saturating_add(64)
 }
 
-/// Converts an item from one form to another.
+/// Converts an item from one form to another. [`Error::place`] finds the place of an error in the input.
 pub fn convert(from: Form, to: Form, input: &[u8]) -> Result<Vec<u8>> {
     let mut output = Vec::new();
     let mut room = likely_room(to, input);
@@ -114,16 +138,23 @@ pub enum Extent {
     },
 }
 
-/// Reports how bytes begin, without memory.
+impl Extent {
+    /// The beginning for an answer of the library, and for how many bytes decide it.
+    fn of(answer: i64, end: usize) -> Extent {
+        match usize::try_from(answer).map_err(|_| Error::of(answer)) {
+            Ok(length) => Extent::Item(length),
+            Err(Error::CutShort) => Extent::Cut,
+            Err(error) => Extent::Fault { error, end },
+        }
+    }
+}
+
+/// Reports how bytes begin, without memory. A [`Scanner`] does the same for bytes that come in pieces.
 pub fn extent(bytes: &[u8]) -> Extent {
     let mut end = 0;
     // SAFETY: the pointers are those of the slice, with its length, and of the variable.
     let answer = unsafe { library::cbor_diag_extent(bytes.as_ptr(), bytes.len(), &mut end) };
-    match usize::try_from(answer).map_err(|_| Error::of(answer)) {
-        Ok(length) => Extent::Item(length),
-        Err(Error::CutShort) => Extent::Cut,
-        Err(error) => Extent::Fault { error, end },
-    }
+    Extent::of(answer, end)
 }
 
 /// The dump of an item: its bytes in hex, a line for each head, with comments.

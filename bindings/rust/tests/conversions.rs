@@ -122,6 +122,32 @@ fn extents() {
 }
 
 #[test]
+fn places_of_errors() {
+    let rows: [(Form, &[u8], Error, Option<usize>); 14] = [
+        (Form::Bytes, b"", Error::CutShort, Some(0)),
+        (Form::Bytes, b"\x82\x01", Error::CutShort, Some(2)),
+        (Form::Bytes, b"\x82\x01\x1c\x00", Error::Head, Some(2)),
+        (Form::Bytes, b"\x81\x62\xff\x00\x00", Error::Utf8, Some(3)),
+        (Form::Bytes, b"\x81\x02\x03\x04", Error::Remaining, Some(2)),
+        (Form::Hex, b"82 01 # two", Error::CutShort, Some(11)),
+        (Form::Hex, b"82 01 # one\n 1c # 28", Error::Head, Some(13)),
+        (Form::Hex, b"82 01 0#\n2 03 04", Error::Remaining, Some(11)),
+        (Form::Hex, b"82 0g", Error::BadHex, Some(4)),
+        (Form::Hex, b"82 01 0 # half", Error::OddHex, Some(6)),
+        (Form::Hex, b"82 # \xff", Error::Utf8, Some(5)),
+        (Form::Pretty, b"[\"\xc3\xbc\", \xff]", Error::Utf8, Some(7)),
+        (Form::Diag, b"[1, 2.5]", Error::Notation, None),
+        (Form::Diag, b"300_0", Error::PastWidth, None),
+    ];
+    for (from, input, error, place) in rows {
+        assert_eq!(convert(from, Form::Bytes, input), Err(error), "{input:x?}");
+        assert_eq!(error.place(from, input), place, "{input:x?}");
+        assert_eq!(Error::Memory.place(from, input), None, "{input:x?}");
+    }
+    assert_eq!(Error::Head.place(Form::Bytes, b"\x01"), None);
+}
+
+#[test]
 fn texts_of_errors() {
     let rows = [
         (Error::Memory, "out of memory"),

@@ -43,3 +43,13 @@ IsTextOf n text =
     ((e : Error) × (n ≡ number_of e) × (text ≡ text_of e))
     ⊎ ((n ≡ no_form) × (text ≡ codes "no such form"))
     ⊎ (IsNoError n × (text ≡ codes "no such error"))
+
+-- this number was returned
+abbrev pub IsLength : ℕ → ℤ → Type 0
+IsLength k (pos n) = n ≡ k
+IsLength k (negsuc n) = ⊥
+
+-- minus this number was returned
+abbrev pub IsMinus : ℕ → ℤ → Type 0
+IsMinus k (pos n) = ⊥
+IsMinus k (negsuc n) = n + 1 ≡ k

@@ -1,10 +1,12 @@
 -- What is returned for how bytes begin.
-use Rattle.std.specs.Prelude.{◌≡◌, ◌⊎◌, ℕ, List, length}
+use Rattle.std.specs.Prelude.{◌≡◌, ◌⊎◌, ℕ, ℤ, List, length}
 use Rattle.cbor_diag.specs.declared.error.Error.{Error}
 use Rattle.cbor_diag.specs.declared.error.Error.TheVariants.{CutShort}
+use Rattle.cbor_diag.specs.declared.parse.binary.skip.answer.Extent.{Extent}
 use Rattle.cbor_diag.specs.declared.parse.binary.skip.answer.Extent.TheVariants.{Item, Cut, Fault}
 use Rattle.cbor_diag.specs.Extent.{IsExtent}
 use Rattle.cbor_diag.specs.Refusals.{number_of}
+use Rattle.cbor_diag_c.specs.Answers.{IsLength, IsMinus}
 
 -- an item of this length, which ends here
 abbrev pub IsItemOf : List ℕ → ℕ → ℕ → Type 0
@@ -15,3 +17,9 @@ abbrev pub IsCutOrFault : List ℕ → ℕ → ℕ → Type 0
 IsCutOrFault input n end =
     ((n ≡ number_of CutShort) × IsExtent input Cut × (end ≡ length input))
     ⊎ ((e : Error) × (n ≡ number_of e) × IsExtent input (Fault e end))
+
+-- what is returned for this beginning of so many bytes
+abbrev pub IsReturned : Extent → ℕ → ℤ → ℕ → Type 0
+IsReturned (Item n) len result end = IsLength n result × (end ≡ n)
+IsReturned Cut len result end = IsMinus (number_of CutShort) result × (end ≡ len)
+IsReturned (Fault e shown) len result end = IsMinus (number_of e) result × (end ≡ shown)

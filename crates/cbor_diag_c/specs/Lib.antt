@@ -1,3 +1,5 @@
 pub mod Forms
 pub mod Answers
 pub mod Beginnings
+pub mod Pieces
+pub mod Places

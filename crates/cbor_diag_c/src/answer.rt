@@ -1,7 +1,7 @@
 //! What a call returns to C, and what it writes for the caller.
 ghost use Rattle.std.specs.Prelude.{◌≡◌, pos, length};
 ghost use Rattle.cbor_diag.specs.Refusals.{number_of};
-ghost use Rattle.cbor_diag_c.specs.Answers.{IfLength, IfError, written};
+ghost use Rattle.cbor_diag_c.specs.Answers.{IsMinus, written};
 
 use cbor_diag::Error;
 
@@ -17,8 +17,7 @@ pub(crate) fn write(text: &[u8], output: &mut [u8]) -> i64
 
 /// Returns minus the number of an error.
 pub(crate) fn refused(error: Error) -> i64
-    ensures no_length { IfLength result (λ n. ⊥) }
-    ensures number { IfError result (λ n. n ≡ number_of error) }
+    ensures { IsMinus (number_of error) result }
 {
     -i64::from(error.number())
 }

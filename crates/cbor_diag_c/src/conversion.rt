@@ -8,10 +8,10 @@ use cbor_convert::{Source, To, convert};
 use std::alloc::Global;
 
 /// What is returned for the number of no form.
-const NO_FORM: i64 = -11;
+pub(crate) const NO_FORM: i64 = -11;
 
 /// Returns the form with this number.
-fn form(number: u32) -> Option<To>
+pub(crate) fn form(number: u32) -> Option<To>
     ensures named { IfSome result (λ form. number ≡ form_number form) }
     ensures none { result ≡ None → IsNoForm number }
 {
@@ -25,7 +25,7 @@ fn form(number: u32) -> Option<To>
 }
 
 /// Returns the form in which an input is read.
-fn read_as(form: To) -> Source
+pub(crate) fn read_as(form: To) -> Source
     ensures { result ≡ read_as form }
 {
     match form {

@@ -15,4 +15,6 @@ mod answer;
 mod conversion;
 mod error;
 mod extents;
+mod faults;
+mod scanner;
 mod version;

@@ -4,9 +4,9 @@
 
 use cbor_diag::{
     Error, Extent, Scanner, bytes_to_bytes, bytes_to_diag, bytes_to_diag_pretty, bytes_to_hex,
-    extent, hex_fault, hex_place, hex_to_bytes, hex_to_diag, hex_to_diag_pretty, hex_to_hex,
-    parse_bytes, parse_bytes_partial, parse_diag, parse_hex, push_bytes_to_diag_partial,
-    push_bytes_to_diag_pretty_partial, push_bytes_to_hex_partial,
+    extent, hex_bytes, hex_fault, hex_place, hex_to_bytes, hex_to_diag, hex_to_diag_pretty,
+    hex_to_hex, parse_bytes, parse_bytes_partial, parse_diag, parse_hex,
+    push_bytes_to_diag_partial, push_bytes_to_diag_pretty_partial, push_bytes_to_hex_partial,
 };
 use std::alloc::Global;
 use std::process::Abort;
@@ -161,6 +161,12 @@ fn of_pieces(rt: &impl Abort) {
     assert_eq!(rt; scanner.feed(b"\x00"), Extent::Item(5));
 }
 
+fn of_hex_digits(rt: &impl Abort, alloc: Global) -> Result<(), Fail> {
+    let bytes = hex_bytes(alloc, "82 01 # one of two")?;
+    assert_eq!(rt; bytes.as_slice(), b"\x82\x01".as_slice());
+    Ok(())
+}
+
 fn of_places_in_hex(rt: &impl Abort) {
     assert_eq!(rt; hex_fault("82 01 # one\n0x"), Some((Error::BadHex, 13)));
     assert_eq!(rt; hex_fault("82 01 0 # half"), Some((Error::OddHex, 6)));
@@ -194,6 +200,7 @@ fn examples_of_doc_comments(rt: HostRuntime) -> Result<(), Fail> {
     of_encodings(&rt, rt.alloc())?;
     of_extents(&rt);
     of_pieces(&rt);
+    of_hex_digits(&rt, rt.alloc())?;
     of_places_in_hex(&rt);
     Ok(())
 }

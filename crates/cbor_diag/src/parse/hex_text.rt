@@ -146,6 +146,29 @@ pub(crate) fn decode(alloc: Global, digits: Vec<u8>) -> crate::Result<Vec<u8>>
     }
 }
 
+/// Decodes hex with comments, by the rules of [`parse_hex`]: two digits, of either case, for each
+/// byte. The bytes may be no item, and [`extent`] reports how they begin.
+///
+/// Returns `OddHex` if the number of kept bytes is odd, and otherwise `BadHex` if one of them is
+/// not a hex digit. Returns `Memory` if an allocation fails.
+///
+/// ```rust
+/// use cbor_diag::hex_bytes;
+///
+/// let bytes = hex_bytes(alloc, "82 01 # one of two")?;
+/// assert_eq!(rt; bytes.as_slice(), b"\x82\x01".as_slice());
+/// ```
+///
+/// [`extent`]: crate::extent
+pub fn hex_bytes(alloc: Global, hex: &str) -> crate::Result<Vec<u8>>
+    ensures bytes { IfOk result (λ bytes. decode_of (uncommented hex.now) ≡ Ok bytes.items) }
+    ensures refused { RefusedSo result
+        (λ e. ((e ≡ Error.OddHex) ⊎ (e ≡ Error.BadHex)) × IsHexRefused hex.now e) }
+{
+    let digits = uncommented(alloc, hex)?;
+    decode(alloc, digits)
+}
+
 /// Reads one item from hex with comments: two digits, of either case, for each byte of the item.
 ///
 /// A line ends at a line feed, and one carriage return right before it belongs to the end. In each

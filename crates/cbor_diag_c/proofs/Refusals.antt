@@ -1,0 +1,34 @@
+-- An error of an input is one that refuses it.
+use Rattle.std.proofs.Common.{◌≡◌, ◌+◌, ◌-◌, ◌<◌, ◌≤◌, ℕ, List, take, Ok, subst, sym, arith}
+use Rattle.hex.specs.Hex.{decode_of}
+use Rattle.cbor_notes.specs.Columns.{uncommented}
+use Rattle.cbor_diag.specs.declared.error.Error.{Error}
+use Rattle.cbor_diag.specs.declared.error.Error.TheVariants as refusal
+use Rattle.cbor_diag.specs.Facts.{HasFault, IsCut, IsNoItem}
+use Rattle.cbor_diag.specs.Extent.{FaultEnds}
+use Rattle.cbor_diag.specs.HexText.{IsHexRefused}
+use Rattle.cbor_diag.proofs.bytes.Outcomes.{fault_refusal}
+
+pub refused : (b : List ℕ) (e : Error) → HasFault b e → IsNoItem b e
+refused b e h = fault_refusal 1 b e h
+
+-- the last of the bytes that have it is before none that does
+pub fault_place : (b : List ℕ) (e : Error) (end : ℕ) → FaultEnds b e end → ((n : ℕ) → n < end → IsCut (take n b))
+    → FaultEnds b e (end - 1 + 1) × ((n : ℕ) → n ≤ end - 1 → IsCut (take n b))
+fault_place b e end shown cuts =
+    let some : 1 ≤ end = shown.0 in
+    let same : end - 1 + 1 ≡ end = omega arith in
+    (subst (λ (k : ℕ). FaultEnds b e k) (sym same) shown, λ n low. cuts n (omega arith))
+
+pub hex_refused : (text b : List ℕ) (e : Error) → decode_of (uncommented text) ≡ Ok b → IsNoItem b e
+    → IsHexRefused text e
+hex_refused text b refusal.Memory d h = absurd h
+hex_refused text b refusal.CutShort d h = (b, d, h)
+hex_refused text b refusal.Head d h = (b, d, h)
+hex_refused text b refusal.Utf8 d h = (b, d, h)
+hex_refused text b refusal.TooDeep d h = (b, d, h)
+hex_refused text b refusal.Remaining d h = (b, d, h)
+hex_refused text b refusal.OddHex d h = absurd h
+hex_refused text b refusal.BadHex d h = absurd h
+hex_refused text b refusal.Notation d h = absurd h
+hex_refused text b refusal.PastWidth d h = absurd h

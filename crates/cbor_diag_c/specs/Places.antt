@@ -1,0 +1,61 @@
+-- Where an input is no item: how many of its bytes come before the fault.
+use Rattle.std.specs.Prelude.{◌≡◌, ◌⊎◌, ℕ, ◌+◌, ◌-◌, ◌*◌, ◌^◌, ◌<◌, ◌≤◌, List, length, take, Ok, IsUtf8}
+use Rattle.std.specs.Str.{IsValidUpTo}
+use Rattle.hex.specs.Hex.{decode_of}
+use Rattle.cbor_notes.specs.Columns.{uncommented}
+use Rattle.cbor_diag.specs.declared.error.Error.{Error}
+use Rattle.cbor_diag.specs.declared.error.Error.TheVariants as refusal
+use Rattle.cbor_diag.specs.Item.{Item}
+use Rattle.cbor_diag.specs.Facts.{BeginsWithItem, IsCut}
+use Rattle.cbor_diag.specs.Extent.{FaultEnds}
+use Rattle.cbor_diag.specs.HexText.{IsKeptByte, IsHexFault}
+use Rattle.cbor_diag.specs.Refusals.{number_of}
+use Rattle.cbor_convert.specs.declared.form.Source.{Source}
+use Rattle.cbor_convert.specs.declared.form.Source.TheVariants as source
+use Rattle.cbor_convert.specs.declared.form.To.{To}
+use Rattle.cbor_convert.specs.Output.{Reads, Refuses}
+use Rattle.cbor_diag_c.specs.Forms.{form_number, read_as, IsNoForm}
+use Rattle.cbor_diag_c.specs.Answers.{no_form}
+
+-- what is told where there is no place
+abbrev pub no_place : ℕ
+no_place = 2 ^ 64 - 1
+
+-- In bytes: their end where they are cut, the end of the item where more follow, and otherwise the last of the first
+-- bytes that have the error, of which fewer are cut.
+abbrev pub IsBytesPlace : List ℕ → Error → ℕ → Type 0
+IsBytesPlace b e place =
+    ((e ≡ refusal.CutShort) × IsCut b × (place ≡ length b))
+    ⊎ ((e ≡ refusal.Remaining) × (i : Item) × BeginsWithItem b i place × (place < length b))
+    ⊎ (FaultEnds b e (place + 1) × ((n : ℕ) → n ≤ place → IsCut (take n b)))
+
+-- the first digit of byte n in hex, or the end of the text if it has no such byte
+abbrev pub IsDigitsPlace : List ℕ → ℕ → ℕ → Type 0
+IsDigitsPlace text n place =
+    IsKeptByte text (2 * n) place ⊎ ((length (uncommented text) < 2 * n + 2) × (place ≡ length text))
+
+-- In hex: where the digits are wrong, or the digits of the place in their bytes.
+abbrev pub IsHexPlace : List ℕ → Error → ℕ → Type 0
+IsHexPlace text e place =
+    IsHexFault text e place
+    ⊎ ((bytes : List ℕ) × (n : ℕ) × (decode_of (uncommented text) ≡ Ok bytes)
+    × IsBytesPlace bytes e n × IsDigitsPlace text n place)
+
+-- In text: after the longest front that is UTF-8, or where the text is no item in its form; notation has no place yet.
+abbrev pub IsPlace : Source → List ℕ → Error → ℕ → Type 0
+IsPlace source.Bytes input e place = IsBytesPlace input e place
+IsPlace source.Hex input e place =
+    (¬ IsUtf8 input × IsValidUpTo input place) ⊎ (IsUtf8 input × IsHexPlace input e place)
+IsPlace source.Diag input e place =
+    (¬ IsUtf8 input × IsValidUpTo input place) ⊎ (IsUtf8 input × (place ≡ no_place))
+
+-- the input is an item in the form of this number
+abbrev pub IsItemIn : ℕ → List ℕ → Type 0
+IsItemIn from input = (f : To) × (i : Item) × (from ≡ form_number f) × Reads (read_as f) input i
+
+-- why it is none, by the error's number, and the place; out of memory aside
+abbrev pub IsFaultIn : ℕ → List ℕ → ℕ → ℕ → Type 0
+IsFaultIn from input n place =
+    ((f : To) × (e : Error) × (from ≡ form_number f) × (n ≡ number_of e)
+    × Refuses (read_as f) input e × IsPlace (read_as f) input e place)
+    ⊎ ((n ≡ no_form) × IsNoForm from)

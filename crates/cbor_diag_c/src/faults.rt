@@ -1,0 +1,140 @@
+//! The call that reports where an input is no item.
+ghost use Rattle.std.specs.Prelude.{◌≡◌, ◌≢◌, negsuc, None, IfSome, IfOk, IfErr};
+ghost use Rattle.cbor_diag.specs.Item.{Item};
+ghost use Rattle.cbor_diag.specs.Facts.{IsItem, IsNoItem};
+ghost use Rattle.cbor_diag.specs.HexText.{IsHexOf, IsHexRefused};
+ghost use Rattle.cbor_diag.specs.Notation.{IsNotation};
+ghost use Rattle.cbor_diag.specs.NotationRefused.{IsNoNotation};
+ghost use Rattle.cbor_convert.specs.Output.{Reads, Refuses};
+ghost use Rattle.cbor_diag_c.specs.Forms.{IsNoForm};
+ghost use Rattle.cbor_diag_c.specs.Answers.{IfLength, IfError};
+ghost use Rattle.cbor_diag_c.specs.Places.{no_place, IsBytesPlace, IsDigitsPlace, IsHexPlace};
+ghost use Rattle.cbor_diag_c.specs.Places.{IsPlace, IsItemIn, IsFaultIn};
+
+use crate::answer::refused;
+use crate::conversion::{NO_FORM, form, read_as};
+use cbor_convert::Source;
+use cbor_diag::{Error, Extent, extent, hex_bytes, hex_fault, hex_place, parse_diag};
+use std::alloc::Global;
+
+/// Why an input is no item, and how many of its bytes come before the fault; `None` if it is one.
+type Fault = Option<(Error, usize)>;
+
+/// The place where there is none.
+const NO_PLACE: usize = usize::MAX;
+
+/// The fault of bytes.
+#[tactic(auto, using(crate::proofs::Refusals::refused, crate::proofs::Refusals::fault_place))]
+fn in_bytes(bytes: &[u8]) -> Fault
+    ensures none { result ≡ None → (i : Item) × IsItem bytes.now i }
+    ensures refused { IfSome result (λ x. IsNoItem bytes.now x.0) }
+    ensures place { IfSome result (λ x. IsBytesPlace bytes.now x.0 x.1) }
+{
+    match extent(bytes) {
+        Extent::Item(length) => {
+            if length < bytes.len() {
+                return Some((Error::Remaining, length));
+            }
+            None
+        }
+        Extent::Cut => Some((Error::CutShort, bytes.len())),
+        Extent::Fault { error, end } => Some((error, end - 1)),
+    }
+}
+
+/// The place of the digits of byte `n`, or the end of the text.
+fn digits_place(text: &str, n: usize) -> usize
+    ensures { IsDigitsPlace text.now n result }
+{
+    match hex_place(text, n) {
+        Some(place) => place,
+        None => text.len(),
+    }
+}
+
+/// The fault of hex. The only error is `Memory`.
+#[tactic(auto, using(crate::proofs::Refusals::hex_refused))]
+fn in_hex(alloc: Global, text: &str) -> Result<Fault, Error>
+    ensures none { IfOk result (λ f. f ≡ None → (i : Item) × IsHexOf text.now i) }
+    ensures refused { IfOk result (λ f. IfSome f (λ x. IsHexRefused text.now x.0)) }
+    ensures place { IfOk result (λ f. IfSome f (λ x. IsHexPlace text.now x.0 x.1)) }
+    ensures memory { IfErr result (λ e. e ≡ Error.Memory) }
+{
+    if let Some(fault) = hex_fault(text) {
+        return Ok(Some(fault));
+    }
+    // The digits are right.
+    let Ok(bytes) = hex_bytes(alloc, text) else {
+        return Err(Error::Memory);
+    };
+    match in_bytes(&bytes) {
+        None => Ok(None),
+        Some((error, n)) => Ok(Some((error, digits_place(text, n)))),
+    }
+}
+
+/// The fault of notation, which has no place. The only error is `Memory`.
+fn in_diag(alloc: Global, text: &str) -> Result<Fault, Error>
+    ensures none { IfOk result (λ f. f ≡ None → (i : Item) × IsNotation text.now i) }
+    ensures refused { IfOk result (λ f. IfSome f (λ x. IsNoNotation text.now x.0)) }
+    ensures place { IfOk result (λ f. IfSome f (λ x. x.1 ≡ no_place)) }
+    ensures memory { IfErr result (λ e. e ≡ Error.Memory) }
+{
+    match parse_diag(alloc, text) {
+        Ok(_) => Ok(None),
+        Err(Error::Memory) => Err(Error::Memory),
+        Err(error) => Ok(Some((error, NO_PLACE))),
+    }
+}
+
+/// The fault of an input in this form. The only error is `Memory`.
+fn fault(alloc: Global, from: Source, input: &[u8]) -> Result<Fault, Error>
+    ensures none { IfOk result (λ f. f ≡ None → (i : Item) × Reads from input.now i) }
+    ensures refused { IfOk result (λ f. IfSome f (λ x. Refuses from input.now x.0)) }
+    ensures place { IfOk result (λ f. IfSome f (λ x. IsPlace from input.now x.0 x.1)) }
+    ensures memory { IfErr result (λ e. e ≡ Error.Memory) }
+{
+    match from {
+        Source::Bytes => Ok(in_bytes(input)),
+        Source::Hex => match str::from_utf8(input) {
+            Ok(text) => in_hex(alloc, text),
+            Err(error) => Ok(Some((Error::Utf8, error.valid_up_to()))),
+        },
+        Source::Diag => match str::from_utf8(input) {
+            Ok(text) => in_diag(alloc, text),
+            Err(error) => Ok(Some((Error::Utf8, error.valid_up_to()))),
+        },
+    }
+}
+
+/// Reports why and where an input is no item in this form.
+///
+/// Returns 0 if it is one, and otherwise minus the number of the error that `cbor_diag_convert` has
+/// for it. Sets `place` to how many bytes of the input come before the fault, and to 2^64 - 1 where
+/// there is no place: without an error, out of memory, for no form, and in notation.
+///
+/// In bytes it is the last of the first bytes that have the error, as `cbor_diag_extent` counts
+/// them; their end if they are cut; or the end of the item if more follow. In hex it is the first
+/// digit of that byte; or the digit that is wrong, which is the last one of an odd number. In a
+/// text that is not UTF-8 it is the end of the longest front that is.
+#[unsafe(no_mangle)]
+pub extern "C" fn cbor_diag_fault(alloc: Global, from: u32, input: &[u8], place: &mut usize) -> i64
+    ensures none { IfLength result (λ n. (n ≡ 0) × IsItemIn from input.now
+        × (place.new ≡ no_place)) }
+    ensures error { IfError result (λ n. n ≢ 1 → IsFaultIn from input.now n place.new) }
+    ensures no_place { IfError result (λ n. n ≡ 1 → place.new ≡ no_place) }
+    ensures unknown_form { IsNoForm from → result ≡ negsuc 10 }
+{
+    *place = NO_PLACE;
+    let Some(from) = form(from) else {
+        return NO_FORM;
+    };
+    match fault(alloc, read_as(from), input) {
+        Ok(None) => 0,
+        Ok(Some((error, at))) => {
+            *place = at;
+            refused(error)
+        }
+        Err(error) => refused(error),
+    }
+}
