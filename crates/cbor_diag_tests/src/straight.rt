@@ -182,7 +182,12 @@ fn lines_are_those_of_the_item(rt: HostRuntime) {
 
 /// Bytes that are not one item leave the text, and give the same errors for both texts.
 fn check_refused_lines(rt: &impl Abort, alloc: Global, digits: &str) {
-    check_same(rt, lines_appended(alloc, digits), appended(alloc, "", digits), digits);
+    check_same(
+        rt,
+        lines_appended(alloc, digits),
+        appended(alloc, "", digits),
+        digits,
+    );
     check_same(rt, lines_found(alloc, digits), found(alloc, digits), digits);
 }
 
