@@ -126,9 +126,11 @@ none_there level left b (stops.Fault e after) levels fits s =
     ∙ front_is (length shown) shown s.behind refl in
     let fits_shown : IsBytes shown = subst IsBytes front (IsBytes-take (length shown) b fits) in
     let faulty : Fault level shown e = fault_takes level left shown e levels fits_shown s.other
-    (rest_err (read_item left shown) e s.fails) in
-    (e, ap (read_item left) whole ∙ fault_refuses level left (shown ++ s.behind) e levels
-    (fault_append level shown s.behind e faulty))
+    (rest_err (read_item left shown) e s.fails) in (
+      e,
+      ap (read_item left) whole ∙ fault_refuses level left (shown ++ s.behind) e levels
+          (fault_append level shown s.behind e faulty),
+    )
 
 -- ---- the clauses
 

@@ -10,6 +10,7 @@
 //! one look reads 28 heads at most, however long or deep the container is.
 ghost use Rattle.std.specs.Prelude.{◌≡◌, ℕ, ◌+◌, ◌-◌, ◌<◌, ◌≤◌, List, length, Ok, Option, IfSome};
 ghost use Rattle.cbor_diag.specs.Argument.{indefinite};
+ghost use Rattle.cbor_diag.specs.Embedded.{sequence_at};
 ghost use Rattle.cbor_diag.specs.Estimate.{estimated_string, estimated_chunks};
 ghost use Rattle.cbor_diag.specs.Estimate.{estimated_items, estimated_pairs};
 ghost use Rattle.cbor_diag.specs.Item as spec;
@@ -18,6 +19,7 @@ ghost use Rattle.cbor_diag.specs.ItemHead as item_head;
 ghost use Rattle.cbor_diag.specs.Layout as shown;
 ghost use Rattle.cbor_diag.specs.NotationText.{container_style};
 ghost use Rattle.cbor_diag.specs.Reading.{read_content};
+ghost use Rattle.cbor_diag.specs.WellFormed.{deepest, levels_left};
 ghost use Rattle.cbor_diag.specs.declared.syntax.IntegerWidth.{IntegerWidth};
 ghost use Rattle.cbor_diag.specs.mirror.Ahead.{Leaves, Estimates, front_read, body_read};
 ghost use Rattle.cbor_diag.specs.mirror.HeadView.{argument_view};
@@ -26,7 +28,7 @@ ghost use Rattle.cbor_diag.specs.mirror.StringView.{kind_view};
 
 use super::context::{ContainerStyle, Layout};
 use super::estimate::{BUDGET, digit_count, float_len, left_after_content, pretty_style};
-use crate::parse::{Argument, ItemHead, read_chunk_length, read_head, split_at};
+use crate::parse::{Argument, ItemHead, after_front, read_chunk_length, read_head, split_at};
 use crate::syntax::strings::StringKind;
 
 /// What a look at bytes finds.
@@ -90,6 +92,24 @@ impl Layout {
         match self {
             Layout::Compact => ContainerStyle::Compact,
             Layout::Pretty { indent } => style_of(indent, chunks_ahead(kind, bytes, BUDGET)),
+        }
+    }
+
+    /// The style of a sequence of the items that can be read from `level` one after the other.
+    ///
+    /// Unlike the members of a container, these items count only if they can be read. So those that
+    /// are looked at are read to their end, 15 at most.
+    pub(super) fn sequence_style_ahead(self, level: u8, bytes: &[u8]) -> ContainerStyle
+        requires from { 1 ≤ level }
+        requires to { level ≤ deepest + 1 }
+        ensures { style_view result ≡ container_style (layout_view self)
+            (4 + estimated_items (sequence_at (levels_left level) bytes.now).0) }
+    {
+        match self {
+            Layout::Compact => ContainerStyle::Compact,
+            Layout::Pretty { indent } => {
+                pretty_style(indent, left_after_sequence(level, bytes, BUDGET))
+            }
         }
     }
 }
@@ -225,5 +245,27 @@ fn pairs_ahead(count: Argument, bytes: &[u8], budget: usize) -> Option<Ahead<'_>
         left = value.left.saturating_sub(2);
         rest = value.rest;
         held += 1;
+    }
+}
+
+/// What the items that can be read from `level` one after the other leave of the budget, two
+/// characters more for each.
+fn left_after_sequence(level: u8, bytes: &[u8], budget: usize) -> usize
+    requires from { 1 ≤ level }
+    requires to { level ≤ deepest + 1 }
+    ensures { result ≡ budget
+        - estimated_items (sequence_at (levels_left level) bytes.now).0 }
+{
+    let mut left = budget;
+    let mut rest = bytes;
+    'items: loop {
+        let Some(after) = after_front(rest, level) else {
+            return left;
+        };
+        let Some(item) = item_ahead(rest, left) else {
+            return 0;
+        };
+        left = item.left.saturating_sub(2);
+        rest = after;
     }
 }
