@@ -2,12 +2,12 @@
 //! `estimate.rt` makes from items, before they are read.
 //!
 //! Each function takes a budget of characters and returns what its part leaves of it, and the bytes
-//! after that part: `None` where the part takes all of the budget, or where nothing can be read,
-//! which the reader of these bytes finds out itself. Strings are skipped by their length, and texts
-//! aren't tested for UTF-8.
+//! after that part; or `None` where the part takes all of the budget, or where the bytes are cut or
+//! have a fault. Then it does not matter what is returned: the caller reads the same bytes next, and
+//! finds the error. Strings are skipped by their length, and texts aren't tested for UTF-8.
 //!
-//! Each head takes two characters of the budget or more, and nothing is read without a budget. So
-//! one look reads 28 heads at most, however long or deep the container is.
+//! Each head takes two characters of the budget or more. So one look reads fewer than 30 heads,
+//! however long or deep the container is.
 ghost use Rattle.std.specs.Prelude.{◌≡◌, ℕ, ◌+◌, ◌-◌, ◌<◌, ◌≤◌, List, length, Ok, Option, IfSome};
 ghost use Rattle.cbor_diag.specs.Argument.{indefinite};
 ghost use Rattle.cbor_diag.specs.Embedded.{sequence_at};
