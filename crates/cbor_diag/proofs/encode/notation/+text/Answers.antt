@@ -10,14 +10,14 @@ use Rattle.cbor_diag.specs.Layout.{Context}
 use Rattle.cbor_diag.specs.StringKind.{bytes_kind, text_kind}
 use Rattle.cbor_diag.specs.mirror.LayoutView.{style_view, context_view, item_text, content_there, chunks_there}
 use Rattle.cbor_diag.specs.NotationText.{text, inside, members, members_layout, colon, item_texts, pair_texts}
-use Rattle.cbor_diag.specs.NotationText.{rest_text, array_text, map_text, below, sequence_text, sequence_listed}
+use Rattle.cbor_diag.specs.NotationText.{array_text, map_text, below}
 use Rattle.cbor_diag.specs.NotationText.{text_at_level}
 use Rattle.cbor_diag.specs.WellFormed.{WellFormedItems, WellFormedPairs}
-use Rattle.cbor_diag.proofs.shared.Appending.{begins_still, begins_two, begins_after_member, appends_last}
+use Rattle.cbor_diag.proofs.shared.Appending.{begins_two, begins_after_member, appends_last}
 use Rattle.cbor_diag.proofs.shared.Views.{view-Integer, view-Negative, view-ByteString, view-TextString}
 use Rattle.cbor_diag.proofs.shared.Views.{view-IndefiniteByteString, view-IndefiniteTextString, view-Float, view-Simple}
 use Rattle.cbor_diag.proofs.text.Scalars.{members_left, drop_here, member_more, members_end}
-use Rattle.cbor_diag.proofs.text.Parts.{write_below, shown, bracketed_written, opened_again, tag_shown, sequence_shown}
+use Rattle.cbor_diag.proofs.text.Parts.{write_below, shown, bracketed_written, opened_again, tag_shown}
 use Rattle.cbor_diag.proofs.text.Parts.{items_rest, pairs_rest}
 use Rattle.cbor_diag.proofs.encode.notation.+text.Goals as goal
 
