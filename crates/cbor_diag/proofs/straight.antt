@@ -1,5 +1,6 @@
 pub mod Ahead
 pub mod StringsAhead
+pub mod SequencesAhead
 pub mod PublicCalls
 pub mod Readings
 pub mod Levels

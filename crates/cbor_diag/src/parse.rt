@@ -5,8 +5,8 @@ mod notation;
 mod turns;
 
 pub(crate) use binary::{
-    Argument, ItemHead, is_strict, next_chunk, no_level_left, read_borrowed, read_chunk_length,
-    read_front, read_head, read_whole, split_at,
+    Argument, ItemHead, after_front, is_strict, next_chunk, no_level_left, read_borrowed,
+    read_chunk_length, read_front, read_head, read_whole, split_at,
 };
 pub use binary::{Extent, Scanner, extent, parse_bytes, parse_bytes_counted, parse_bytes_partial};
 pub(crate) use hex_text::{decode, uncommented};

@@ -1,9 +1,11 @@
 -- The clauses of `extent`, from the result of skipping over an item.
-use Rattle.std.proofs.Common.{◌≡◌, ℕ, ◌-◌, ◌<◌, ◌≤◌, List, [], ◌∷◌, ◌++◌, length, take, drop, Ok, Err, ◌↔◌, refl, sym}
+use Rattle.std.proofs.Common.{◌≡◌, ℕ, ◌+◌, ◌-◌, ◌<◌, ◌≤◌, List, [], ◌∷◌, ◌++◌, length, take, drop, Ok, Err, ◌↔◌, refl, sym}
 use Rattle.std.proofs.Common.{ap, subst, ◌∙◌, append_assoc, arith}
 use Rattle.std.proofs.lemmas.List.{length-append, length-take, take_at, take-append-drop, take-append-le}
 use Rattle.cbor_diag.specs.declared.error.Error.{Error}
 use Rattle.cbor_diag.specs.declared.error.Error.TheVariants as refusal
+use Rattle.cbor_diag.specs.declared.parse.binary.skip.Stop.{Stop}
+use Rattle.cbor_diag.specs.declared.parse.binary.skip.Stop.TheVariants as stops
 use Rattle.cbor_diag.specs.declared.parse.binary.skip.answer.Extent.{Extent}
 use Rattle.cbor_diag.specs.declared.parse.binary.skip.answer.Extent.TheVariants as extent
 use Rattle.cbor_diag.specs.Item.{Item}
@@ -14,7 +16,7 @@ use Rattle.cbor_diag.specs.Answer.{Outcome, spelled, cut, fault, IsOutcome, OneO
 use Rattle.cbor_diag.specs.Facts.{BeginsWithItem, IsCut, HasFault}
 use Rattle.cbor_diag.specs.Reading.{Read, read_item}
 use Rattle.cbor_diag.specs.Extent.{IfItem, IfFault, FaultEnds, IsExtent}
-use Rattle.cbor_diag.specs.mirror.Skipping.{rest_of, here, Goes, Shows, skip_item}
+use Rattle.cbor_diag.specs.mirror.Skipping.{rest_of, here, Goes, Shows, StopsSo, skip_item}
 use Rattle.cbor_diag.proofs.bytes.Heads.{IsBytes, IsBytes-take}
 use Rattle.cbor_diag.proofs.bytes.FoundAgain.{spelled_begins, item_again}
 use Rattle.cbor_diag.proofs.bytes.CutShort.{cut_takes, cut_again, fault_no_cut}
@@ -106,6 +108,28 @@ fault_extent b e after fits s =
           let parts : s.before ≡ take n s.before ++ drop n s.before = sym (take-append-drop n s.before) in
           subst (Cut 1) (sym same) (cut_front (take n s.before) (drop n s.before) (IsBytes-take n s.before fits_before)
           (subst (Cut 1) parts cut_before)),
+    )
+
+-- ---- at any level
+
+pub item_there : (left : ℕ) (b rest : List ℕ) → Goes (skip_item left) here b rest
+    → (i : Item) × (read_item left b ≡ Ok (i, rest))
+item_there left b rest goes = rest_ok (read_item left b) rest (goes_at goes)
+
+pub none_there : (level left : ℕ) (b : List ℕ) (stop : Stop) → level + left ≡ 129 → IsBytes b
+    → StopsSo (skip_item left) b stop → (e : Error) × (read_item left b ≡ Err e)
+none_there level left b stops.Cut levels fits s = (refusal.CutShort, rest_err (read_item left b) refusal.CutShort s)
+none_there level left b (stops.Fault e after) levels fits s =
+    let shown : List ℕ = s.before ++ s.last ∷ [] in
+    let whole : b ≡ shown ++ s.behind = s.parts ∙ sym (append_assoc s.before (s.last ∷ []) s.behind) in
+    let front : take (length shown) b ≡ shown = ap (take (length shown)) whole
+    ∙ front_is (length shown) shown s.behind refl in
+    let fits_shown : IsBytes shown = subst IsBytes front (IsBytes-take (length shown) b fits) in
+    let faulty : Fault level shown e = fault_takes level left shown e levels fits_shown s.other
+    (rest_err (read_item left shown) e s.fails) in (
+      e,
+      ap (read_item left) whole ∙ fault_refuses level left (shown ++ s.behind) e levels
+          (fault_append level shown s.behind e faulty),
     )
 
 -- ---- the clauses

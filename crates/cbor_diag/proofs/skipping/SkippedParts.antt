@@ -1,8 +1,8 @@
 -- What is still to come in containers, one part after the other.
 use Rattle.std.proofs.Common.{◌≡◌, ℕ, zero, suc, ◌-◌, ◌<◌, List, [], ◌∷◌, ◌++◌, length, Some, None, Ok, Err, refl, sym}
 use Rattle.std.proofs.Common.{ap, subst, ◌∙◌, append_assoc, inl, inr, arith}
-use Rattle.std.specs.Prelude.{option_map}
-use Rattle.std.proofs.lemmas.List.{length-append}
+use Rattle.std.specs.Prelude.{option_map, replicate}
+use Rattle.std.proofs.lemmas.List.{length-append, length-replicate}
 use Rattle.cbor_diag.specs.declared.syntax.IntegerWidth.{IntegerWidth}
 use Rattle.cbor_diag.specs.declared.syntax.IntegerWidth.TheVariants.{Zero}
 use Rattle.cbor_diag.specs.declared.error.Error.{Error}
@@ -22,7 +22,7 @@ use Rattle.cbor_diag.specs.Reading.{tagged_with, opened, put, after_break, after
 use Rattle.cbor_diag.specs.Reading.{counted_item, one_less}
 use Rattle.cbor_diag.specs.mirror.Skipping.{Skip, rest_of, here, Goes, StopsSo, skip_content, skip_item, any_width}
 use Rattle.cbor_diag.specs.mirror.Skipping.{skip_body, some_item, emptied, frame_of, skip_frame, skip_parts, begun}
-use Rattle.cbor_diag.specs.mirror.Skipping.{closing, skip_open}
+use Rattle.cbor_diag.specs.mirror.Skipping.{closing, skip_open, ended}
 use Rattle.cbor_diag.proofs.bytes.Heads.{cons_is}
 use Rattle.cbor_diag.proofs.bytes.Steps.{parts_more, parts_end, item_shortens, open_or}
 use Rattle.cbor_diag.proofs.bytes.Frames.{end_ways, close_ended}
@@ -330,15 +330,33 @@ opens_goes outer top next t b rest none is lt goes =
     on_same (Ok c) = next_same (deepest - length outer) top next c is
     on_same (Err e) = refl
 
--- nothing is open, and one item is to come
+-- ---- one item is to come
+
+-- containers that end after an item change nothing
+around_ended : (n left : ℕ) (r : Skip) → closing left (replicate n ended) r ≡ r
+around_ended zero left r = refl
+around_ended (suc n) left r = ap (λ s. s >>= skip_parts left ended) (around_ended n (left - 1) r) ∙ ends r
+  where
+    ends : (s : Skip) → (s >>= skip_parts left ended) ≡ s
+    ends (Ok b) = frame_end left (items_in no_items (number 0 Zero)) b b refl
+    ends (Err e) = refl
+
+-- the first item inside so many that end after it
+pub item_goes : (n : ℕ) (b : List ℕ) (t : ToCome) → frame_of t ≡ emptied (tag_of 0 Zero)
+    → Goes (skip_item (deepest - n)) (skip_open (replicate n ended) t) b b
+item_goes n b t is = goes_here b (λ c. first (deepest - n) c ∙ frame_alike (deepest - n) (tag_of 0 Zero) (frame_of t) c
+    (sym (emptied_twice (tag_of 0 Zero)) ∙ ap emptied (sym is))
+    ∙ ap (λ m. skip_parts (deepest - m) t c) (sym (length-replicate n ended))
+    ∙ sym (around_ended n deepest (skip_parts (deepest - length (replicate n ended)) t c)))
+  where
+    first : (left : ℕ) (c : List ℕ) → skip_item left c ≡ skip_frame left (tag_of 0 Zero) c
+    first left c = sym (frame_next left (tag_of 0 Zero) c refl ∙ after (skip_item left c))
+      where
+        after : (r : Skip) → (r >>= skip_frame left (tagged_with 0 Zero some_item)) ≡ r
+        after (Ok c) = frame_end left (tagged_with 0 Zero some_item) c c refl
+        after (Err e) = refl
+
+-- nothing is open
 pub first_goes : (b : List ℕ) (t : ToCome) → frame_of t ≡ emptied (tag_of 0 Zero)
     → Goes (skip_item deepest) (skip_open [] t) b b
-first_goes b t is = goes_here b (λ c. first c ∙ frame_alike deepest (tag_of 0 Zero) (frame_of t) c
-    (sym (emptied_twice (tag_of 0 Zero)) ∙ ap emptied (sym is)))
-  where
-    first : (c : List ℕ) → skip_item deepest c ≡ skip_frame deepest (tag_of 0 Zero) c
-    first c = sym (frame_next deepest (tag_of 0 Zero) c refl ∙ after (skip_item deepest c))
-      where
-        after : (r : Skip) → (r >>= skip_frame deepest (tagged_with 0 Zero some_item)) ≡ r
-        after (Ok c) = frame_end deepest (tagged_with 0 Zero some_item) c c refl
-        after (Err e) = refl
+first_goes b t is = item_goes 0 b t is

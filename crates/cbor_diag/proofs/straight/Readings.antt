@@ -108,7 +108,7 @@ too_deep c b lt = let none : levels_left c.level ≡ 0 = omega arith in ap (λ n
 abbrev pub parts_read : ℕ → Frame → List ℕ → Read Item
 parts_read left f b = (read_parts (counted_item left) f b).1
 
-pub part_read : (left : ℕ) (f : Frame) (b rest : List ℕ) (i : Item) → after_end f b ≡ None → read_item left b ≡ Ok (i, rest)
+part_read : (left : ℕ) (f : Frame) (b rest : List ℕ) (i : Item) → after_end f b ≡ None → read_item left b ≡ Ok (i, rest)
     → parts_read left f b ≡ parts_read left (put f i) rest
 part_read left f b rest i none e =
     ap (λ (c : Counted Item). c.1) (parts_more (counted_item left) (item_shortens left) f b none)

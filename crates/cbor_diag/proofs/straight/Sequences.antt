@@ -1,30 +1,26 @@
 -- Printing items that are embedded in bytes one after the other from these bytes.
-use mathlib.Core.Bool.{beq}
-use Rattle.std.specs.Prelude.{nat_lt, if◌then◌else◌}
-use Rattle.std.proofs.Common.{◌≡◌, ◌≢◌, ℕ, zero, suc, ◌+◌, ◌≤◌, Bool, true, false, List, ◌++◌, length, codes, Some}
+use Rattle.std.proofs.Common.{◌≡◌, ◌≢◌, ℕ, zero, suc, ◌+◌, ◌≤◌, List, ◌++◌, length, codes}
 use Rattle.std.proofs.Common.{Result, Ok, Err, refl, sym, ap, ◌∙◌, append_assoc, arith}
 use Rattle.std.specs.Io.{StartsWith}
 use Rattle.cbor_diag.specs.declared.error.Error.{Error}
 use Rattle.cbor_diag.specs.declared.error.Error.TheVariants as refusal
 use Rattle.cbor_diag.specs.declared.encode.notation.context.NotationContext.{NotationContext}
-use Rattle.cbor_diag.specs.declared.syntax.IntegerWidth.{IntegerWidth}
-use Rattle.cbor_diag.specs.Argument.{number}
-use Rattle.cbor_diag.specs.ContainerStyle.{ContainerStyle, OneLine, MultiLine}
-use Rattle.cbor_diag.specs.Embedded.{before, and_then, sequence_of, sequence_at}
+use Rattle.cbor_diag.specs.ContainerStyle.{ContainerStyle}
+use Rattle.cbor_diag.specs.Embedded.{before, sequence_of, sequence_at}
 use Rattle.cbor_diag.specs.Estimate.{estimated_items}
-use Rattle.cbor_diag.specs.Item.{Item, array, Items, no_items, item, item_count}
-use Rattle.cbor_diag.specs.Layout.{Layout, Context}
+use Rattle.cbor_diag.specs.Item.{Item, Items, no_items, item}
+use Rattle.cbor_diag.specs.Layout.{Context}
 use Rattle.cbor_diag.specs.Layout as shown
-use Rattle.cbor_diag.specs.NotationText.{Writer, last_line, container_style, rest_text, sequence_listed, text_at_level}
-use Rattle.cbor_diag.specs.Reading.{Read, Fails, Frame, items_in, joined, read_item}
+use Rattle.cbor_diag.specs.NotationText.{Writer, members, members_layout, last_line, inside, item_texts}
+use Rattle.cbor_diag.specs.NotationText.{rest_text, sequence_listed, sequence_text, text_at_level}
+use Rattle.cbor_diag.specs.Reading.{Fails, joined, read_item}
 use Rattle.cbor_diag.specs.WellFormed.{levels_left}
 use Rattle.cbor_diag.specs.mirror.Appends.{Appends}
-use Rattle.cbor_diag.specs.mirror.LayoutView.{context_view, is_lines, items_there, content_there}
+use Rattle.cbor_diag.specs.mirror.LayoutView.{context_view, content_there, item_text}
 use Rattle.cbor_diag.proofs.bytes.FoundAgain.{joined-none, joined_one}
 use Rattle.cbor_diag.proofs.bytes.Shorter.{item_shorter}
 use Rattle.cbor_diag.proofs.shared.Appending.{begins_same, begins_still, begins_two, appends_last, begins_through}
-use Rattle.cbor_diag.proofs.straight.Readings.{parts_read, part_read, parts_ended}
-use Rattle.cbor_diag.proofs.straight.Texts.{style_there}
+use Rattle.cbor_diag.proofs.straight.Texts.{writes_inner, style_there}
 
 -- an error that is not memory is the one that reading gives
 fails_so : {X : Type 0} (e : Error) (read : Result X Error) → e ≢ refusal.Memory → Fails e read → read ≡ Err e
@@ -86,81 +82,27 @@ pub begun_member : (out started new between : List ℕ) → started ≡ out ++ b
 begun_member out started new between r h =
     begins_through out started new h (begins_still out out between started (begins_same out) r)
 
-pub sequence_printed : {T E : Type 0} (r : Result T E) (l : ContainerStyle) (c : NotationContext)
-    (b rest old out cut new : List ℕ) → let found = sequence_at (levels_left (c.level + 1)) b in
-    l ≡ style_there c (4 + estimated_items found.0) → found.1 ≡ rest → cut ≡ old
-    → out ≡ (cut ++ codes "<<") ++ items_there c l found.0
-    → Appends r out new (last_line l ++ (codes ">>" ++ rest_text (context_view c) rest))
+pub sequence_printed : {T E : Type 0} (r : Result T E) (l : ContainerStyle) (c inner : NotationContext) (is : Items)
+    (b rest old begun out cut new : List ℕ) → inner.level ≡ c.level + 1
+    → context_view inner ≡ inside (members_layout l) (context_view c) → l ≡ style_there c (4 + estimated_items is)
+    → (is, rest) ≡ sequence_at (levels_left (c.level + 1)) b → begun ≡ old ++ codes "<<"
+    → out ≡ begun ++ members l (item_texts (item_text inner) is) → cut ≡ out
+    → Appends r cut new (last_line l ++ (codes ">>" ++ rest_text (context_view c) rest))
     → Appends r old new (content_there c shown.Sequence b)
-sequence_printed r l c b rest old out cut new same whole back q h =
+sequence_printed r l c inner is b rest old begun out cut new deeper inside_it same whole p q back h =
     let write : Writer = text_at_level (c.level + 1) in
     let context : Context = context_view c in
-    let found : Items × List ℕ = sequence_at (levels_left (c.level + 1)) b in
-    let ms : List ℕ = items_there c l found.0 in
+    let ms : List ℕ = members l (item_texts (item_text inner) is) in
     let after : List ℕ = rest_text context rest in
     let regroup : ((old ++ codes "<<") ++ ms) ++ (last_line l ++ (codes ">>" ++ after))
     ≡ old ++ ((codes "<<" ++ (ms ++ (last_line l ++ codes ">>"))) ++ after) = simp append_assoc in
-    let so_far : out ≡ (old ++ codes "<<") ++ ms = q ∙ ap (λ x. (x ++ codes "<<") ++ ms) back in
-    appends_last r old out new (last_line l ++ (codes ">>" ++ after)) (content_there c shown.Sequence b)
-    (begins_two old (old ++ codes "<<") (codes "<<") ms out refl so_far)
+    let so_far : cut ≡ (old ++ codes "<<") ++ ms = back ∙ q ∙ ap (λ x. x ++ ms) p in
+    appends_last r old cut new (last_line l ++ (codes ">>" ++ after)) (content_there c shown.Sequence b)
+    (begins_two old (old ++ codes "<<") (codes "<<") ms cut refl so_far)
     (λ e. e ∙ ap (λ x. x ++ (last_line l ++ (codes ">>" ++ after))) so_far ∙ regroup
-    ∙ ap (λ r. old ++ sequence_listed write context l (found.0, r)) (sym whole)
-    ∙ ap (λ k. old ++ sequence_listed write context k found) same)
+    ∙ ap
+    (λ f. old ++ ((codes "<<" ++ (members l (item_texts f is) ++ (last_line l ++ codes ">>"))) ++ after))
+    (writes_inner inner (c.level + 1) (inside (members_layout l) context) deeper inside_it)
+    ∙ ap (λ k. old ++ sequence_listed write context k (is, rest)) same
+    ∙ ap (λ s. old ++ sequence_text write context s) whole)
     h
-
--- ---- the style of a sequence
-
--- the items of a sequence are an array of so many, before the same rest
-array_step : (left n : ℕ) (w : IntegerWidth) (held : Items) (b : List ℕ)
-    → ((js : Items) (r : List ℕ) → let found = sequence_of (read_item left) n r in
-    parts_read left (items_in js (number (item_count found.0) w)) r ≡ Ok (array (joined js found.0) (Some w), found.1))
-    → (read : Read Item) → read_item left b ≡ read
-    → let found = and_then (sequence_of (read_item left) n) b read in
-    parts_read left (items_in held (number (item_count found.0) w)) b ≡ Ok (array (joined held found.0) (Some w), found.1)
-array_step left n w held b others (Ok x) e =
-    let found : Items × List ℕ = sequence_of (read_item left) n x.1 in
-    let f : Frame = items_in held (number (suc (item_count found.0)) w) in
-    part_read left f b x.1 x.0 refl e ∙ others (joined held (item x.0 no_items)) x.1
-    ∙ ap (λ is. Ok (array is (Some w), found.1)) (joined_one held x.0 found.0)
-array_step left n w held b others (Err error) e =
-    parts_ended left (items_in held (number 0 w)) b b (array held (Some w)) refl refl
-    ∙ ap (λ is. Ok (array is (Some w), b)) (sym (joined-none held))
-
-array_from : (left n : ℕ) (w : IntegerWidth) (held : Items) (b : List ℕ)
-    → let found = sequence_of (read_item left) n b in
-    parts_read left (items_in held (number (item_count found.0) w)) b ≡ Ok (array (joined held found.0) (Some w), found.1)
-unfolding sequence_of
-array_from left zero w held b = parts_ended left (items_in held (number 0 w)) b b (array held (Some w)) refl refl
-    ∙ ap (λ is. Ok (array is (Some w), b)) (sym (joined-none held))
-array_from left (suc n) w held b = array_step left n w held b (array_from left n w) (read_item left b) refl
-
-pub sequence_array : (left : ℕ) (w : IntegerWidth) (b : List ℕ) (count : ℕ)
-    → item_count (sequence_at left b).0 ≡ count
-    → parts_read left (items_in no_items (number count w)) b
-    ≡ Ok (array (sequence_at left b).0 (Some w), (sequence_at left b).1)
-sequence_array left w b count is = ap (λ n. parts_read left (items_in no_items (number n w)) b) (sym is)
-    ∙ array_from left (length b) w no_items b
-
--- what an equality test of two answers says
-pub both_same : (a b : Bool) → beq a b ≡ true → b ≡ a
-both_same true true e = refl
-both_same false false e = refl
-both_same true false e = absurd cc
-both_same false true e = absurd cc
-
--- the style of a container with blanks
-abbrev chosen : ℕ → Bool → ContainerStyle
-chosen indent short = if short then OneLine indent else MultiLine indent
-
-pretty_same : (indent : ℕ) (a b : Bool) → is_lines (chosen indent a) ≡ is_lines (chosen indent b)
-    → chosen indent a ≡ chosen indent b
-pretty_same indent true true e = refl
-pretty_same indent false false e = refl
-pretty_same indent true false e = absurd cc
-pretty_same indent false true e = absurd cc
-
--- two styles in a layout are one where both have lines, or neither
-pub same_style : (layout : Layout) (m n : ℕ) → is_lines (container_style layout m) ≡ is_lines (container_style layout n)
-    → container_style layout m ≡ container_style layout n
-same_style shown.Compact m n h = refl
-same_style (shown.Pretty indent) m n h = pretty_same indent (nat_lt m 60) (nat_lt n 60) h

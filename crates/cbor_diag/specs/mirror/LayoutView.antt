@@ -1,5 +1,5 @@
 -- The layout, the style and the context that the printer's own types are, as the definitions have them.
-use Rattle.std.specs.Prelude.{ℕ, ◌+◌, ◌*◌, ◌≤◌, List, [], codes, Bool, true, false, if◌then◌else◌}
+use Rattle.std.specs.Prelude.{ℕ, ◌+◌, ◌*◌, ◌≤◌, List, [], codes, Bool, if◌then◌else◌}
 use Rattle.cbor_diag.specs.declared.encode.notation.context.Content as declared_content
 use Rattle.cbor_diag.specs.declared.encode.notation.context.Content.TheVariants as code_content
 use Rattle.cbor_diag.specs.declared.encode.notation.context.Layout as declared_layout
@@ -38,11 +38,6 @@ context_view c = record {
   encoding = encoding_view c.encoding;
   content = content_view c.content;
 }
-
--- each member is on a line of its own
-abbrev pub is_lines : style.ContainerStyle → Bool
-is_lines (style.MultiLine indent) = true
-is_lines _ = false
 
 -- each level is indented by four blanks at most
 abbrev pub IsIndented : NotationContext → Type 0

@@ -5,8 +5,7 @@ use Rattle.cbor_diag.specs.declared.encode.notation.context.NotationContext.{Not
 use Rattle.cbor_diag.specs.declared.syntax.strings.StringContent.{StringContent}
 use Rattle.cbor_diag.specs.declared.syntax.strings.StringContent.TheVariants as content
 use Rattle.cbor_diag.specs.Encoding.{Base16}
-use Rattle.cbor_diag.specs.Embedded.{sequence_at}
-use Rattle.cbor_diag.specs.Item.{Item, item_count}
+use Rattle.cbor_diag.specs.Item.{Item}
 use Rattle.cbor_diag.specs.ItemHead.{ItemHead}
 use Rattle.cbor_diag.specs.ContainerStyle.{ContainerStyle}
 use Rattle.cbor_diag.specs.NotationText.{text, in_encoding, last_line, text_at_level}
@@ -14,7 +13,7 @@ use Rattle.cbor_diag.specs.NotationText as shown
 use Rattle.cbor_diag.specs.StringKind.{StringKind, no_chunks}
 use Rattle.cbor_diag.specs.Reading.{Read, opened, read_body, counted_item, read_item}
 use Rattle.cbor_diag.specs.WellFormed.{levels_left}
-use Rattle.cbor_diag.specs.mirror.LayoutView.{layout_view, context_view, content_there, items_there, before_member}
+use Rattle.cbor_diag.specs.mirror.LayoutView.{layout_view, context_view, content_there, before_member}
 
 -- Reading gives an item before the rest, and its text is written after the old one.
 abbrev pub Printed : (Item → List ℕ) → Read Item → List ℕ → List ℕ → List ℕ → Type 0
@@ -36,13 +35,6 @@ text_in layout i = text_at_level 1 (in_encoding (layout_view layout) Base16) i
 abbrev pub string_there : NotationContext → StringContent → List ℕ
 string_there c (content.Bytes bytes) = content_there c (context_view c).content bytes.now
 string_there c (content.Text t) = text t.now
-
--- So many items can be read from the bytes one after the other, and this is the rest; they are written in this style
--- after the opening brackets.
-abbrev pub WritesSequence : NotationContext → ContainerStyle → List ℕ → ℕ → List ℕ → List ℕ → List ℕ → Type 0
-WritesSequence c l b count rest old new =
-    let found = sequence_at (levels_left (c.level + 1)) b in
-    (item_count found.0 ≡ count) × (found.1 ≡ rest) × (new ≡ (old ++ codes "<<") ++ items_there c l found.0)
 
 -- what is written before a chunk after so many others, and after the last
 abbrev pub before_chunk : ContainerStyle → ℕ → List ℕ

@@ -39,6 +39,7 @@ pub(crate) use argument::Argument;
 pub(crate) use borrowed::{next_chunk, read_borrowed};
 use frame::Frame;
 pub(crate) use head::{ItemHead, read_head};
+pub(crate) use skip::after_front;
 pub use skip::{Extent, Scanner, extent};
 use stack::Stack;
 use std::alloc::Global;

@@ -2,14 +2,15 @@
 //! `estimate.rt` makes from items, before they are read.
 //!
 //! Each function takes a budget of characters and returns what its part leaves of it, and the bytes
-//! after that part: `None` where the part takes all of the budget, or where nothing can be read,
-//! which the reader of these bytes finds out itself. Strings are skipped by their length, and texts
-//! aren't tested for UTF-8.
+//! after that part; or `None` where the part takes all of the budget, or where the bytes are cut or
+//! have a fault. Then it does not matter what is returned: the caller reads the same bytes next, and
+//! finds the error. Strings are skipped by their length, and texts aren't tested for UTF-8.
 //!
-//! Each head takes two characters of the budget or more, and nothing is read without a budget. So
-//! one look reads 28 heads at most, however long or deep the container is.
-ghost use Rattle.std.specs.Prelude.{◌≡◌, ℕ, ◌+◌, ◌-◌, ◌*◌, ◌<◌, ◌≤◌, List, length, Ok, Option, IfSome};
+//! Each head takes two characters of the budget or more. So one look reads fewer than 30 heads,
+//! however long or deep the container is.
+ghost use Rattle.std.specs.Prelude.{◌≡◌, ℕ, ◌+◌, ◌-◌, ◌<◌, ◌≤◌, List, length, Ok, Option, IfSome};
 ghost use Rattle.cbor_diag.specs.Argument.{indefinite};
+ghost use Rattle.cbor_diag.specs.Embedded.{sequence_at};
 ghost use Rattle.cbor_diag.specs.Estimate.{estimated_string, estimated_chunks};
 ghost use Rattle.cbor_diag.specs.Estimate.{estimated_items, estimated_pairs};
 ghost use Rattle.cbor_diag.specs.Item as spec;
@@ -18,6 +19,7 @@ ghost use Rattle.cbor_diag.specs.ItemHead as item_head;
 ghost use Rattle.cbor_diag.specs.Layout as shown;
 ghost use Rattle.cbor_diag.specs.NotationText.{container_style, indent_of, style_indent};
 ghost use Rattle.cbor_diag.specs.Reading.{read_content};
+ghost use Rattle.cbor_diag.specs.WellFormed.{deepest, levels_left};
 ghost use Rattle.cbor_diag.specs.declared.syntax.IntegerWidth.{IntegerWidth};
 ghost use Rattle.cbor_diag.specs.mirror.Ahead.{Leaves, Estimates, front_read, body_read};
 ghost use Rattle.cbor_diag.specs.mirror.HeadView.{argument_view};
@@ -26,7 +28,7 @@ ghost use Rattle.cbor_diag.specs.mirror.StringView.{kind_view};
 
 use super::context::{ContainerStyle, Layout};
 use super::estimate::{BUDGET, digit_count, float_len, left_after_content, pretty_style};
-use crate::parse::{Argument, ItemHead, read_chunk_length, read_head, split_at};
+use crate::parse::{Argument, ItemHead, after_front, read_chunk_length, read_head, split_at};
 use crate::syntax::strings::StringKind;
 
 /// What a look at bytes finds.
@@ -96,17 +98,21 @@ impl Layout {
         }
     }
 
-    /// A style that is likely for items that follow each other in the bytes: that of an array with a
-    /// byte string of this length.
-    pub(super) fn likely_style(self, bytes: &[u8]) -> ContainerStyle
-        ensures { style_view result
-            ≡ container_style (layout_view self) (4 + 2 * length bytes.now) }
+    /// The style of a sequence of the items that can be read from `level` one after the other.
+    ///
+    /// Unlike the members of a container, these items count only if they can be read. So those that
+    /// are looked at are read to their end, 15 at most.
+    pub(super) fn sequence_style_ahead(self, level: u8, bytes: &[u8]) -> ContainerStyle
+        requires from { 1 ≤ level }
+        requires to { level ≤ deepest + 1 }
+        ensures style { style_view result ≡ container_style (layout_view self)
+            (4 + estimated_items (sequence_at (levels_left level) bytes.now).0) }
+        ensures indent { style_indent (style_view result) ≡ indent_of (layout_view self) }
     {
         match self {
             Layout::Compact => ContainerStyle::Compact,
             Layout::Pretty { indent } => {
-                let left = BUDGET.saturating_sub(bytes.len());
-                pretty_style(indent, left.saturating_sub(bytes.len()))
+                pretty_style(indent, left_after_sequence(level, bytes, BUDGET))
             }
         }
     }
@@ -244,5 +250,27 @@ fn pairs_ahead(count: Argument, bytes: &[u8], budget: usize) -> Option<Ahead<'_>
         left = value.left.saturating_sub(2);
         rest = value.rest;
         held += 1;
+    }
+}
+
+/// What the items that can be read from `level` one after the other leave of the budget, two
+/// characters more for each.
+fn left_after_sequence(level: u8, bytes: &[u8], budget: usize) -> usize
+    requires from { 1 ≤ level }
+    requires to { level ≤ deepest + 1 }
+    ensures { result ≡ budget
+        - estimated_items (sequence_at (levels_left level) bytes.now).0 }
+{
+    let mut left = budget;
+    let mut rest = bytes;
+    'items: loop {
+        let Some(after) = after_front(rest, level) else {
+            return left;
+        };
+        let Some(item) = item_ahead(rest, left) else {
+            return 0;
+        };
+        left = item.left.saturating_sub(2);
+        rest = after;
     }
 }

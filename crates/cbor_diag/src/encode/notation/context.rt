@@ -2,7 +2,7 @@
 ghost use Rattle.std.specs.Prelude.{◌≡◌, ◌+◌, ◌<◌, ◌≤◌, ◌^◌};
 ghost use Rattle.cbor_diag.specs.Encoding.{Base16};
 ghost use Rattle.cbor_diag.specs.WellFormed.{deepest};
-ghost use Rattle.cbor_diag.specs.mirror.LayoutView.{layout_view, style_view, context_view, is_lines};
+ghost use Rattle.cbor_diag.specs.mirror.LayoutView.{layout_view, style_view, context_view};
 ghost use Rattle.cbor_diag.specs.NotationText.{in_encoding, below, inside, members_layout};
 ghost use Rattle.cbor_diag.specs.NotationText.{style_indent};
 
@@ -51,13 +51,6 @@ pub(crate) enum ContainerStyle {
 }
 
 impl ContainerStyle {
-    /// Whether each member has a line of its own.
-    pub(crate) fn is_lines(self) -> bool
-        ensures { result ≡ is_lines (style_view self) }
-    {
-        matches!(self, ContainerStyle::MultiLine { .. })
-    }
-
     /// The layout of the members. The indent has room for four more.
     pub(crate) fn members_layout(self) -> Layout
         requires { style_indent (style_view self) < 2 ^ 32 }

@@ -18,7 +18,7 @@ ghost use Rattle.cbor_diag.specs.mirror.Appends.{AppendsText};
 ghost use Rattle.cbor_diag.specs.mirror.HeadView.{argument_view};
 ghost use Rattle.cbor_diag.specs.mirror.LayoutView.{context_view, style_view, item_text};
 ghost use Rattle.cbor_diag.specs.mirror.LayoutView.{IsIndented, content_there};
-ghost use Rattle.cbor_diag.specs.mirror.Straight.{WritesSequence, Printed, read_there, read_after};
+ghost use Rattle.cbor_diag.specs.mirror.Straight.{Printed, read_there, read_after};
 ghost use Rattle.cbor_diag.specs.mirror.Straight.{string_there, before_chunk, after_chunks};
 ghost use Rattle.cbor_diag.specs.mirror.StringView.{kind_view};
 ghost use Rattle.cbor_diag.specs.Argument.{indefinite};
@@ -277,10 +277,6 @@ fn push_embedded(
 }
 
 /// Writes as many items as can be read one after the other, and the rest as bytes.
-///
-/// Their style depends on how many they are, and that is known once they are written. So they are
-/// written in a likely style, and again where they have another. A wrong style is likely only for few
-/// bytes, and one in the other only a few times.
 #[cycle(straight)]
 #[inline(never)]
 fn push_sequence(
@@ -293,38 +289,13 @@ fn push_sequence(
     ensures { AppendsText result out.old out.new
         (content_there context.now shown.Sequence bytes.now) }
 {
-    let start = out.len();
-    let likely = context.layout.likely_style(bytes);
-    let (count, rest) = push_members(out, bytes, likely, context)?;
-    let count = Argument::Number(count, IntegerWidth::Unknown);
-    let style = context.layout.array_style_ahead(count, bytes);
-    if style.is_lines() == likely.is_lines() {
-        return push_sequence_end(out, rest, likely, context);
-    }
-    out.truncate(start);
-    let (_, rest) = push_members(out, bytes, style, context)?;
-    push_sequence_end(out, rest, style, context)
-}
-
-/// Writes the opening brackets of a sequence, and as many items as can be read one after the other.
-/// Returns how many they are, and the rest of the bytes.
-#[cycle(straight)]
-fn push_members<'a>(
-    out: &mut String,
-    bytes: &'a [u8],
-    style: ContainerStyle,
-    context: &NotationContext,
-) -> Result<(u64, &'a [u8]), AllocError>
-    requires level { context.now.level ≤ deepest }
-    requires indent { style_indent (style_view style) ≤ 4 * context.now.level }
-    ensures written { IfOk result (λ x. WritesSequence context.now (style_view style) bytes.now x.0
-        x.1.now (string_bytes out.old) (string_bytes out.new)) }
-    ensures begun { OnErr result (StartsWith (string_bytes out.new) (string_bytes out.old)) }
-{
+    let style = context
+        .layout
+        .sequence_style_ahead(context.level + 1, bytes);
     let inner = context.inside(style.members_layout());
     out.push_str("<<")?;
     let mut rest = bytes;
-    let mut held = 0;
+    let mut held: usize = 0;
     'items: loop {
         let start = out.len();
         push_start(out, style, held == 0)?;
@@ -338,7 +309,7 @@ fn push_members<'a>(
                 Error::Memory => return Err(AllocError),
                 _ => {
                     out.truncate(start);
-                    return Ok((held, rest));
+                    return push_sequence_end(out, rest, style, context);
                 }
             },
         }

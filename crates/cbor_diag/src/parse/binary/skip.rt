@@ -14,15 +14,15 @@ mod scanner;
 mod to_come;
 
 ghost use Rattle.std.specs.Prelude.{◌≡◌, ◌≢◌, ℕ, ◌+◌, ◌-◌, ◌<◌, ◌≤◌, List, ◌++◌, length, take, ◌↔◌};
-ghost use Rattle.std.specs.Prelude.{IsTrue, IsSome, None, IfOk, IfErr};
+ghost use Rattle.std.specs.Prelude.{IsTrue, IsSome, None, IfOk, IfErr, IfSome, IfNone, Ok, Err};
 ghost use Rattle.cbor_diag.specs.declared.error.Error.{Error};
 ghost use Rattle.cbor_diag.specs.declared.syntax.IntegerWidth.{IntegerWidth};
 ghost use Rattle.cbor_diag.specs.Item.{Item};
-ghost use Rattle.cbor_diag.specs.WellFormed.{deepest};
+ghost use Rattle.cbor_diag.specs.WellFormed.{deepest, levels_left};
 ghost use Rattle.cbor_diag.specs.Facts.{BeginsWithItem, IsCut, HasFault};
 ghost use Rattle.cbor_diag.specs.Extent.{IfItem, IfFault, FaultEnds, IsExtent};
 ghost use Rattle.cbor_diag.specs.mirror.HeadErrors.{head_error};
-ghost use Rattle.cbor_diag.specs.Reading.{opened};
+ghost use Rattle.cbor_diag.specs.Reading.{opened, read_item};
 ghost use Rattle.cbor_diag.specs.ItemHead.{string};
 ghost use Rattle.cbor_diag.specs.mirror.HeadView.{argument_view, head_view};
 ghost use Rattle.cbor_diag.specs.mirror.StringView.{kind_view};
@@ -224,13 +224,16 @@ fn read_part(bytes: &[u8], levels: usize) -> Result<(Option<ToCome>, &[u8]), Sto
     Ok((None, rest))
 }
 
-/// The bytes after the item at the front.
-fn after_item(bytes: &[u8]) -> Result<&[u8], Stop>
-    ensures goes { IfOk result (λ rest. Goes (skip_item deepest) here bytes.now rest.now) }
-    ensures stops { IfErr result (λ stop. StopsSo (skip_item deepest) bytes.now stop) }
+/// The bytes after the item at the front, read from `level`.
+fn after_item(bytes: &[u8], level: u8) -> Result<&[u8], Stop>
+    requires from { 1 ≤ level }
+    requires to { level ≤ deepest + 1 }
+    ensures goes { IfOk result (λ rest.
+        Goes (skip_item (levels_left level)) here bytes.now rest.now) }
+    ensures stops { IfErr result (λ stop. StopsSo (skip_item (levels_left level)) bytes.now stop) }
 {
-    let mut outer = Outer::new();
-    // Nothing is open yet, and one item is to come.
+    let mut outer = Outer::around(level);
+    // One item is to come.
     let mut top = ToCome::one();
     let mut rest = bytes;
     'turns: loop {
@@ -252,11 +255,26 @@ fn after_item(bytes: &[u8]) -> Result<&[u8], Stop>
     }
 }
 
+/// The bytes after the item at the front, read from `level`; `None` where none is read.
+pub(crate) fn after_front(bytes: &[u8], level: u8) -> Option<&[u8]>
+    requires from { 1 ≤ level }
+    requires to { level ≤ deepest + 1 }
+    ensures some { IfSome result (λ rest. (i : Item)
+        × (read_item (levels_left level) bytes.now ≡ Ok (i, rest.now))) }
+    ensures none { IfNone result ((e : Error)
+        × (read_item (levels_left level) bytes.now ≡ Err e)) }
+{
+    match after_item(bytes, level) {
+        Ok(rest) => Some(rest),
+        Err(_) => None,
+    }
+}
+
 /// How the bytes begin.
 fn begins(bytes: &[u8]) -> Extent
     ensures { IsExtent bytes.now result }
 {
-    match after_item(bytes) {
+    match after_item(bytes, 1) {
         Ok(rest) => Extent::Item(bytes.len() - rest.len()),
         Err(Stop::Cut) => Extent::Cut,
         Err(Stop::Fault { error, after }) => {

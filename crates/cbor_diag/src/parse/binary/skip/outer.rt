@@ -1,6 +1,8 @@
 //! The open containers around the innermost one, on a stack of fixed size.
-ghost use Rattle.std.specs.Prelude.{◌≡◌, ◌<◌, ◌≤◌, [], ◌∷◌, ◌++◌, length, IfSome, Some, None};
+ghost use Rattle.std.specs.Prelude.{◌≡◌, ◌+◌, ◌-◌, ◌<◌, ◌≤◌, [], ◌∷◌, ◌++◌, length, replicate};
+ghost use Rattle.std.specs.Prelude.{IfSome, Some, None};
 ghost use Rattle.cbor_diag.specs.WellFormed.{deepest};
+ghost use Rattle.cbor_diag.specs.mirror.Skipping.{ended};
 
 use super::to_come::ToCome;
 use crate::syntax::DEEPEST;
@@ -28,13 +30,15 @@ impl Model for Outer {
 }
 
 impl Outer {
-    /// None is open.
-    pub(super) fn new() -> Outer
-        ensures { result ≡ [] }
+    /// Those around an item at `level`, each of which ends after it.
+    pub(super) fn around(level: u8) -> Outer
+        requires from { 1 ≤ level }
+        requires to { level ≤ deepest + 1 }
+        ensures { result ≡ replicate (level - 1) ended }
     {
         Outer {
-            open: [ToCome::one(); CAPACITY],
-            len: 0,
+            open: [ToCome::Items(Some(0)); CAPACITY],
+            len: usize::from(level) - 1,
         }
     }
 

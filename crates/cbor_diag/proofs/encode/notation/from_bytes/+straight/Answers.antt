@@ -1,26 +1,24 @@
-use Rattle.std.proofs.Common.{◌≡◌, ◌+◌, ◌*◌, ◌++◌, length, codes, Some, IfOk, IfErr, refl, ap, sym, subst, ◌∙◌, arith}
+use Rattle.std.proofs.Common.{◌+◌, ◌++◌, codes, Some, IfOk, IfErr, refl, ap, sym, subst, ◌∙◌, arith}
 use Rattle.std.proofs.lemmas.Result.{err_from_is_err_and}
 use Rattle.std.specs.String.{string_bytes}
 use Rattle.cbor_diag.specs.Item as spec
-use Rattle.cbor_diag.specs.Item.{atom, integer, negative, string, float, simple, array, tagged, no_items, item, no_pairs, pair, item_count}
+use Rattle.cbor_diag.specs.Item.{atom, integer, negative, string, float, simple, array, tagged, no_items, item, no_pairs, pair}
 use Rattle.cbor_diag.specs.ItemHead as item_head
-use Rattle.cbor_diag.specs.declared.syntax.IntegerWidth.TheVariants as width
 use Rattle.cbor_diag.specs.Embedded.{sequence_at}
-use Rattle.cbor_diag.specs.Estimate.{estimated_items}
-use Rattle.cbor_diag.specs.NotationText.{opened, item_texts, members, members_layout, inside, below}
+use Rattle.cbor_diag.specs.NotationText.{container_style, sequence_size, opened, inside, below}
 use Rattle.cbor_diag.specs.Reading.{Fails, items_in, pairs_in, tag_of, joined, joined_pairs, count_width}
 use Rattle.cbor_diag.specs.Reading.{read_head, no_level_left}
 use Rattle.cbor_diag.specs.WellFormed.{levels_left}
 use Rattle.cbor_diag.specs.mirror.HeadView.{argument_view}
-use Rattle.cbor_diag.specs.mirror.LayoutView.{layout_view, style_view, context_view, is_lines, items_there, item_text}
+use Rattle.cbor_diag.specs.mirror.LayoutView.{layout_view, style_view, context_view, item_text}
 use Rattle.cbor_diag.specs.mirror.Stack.{left_of}
 use Rattle.cbor_diag.specs.mirror.Straight.{Printed, read_there}
 use Rattle.cbor_diag.specs.mirror.StringView.{kind_of, borrowed_chunk}
 use Rattle.cbor_diag.proofs.bytes.Frames.{count_more, pair_count_more}
 use Rattle.cbor_diag.proofs.bytes.Shorter.{item_shorter}
-use Rattle.cbor_diag.proofs.shared.Appending.{begins_two, cut_back}
+use Rattle.cbor_diag.proofs.shared.Appending.{cut_back}
 use Rattle.cbor_diag.proofs.straight.Sequences.{sequence_begun, sequence_more, sequence_ends, begun_after, begun_member}
-use Rattle.cbor_diag.proofs.straight.Sequences.{sequence_printed, sequence_array, both_same, same_style}
+use Rattle.cbor_diag.proofs.straight.Sequences.{sequence_printed}
 use Rattle.cbor_diag.proofs.straight.Readings.{fails_is, head_fails, too_deep, after_head, atom_printed, float_fits}
 use Rattle.cbor_diag.proofs.straight.Readings.{parts_read, part_fails, parts_ended, none_held, member_read, pair_read}
 use Rattle.cbor_diag.proofs.straight.Readings.{value_fails, tag_read, content_read, below_read, below_fails}
@@ -350,22 +348,22 @@ push_string_front-returns-in_ok-push_definite-in-Number-clause-printed t c =
 
 -- ---- a sequence
 
-pub push_members-items-init : goal.push_members-items-init
-push_members-items-init t c = record {
+pub push_sequence-items-init : goal.push_sequence-items-init
+push_sequence-items-init t c = record {
   found = no_items;
   so_far = sequence_begun (levels_left (c.args.context.now.level + 1)) c.args.bytes.now;
   count = refl;
-  text = c.in_ok-push_str.ensures.bytes ∙ none_written (style_view c.args.style) _;
+  text = c.in_ok-push_str.ensures.bytes ∙ none_written (style_view c.sequence_style_ahead-style.result) _;
   room = omega arith;
 }
 
-pub push_members-items-smaller : goal.push_members-items-smaller
-push_members-items-smaller t c =
+pub push_sequence-items-smaller : goal.push_sequence-items-smaller
+push_sequence-items-smaller t c =
     let p = c.in-Ok.ensures.printed in
     item_shorter (levels_left c.inside-inner.result.level) c.items.rest.now p.0 c.in-Ok.after.now p.1
 
-pub push_members-items-preserved : goal.push_members-items-preserved
-push_members-items-preserved t c =
+pub push_sequence-items-preserved : goal.push_sequence-items-preserved
+push_sequence-items-preserved t c =
     let i = c.items.invariant in
     let p = c.in-Ok.ensures.printed in
     let left = levels_left (c.args.context.now.level + 1) in
@@ -377,91 +375,46 @@ push_members-items-preserved t c =
       found = joined i.found (item p.0 no_items);
       so_far = sequence_more left i.found p.0 c.items.rest.now after _ read i.so_far;
       count = omega (arith, count_more i.found p.0, i.count);
-      text = item_more (style_view c.args.style) (item_text c.inside-inner.result) i.found p.0 c.items.held _
+      text = item_more (style_view c.sequence_style_ahead-style.result) (item_text c.inside-inner.result) i.found p.0 c.items.held _
           (string_bytes c.items.out) (string_bytes c.push_start.new.out) (string_bytes c.push_front.new.out)
           (string_bytes c.push_end.new.out) i.count i.text c.in_ok-push_start.ensures p.2 c.in_ok-push_end-in-Ok.ensures;
       room = omega (arith, i.room, shorter);
     }
 
-pub push_members-returns-in-Memory-clause-begun : goal.push_members-returns-in-Memory-clause-begun
-push_members-returns-in-Memory-clause-begun t c =
+pub push_sequence-returns-in-Memory : goal.push_sequence-returns-in-Memory
+push_sequence-returns-in-Memory t c =
     let old = string_bytes c.args.out.now in
     begun_after old (old ++ codes "<<") (string_bytes c.items.out) (string_bytes c.push_start.new.out)
     (string_bytes c.push_front.new.out) (codes "<<") _ _ refl c.items.invariant.text c.in_ok-push_start.ensures
     c.in-Err.ensures.begun
 
-pub push_members-truncate-requires : goal.push_members-truncate-requires
-push_members-truncate-requires t c =
+pub push_sequence-truncate-requires : goal.push_sequence-truncate-requires
+push_sequence-truncate-requires t c =
     λ _. (cut_back c.items.out c.push_front.new.out c.len-start.result c.len-start.ensures
     (begun_member (string_bytes c.items.out) (string_bytes c.push_start.new.out) (string_bytes c.push_front.new.out) _
     c.in_ok-push_start.ensures c.in-Err.ensures.begun)).0
 
-pub push_members-returns-in_default-clause-written : goal.push_members-returns-in_default-clause-written
-push_members-returns-in_default-clause-written t c =
+pub push_sequence-returns-in_default : goal.push_sequence-returns-in_default
+push_sequence-returns-in_default t c =
     let i = c.items.invariant in
-    let l = style_view c.args.style in
+    let l = style_view c.sequence_style_ahead-style.result in
     let context = c.args.context.now in
     let left = levels_left (context.level + 1) in
+    let old = string_bytes c.args.out.now in
     let rest = c.items.rest.now in
-    let begun = string_bytes c.args.out.now ++ codes "<<" in
     let inside_it = c.inside-inner.ensures.context
     ∙ ap (λ x. inside x (context_view context)) c.members_layout.ensures in
     let whole = sequence_ends left i.found rest c.in-Err.error (sequence_at left c.args.bytes.now)
     c.in_default.not-Memory
     (below_fails c.in-Err.error c.inside-inner.result (context.level + 1) rest c.inside-inner.ensures.level
     c.in-Err.ensures.refused) i.so_far in
+    let same = c.sequence_style_ahead-style.ensures.style ∙ ap (λ n. container_style (layout_view context.layout) n)
+    (ap sequence_size (sym whole)) in
     let back = c.truncate.ensures.bytes ∙ (cut_back c.items.out c.push_front.new.out c.len-start.result
     c.len-start.ensures (begun_member (string_bytes c.items.out) (string_bytes c.push_start.new.out)
-    (string_bytes c.push_front.new.out) _ c.in_ok-push_start.ensures c.in-Err.ensures.begun)).1 in (
-      ap (λ s. item_count s.0) (sym whole) ∙ i.count,
-      ap (λ s. s.1) (sym whole),
-      back ∙ i.text
-          ∙ ap (λ f. begun ++ members l (item_texts f i.found)) (writes_inner c.inside-inner.result (context.level + 1)
-          (inside (members_layout l) (context_view context)) c.inside-inner.ensures.level inside_it)
-          ∙ ap (λ s. begun ++ items_there context l s.0) whole,
-    )
-
-pub push_sequence-truncate-requires : goal.push_sequence-truncate-requires
-push_sequence-truncate-requires t c =
-    let old = string_bytes c.args.out.now in
-    let new = string_bytes c.push_members.new.out in
-    let w = c.in_ok-count.ensures.written in
-    λ _. (cut_back c.args.out.now c.push_members.new.out c.len-start.result c.len-start.ensures
-    (begins_two old (old ++ codes "<<") (codes "<<") _ new refl w.2)).0
-
-pub push_sequence-returns-then-is_lines : goal.push_sequence-returns-then-is_lines
-push_sequence-returns-then-is_lines t c =
-    let context = c.args.context.now in
-    let b = c.args.bytes.now in
-    let left = levels_left (context.level + 1) in
-    let found = sequence_at left b in
-    let likely = style_view c.likely_style-likely.result in
-    let style = style_view c.array_style_ahead-style.result in
-    let begun = c.in_ok-count.ensures.written in
-    let style_so = c.array_style_ahead-style.ensures.style left found.0 (Some width.Unknown) found.1
-    (sequence_array left width.Unknown b c.in_ok-count.count begun.0) in
-    let lines : is_lines likely ≡ is_lines style = sym c.is_lines-2.ensures
-    ∙ both_same c.is_lines.result c.is_lines-2.result c.if-is_lines.true ∙ c.is_lines.ensures in
-    let same = c.likely_style-likely.ensures ∙ same_style (layout_view context.layout) (4 + 2 * length b)
-    (4 + estimated_items found.0) (ap is_lines (sym c.likely_style-likely.ensures) ∙ lines ∙ ap is_lines style_so) in
-    sequence_printed c.push_sequence_end.result likely context b c.in_ok-count.rest.now (string_bytes c.args.out.now)
-    (string_bytes c.push_members.new.out) (string_bytes c.args.out.now) (string_bytes c.push_sequence_end.new.out) same
-    begun.1 refl begun.2 c.push_sequence_end.ensures
-
-pub push_sequence-returns : goal.push_sequence-returns
-push_sequence-returns t c =
-    let context = c.args.context.now in
-    let b = c.args.bytes.now in
-    let left = levels_left (context.level + 1) in
-    let found = sequence_at left b in
-    let old = string_bytes c.args.out.now in
-    let begun = c.in_ok-count.ensures.written in
-    let again = c.in_ok-rest.ensures.written in
-    let same = c.array_style_ahead-style.ensures.style left found.0 (Some width.Unknown) found.1
-    (sequence_array left width.Unknown b c.in_ok-count.count begun.0) in
-    let back = c.truncate.ensures.bytes ∙ (cut_back c.args.out.now c.push_members.new.out c.len-start.result
-    c.len-start.ensures (begins_two old (old ++ codes "<<") (codes "<<") _ (string_bytes c.push_members.new.out) refl
-    begun.2)).1 in
-    sequence_printed c.push_sequence_end-2.result (style_view c.array_style_ahead-style.result) context b
-    c.in_ok-rest.rest.now old (string_bytes c.push_members-2.new.out) (string_bytes c.truncate.new.self)
-    (string_bytes c.push_sequence_end-2.new.out) same again.1 back again.2 c.push_sequence_end-2.ensures
+    (string_bytes c.push_front.new.out) _ c.in_ok-push_start.ensures c.in-Err.ensures.begun)).1 in
+    sequence_printed c.push_sequence_end.result l context c.inside-inner.result i.found c.args.bytes.now rest old
+    (old ++ codes "<<") (string_bytes c.items.out) (string_bytes c.truncate.new.self)
+    (string_bytes c.push_sequence_end.new.out) c.inside-inner.ensures.level inside_it
+    same whole refl i.text back
+    c.push_sequence_end.ensures

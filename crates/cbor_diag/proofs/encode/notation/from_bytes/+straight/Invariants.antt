@@ -14,40 +14,37 @@ use Rattle.cbor_diag.proofs.encode.notation.from_bytes.+straight.Given as goal
 
 -- Each level is deeper than the one before.
 abbrev pub decreases-push_front : goal.decreases-push_front
-decreases-push_front l = (130 - l.context.now.level) * 7
+decreases-push_front l = (130 - l.context.now.level) * 6
 
 abbrev pub decreases-push_array_front : goal.decreases-push_array_front
-decreases-push_array_front l = (129 - l.context.now.level) * 7 + 1
+decreases-push_array_front l = (129 - l.context.now.level) * 6 + 1
 
 abbrev pub decreases-push_map_front : goal.decreases-push_map_front
-decreases-push_map_front l = (129 - l.context.now.level) * 7 + 1
+decreases-push_map_front l = (129 - l.context.now.level) * 6 + 1
 
 abbrev pub decreases-push_tag_front : goal.decreases-push_tag_front
-decreases-push_tag_front l = (129 - l.context.now.level) * 7 + 1
+decreases-push_tag_front l = (129 - l.context.now.level) * 6 + 1
 
 abbrev pub decreases-push_string_front : goal.decreases-push_string_front
-decreases-push_string_front l = (129 - l.context.now.level) * 7 + 5
+decreases-push_string_front l = (129 - l.context.now.level) * 6 + 4
 
 abbrev pub decreases-push_definite : goal.decreases-push_definite
-decreases-push_definite l = (129 - l.context.now.level) * 7 + 4
+decreases-push_definite l = (129 - l.context.now.level) * 6 + 3
 
 abbrev pub decreases-push_content : goal.decreases-push_content
-decreases-push_content l = (129 - l.context.now.level) * 7 + 3
+decreases-push_content l = (129 - l.context.now.level) * 6 + 2
 
 abbrev pub decreases-push_embedded : goal.decreases-push_embedded
-decreases-push_embedded l = (129 - l.context.now.level) * 7 + 2
+decreases-push_embedded l = (129 - l.context.now.level) * 6 + 1
 
 abbrev pub decreases-push_sequence : goal.decreases-push_sequence
-decreases-push_sequence l = (129 - l.context.now.level) * 7 + 2
-
-abbrev pub decreases-push_members : goal.decreases-push_members
-decreases-push_members l = (129 - l.context.now.level) * 7 + 1
+decreases-push_sequence l = (129 - l.context.now.level) * 6 + 1
 
 abbrev pub decreases-push_array_front-items : goal.decreases-push_array_front-items
 decreases-push_array_front-items l = length l.rest
 
-abbrev pub decreases-push_members-items : goal.decreases-push_members-items
-decreases-push_members-items l = length l.rest
+abbrev pub decreases-push_sequence-items : goal.decreases-push_sequence-items
+decreases-push_sequence-items l = length l.rest
 
 abbrev pub decreases-push_map_front-pairs : goal.decreases-push_map_front-pairs
 decreases-push_map_front-pairs l = length l.rest
@@ -82,8 +79,8 @@ invariant-push_map_front-pairs l =
     }
 
 -- the items of a sequence that were read, and their text
-abbrev pub invariant-push_members-items : goal.invariant-push_members-items
-invariant-push_members-items l =
+abbrev pub invariant-push_sequence-items : goal.invariant-push_sequence-items
+invariant-push_sequence-items l =
     let left = levels_left (l.context.level + 1) in
     record {
       found : Items;

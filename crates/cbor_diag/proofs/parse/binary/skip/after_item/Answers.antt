@@ -1,14 +1,21 @@
-use Rattle.std.proofs.Common.{◌≡◌, ◌-◌, List, length, sym, subst, arith}
+use Rattle.std.proofs.Common.{◌≡◌, ◌-◌, List, length, replicate, sym, subst, arith}
 use Rattle.std.proofs.lemmas.Result.{err_from_is_err_and}
 use Rattle.cbor_diag.specs.declared.parse.binary.skip.to_come.ToCome.{ToCome}
 use Rattle.cbor_diag.specs.WellFormed.{deepest}
-use Rattle.cbor_diag.specs.mirror.Skipping.{here, Goes, StopsSo, skip_item, begun, skip_open}
+use Rattle.cbor_diag.specs.mirror.Skipping.{here, Goes, StopsSo, skip_item, begun, skip_open, ended}
 use Rattle.cbor_diag.proofs.skipping.Skips.{goes_then, stops_then}
-use Rattle.cbor_diag.proofs.skipping.SkippedParts.{first_goes, last_ends, open_ends, part_stops, whole_goes, opens_goes}
+use Rattle.cbor_diag.proofs.skipping.SkippedParts.{item_goes, last_ends, open_ends, part_stops, whole_goes, opens_goes}
 use Rattle.cbor_diag.proofs.parse.binary.skip.after_item.Goals as goal
 
 pub turns-init : goal.turns-init
-turns-init c = record { goes = rw c.new-outer.ensures (first_goes c.args.bytes.now c.one-top.result c.one-top.ensures) }
+turns-init c =
+    let b = c.args.bytes.now in
+    let levels : deepest - (c.args.level - 1) ≡ 129 - c.args.level = omega arith in
+    let goes = item_goes (c.args.level - 1) b c.one-top.result c.one-top.ensures in
+    record {
+      goes = rw c.around-outer.ensures (subst
+          (λ l. Goes (skip_item l) (skip_open (replicate (c.args.level - 1) ended) c.one-top.result) b b) levels goes);
+    }
 
 pub returns-in_default-pop-clause-goes : goal.returns-in_default-pop-clause-goes
 returns-in_default-pop-clause-goes c =

@@ -1,5 +1,5 @@
 use Rattle.std.proofs.Common.{◌+◌, ◌*◌, length}
-use Rattle.cbor_diag.specs.WellFormed.{deepest}
+use Rattle.cbor_diag.specs.WellFormed.{levels_left}
 use Rattle.cbor_diag.specs.mirror.Skipping.{Goes, skip_item, skip_open}
 use Rattle.cbor_diag.proofs.parse.binary.skip.after_item.Given as goal
 
@@ -9,5 +9,5 @@ decreases-turns l = 2 * length l.rest + length l.outer
 
 abbrev pub invariant-turns : goal.invariant-turns
 invariant-turns l = record {
-  goes : Goes (skip_item deepest) (skip_open l.outer l.top) l.bytes l.rest;
+  goes : Goes (skip_item (levels_left l.level)) (skip_open l.outer l.top) l.bytes l.rest;
 }
