@@ -45,7 +45,8 @@ const ITEMS: &[(&str, &str)] = &[
     ("d83f43010264", "63_0(<<1,2>>h'64')"),
 ];
 
-/// Bytes in hex of items whose pretty text has embedded items, containers of more than a line, or both.
+/// Bytes in hex of items whose pretty text has embedded items, containers of more than a line, or
+/// both.
 const LONG_ITEMS: &[&str] = &[
     // arrays that are just too long for a line, and just short enough
     "8e0001020304050607080900010203",
@@ -54,12 +55,14 @@ const LONG_ITEMS: &[&str] = &[
     // a map with an array in it, and an indefinite string
     "a2781e414141414141414141414141414141414141414141414141414141414141781e424242424242424242424242424242424242424242424242424242424242029f01ff",
     "5f5818000102030405060708090a0b0c0d0e0f10111213141516174101ff",
-    // tag 24 over an array of one line, over one of several, over bytes that are cut, and over two items
+    // tag 24 over an array of one line, over one of several, over bytes that are cut, and over two
+    // items
     "d8184483010203",
     "d8185190000102030405060708090a0b0c0d0e0f",
     "d81843830102",
     "d818420102",
-    // tag 63 over items on one line, on several, with a rest, in an array of several lines, and over none
+    // tag 63 over items on one line, on several, with a rest, in an array of several lines, and
+    // over none
     "d83f4401820203",
     "d83f50000102030405060708090a0b0c0d0e0f",
     "d83f43018302",
@@ -216,8 +219,8 @@ fn found(alloc: Global, digits: &str) -> Result<String> {
     Ok(format!(in alloc; "{used:?}")?)
 }
 
-/// Arrays one in the other, each with a text that makes it just too long for a line, many times one after
-/// the other: a look ahead at each ends at its text, so that all takes the time of one.
+/// Arrays one in the other, each with a text that makes it just too long for a line, many times one
+/// after the other. A look ahead at each ends soon, so that the work grows with the bytes only.
 #[test]
 fn each_container_is_too_long_for_a_line(rt: HostRuntime) {
     let opening = "8278344141414141414141414141414141414141414141414141414141\

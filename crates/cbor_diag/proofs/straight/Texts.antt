@@ -13,7 +13,8 @@ use Rattle.cbor_diag.specs.ContainerStyle as style
 use Rattle.cbor_diag.specs.ContainerStyle.{ContainerStyle, OneLine, MultiLine}
 use Rattle.cbor_diag.specs.Encoding.{Encoding}
 use Rattle.cbor_diag.specs.Item as spec
-use Rattle.cbor_diag.specs.Item.{Chunk, string, chunked_string, Item, atom, array, Items, no_items, item, Pairs, no_pairs, pair, item_count, pair_count}
+use Rattle.cbor_diag.specs.Item.{Chunk, string, chunked_string, Item, atom, array, Items, no_items, item, item_count}
+use Rattle.cbor_diag.specs.Item.{Pairs, no_pairs, pair, pair_count}
 use Rattle.cbor_diag.specs.Layout.{Context}
 use Rattle.cbor_diag.specs.NotationText.{line, separated, members, members_layout, last_line, bracketed, opened, colon}
 use Rattle.cbor_diag.specs.NotationText.{container_style, inside, item_texts, pair_texts}
@@ -119,8 +120,8 @@ pair_more l write ps k v held begun out started key between written new count p 
     simp append_assoc in
     let both : written ≡ started ++ (write k ++ (colon l ++ write v)) =
     t ∙ ap (λ x. x ++ write v) (s ∙ ap (λ x. x ++ colon l) r) ∙ regroup in
-    more_written l (pair_texts write (colon l) ps) (write k ++ (colon l ++ write v)) (eqb held 0) begun out started written
-    new (pairs_first write (colon l) ps held count) p q both u
+    more_written l (pair_texts write (colon l) ps) (write k ++ (colon l ++ write v)) (eqb held 0) begun out started
+    written new (pairs_first write (colon l) ps held count) p q both u
     ∙ ap (λ ms. begun ++ members l ms) (sym (pair_texts_more write (colon l) ps k v))
 
 -- ---- containers
@@ -142,7 +143,8 @@ module _ (l : ContainerStyle) (c inner : NotationContext) (level : c.level ≤ 1
       → new ≡ old ++ item_text c (array is w)
   array_printed is w old begun out new same p q r =
       opened_again c.level (context_view c) (array is w) old new level
-      (bracketed_written l (opened l (codes "[") w) (codes "]") (item_texts (item_text inner) is) old begun out new p q r
+      (bracketed_written l (opened l (codes "[") w) (codes "]") (item_texts (item_text inner) is) old begun out new
+      p q r
       ∙ ap (λ f. old ++ bracketed l (opened l (codes "[") w) (item_texts f is) (codes "]"))
       (writes_inner inner (c.level + 1) (inside (members_layout l) (context_view c)) deeper inside_it)
       ∙ ap (λ k. old ++ array_text (write_below c.level) (context_view c) k is w) same)
@@ -153,8 +155,8 @@ module _ (l : ContainerStyle) (c inner : NotationContext) (level : c.level ≤ 1
       → new ≡ old ++ item_text c (spec.map ps w)
   map_printed ps w old begun out new same p q r =
       opened_again c.level (context_view c) (spec.map ps w) old new level
-      (bracketed_written l (opened l (codes "{") w) (codes "}") (pair_texts (item_text inner) (colon l) ps) old begun out
-      new p q r
+      (bracketed_written l (opened l (codes "{") w) (codes "}") (pair_texts (item_text inner) (colon l) ps) old
+      begun out new p q r
       ∙ ap (λ f. old ++ bracketed l (opened l (codes "{") w) (pair_texts f (colon l) ps) (codes "}"))
       (writes_inner inner (c.level + 1) (inside (members_layout l) (context_view c)) deeper inside_it)
       ∙ ap (λ k. old ++ map_text (write_below c.level) (context_view c) k ps w) same)

@@ -1,9 +1,9 @@
-//! Writes an item straight from its bytes: each part is written as soon as it is read, and no item is
-//! built. How long a container would be on one line is found by a look ahead (`ahead.rt`).
+//! Writes an item straight from its bytes: each part is written as soon as it is read, and no item
+//! is built. How long a container would be on one line is found by a look ahead (`ahead.rt`).
 //!
 //! Each function takes the remaining bytes and returns those after what it wrote. What was written
-//! before an error stays. Bytes that are embedded in a string are written by the same functions; what
-//! was written of them is cut back where they can't be read.
+//! before an error stays. Items that are embedded in a byte string are written by the same
+//! functions; what was written of them is cut back where they can't be read.
 #![tactic(auto, using(crate::proofs::shared::Appending::appending_steps))]
 
 ghost use Rattle.std.specs.Prelude.{◌≡◌, ◌+◌, ◌*◌, ◌<◌, ◌≤◌, ◌^◌, ◌++◌, codes, IfOk, IfErr, OnErr};
@@ -316,8 +316,8 @@ fn push_sequence(
     }
 }
 
-/// Writes what follows the items of a sequence: the closing brackets, and the bytes that begin with no
-/// item.
+/// Writes what follows the items of a sequence: the closing brackets, and the bytes that begin with
+/// no item.
 fn push_sequence_end(
     out: &mut String,
     rest: &[u8],

@@ -1,5 +1,5 @@
-//! Writes the text of an item at the outermost level straight from bytes and hex, in any layout. The
-//! public calls of `straight.rt` are these functions in their layouts.
+//! Writes the text of an item at the outermost level straight from bytes and hex, in any layout.
+//! The public calls of `straight.rt` are these functions in their layouts.
 #![tactic(auto, using(crate::proofs::shared::Appending::appending_steps))]
 
 ghost use Rattle.std.specs.Prelude.{◌≡◌, ◌≤◌, ◌++◌, IfOk, IfErr, IfSome, OnOk, OnErr};

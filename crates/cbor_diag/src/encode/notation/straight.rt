@@ -261,8 +261,8 @@ pub fn push_bytes_to_diag_pretty_partial(
     push_part(out, alloc, bytes, PRETTY)
 }
 
-/// Returns the item of hex with comments in diagnostic notation (RFC 7049 section 6) with blanks, over
-/// several lines if it is long.
+/// Returns the item of hex with comments in diagnostic notation (RFC 7049 section 6) with blanks,
+/// over several lines if it is long.
 ///
 /// It returns what [`parse_hex`] and [`DataItem::to_diag_pretty`] return one after the other, the
 /// errors of [`parse_hex`] included. It builds no item, so it takes less time and less memory.

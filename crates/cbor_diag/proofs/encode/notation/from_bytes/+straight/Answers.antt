@@ -2,7 +2,8 @@ use Rattle.std.proofs.Common.{◌+◌, ◌++◌, codes, Some, IfOk, IfErr, refl,
 use Rattle.std.proofs.lemmas.Result.{err_from_is_err_and}
 use Rattle.std.specs.String.{string_bytes}
 use Rattle.cbor_diag.specs.Item as spec
-use Rattle.cbor_diag.specs.Item.{atom, integer, negative, string, float, simple, array, tagged, no_items, item, no_pairs, pair}
+use Rattle.cbor_diag.specs.Item.{atom, integer, negative, string, float, simple, array, tagged, no_items, item, no_pairs}
+use Rattle.cbor_diag.specs.Item.{pair}
 use Rattle.cbor_diag.specs.ItemHead as item_head
 use Rattle.cbor_diag.specs.Embedded.{sequence_at}
 use Rattle.cbor_diag.specs.NotationText.{container_style, sequence_size, opened, inside, below}
@@ -164,8 +165,8 @@ push_array_front-returns-in-Some-clause-printed t c =
       read,
       array_printed l context c.inside-inner.result c.requires.level c.inside-inner.ensures.level inside_it i.found w
           (string_bytes c.args.out.now) _ (string_bytes c.items.out) (string_bytes c.push_closing.new.out)
-          (c.array_style_ahead-style.ensures.style (levels_left (context.level + 1)) i.found w c.in-Some.after.now read) refl i.text
-          c.in_ok-push_closing.ensures,
+          (c.array_style_ahead-style.ensures.style (levels_left (context.level + 1)) i.found w c.in-Some.after.now read) refl
+          i.text c.in_ok-push_closing.ensures,
     )
 
 pub push_array_front-returns-in_err-rest-clause-refused : goal.push_array_front-returns-in_err-rest-clause-refused
@@ -197,8 +198,8 @@ push_array_front-items-preserved t c =
       so_far = sym (member_read left i.found c.args.count c.items.held c.items.rest.now c.in_ok-rest.rest.now p.0
           (sym c.in_default.ensures) read) ∙ i.so_far;
       count = omega (arith, count_more i.found p.0, i.count);
-      text = item_more (style_view c.array_style_ahead-style.result) (item_text c.inside-inner.result) i.found p.0 c.items.held _
-          (string_bytes c.items.out) (string_bytes c.push_start.new.out) (string_bytes c.push_front.new.out)
+      text = item_more (style_view c.array_style_ahead-style.result) (item_text c.inside-inner.result) i.found p.0
+          c.items.held _ (string_bytes c.items.out) (string_bytes c.push_start.new.out) (string_bytes c.push_front.new.out)
           (string_bytes c.push_end.new.out) i.count i.text c.in_ok-push_start.ensures p.2 c.in_ok-push_end.ensures;
       room = omega (arith, i.room, shorter);
     }
@@ -236,8 +237,8 @@ push_map_front-returns-in-Some-clause-printed t c =
       read,
       map_printed l context c.inside-inner.result c.requires.level c.inside-inner.ensures.level inside_it i.found w
           (string_bytes c.args.out.now) _ (string_bytes c.pairs.out) (string_bytes c.push_closing.new.out)
-          (c.map_style_ahead-style.ensures.style (levels_left (context.level + 1)) i.found w c.in-Some.after.now read) refl i.text
-          c.in_ok-push_closing.ensures,
+          (c.map_style_ahead-style.ensures.style (levels_left (context.level + 1)) i.found w c.in-Some.after.now read) refl
+          i.text c.in_ok-push_closing.ensures,
     )
 
 pub push_map_front-returns-in_err-value-clause-refused : goal.push_map_front-returns-in_err-value-clause-refused
@@ -293,8 +294,8 @@ push_map_front-pairs-preserved t c =
       so_far = sym (pair_read left i.found c.args.count c.pairs.held c.pairs.rest.now c.in_ok-value.value.now
           c.in_ok-rest.rest.now k.0 v.0 (sym c.in_default.ensures) key value) ∙ i.so_far;
       count = omega (arith, pair_count_more i.found k.0 v.0, i.count);
-      text = pair_more (style_view c.map_style_ahead-style.result) (item_text c.inside-inner.result) i.found k.0 v.0 c.pairs.held _
-          (string_bytes c.pairs.out) (string_bytes c.push_start.new.out) (string_bytes c.push_front.new.out)
+      text = pair_more (style_view c.map_style_ahead-style.result) (item_text c.inside-inner.result) i.found k.0 v.0
+          c.pairs.held _ (string_bytes c.pairs.out) (string_bytes c.push_start.new.out) (string_bytes c.push_front.new.out)
           (string_bytes c.push_colon.new.out) (string_bytes c.push_front-in-pairs.new.out)
           (string_bytes c.push_end.new.out) i.count i.text c.in_ok-push_start.ensures k.2 c.in_ok-push_colon.ensures v.2
           c.in_ok-push_end.ensures;
@@ -333,7 +334,8 @@ push_tag_front-returns-clause-printed t c =
 
 -- ---- a string
 
-pub push_string_front-returns-in_ok-push_definite-in-Number-clause-printed : goal.push_string_front-returns-in_ok-push_definite-in-Number-clause-printed
+pub push_string_front-returns-in_ok-push_definite-in-Number-clause-printed
+    : goal.push_string_front-returns-in_ok-push_definite-in-Number-clause-printed
 push_string_front-returns-in_ok-push_definite-in-Number-clause-printed t c =
     let w = c.in-Number.field-1 in
     let content = c.in_ok-content-in-Number.content in
@@ -375,9 +377,10 @@ push_sequence-items-preserved t c =
       found = joined i.found (item p.0 no_items);
       so_far = sequence_more left i.found p.0 c.items.rest.now after _ read i.so_far;
       count = omega (arith, count_more i.found p.0, i.count);
-      text = item_more (style_view c.sequence_style_ahead-style.result) (item_text c.inside-inner.result) i.found p.0 c.items.held _
-          (string_bytes c.items.out) (string_bytes c.push_start.new.out) (string_bytes c.push_front.new.out)
-          (string_bytes c.push_end.new.out) i.count i.text c.in_ok-push_start.ensures p.2 c.in_ok-push_end-in-Ok.ensures;
+      text = item_more (style_view c.sequence_style_ahead-style.result) (item_text c.inside-inner.result) i.found p.0
+          c.items.held _ (string_bytes c.items.out) (string_bytes c.push_start.new.out) (string_bytes c.push_front.new.out)
+          (string_bytes c.push_end.new.out) i.count i.text c.in_ok-push_start.ensures p.2
+          c.in_ok-push_end-in-Ok.ensures;
       room = omega (arith, i.room, shorter);
     }
 

@@ -49,8 +49,8 @@ returns-in_default-clause-printed c =
     let read = ok_then all (i.chunks, after) _ (ap (λ (d : Counted (List Chunk)). d.1) whole) in (
       atom (chunked_string kind i.chunks),
       read,
-      chunks_printed (style_view c.chunks_style_ahead-style.result) c.args.context.now kind i.chunks c.chunks.held (string_bytes c.args.out.now)
-          (string_bytes c.chunks.out) (string_bytes c.push_chunks_end.new.out) c.requires.level
+      chunks_printed (style_view c.chunks_style_ahead-style.result) c.args.context.now kind i.chunks
+          c.chunks.held (string_bytes c.args.out.now) (string_bytes c.chunks.out) (string_bytes c.push_chunks_end.new.out) c.requires.level
           (c.chunks_style_ahead-style.ensures.style 0 i.chunks after read) i.count i.text
           c.in_ok-push_chunks_end.ensures,
     )
@@ -75,8 +75,8 @@ chunks-preserved c =
       enough = next.1;
       so_far = next.2;
       count = omega (arith, length-append i.chunks (chunk ∷ []), i.count);
-      text = chunk_more (style_view c.chunks_style_ahead-style.result) kind encoding i.chunks chunk c.chunks.held (string_bytes c.args.out.now)
-          (string_bytes c.chunks.out) started (string_bytes c.push_string.new.out) (string_bytes c.push_end.new.out)
+      text = chunk_more (style_view c.chunks_style_ahead-style.result) kind encoding i.chunks chunk
+          c.chunks.held (string_bytes c.args.out.now) (string_bytes c.chunks.out) started (string_bytes c.push_string.new.out) (string_bytes c.push_end.new.out)
           i.count i.text c.in_ok-push_chunk_start.ensures written c.in_ok-push_end.ensures;
       room = omega (arith, i.room, c.in_ok-chunk.ensures.shorter);
     }

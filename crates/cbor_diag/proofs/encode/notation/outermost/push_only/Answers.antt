@@ -32,7 +32,8 @@ truncate-requires c =
     let old = string_bytes c.args.out.now in
     let p = c.in_ok-rest.ensures.printed in
     λ _. (cut_back c.args.out.now c.push_outermost_front.new.out c.len-start.result c.len-start.ensures
-    (begins_still old old (text_in c.args.layout p.0) (string_bytes c.push_outermost_front.new.out) (begins_same old) p.2)).0
+    (begins_still old old (text_in c.args.layout p.0) (string_bytes c.push_outermost_front.new.out)
+    (begins_same old) p.2)).0
 
 pub returns-clause-refused : goal.returns-clause-refused
 returns-clause-refused c =
