@@ -13,6 +13,7 @@ mod loose;
 mod notation;
 mod path;
 mod scan;
+mod stream;
 
 pub use decode::{Input, Recognized, Refusal, recognize};
 pub use form::{Form, Style};
@@ -21,3 +22,4 @@ pub use items::{End, Show, Shown, show_items, skip_items};
 pub use loose::{HexFault, place_of_digit};
 pub use path::{Lost, Step, lost_at, steps_of, untagged};
 pub use scan::{Slip, float_of, slip_of};
+pub use stream::Stream;
