@@ -4,3 +4,4 @@ pub mod Fronts
 pub mod LooseLemmas
 pub mod HiddenLemmas
 pub mod LineLemmas
+pub mod StreamLemmas

@@ -7,7 +7,7 @@ ghost use Rattle.cbor_inspect.specs.Inputs.{is_blank, unblanked, Stands, Reads, 
 
 use crate::items::{End, Shown, skip_items};
 use crate::loose::{HexFault, bytes_of_hex};
-use crate::scan::slip_of;
+use crate::scan::notation_fault;
 use cbor_diag::{Error, parse_diag};
 use cbor_notes::base64_any_decode;
 use std::alloc::{AllocError, Global};
@@ -219,8 +219,8 @@ fn reach(alloc: Global, text: &[u8], refusal: Refusal) -> usize {
         Refusal::Hex(HexFault::Digit(at)) => at,
         Refusal::Hex(HexFault::Odd(at)) => at,
         Refusal::Hex(HexFault::Memory) | Refusal::Memory => usize::MAX,
-        Refusal::Diag(_) => match slip_of(alloc, text) {
-            Ok(Some((at, _))) => at,
+        Refusal::Diag(_) => match notation_fault(alloc, text) {
+            Ok(Some((_, at))) => at,
             _ => 0,
         },
         Refusal::Base64 => 0,

@@ -13,6 +13,7 @@ mod loose;
 mod notation;
 mod path;
 mod scan;
+mod search;
 mod stream;
 
 pub use decode::{Input, Recognized, Refusal, recognize};
@@ -21,5 +22,5 @@ pub use hidden::is_shown;
 pub use items::{End, Show, Shown, show_items, skip_items};
 pub use loose::{HexFault, place_of_digit};
 pub use path::{Lost, Step, lost_at, steps_of, untagged};
-pub use scan::{Slip, float_of, slip_of};
+pub use scan::{Hint, float_of, hint_of, notation_fault};
 pub use stream::Stream;

@@ -1,10 +1,12 @@
 //! Items one after the other that come in pieces.
-ghost use Rattle.std.specs.Prelude.{◌≡◌, ℕ, ◌≤◌, ◌++◌, List, length, drop, IfErr, OnOk, OnErr};
+ghost use Rattle.std.specs.Prelude.{◌≡◌, ◌↔◌, ℕ, ◌≤◌, ◌++◌, List, length, drop, false};
+ghost use Rattle.std.specs.Prelude.{IfErr, OnOk, OnErr};
+ghost use Rattle.cbor_diag.specs.declared.parse.binary.skip.answer.Extent.{Extent};
 ghost use Rattle.cbor_diag.specs.Item.{Item};
 ghost use Rattle.cbor_diag.specs.Extent.{IsExtent};
 ghost use Rattle.cbor_inspect.specs.declared.items.Show.{Show};
 ghost use Rattle.cbor_inspect.specs.declared.path.Step.{Step};
-ghost use Rattle.cbor_inspect.specs.Sequence.{ItemsThen, IsShownOfFirst};
+ghost use Rattle.cbor_inspect.specs.Sequence.{ItemsThen, IsSequence, IsShownOfFirst};
 ghost use Rattle.cbor_inspect.specs.Ends.{EndsSo, Shows, steps_of};
 
 use crate::items::{End, Show, show_first, show_items};
@@ -41,14 +43,15 @@ pub struct Stream {
 
 // Clauses see the bytes that came and were not passed.
 impl Model for Stream {
-    ghost use Rattle.std.specs.Prelude.{ℕ, List, take, drop};
+    ghost use Rattle.std.specs.Prelude.{ℕ, List, take, drop, length, ◌≤◌};
     ghost use Rattle.cbor_diag.specs.Scanning.{HasScanned};
 
     ghost Value = { List ℕ };
 
     ghost view = { λ s. drop s.start s.kept.items };
 
-    ghost invariant = { λ s. HasScanned s.scanner (take s.scanned (drop s.start s.kept.items)) };
+    ghost invariant = { λ s. (s.scanned ≤ length (drop s.start s.kept.items))
+        × HasScanned s.scanner (take s.scanned (drop s.start s.kept.items)) };
 }
 
 /// The bytes from a place on; none are past the end.
@@ -119,14 +122,7 @@ impl Stream {
         // Why nothing is written of the bytes that are kept.
         ensures ends { EndsSo (steps_of show.now) self.new result }
     {
-        if self.scanned > 0 {
-            match self.show_scanned(show, out) {
-                Ok(()) if show.one => return End::Full,
-                Ok(()) => (),
-                Err(end) => return end,
-            }
-        }
-        self.show_others(show, out)
+        self.show_next(show, out)
     }
 
     /// Goes past the next items without memory and writes nothing, and tells why it goes no further.
@@ -136,6 +132,9 @@ impl Stream {
 
         // Why none of the bytes that are kept are.
         ensures ends { (steps : List Step) → EndsSo steps self.new result }
+
+        // The bytes are items alone exactly if none remain at the end.
+        ensures clean { (one ≡ false) → (result ≡ End.Done) ↔ IsSequence self.old }
     {
         'items: while !self.rest().is_empty() {
             match self.scan() {
@@ -155,6 +154,7 @@ impl Stream {
     fn scan(&mut self) -> Extent
         ensures same { self.new ≡ self.old }
         ensures begins { IsExtent self.new result }
+        ensures only { (answer : Extent) → IsExtent self.new answer → result ≡ answer }
     {
         let rest = bytes_from(&self.kept, self.start);
         let more = bytes_from(rest, self.scanned);
@@ -170,6 +170,27 @@ impl Stream {
         self.start += len;
         self.scanned = 0;
         self.scanner = Scanner::new();
+    }
+
+    /// The same as `show`.
+    fn show_next(&mut self, show: &Show, out: &mut Vec<u8>) -> End
+        ensures written { (written : List ℕ) × (out.new.items ≡ out.old.items ++ written)
+            × IsShownOfFirst (Shows show.now) self.old written self.new }
+        ensures ends { EndsSo (steps_of show.now) self.new result }
+    {
+        if self.scanned == 0 {
+            return self.show_others(show, out);
+        }
+        match self.show_scanned(show, out) {
+            Err(end) => end,
+            Ok(()) => {
+                if show.one {
+                    End::Full
+                } else {
+                    self.show_others(show, out)
+                }
+            }
+        }
     }
 
     /// Appends what is written of the item whose first bytes were scanned, once it is whole.
@@ -189,6 +210,7 @@ impl Stream {
                 }
                 Err(end) => Err(end),
             },
+            Extent::Cut if self.rest().is_empty() => Err(End::Done),
             Extent::Cut => Err(End::Cut),
             Extent::Fault { error, end } => Err(End::Fault { error, end }),
         }
@@ -202,9 +224,16 @@ impl Stream {
     {
         let shown = show_items(show, self.rest(), out);
         self.pass(shown.used);
-        if shown.end == End::Cut {
+        self.scan_cut(shown.end);
+        shown.end
+    }
+
+    /// Begins to scan the item at the front if it is cut.
+    fn scan_cut(&mut self, end: End)
+        ensures { self.new ≡ self.old }
+    {
+        if end == End::Cut {
             let _ = self.scan();
         }
-        shown.end
     }
 }

@@ -4,11 +4,16 @@
 //! written of an item are in the crate `cbor_inspect`; here are arguments, files and messages.
 #![tactic(auto)]
 
+mod conversion;
+mod excerpt;
 mod help;
 mod input;
+mod lost;
 mod messages;
+mod notation;
 mod output;
 mod run;
+mod status;
 mod words;
 
 use crate::run::run;
