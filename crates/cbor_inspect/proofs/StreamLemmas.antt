@@ -25,9 +25,9 @@ pub still_scanned : (scanner : Scanner) (n start : ℕ) (kept bytes new : List �
 still_scanned scanner n start kept bytes new true none before is =
     let P : ℕ → Type 0 = λ s. IsScanned scanner n (drop s kept) → IsScanned scanner n (drop s new) in
     let at_start : P 0 = λ h.
-        let within : n ≤ length kept = h.0 in
-        let same : take n (kept ++ bytes) ≡ take n kept = take-append-le n kept bytes within in
-        rw is (omega (arith, length-append kept bytes, within), rw same h.1) in
+    let within : n ≤ length kept = h.0 in
+    let same : take n (kept ++ bytes) ≡ take n kept = take-append-le n kept bytes within in
+    rw is (omega (arith, length-append kept bytes, within), rw same h.1) in
     subst P (sym none) at_start before
 still_scanned scanner n start kept bytes new false none before is = rw is before
 
@@ -47,7 +47,7 @@ one_passed b rest new n before found is =
     let next = item_then rest n found.0 found.1.2 in (
       before.0 ++ found.0 ∷ [],
       subst (λ (x : List ℕ). ItemsThen b (before.0 ++ found.0 ∷ []) x) (sym is)
-      (items_then b before.0 (found.0 ∷ []) rest (drop n rest) before.1 next),
+          (items_then b before.0 (found.0 ∷ []) rest (drop n rest) before.1 next),
     )
 
 -- if all bytes are items, so are those after one of them

@@ -5,6 +5,7 @@
 //! Nothing here knows of arguments or files.
 #![tactic(auto)]
 
+mod breaks;
 mod decode;
 mod form;
 mod hidden;

@@ -4,7 +4,7 @@ use crate::input::{block_len, read_into};
 use crate::lost::report_lost;
 use crate::messages::{Left, Place, report_end, report_long};
 use crate::output::{Written, write};
-use crate::run::Run;
+use crate::run::Runner;
 use crate::status::{Next, Status};
 use cbor_inspect::{End, Stream};
 use std::io;
@@ -13,7 +13,7 @@ use std::io::Read;
 /// The conversion of the items of one input.
 #[derive(Drop)]
 pub struct Conversion<'a, 'b> {
-    run: &'a mut Run<'b>,
+    run: &'a mut Runner<'b>,
     place: &'a Place<'a>,
     /// The bytes that came, but for those that are skipped or converted.
     stream: Stream,
@@ -40,9 +40,14 @@ fn drop_front(bytes: &mut Vec<u8>, count: usize) {
 
 impl<'a, 'b> Conversion<'a, 'b> {
     /// A conversion of an input that begins with these bytes.
-    pub fn new(run: &'a mut Run<'b>, place: &'a Place<'a>, first: Vec<u8>) -> Conversion<'a, 'b> {
+    pub fn new(
+        run: &'a mut Runner<'b>,
+        place: &'a Place<'a>,
+        first: Vec<u8>,
+    ) -> Conversion<'a, 'b> {
         let out = Vec::new(run.rt.alloc());
-        let (mut first, came) = (first, first.len());
+        let came = first.len();
+        let mut first = first;
         let skipped = run.job.offset.min(came);
         let skip = run.job.offset - skipped;
         drop_front(&mut first, skipped);

@@ -1,8 +1,7 @@
 //! Inputs, as they are read.
 
-use std::fs;
-use std::io;
 use std::io::{ErrorKind, Read};
+use std::{fs, io};
 
 /// How many bytes are asked for at once of a pipe, a terminal or a socket.
 const BLOCK: usize = 64 * 1024;

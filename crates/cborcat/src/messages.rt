@@ -149,7 +149,10 @@ fn report_cut(rt: &HostRuntime, place: &Place, left: Left) {
     let what = match place.digits(left.begins) {
         Some(at) => {
             let begins = place_of(place.text, at);
-            format!(in alloc; "cut short; the item begins at {}:{}", begins.line, begins.column)
+            format!(in alloc;
+                "cut short; the item begins at {}:{}",
+                begins.line, begins.column
+            )
         }
         None => format!(in alloc; "cut short; the item begins at byte {}", left.begins),
     };

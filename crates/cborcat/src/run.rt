@@ -27,7 +27,7 @@ pub fn run(rt: &HostRuntime, job: &Job) -> u8 {
     let Some(mut target) = open(rt, asked) else {
         return Status::Trouble.number();
     };
-    let mut run = Run {
+    let mut run = Runner {
         rt,
         job,
         target: &mut target,
@@ -44,7 +44,7 @@ pub fn run(rt: &HostRuntime, job: &Job) -> u8 {
 
 /// A run of the program.
 #[derive(Drop)]
-pub struct Run<'a> {
+pub struct Runner<'a> {
     /// The runtime.
     pub rt: &'a HostRuntime,
     /// What the arguments ask for.
@@ -55,7 +55,7 @@ pub struct Run<'a> {
     pub status: Status,
 }
 
-impl Run<'_> {
+impl Runner<'_> {
     /// Takes down how a part of the run went.
     pub fn ended(&mut self, status: Status) {
         self.status = self.status.or(status);

@@ -10,5 +10,5 @@ returns-else-show-clause-written c =
       first.0 ++ others.0,
       cc (first.1, others.1, append_assoc (vec_items c.args.out.now) first.0 others.0),
       more_shown (Shows c.args.show.now) c.args.self.now first.0 c.show_scanned.new.self others.0
-      c.show_others-else-show.new.self first.2 others.2,
+          c.show_others-else-show.new.self first.2 others.2,
     )
