@@ -49,11 +49,21 @@ impl Style {
     /// control character and none that ends a line or turns the direction of a text, but for the
     /// line feeds of pretty text, which are outside of quotes and comments.
     ///
+    /// ```rust
+    /// use cbor_diag::parse_hex;
+    /// use cbor_inspect::{Form, Show};
+    ///
+    /// let item = parse_hex(alloc, "f9 3e 00")?;
+    /// let text = Show::new(alloc, Form::Pretty).style.write(alloc, &item)?;
+    /// assert_eq!(rt; text.as_slice(), b"float'3e00' /1.5/\n".as_slice());
+    /// ```
+    ///
     /// Returns `Memory` if an allocation fails. `Notation` stands for a text that was made and is
     /// not read back; no item is known for which it is returned.
     #[tactic(auto, using(crate::proofs::StringLemmas::same_strings))]
     pub fn write(self, alloc: Global, item: &DataItem) -> Result<Vec<u8>, Error>
         requires { IsWellFormed (view item.now) }
+        // The item in the form.
         ensures form { IfOk result (λ output. IsForm self.form (view item.now) output.items) }
 
         // What notation is read back as has the same byte strings, but for those that tags 24 and 63

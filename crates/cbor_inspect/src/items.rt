@@ -34,6 +34,26 @@ pub struct Show {
     pub one: bool,
 }
 
+impl Show {
+    /// Returns what writes whole items in a form, one after the other, with notes in pretty
+    /// notation.
+    pub fn new(alloc: Global, form: Form) -> Show
+        ensures form { result.style.form ≡ form }
+        ensures whole { steps_of result ≡ [] }
+    {
+        let style = Style {
+            form,
+            embedded: false,
+            notes: true,
+        };
+        Show {
+            style,
+            steps: Vec::new(alloc),
+            one: false,
+        }
+    }
+}
+
 /// Why no further item is written.
 #[derive(Clone, Copy, PartialEq, Eq, Debug)]
 pub enum End {
@@ -270,10 +290,23 @@ fn fault_of(bytes: &[u8], error: Error) -> End
 
 /// Goes past one item after the other, from the front of the bytes, until no whole item is there,
 /// without memory.
+///
+/// ```rust
+/// use cbor_inspect::{End, skip_items};
+///
+/// let shown = skip_items(b"\x01\x82\x02", false);
+/// assert_eq!(rt; shown.used, 1);
+/// assert_eq!(rt; shown.end, End::Cut);
+/// ```
 pub fn skip_items(bytes: &[u8], one: bool) -> Shown
     ensures used { result.used ≤ length bytes.now }
+
+    // The first `used` bytes are items, one after the other.
     ensures items { (items : List Item) × ItemsThen bytes.now items (drop result.used bytes.now) }
+
+    // Why none of the bytes after them are.
     ensures ends { (steps : List Step) → EndsSo steps (drop result.used bytes.now) result.end }
+
     // The bytes are items alone exactly if none remain at the end.
     ensures clean { (one ≡ false) → (result.end ≡ End.Done) ↔ IsSequence bytes.now }
 {

@@ -2,7 +2,18 @@
 //! has, items one after the other as they arrive, the places of errors, parts of items by a path,
 //! and notation with notes, in which no control character is.
 //!
-//! Nothing here knows of arguments or files.
+//! ```rust
+//! use cbor_inspect::{End, Form, Show, recognize, show_items};
+//!
+//! let found = recognize(alloc, b"0x82 01 02 # two numbers")?;
+//! let mut out = Vec::new(alloc);
+//! let shown = show_items(&Show::new(alloc, Form::Diag), &found.bytes, &mut out);
+//! assert_eq!(rt; shown.end, End::Done);
+//! assert_eq!(rt; out.as_slice(), b"[1,2]\n".as_slice());
+//! ```
+//!
+//! Nothing here knows of arguments or files. In the examples of this crate, `rt` is the
+//! `HostRuntime` of a test, and `alloc` is `rt.alloc()`.
 #![tactic(auto)]
 
 mod breaks;

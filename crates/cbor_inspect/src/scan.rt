@@ -6,6 +6,14 @@ use std::alloc::{AllocError, Global};
 
 /// Finds the place at which a text stops being notation: the last byte of the shortest front that no
 /// text in notation has, or the end of the text if it may go on. Returns the error, too.
+///
+/// ```rust
+/// use cbor_diag::Error;
+/// use cbor_inspect::notation_fault;
+///
+/// let fault = notation_fault(alloc, b"[1,]")?;
+/// assert_eq!(rt; fault, Some((Error::Notation, 3)));
+/// ```
 pub fn notation_fault(alloc: Global, text: &[u8]) -> Result<Option<(Error, usize)>, AllocError> {
     match slip_of(alloc, text)? {
         Some((at, Slip::Escape)) => Ok(Some((Error::Notation, at.saturating_add(1)))),
@@ -32,7 +40,6 @@ pub enum Hint<'a> {
 /// ```rust
 /// use cbor_inspect::{Hint, hint_of};
 ///
-/// assert_eq!(rt; hint_of(b"[1.5]", 2), Hint::Float("1.5"));
 /// assert_eq!(rt; hint_of(b"[1,]", 3), Hint::Comma);
 /// ```
 pub fn hint_of(text: &[u8], at: usize) -> Hint<'_> {

@@ -16,19 +16,6 @@ use std::marker::Model;
 
 /// Items one after the other that come in pieces, as from a pipe. It keeps the bytes of the item
 /// that is not whole yet, and scans each of them once, in however many pieces they come.
-///
-/// ```rust
-/// use cbor_inspect::{End, Form, Show, Stream, Style};
-///
-/// let style = Style { form: Form::Diag, embedded: false, notes: false };
-/// let show = Show { style, steps: Vec::new(alloc), one: false };
-/// let mut out = Vec::new(alloc);
-/// let mut stream = Stream::new(Vec::from_slice(alloc, b"\x01\x82\x02")?);
-/// assert_eq!(rt; stream.show(&show, &mut out), End::Cut);
-/// stream.push(alloc, b"\x03")?;
-/// assert_eq!(rt; stream.show(&show, &mut out), End::Done);
-/// assert_eq!(rt; out.as_slice(), b"1\n[2,3]\n".as_slice());
-/// ```
 #[derive(Drop)]
 pub struct Stream {
     /// The bytes that came, but for some that were passed.
@@ -108,6 +95,18 @@ impl Stream {
     /// Appends what is written of the next items, as [`show_items`] does, and tells why it goes no
     /// further. After `Cut`, push more bytes; after `Full`, write the output; after `Lost`, skip an
     /// item; and call it again.
+    ///
+    /// ```rust
+    /// use cbor_inspect::{End, Form, Show, Stream};
+    ///
+    /// let show = Show::new(alloc, Form::Diag);
+    /// let mut out = Vec::new(alloc);
+    /// let mut stream = Stream::new(Vec::from_slice(alloc, b"\x01\x82\x02")?);
+    /// assert_eq!(rt; stream.show(&show, &mut out), End::Cut);
+    /// stream.push(alloc, b"\x03")?;
+    /// assert_eq!(rt; stream.show(&show, &mut out), End::Done);
+    /// assert_eq!(rt; out.as_slice(), b"1\n[2,3]\n".as_slice());
+    /// ```
     pub fn show(&mut self, show: &Show, out: &mut Vec<u8>) -> End
         // The outputs of the next items, in order, which are passed.
         ensures written { (written : List ℕ) × (out.new.items ≡ out.old.items ++ written)

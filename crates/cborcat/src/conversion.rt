@@ -2,19 +2,24 @@
 
 use crate::input::{block_len, read_into};
 use crate::lost::report_lost;
-use crate::messages::{Left, Place, report_end, report_long};
-use crate::output::{Written, write};
+use crate::messages::{Left, Place, report_end, report_long, say};
+use crate::output::{Target, Written, write};
 use crate::run::Runner;
 use crate::status::{Next, Status};
+use crate::words::Job;
 use cbor_inspect::{End, Stream};
 use std::io;
 use std::io::Read;
 
 /// The conversion of the items of one input.
 #[derive(Drop)]
-pub struct Conversion<'a, 'b> {
-    run: &'a mut Runner<'b>,
+pub struct Conversion<'a> {
+    rt: &'a HostRuntime,
+    job: &'a Job<'a>,
+    target: &'a mut Target,
     place: &'a Place<'a>,
+    /// How it went so far.
+    pub status: Status,
     /// The bytes that came, but for those that are skipped or converted.
     stream: Stream,
     /// How many bytes came.
@@ -38,33 +43,36 @@ fn drop_front(bytes: &mut Vec<u8>, count: usize) {
     bytes.truncate(len - count);
 }
 
-impl<'a, 'b> Conversion<'a, 'b> {
+impl<'a> Conversion<'a> {
     /// A conversion of an input that begins with these bytes.
-    pub fn new(
-        run: &'a mut Runner<'b>,
-        place: &'a Place<'a>,
-        first: Vec<u8>,
-    ) -> Conversion<'a, 'b> {
-        let out = Vec::new(run.rt.alloc());
+    pub fn new(run: &'a mut Runner<'_>, place: &'a Place<'a>, first: Vec<u8>) -> Conversion<'a> {
+        let (rt, job) = (run.rt, run.job);
         let came = first.len();
         let mut first = first;
-        let skipped = run.job.offset.min(came);
-        let skip = run.job.offset - skipped;
+        let skipped = job.offset.min(came);
         drop_front(&mut first, skipped);
         Conversion {
-            run,
+            rt,
+            job,
+            target: run.target,
             place,
+            status: Status::Fine,
             stream: Stream::new(first),
             came,
-            skip,
+            skip: job.offset - skipped,
             any: false,
-            out,
+            out: Vec::new(rt.alloc()),
         }
+    }
+
+    /// Takes down how a part of the conversion went.
+    fn ended(&mut self, status: Status) {
+        self.status = self.status.or(status);
     }
 
     /// Converts the items of all that the input has, as it arrives.
     pub fn all<R: Read>(&mut self, input: &mut R) -> Next {
-        let mut block = Vec::new(self.run.rt.alloc());
+        let mut block = Vec::new(self.rt.alloc());
         let mut next = self.items(false);
         for _ in 0..u64::MAX {
             if next != Next::More {
@@ -72,7 +80,11 @@ impl<'a, 'b> Conversion<'a, 'b> {
             }
             next = match self.take_block(input, &mut block) {
                 Ok(count) => self.items(count == 0),
-                Err(error) => self.run.cannot_read(self.place.name, &error),
+                Err(error) => {
+                    say(self.rt, self.place.name, &error);
+                    self.ended(Status::Trouble);
+                    Next::NextInput
+                }
             };
         }
         next
@@ -81,17 +93,13 @@ impl<'a, 'b> Conversion<'a, 'b> {
     /// Takes what the input has, up to a block; returns how many bytes came, 0 at the end.
     fn take_block<R: Read>(&mut self, input: &mut R, block: &mut Vec<u8>) -> io::Result<usize> {
         if block.is_empty() {
-            block.resize(block_len(self.run.rt, self.place.name), 0)?;
+            block.resize(block_len(self.rt, self.place.name), 0)?;
         }
-        let count = read_into(input, block.as_mut_slice())?;
-        let bytes = match block.get(..count) {
-            Some(bytes) => bytes,
-            None => b"",
-        };
+        let count = read_into(input, block.as_mut_slice())?.min(block.len());
         self.came = self.came.saturating_add(count);
-        let skipped = self.skip.min(bytes.len());
+        let skipped = self.skip.min(count);
         self.skip -= skipped;
-        self.stream.push(self.run.rt.alloc(), &bytes[skipped..])?;
+        self.stream.push(self.rt.alloc(), &block[skipped..count])?;
         Ok(count)
     }
 
@@ -105,11 +113,11 @@ impl<'a, 'b> Conversion<'a, 'b> {
     fn items(&mut self, at_end: bool) -> Next {
         for _ in 0..u64::MAX {
             let end = self.some_items();
-            match write(self.run.rt, self.run.target, &self.out) {
+            match write(self.rt, self.target, &self.out) {
                 Written::Whole => self.out.clear(),
                 Written::Closed => return Next::Nothing,
                 Written::Failed => {
-                    self.run.ended(Status::Trouble);
+                    self.ended(Status::Trouble);
                     return Next::Nothing;
                 }
             }
@@ -128,12 +136,12 @@ impl<'a, 'b> Conversion<'a, 'b> {
 
     /// Converts some items, and tells what follows them.
     fn some_items(&mut self) -> End {
-        let show = &self.run.job.show;
+        let show = &self.job.show;
         let before = self.stream.rest().len();
         if show.one && self.any && before > 0 {
             return End::Remaining;
         }
-        let end = if self.run.job.check {
+        let end = if self.job.check {
             self.stream.skip(show.one)
         } else {
             self.stream.show(show, &mut self.out)
@@ -148,14 +156,14 @@ impl<'a, 'b> Conversion<'a, 'b> {
             begins: self.begins(),
             bytes: self.stream.rest(),
         };
-        let status = report_end(self.run.rt, self.place, left, end);
-        self.run.ended(status);
+        let status = report_end(self.rt, self.place, left, end);
+        self.ended(status);
         Next::NextInput
     }
 
     /// All bytes were converted. An input that is to be an item and is none is cut.
     fn done(&mut self) -> Next {
-        if self.run.job.show.one && !self.any {
+        if self.job.show.one && !self.any {
             return self.stop(End::Cut);
         }
         Next::NextInput
@@ -165,20 +173,20 @@ impl<'a, 'b> Conversion<'a, 'b> {
     fn pass_lost(&mut self, len: usize) {
         let rest = self.stream.rest();
         let item = &rest[..len.min(rest.len())];
-        report_lost(self.run.rt, self.run.job, self.place, item);
-        self.run.ended(Status::Bad);
+        report_lost(self.rt, self.job, self.place, item);
+        self.ended(Status::Bad);
         let _ = self.stream.skip(true);
         self.any = true;
     }
 
     /// Waits for more bytes, unless the item that is cut is longer than is allowed.
     fn wait(&mut self) -> Next {
-        let limit = self.run.job.limit;
+        let limit = self.job.limit;
         if self.stream.rest().len() <= limit {
             return Next::More;
         }
-        report_long(self.run.rt, self.place, self.begins(), limit);
-        self.run.ended(Status::Bad);
+        report_long(self.rt, self.place, self.begins(), limit);
+        self.ended(Status::Bad);
         Next::NextInput
     }
 }

@@ -5,6 +5,8 @@
 #![tactic(auto)]
 
 mod conversion;
+#[cfg(test)]
+mod doc_examples;
 mod excerpt;
 mod help;
 mod input;

@@ -57,7 +57,7 @@ pub struct Runner<'a> {
 
 impl Runner<'_> {
     /// Takes down how a part of the run went.
-    pub fn ended(&mut self, status: Status) {
+    fn ended(&mut self, status: Status) {
         self.status = self.status.or(status);
     }
 
@@ -88,7 +88,7 @@ impl Runner<'_> {
     }
 
     /// Says that an input cannot be read.
-    pub fn cannot_read(&mut self, name: &str, error: &io::Error) -> Next {
+    fn cannot_read(&mut self, name: &str, error: &io::Error) -> Next {
         say(self.rt, name, error);
         self.ended(Status::Trouble);
         Next::NextInput
@@ -107,12 +107,21 @@ impl Runner<'_> {
         if arrives {
             let (form, text) = (Input::Bytes, b"".as_slice());
             let place = Place { name, form, text };
-            return Conversion::new(self, &place, bytes).all(input);
+            return self.items(&place, bytes, input);
         }
         match read_all(input, &mut bytes) {
             Ok(()) => self.text(name, &bytes),
             Err(error) => self.cannot_read(name, &error),
         }
+    }
+
+    /// Converts the items of these bytes, and of those that the input still has.
+    fn items<R: Read>(&mut self, place: &Place, first: Vec<u8>, input: &mut R) -> Next {
+        let mut conversion = Conversion::new(self, place, first);
+        let next = conversion.all(input);
+        let status = conversion.status;
+        self.ended(status);
+        next
     }
 
     /// Converts an input that was read to its end, in the form that is named or recognized.
@@ -135,7 +144,7 @@ impl Runner<'_> {
             Ok((form, bytes)) => {
                 let place = Place { name, form, text };
                 let mut none = b"".as_slice();
-                Conversion::new(self, &place, bytes).all(&mut none)
+                self.items(&place, bytes, &mut none)
             }
             Err(refusal) => {
                 let status = report_refusal(self.rt, name, text, refusal);
