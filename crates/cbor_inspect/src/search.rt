@@ -195,78 +195,143 @@ fn after_closing(text: &[u8], at: usize, closing: u8) -> Option<usize> {
     }
 }
 
-/// The first place at which a text is not notation, and what is wrong there; `None` if none is
-/// seen.
-pub(crate) fn slip_of(alloc: Global, text: &[u8]) -> Result<Option<(usize, Slip)>, AllocError> {
-    let mut open: Vec<u8> = Vec::new(alloc);
-    let mut next = Next::Item;
-    let mut at = 0usize;
-    for _ in 0..text.len().saturating_add(1) {
-        let start = at;
-        at = after_blank(text, at);
-        let closing = match open.last() {
+/// What a step of the search finds.
+#[derive(Clone, Copy)]
+enum Found {
+    /// The text goes on.
+    More,
+    /// The text is whole.
+    Whole,
+    /// This is wrong at this place.
+    Wrong(usize, Slip),
+}
+
+/// The search for the first place at which a text is not notation.
+#[derive(Drop)]
+struct Search<'a> {
+    text: &'a [u8],
+    /// Where it is.
+    at: usize,
+    /// What comes next.
+    next: Next,
+    /// What closes the lists that are open, the innermost last.
+    open: Vec<u8>,
+}
+
+impl Search<'_> {
+    /// What closes the innermost list, or 0.
+    fn closing(&self) -> u8 {
+        match self.open.last() {
             Some(closing) => *closing,
             None => 0,
-        };
-        if at >= text.len() {
-            let whole = closing == 0 && (next == Next::After || next == Next::AfterString);
-            return Ok(if whole {
-                None
+        }
+    }
+
+    /// Whether an item comes before this place.
+    fn is_after_item(&self) -> bool {
+        self.next == Next::After || self.next == Next::AfterString
+    }
+
+    /// Goes past what comes next.
+    fn step(&mut self) -> Result<Found, AllocError> {
+        let start = self.at;
+        self.at = after_blank(self.text, start);
+        if self.at >= self.text.len() {
+            return Ok(if self.closing() == 0 && self.is_after_item() {
+                Found::Whole
             } else {
-                Some((at, Slip::Character))
+                Found::Wrong(self.at, Slip::Character)
             });
         }
-        if closing != 0 && next != Next::Item {
-            if let Some(end) = after_closing(text, at, closing) {
-                if next == Next::AfterComma && at == start {
-                    return Ok(Some((at, Slip::Comma)));
-                }
-                let _ = open.pop();
-                at = end;
-                next = if closing == b'>' {
-                    Next::AfterString
-                } else {
-                    Next::After
-                };
-                continue;
-            }
+        if let Some(found) = self.close(start) {
+            return Ok(found);
         }
-        let byte = byte_at(text, at);
-        if next == Next::After || next == Next::AfterString {
-            if byte == b',' && closing != 0 {
-                at = at.saturating_add(1);
-                next = Next::AfterComma;
-                continue;
-            }
-            if byte == b':' && closing == b'}' {
-                at = at.saturating_add(1);
-                next = Next::Item;
-                continue;
-            }
-            if next == Next::After {
-                return Ok(Some((at, Slip::Character)));
-            }
+        if let Some(found) = self.separate() {
+            return Ok(found);
         }
-        match token_at(text, at) {
-            Token::Atom(_) if next == Next::AfterString => return Ok(Some((at, Slip::Character))),
+        self.take_token()
+    }
+
+    /// Goes past what closes a list, if that is here; blanks before it began at `start`.
+    fn close(&mut self, start: usize) -> Option<Found> {
+        let closing = self.closing();
+        if closing == 0 || self.next == Next::Item {
+            return None;
+        }
+        let end = after_closing(self.text, self.at, closing)?;
+        if self.next == Next::AfterComma && self.at == start {
+            return Some(Found::Wrong(self.at, Slip::Comma));
+        }
+        let _ = self.open.pop();
+        self.at = end;
+        self.next = if closing == b'>' {
+            Next::AfterString
+        } else {
+            Next::After
+        };
+        Some(Found::More)
+    }
+
+    /// Goes past a comma or a colon, if one is here. After an item, but a string, nothing else may be.
+    fn separate(&mut self) -> Option<Found> {
+        if !self.is_after_item() {
+            return None;
+        }
+        let closing = self.closing();
+        let next = match byte_at(self.text, self.at) {
+            b',' if closing != 0 => Next::AfterComma,
+            b':' if closing == b'}' => Next::Item,
+            _ if self.next == Next::After => return Some(Found::Wrong(self.at, Slip::Character)),
+            _ => return None,
+        };
+        self.at = self.at.saturating_add(1);
+        self.next = next;
+        Some(Found::More)
+    }
+
+    /// Goes past a token.
+    fn take_token(&mut self) -> Result<Found, AllocError> {
+        match token_at(self.text, self.at) {
+            Token::Atom(_) if self.next == Next::AfterString => {
+                return Ok(Found::Wrong(self.at, Slip::Character));
+            }
             Token::Atom(end) => {
-                at = end;
-                next = Next::After;
+                self.at = end;
+                self.next = Next::After;
             }
             Token::Text(end) => {
-                at = end;
-                next = Next::AfterString;
+                self.at = end;
+                self.next = Next::AfterString;
             }
             Token::Opens(closing, end) => {
-                open.push(closing)?;
-                at = end;
-                next = if closing == b')' {
+                self.open.push(closing)?;
+                self.at = end;
+                self.next = if closing == b')' {
                     Next::Item
                 } else {
                     Next::First
                 };
             }
-            Token::Wrong(place, slip) => return Ok(Some((place, slip))),
+            Token::Wrong(place, slip) => return Ok(Found::Wrong(place, slip)),
+        }
+        Ok(Found::More)
+    }
+}
+
+/// The first place at which a text is not notation, and what is wrong there; `None` if none is
+/// seen.
+pub(crate) fn slip_of(alloc: Global, text: &[u8]) -> Result<Option<(usize, Slip)>, AllocError> {
+    let mut search = Search {
+        text,
+        at: 0,
+        next: Next::Item,
+        open: Vec::new(alloc),
+    };
+    for _ in 0..text.len().saturating_add(1) {
+        match search.step()? {
+            Found::More => {}
+            Found::Whole => return Ok(None),
+            Found::Wrong(place, slip) => return Ok(Some((place, slip))),
         }
     }
     Ok(None)

@@ -120,6 +120,7 @@ impl Runner<'_> {
         let mut conversion = Conversion::new(self, place, first);
         let next = conversion.all(input);
         let status = conversion.status;
+        drop(conversion);
         self.ended(status);
         next
     }
