@@ -54,12 +54,13 @@ pub fn show_bytes(rt: &HostRuntime, bytes: &[u8], at: usize) {
     let from = at.saturating_sub(BYTES_BEFORE);
     let mut digits = String::new(rt.alloc());
     for byte in bytes.iter().skip(from).take(BYTES) {
-        if write!(digits, " {byte:02x}").is_err() {
+        let gap = if digits.is_empty() { "" } else { " " };
+        if write!(digits, "{gap}{byte:02x}").is_err() {
             return;
         }
     }
     let before = at.saturating_sub(from).saturating_mul(3);
-    show_marked(rt, &digits[1..], (before, "^^"));
+    show_marked(rt, &digits, (before, "^^"));
 }
 
 /// A line that is longer than this up to what is at fault is not shown from its beginning.
