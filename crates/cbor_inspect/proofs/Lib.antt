@@ -3,4 +3,7 @@ pub mod PathLemmas
 pub mod Fronts
 pub mod LooseLemmas
 pub mod HiddenLemmas
+pub mod BreakLemmas
 pub mod LineLemmas
+pub mod StringLemmas
+pub mod StreamLemmas

@@ -12,7 +12,9 @@ use Rattle.cbor_diag.proofs.bytes.Resolved.{spells_well}
 use Rattle.cbor_diag.proofs.normal.ReadBack.{reads_back}
 use Rattle.cbor_inspect.specs.declared.form.Form.TheVariants as form
 use Rattle.cbor_inspect.specs.Forms.{IsForm}
+use Rattle.cbor_inspect.specs.declared.breaks.Within.TheVariants as within
 use Rattle.cbor_inspect.specs.Hidden.{IsShown}
+use Rattle.cbor_inspect.proofs.BreakLemmas.{apart_if_shown}
 use Rattle.cbor_inspect.specs.Sequence.{ShowsFront}
 
 pub line_shown : (b : List ℕ) (n : ℕ) (i : Item) (text line : List ℕ) → IsBytes b → BeginsWithItem b i n
@@ -28,6 +30,7 @@ line_shown b n i text line bytes begins is shown ends =
           read_back = subst (λ (x : List ℕ). Reads 128 x (normal_at 128 None i)) (sym is)
               (reads_back 1 128 (omega arith) (in_encoding Compact Base16) None i refl well);
           shown = shown;
+          breaks = apart_if_shown within.Nothing text shown;
         },
       ),
     )

@@ -47,3 +47,24 @@ more_shown Shows b out mid more rest first second = record {
 -- the item at the front, and then the others
 pub item_then : (b : List ℕ) (used : ℕ) (i : Item) → IsItem (take used b) i → ItemsThen b (i ∷ []) (drop used b)
 item_then b used i h = (take used b, drop used b, sym (take-append-drop used b), h, refl)
+
+-- ---- bytes that come later
+
+came_later : (came more : List ℕ) (items : List Item) (rest : List ℕ) → ItemsThen came items rest
+    → ItemsThen (came ++ more) items (rest ++ more)
+came_later came more [] rest h = ap (λ (x : List ℕ). x ++ more) h
+came_later came more (i ∷ is) rest h = (
+  h.0,
+  h.1 ++ more,
+  ap (λ (x : List ℕ). x ++ more) h.2 ∙ append_assoc h.0 h.1 more,
+  h.3,
+  came_later h.1 more is rest h.4,
+)
+
+pub shown_later : (Shows : Item → List ℕ → Type 0) (came more written rest : List ℕ)
+    → IsShownOfFirst Shows came written rest → IsShownOfFirst Shows (came ++ more) written (rest ++ more)
+shown_later Shows came more written rest h = record {
+  items = h.items;
+  input_is = came_later came more h.items rest h.input_is;
+  output_is = h.output_is;
+}

@@ -8,13 +8,16 @@ use Rattle.cbor_diag.specs.Dump.{dump}
 use Rattle.cbor_diag.specs.Written.{encoded}
 use Rattle.cbor_inspect.specs.declared.form.Form.{Form}
 use Rattle.cbor_inspect.specs.declared.form.Form.TheVariants as form
+use Rattle.cbor_inspect.specs.declared.breaks.Within.TheVariants as within
+use Rattle.cbor_inspect.specs.Breaks.{BreaksApart}
 use Rattle.cbor_inspect.specs.Hidden.{IsShown}
 
--- The text is read back as the normal form of the item, and no character in it is hidden; a line feed may be in it
--- where it has lines.
+-- The text is read back as the normal form of the item, and no character in it is hidden. Where it has lines, line
+-- feeds may be in it, but in no quotes and in no comment: no text of the item and no note brings one in.
 pub record IsTextOf (lines : Bool) (i : Item) (text : List ℕ) : Type 0 where
   pub read_back : IsNotation text (normal_of i)
   pub shown : IsShown lines text
+  pub breaks : BreaksApart within.Nothing text
 
 -- such a text and a line feed
 abbrev pub IsLineOf : Bool → Item → List ℕ → Type 0

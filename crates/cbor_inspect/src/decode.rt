@@ -7,7 +7,7 @@ ghost use Rattle.cbor_inspect.specs.Inputs.{is_blank, unblanked, Stands, Reads, 
 
 use crate::items::{End, Shown, skip_items};
 use crate::loose::{HexFault, bytes_of_hex};
-use crate::scan::slip_of;
+use crate::scan::notation_fault;
 use cbor_diag::{Error, parse_diag};
 use cbor_notes::base64_any_decode;
 use std::alloc::{AllocError, Global};
@@ -52,9 +52,12 @@ pub struct Recognized {
 impl Input {
     /// Returns the bytes that an input of this form stands for.
     pub fn decode(self, alloc: Global, text: &[u8]) -> Result<Vec<u8>, Refusal>
+        // These bytes, and no others.
         ensures ok { IfOk result (λ bytes. Stands self text.now bytes.items) }
         ensures one { IfOk result (λ bytes. (others : List ℕ) → Stands self text.now others
             → others ≡ bytes.items) }
+
+        // An error, other than on memory, only where it stands for none.
         ensures refused { IfErr result (λ e. e ≢ refusal.Memory
             → (bytes : List ℕ) → ¬ (Stands self text.now bytes)) }
     {
@@ -150,9 +153,20 @@ fn bytes_of_base64(alloc: Global, text: &[u8]) -> Result<Vec<u8>, Refusal>
 /// as items one after the other; notation is one item.
 ///
 /// If no form does, the error is that of the form that reads furthest.
+///
+/// ```rust
+/// use cbor_inspect::{Input, recognize};
+///
+/// let found = recognize(alloc, b"[1, 2]")?;
+/// assert_eq!(rt; found.form, Input::Diag);
+/// assert_eq!(rt; found.bytes.as_slice(), b"\x82\x01\x02".as_slice());
+/// ```
 pub fn recognize(alloc: Global, text: &[u8]) -> Result<Recognized, Refusal>
+    // The bytes that the form stands for are items, one after the other.
     ensures reads { IfOk result (λ found. Stands found.form text.now found.bytes.items
         × IsSequence found.bytes.items) }
+
+    // No form before it reads the input.
     ensures first { IfOk result (λ found. NoneBefore found.form text.now) }
 {
     let hex = match Input::Hex.read(alloc, text) {
@@ -219,8 +233,8 @@ fn reach(alloc: Global, text: &[u8], refusal: Refusal) -> usize {
         Refusal::Hex(HexFault::Digit(at)) => at,
         Refusal::Hex(HexFault::Odd(at)) => at,
         Refusal::Hex(HexFault::Memory) | Refusal::Memory => usize::MAX,
-        Refusal::Diag(_) => match slip_of(alloc, text) {
-            Ok(Some((at, _))) => at,
+        Refusal::Diag(_) => match notation_fault(alloc, text) {
+            Ok(Some((_, at))) => at,
             _ => 0,
         },
         Refusal::Base64 => 0,

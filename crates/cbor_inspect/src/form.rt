@@ -1,12 +1,14 @@
 //! The forms in which an item is written.
-ghost use Rattle.std.specs.Prelude.{◌≡◌, ◌++◌, ◌∷◌, [], ℕ, List, true, false, IfOk, IfErr, OnOk, Ok};
+ghost use Rattle.std.specs.Prelude.{◌≡◌, ◌++◌, ◌∷◌, [], ℕ, List, true, false, IfOk, IfErr, OnOk};
+ghost use Rattle.std.specs.Prelude.{Ok, None};
 ghost use Rattle.std.specs.String.{string_bytes};
 ghost use Rattle.hex.specs.Hex.{encode_lower};
 ghost use Rattle.cbor_diag.specs.Written.{encoded};
 ghost use Rattle.cbor_diag.specs.View.{view};
-ghost use Rattle.cbor_diag.specs.Facts.{IsWellFormed};
+ghost use Rattle.cbor_diag.specs.Facts.{IsWellFormed, normal_of};
 ghost use Rattle.cbor_diag.specs.Answer.{RefusedSo};
 ghost use Rattle.cbor_inspect.specs.Forms.{IsForm, IsLineOf, IsTextOf};
+ghost use Rattle.cbor_inspect.specs.Strings.{strings_in};
 
 use crate::notation::notation_of;
 use cbor_convert::{To, write_item};
@@ -45,13 +47,29 @@ impl Style {
     ///
     /// Texts end with a line feed. Notation is read back as the item's normal form, and has no
     /// control character and none that ends a line or turns the direction of a text, but for the
-    /// line feeds of pretty text.
+    /// line feeds of pretty text, which are outside of quotes and comments.
+    ///
+    /// ```rust
+    /// use cbor_diag::parse_hex;
+    /// use cbor_inspect::{Form, Show};
+    ///
+    /// let item = parse_hex(alloc, "f9 3e 00")?;
+    /// let text = Show::new(alloc, Form::Pretty).style.write(alloc, &item)?;
+    /// assert_eq!(rt; text.as_slice(), b"float'3e00' /1.5/\n".as_slice());
+    /// ```
     ///
     /// Returns `Memory` if an allocation fails. `Notation` stands for a text that was made and is
     /// not read back; no item is known for which it is returned.
+    #[tactic(auto, using(crate::proofs::StringLemmas::same_strings))]
     pub fn write(self, alloc: Global, item: &DataItem) -> Result<Vec<u8>, Error>
         requires { IsWellFormed (view item.now) }
-        ensures { IfOk result (λ output. IsForm self.form (view item.now) output.items) }
+        // The item in the form.
+        ensures form { IfOk result (λ output. IsForm self.form (view item.now) output.items) }
+
+        // What notation is read back as has the same byte strings, but for those that tags 24 and 63
+        // show as items. So `<<..>>` elsewhere is read back as the same bytes.
+        ensures embedded { strings_in None (normal_of (view item.now))
+            ≡ strings_in None (view item.now) }
     {
         match self.form {
             Form::Pretty => line_of(notation_of(alloc, item, self, true)?),

@@ -77,6 +77,13 @@ const BLOCK: usize = 256;
 
 /// Whether all characters of a text may be shown as they are: none is a control character or ends a
 /// line or turns the direction of a text. With `lines`, line feeds may.
+///
+/// ```rust
+/// use cbor_inspect::is_shown;
+///
+/// assert!(rt; is_shown(true, b"two\nlines"));
+/// assert!(rt; !is_shown(false, b"two\nlines"));
+/// ```
 pub fn is_shown(lines: bool, text: &[u8]) -> bool
     ensures { IsTrue result → IsShown lines text.now }
 {

@@ -1,6 +1,6 @@
 //! Items one after the other, as far as they have come.
 ghost use Rattle.std.specs.Prelude.{◌≡◌, ◌↔◌, ℕ, ◌+◌, ◌-◌, ◌<◌, ◌≤◌, ◌++◌, [], List, length, drop};
-ghost use Rattle.std.specs.Prelude.{IfOk, IfErr, OnErr, false};
+ghost use Rattle.std.specs.Prelude.{IfOk, IfErr, IfSome, OnErr, false};
 ghost use Rattle.cbor_diag.specs.Item.{Item};
 ghost use Rattle.cbor_diag.specs.View.{view};
 ghost use Rattle.std.specs.String.{string_bytes};
@@ -34,6 +34,26 @@ pub struct Show {
     pub one: bool,
 }
 
+impl Show {
+    /// Returns what writes whole items in a form, one after the other, with notes in pretty
+    /// notation.
+    pub fn new(alloc: Global, form: Form) -> Show
+        ensures form { result.style.form ≡ form }
+        ensures whole { steps_of result ≡ [] }
+    {
+        let style = Style {
+            form,
+            embedded: false,
+            notes: true,
+        };
+        Show {
+            style,
+            steps: Vec::new(alloc),
+            one: false,
+        }
+    }
+}
+
 /// Why no further item is written.
 #[derive(Clone, Copy, PartialEq, Eq, Debug)]
 pub enum End {
@@ -65,16 +85,20 @@ pub struct Shown {
 /// Appends what is written of one item after the other, from the front of the bytes, until no whole
 /// item is there, an item does not have the part, or a block is full. After `Failed` the items
 /// before are written.
-pub fn show_items(alloc: Global, show: &Show, bytes: &[u8], out: &mut Vec<u8>) -> Shown
+pub fn show_items(show: &Show, bytes: &[u8], out: &mut Vec<u8>) -> Shown
     ensures used { result.used ≤ length bytes.now }
+
+    // The outputs of the items that `used` bytes are, in order.
     ensures written { (written : List ℕ) × (out.new.items ≡ out.old.items ++ written)
         × IsShownOfFirst (Shows show.now) bytes.now written (drop result.used bytes.now) }
+
+    // Why none is written of the bytes after them.
     ensures ends { EndsSo (steps_of show.now) (drop result.used bytes.now) result.end }
 {
     let limit = out.len().saturating_add(BLOCK);
     let mut used = 0;
     'items: while out.len() < limit && !(show.one && used > 0) {
-        match show_first(alloc, show, &bytes[used..], out) {
+        match show_first(show, &bytes[used..], None, out) {
             Ok(count) => used += count,
             Err(end) => return Shown { used, end },
         }
@@ -85,16 +109,26 @@ pub fn show_items(alloc: Global, show: &Show, bytes: &[u8], out: &mut Vec<u8>) -
     }
 }
 
-/// Appends what is written of the item at the front, and returns how many bytes it takes.
-fn show_first(alloc: Global, show: &Show, bytes: &[u8], out: &mut Vec<u8>) -> Result<usize, End>
+/// Appends what is written of the item at the front, and returns how many bytes it takes. Its length
+/// may be known already.
+pub(crate) fn show_first(
+    show: &Show,
+    bytes: &[u8],
+    known: Option<usize>,
+    out: &mut Vec<u8>,
+) -> Result<usize, End>
+    requires { IfSome known (λ n. (i : Item) × BeginsWithItem bytes.now i n) }
     ensures used { IfOk result (λ used. (1 ≤ used) × (used ≤ length bytes.now)) }
+
+    // The output of that item, or nothing and the reason.
     ensures written { IfOk result (λ used. (written : List ℕ)
         × (out.new.items ≡ out.old.items ++ written)
         × IsShownOfFirst (Shows show.now) bytes.now written (drop used bytes.now)) }
     ensures ends { IfErr result (EndsSo (steps_of show.now) bytes.now) }
     ensures unchanged { OnErr result (out.new.items ≡ out.old.items) }
 {
-    let (written, used) = match first_written(alloc, show, bytes) {
+    let alloc = *out.allocator();
+    let (written, used) = match first_written(alloc, show, bytes, known) {
         Ok(front) => front,
         Err(end) => return Err(end),
     };
@@ -105,7 +139,13 @@ fn show_first(alloc: Global, show: &Show, bytes: &[u8], out: &mut Vec<u8>) -> Re
 }
 
 /// What is written of the item at the front, and its length, or why nothing is written.
-fn first_written(alloc: Global, show: &Show, bytes: &[u8]) -> Result<(Vec<u8>, usize), End>
+fn first_written(
+    alloc: Global,
+    show: &Show,
+    bytes: &[u8],
+    known: Option<usize>,
+) -> Result<(Vec<u8>, usize), End>
+    requires { IfSome known (λ n. (i : Item) × BeginsWithItem bytes.now i n) }
     ensures written { IfOk result (λ x. ShowsFront (Shows show.now) bytes.now x.0.items x.1) }
     ensures ends { IfErr result (EndsSo (steps_of show.now) bytes.now) }
 {
@@ -113,7 +153,7 @@ fn first_written(alloc: Global, show: &Show, bytes: &[u8]) -> Result<(Vec<u8>, u
         return first_part(alloc, show, bytes);
     }
     match show.style.form {
-        Form::Bytes => first_encoding(alloc, bytes),
+        Form::Bytes => first_encoding(alloc, bytes, known),
         Form::Diag if !show.style.embedded => first_line(alloc, show.style, bytes),
         _ => first_whole(alloc, show.style, bytes),
     }
@@ -152,16 +192,37 @@ fn first_whole(alloc: Global, style: Style, bytes: &[u8]) -> Result<(Vec<u8>, us
 }
 
 /// The encoding of the item at the front, of which no item is built.
-fn first_encoding(alloc: Global, bytes: &[u8]) -> Result<(Vec<u8>, usize), End>
+fn first_encoding(
+    alloc: Global,
+    bytes: &[u8],
+    known: Option<usize>,
+) -> Result<(Vec<u8>, usize), End>
+    requires { IfSome known (λ n. (i : Item) × BeginsWithItem bytes.now i n) }
     ensures written { IfOk result (λ x.
         ShowsFront (IsForm Form.Bytes) bytes.now x.0.items x.1) }
     ensures ends { (steps : List Step) → IfErr result (EndsSo steps bytes.now) }
 {
+    let used = match first_len(bytes, known) {
+        Ok(used) => used,
+        Err(end) => return Err(end),
+    };
+    match encoding_of(alloc, &bytes[..used]) {
+        Ok(written) => Ok((written, used)),
+        Err(error) => Err(End::Failed(error)),
+    }
+}
+
+/// The length of the item at the front, which is found out unless it is known, or why there is none.
+fn first_len(bytes: &[u8], known: Option<usize>) -> Result<usize, End>
+    requires { IfSome known (λ n. (i : Item) × BeginsWithItem bytes.now i n) }
+    ensures found { IfOk result (λ n. (i : Item) × BeginsWithItem bytes.now i n) }
+    ensures ends { (steps : List Step) → IfErr result (EndsSo steps bytes.now) }
+{
+    if let Some(len) = known {
+        return Ok(len);
+    }
     match extent(bytes) {
-        Extent::Item(used) => match encoding_of(alloc, &bytes[..used]) {
-            Ok(written) => Ok((written, used)),
-            Err(error) => Err(End::Failed(error)),
-        },
+        Extent::Item(len) => Ok(len),
         Extent::Cut if bytes.is_empty() => Err(End::Done),
         Extent::Cut => Err(End::Cut),
         Extent::Fault { error, end } => Err(End::Fault { error, end }),
@@ -229,10 +290,23 @@ fn fault_of(bytes: &[u8], error: Error) -> End
 
 /// Goes past one item after the other, from the front of the bytes, until no whole item is there,
 /// without memory.
+///
+/// ```rust
+/// use cbor_inspect::{End, skip_items};
+///
+/// let shown = skip_items(b"\x01\x82\x02", false);
+/// assert_eq!(rt; shown.used, 1);
+/// assert_eq!(rt; shown.end, End::Cut);
+/// ```
 pub fn skip_items(bytes: &[u8], one: bool) -> Shown
     ensures used { result.used ≤ length bytes.now }
+
+    // The first `used` bytes are items, one after the other.
     ensures items { (items : List Item) × ItemsThen bytes.now items (drop result.used bytes.now) }
+
+    // Why none of the bytes after them are.
     ensures ends { (steps : List Step) → EndsSo steps (drop result.used bytes.now) result.end }
+
     // The bytes are items alone exactly if none remain at the end.
     ensures clean { (one ≡ false) → (result.end ≡ End.Done) ↔ IsSequence bytes.now }
 {

@@ -2,9 +2,21 @@
 //! has, items one after the other as they arrive, the places of errors, parts of items by a path,
 //! and notation with notes, in which no control character is.
 //!
-//! Nothing here knows of arguments or files.
+//! ```rust
+//! use cbor_inspect::{End, Form, Show, recognize, show_items};
+//!
+//! let found = recognize(alloc, b"0x82 01 02 # two numbers")?;
+//! let mut out = Vec::new(alloc);
+//! let shown = show_items(&Show::new(alloc, Form::Diag), &found.bytes, &mut out);
+//! assert_eq!(rt; shown.end, End::Done);
+//! assert_eq!(rt; out.as_slice(), b"[1,2]\n".as_slice());
+//! ```
+//!
+//! Nothing here knows of arguments or files. In the examples of this crate, `rt` is the
+//! `HostRuntime` of a test, and `alloc` is `rt.alloc()`.
 #![tactic(auto)]
 
+mod breaks;
 mod decode;
 mod form;
 mod hidden;
@@ -13,6 +25,8 @@ mod loose;
 mod notation;
 mod path;
 mod scan;
+mod search;
+mod stream;
 
 pub use decode::{Input, Recognized, Refusal, recognize};
 pub use form::{Form, Style};
@@ -20,4 +34,5 @@ pub use hidden::is_shown;
 pub use items::{End, Show, Shown, show_items, skip_items};
 pub use loose::{HexFault, place_of_digit};
 pub use path::{Lost, Step, lost_at, steps_of, untagged};
-pub use scan::{Slip, float_of, slip_of};
+pub use scan::{Hint, float_of, hint_of, notation_fault};
+pub use stream::Stream;

@@ -17,8 +17,8 @@ mod notes;
 mod print;
 mod wanted;
 
+use crate::breaks::may_be_written;
 use crate::form::Style;
-use crate::hidden::is_shown;
 use cbor_diag::{DataItem, Error, parse_diag};
 use leaves::Base;
 use print::{Content, Look, Spot, push_item};
@@ -36,7 +36,7 @@ pub(crate) fn notation_of(
     ensures { IfOk result (λ text. IsTextOf lines (view item.now) (string_bytes text)) }
 {
     let plain = plain_text(alloc, item, lines)?;
-    let safe = is_shown(lines, plain.as_bytes());
+    let safe = may_be_written(lines, plain.as_bytes());
     let look = Look {
         alloc,
         lines,
@@ -47,7 +47,7 @@ pub(crate) fn notation_of(
         return Ok(plain);
     }
     let text = printed(item, look)?;
-    if is_shown(lines, text.as_bytes()) && reads_alike(alloc, &text, &plain)? {
+    if may_be_written(lines, text.as_bytes()) && reads_alike(alloc, &text, &plain)? {
         return Ok(text);
     }
     if safe {

@@ -168,6 +168,12 @@ fn whole_written(alloc: Global, style: Style, item: &DataItem) -> Result<Part, E
 
 /// Reads a path: steps joined by `/`, each `@`, notation, or a plain word, which is a text. A `/`
 /// between quotes joins nothing. The empty path has no steps.
+///
+/// ```rust
+/// use cbor_inspect::steps_of;
+///
+/// assert_eq!(rt; steps_of(alloc, "2/@/1")?.len(), 3);
+/// ```
 pub fn steps_of(alloc: Global, path: &str) -> Result<Vec<Step>, Error> {
     let mut steps = Vec::new(alloc);
     let mut word = String::new(alloc);

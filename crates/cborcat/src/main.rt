@@ -4,11 +4,18 @@
 //! written of an item are in the crate `cbor_inspect`; here are arguments, files and messages.
 #![tactic(auto)]
 
+mod conversion;
+#[cfg(test)]
+mod doc_examples;
+mod excerpt;
 mod help;
 mod input;
+mod lost;
 mod messages;
+mod notation;
 mod output;
 mod run;
+mod status;
 mod words;
 
 use crate::run::run;

@@ -141,40 +141,44 @@ fn form_of(word: Option<&str>) -> Form {
     }
 }
 
-/// What the arguments ask for.
-fn job_of<'a>(rt: &HostRuntime, matches: &ArgMatches<'a>) -> Asked<'a> {
-    let alloc = rt.alloc();
-    let path = match matches.get_str("path") {
-        Some(path) => path,
-        None => "",
-    };
-    let Ok(steps) = steps_of(alloc, path) else {
-        return out_of_memory(rt);
-    };
-    let mut files = Vec::new(alloc);
-    if let Some(names) = matches.get_strs("file") {
-        if files.extend_from_slice(names).is_err() {
-            return out_of_memory(rt);
-        }
-    }
-    let style = Style {
+/// How the arguments ask for items to be written.
+fn style_of(matches: &ArgMatches) -> Style {
+    Style {
         form: form_of(matches.get_str("to")),
         embedded: matches.get_flag("embedded"),
         notes: !matches.get_flag("no-notes"),
+    }
+}
+
+/// The files that the arguments name.
+fn files_of<'a>(alloc: Global, matches: &ArgMatches<'a>) -> Result<Vec<&'a str>, AllocError> {
+    let mut files = Vec::new(alloc);
+    if let Some(names) = matches.get_strs("file") {
+        files.extend_from_slice(names)?;
+    }
+    Ok(files)
+}
+
+/// How long an item may be that is not whole, unless the arguments say so.
+const LIMIT: usize = 256 * 1024 * 1024;
+
+/// What the arguments ask for.
+fn job_of<'a>(rt: &HostRuntime, matches: &ArgMatches<'a>) -> Asked<'a> {
+    let alloc = rt.alloc();
+    let path = matches.get_str("path").unwrap_or("");
+    let (Ok(steps), Ok(files)) = (steps_of(alloc, path), files_of(alloc, matches)) else {
+        return out_of_memory(rt);
     };
     let show = Show {
-        style,
+        style: style_of(matches),
         steps,
         one: matches.get_flag("one"),
     };
     Asked::Job(Job {
-        from: match matches.get_str("from") {
-            Some(word) => input_of(word),
-            None => None,
-        },
+        from: matches.get_str("from").and_then(input_of),
         text: matches.get_str("text"),
         offset: matches.get_one::<usize>("offset").unwrap_or(0),
-        limit: matches.get_one::<usize>("limit").unwrap_or(268_435_456),
+        limit: matches.get_one::<usize>("limit").unwrap_or(LIMIT),
         show,
         path,
         output: matches.get_str("output"),

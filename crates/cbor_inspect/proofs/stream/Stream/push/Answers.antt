@@ -1,0 +1,23 @@
+use Rattle.std.proofs.Common.{◌≡◌, List, ◌++◌, OnOk, subst, sym, rules, is_ok}
+use Rattle.cbor_inspect.specs.Ends.{Shows}
+use Rattle.cbor_inspect.specs.Sequence.{IsShownOfFirst}
+use Rattle.cbor_inspect.proofs.Sequences.{shown_later}
+use Rattle.cbor_inspect.proofs.StreamLemmas.{still_scanned, shown_if_came}
+use Rattle.cbor_inspect.proofs.stream.Stream.push.Goals as goal
+
+pub invariant_of-self : goal.invariant_of-self
+invariant_of-self c =
+    let inside = c.self.inside in
+    still_scanned inside.scanner inside.scanned inside.start inside.kept.items c.args.bytes.now
+    c.extend_from_slice.new.self.items (is_ok c.extend_from_slice.result) c.if-self-eq0.true c.self.invariant
+    c.extend_from_slice.ensures.items
+
+pub returns-then-self-eq0-clause-joined : goal.returns-then-self-eq0-clause-joined
+returns-then-self-eq0-clause-joined c = λ show came written.
+    shown_if_came c.extend_from_slice.result (Shows show) came written c.args.self.now c.args.bytes.now _ (search rules)
+
+pub returns-clause-joined : goal.returns-clause-joined
+returns-clause-joined c = λ show came written h.
+    let is : c.extend_from_slice-2.new.self.items ≡ c.args.self.now ++ c.args.bytes.now = search rules in
+    subst (λ x. IsShownOfFirst (Shows show) (came ++ c.args.bytes.now) written x) (sym is)
+    (shown_later (Shows show) came c.args.bytes.now written c.args.self.now h)

@@ -1,0 +1,95 @@
+//! Line feeds in a text of notation.
+ghost use Rattle.std.specs.Prelude.{◌≡◌, true, IsTrue};
+ghost use Rattle.cbor_inspect.specs.Breaks.{after, BreaksApart};
+ghost use Rattle.cbor_inspect.specs.Hidden.{IsShown};
+ghost use Rattle.cbor_inspect.specs.declared.breaks.Within.TheVariants as within;
+
+use crate::hidden::is_shown;
+
+/// What a text of notation is within, before a character.
+#[derive(Clone, Copy, PartialEq, Eq, Debug)]
+pub(crate) enum Within {
+    /// Neither quotes nor a comment.
+    Nothing,
+    /// A text between `"`.
+    Text,
+    /// The same, right after a backslash.
+    TextEscape,
+    /// Bytes between `'`, or their digits.
+    Bytes,
+    /// The same, right after a backslash.
+    BytesEscape,
+    /// A comment between `/`.
+    Comment,
+}
+
+impl Within {
+    /// Whether this character may be here: a line feed only outside of quotes and comments.
+    fn may_have(self, byte: u8) -> bool
+        ensures { IsTrue result → (byte ≡ 10) → self ≡ within.Nothing }
+    {
+        byte != b'\n' || self == Within::Nothing
+    }
+
+    /// What the text is within after this character.
+    fn after(self, byte: u8) -> Within
+        ensures { result ≡ after self byte }
+    {
+        match self {
+            Within::Nothing => match byte {
+                b'"' => Within::Text,
+                b'\'' => Within::Bytes,
+                b'/' => Within::Comment,
+                _ => Within::Nothing,
+            },
+            Within::Text => match byte {
+                b'\\' => Within::TextEscape,
+                b'"' => Within::Nothing,
+                _ => Within::Text,
+            },
+            Within::TextEscape => Within::Text,
+            Within::Bytes => match byte {
+                b'\\' => Within::BytesEscape,
+                b'\'' => Within::Nothing,
+                _ => Within::Bytes,
+            },
+            Within::BytesEscape => Within::Bytes,
+            Within::Comment => match byte {
+                b'/' => Within::Nothing,
+                _ => Within::Comment,
+            },
+        }
+    }
+}
+
+/// Whether every line feed of a text is outside of quotes and comments.
+pub(crate) fn breaks_apart(text: &[u8]) -> bool
+    ensures { IsTrue result → BreaksApart within.Nothing text.now }
+{
+    let mut within = Within::Nothing;
+    let mut at = 0;
+    'text: while at < text.len() {
+        let byte = text[at];
+        if !within.may_have(byte) {
+            return false;
+        }
+        within = within.after(byte);
+        at += 1;
+    }
+    true
+}
+
+/// Whether a text may be written: it has no character that is not shown as it is, and line feeds,
+/// with `lines`, only where the layout puts them, outside of quotes and comments.
+pub(crate) fn may_be_written(lines: bool, text: &[u8]) -> bool
+    ensures shown { IsTrue result → IsShown lines text.now }
+    ensures breaks { IsTrue result → BreaksApart within.Nothing text.now }
+{
+    if is_shown(false, text) {
+        return true;
+    }
+    if !lines || !is_shown(true, text) {
+        return false;
+    }
+    breaks_apart(text)
+}

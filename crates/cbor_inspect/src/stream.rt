@@ -1,0 +1,238 @@
+//! Items one after the other that come in pieces.
+ghost use Rattle.std.specs.Prelude.{◌≡◌, ◌↔◌, ℕ, ◌≤◌, ◌++◌, List, length, drop, false};
+ghost use Rattle.std.specs.Prelude.{IfErr, OnOk, OnErr};
+ghost use Rattle.cbor_diag.specs.declared.parse.binary.skip.answer.Extent.{Extent};
+ghost use Rattle.cbor_diag.specs.Item.{Item};
+ghost use Rattle.cbor_diag.specs.Extent.{IsExtent};
+ghost use Rattle.cbor_inspect.specs.declared.items.Show.{Show};
+ghost use Rattle.cbor_inspect.specs.declared.path.Step.{Step};
+ghost use Rattle.cbor_inspect.specs.Sequence.{ItemsThen, IsSequence, IsShownOfFirst};
+ghost use Rattle.cbor_inspect.specs.Ends.{EndsSo, Shows, steps_of};
+
+use crate::items::{End, Show, show_first, show_items};
+use cbor_diag::{Extent, Scanner};
+use std::alloc::{AllocError, Global};
+use std::marker::Model;
+
+/// Items one after the other that come in pieces, as from a pipe. It keeps the bytes of the item
+/// that is not whole yet, and scans each of them once, in however many pieces they come.
+#[derive(Drop)]
+pub struct Stream {
+    /// The bytes that came, but for some that were passed.
+    kept: Vec<u8>,
+    /// How many of these were passed: they are items that were written or skipped.
+    start: usize,
+    /// How many of the others were scanned.
+    scanned: usize,
+    /// What scanned them.
+    scanner: Scanner,
+}
+
+// Clauses see the bytes that came and were not passed.
+impl Model for Stream {
+    ghost use Rattle.std.specs.Prelude.{ℕ, List, take, drop, length, ◌≤◌};
+    ghost use Rattle.cbor_diag.specs.Scanning.{HasScanned};
+
+    ghost Value = { List ℕ };
+
+    ghost view = { λ s. drop s.start s.kept.items };
+
+    ghost invariant = { λ s. (s.scanned ≤ length (drop s.start s.kept.items))
+        × HasScanned s.scanner (take s.scanned (drop s.start s.kept.items)) };
+}
+
+/// The bytes from a place on; none are past the end.
+fn bytes_from(bytes: &[u8], start: usize) -> &[u8]
+    ensures { result.now ≡ drop start bytes.now }
+{
+    match bytes.get(start..) {
+        Some(rest) => rest,
+        None => b"",
+    }
+}
+
+impl Stream {
+    /// Returns a stream to which these bytes came.
+    pub fn new(bytes: Vec<u8>) -> Stream
+        ensures { result ≡ bytes.items }
+    {
+        Stream {
+            kept: bytes,
+            start: 0,
+            scanned: 0,
+            scanner: Scanner::new(),
+        }
+    }
+
+    /// Returns the bytes that follow the items that were written or skipped.
+    pub fn rest(&self) -> &[u8]
+        ensures { result.now ≡ self.now }
+    {
+        bytes_from(&self.kept, self.start)
+    }
+
+    /// Takes the bytes that come next. If memory runs out, none are taken.
+    pub fn push(&mut self, alloc: Global, bytes: &[u8]) -> Result<(), AllocError>
+        // They follow the bytes that are kept.
+        ensures kept { OnOk result (self.new ≡ self.old ++ bytes.now) }
+        ensures unchanged { OnErr result (self.new ≡ self.old) }
+
+        // What was written of the bytes that came before is what was written of them and these.
+        ensures joined { (show : Show) (came written : List ℕ) → OnOk result (
+            IsShownOfFirst (Shows show) came written self.old
+            → IsShownOfFirst (Shows show) (came ++ bytes.now) written self.new) }
+    {
+        if self.start == 0 {
+            return self.kept.extend_from_slice(bytes);
+        }
+        let mut kept = Vec::from_slice(alloc, self.rest())?;
+        kept.extend_from_slice(bytes)?;
+        self.kept = kept;
+        self.start = 0;
+        Ok(())
+    }
+
+    /// Appends what is written of the next items, as [`show_items`] does, and tells why it goes no
+    /// further. After `Cut`, push more bytes; after `Full`, write the output; after `Lost`, skip an
+    /// item; and call it again.
+    ///
+    /// ```rust
+    /// use cbor_inspect::{End, Form, Show, Stream};
+    ///
+    /// let show = Show::new(alloc, Form::Diag);
+    /// let mut out = Vec::new(alloc);
+    /// let mut stream = Stream::new(Vec::from_slice(alloc, b"\x01\x82\x02")?);
+    /// assert_eq!(rt; stream.show(&show, &mut out), End::Cut);
+    /// stream.push(alloc, b"\x03")?;
+    /// assert_eq!(rt; stream.show(&show, &mut out), End::Done);
+    /// assert_eq!(rt; out.as_slice(), b"1\n[2,3]\n".as_slice());
+    /// ```
+    pub fn show(&mut self, show: &Show, out: &mut Vec<u8>) -> End
+        // The outputs of the next items, in order, which are passed.
+        ensures written { (written : List ℕ) × (out.new.items ≡ out.old.items ++ written)
+            × IsShownOfFirst (Shows show.now) self.old written self.new }
+
+        // So of all bytes that came, the output of all calls is that of their whole items.
+        ensures joined { (came before : List ℕ)
+            → IsShownOfFirst (Shows show.now) came before self.old
+            → (written : List ℕ) × (out.new.items ≡ out.old.items ++ written)
+            × IsShownOfFirst (Shows show.now) came (before ++ written) self.new }
+
+        // Why nothing is written of the bytes that are kept.
+        ensures ends { EndsSo (steps_of show.now) self.new result }
+    {
+        self.show_next(show, out)
+    }
+
+    /// Goes past the next items without memory and writes nothing, and tells why it goes no further.
+    pub fn skip(&mut self, one: bool) -> End
+        // Items are passed.
+        ensures items { (items : List Item) × ItemsThen self.old items self.new }
+
+        // Why none of the bytes that are kept are.
+        ensures ends { (steps : List Step) → EndsSo steps self.new result }
+
+        // The bytes are items alone exactly if none remain at the end.
+        ensures clean { (one ≡ false) → (result ≡ End.Done) ↔ IsSequence self.old }
+    {
+        'items: while !self.rest().is_empty() {
+            match self.scan() {
+                Extent::Item(len) => self.pass(len),
+                Extent::Cut => return End::Cut,
+                Extent::Fault { error, end } => return End::Fault { error, end },
+            }
+            if one {
+                return End::Full;
+            }
+        }
+        End::Done
+    }
+
+    /// Scans the bytes that are left and were not scanned, and reports how those that are left
+    /// begin.
+    fn scan(&mut self) -> Extent
+        ensures same { self.new ≡ self.old }
+        ensures begins { IsExtent self.new result }
+        ensures only { (answer : Extent) → IsExtent self.new answer → result ≡ answer }
+    {
+        let rest = bytes_from(&self.kept, self.start);
+        let more = bytes_from(rest, self.scanned);
+        self.scanned = rest.len();
+        self.scanner.feed(more)
+    }
+
+    /// Passes bytes, and begins to scan anew.
+    fn pass(&mut self, len: usize)
+        requires { len ≤ length self.old }
+        ensures { self.new ≡ drop len self.old }
+    {
+        self.start += len;
+        self.scanned = 0;
+        self.scanner = Scanner::new();
+    }
+
+    /// The same as `show`.
+    fn show_next(&mut self, show: &Show, out: &mut Vec<u8>) -> End
+        ensures written { (written : List ℕ) × (out.new.items ≡ out.old.items ++ written)
+            × IsShownOfFirst (Shows show.now) self.old written self.new }
+        ensures ends { EndsSo (steps_of show.now) self.new result }
+    {
+        if self.scanned == 0 {
+            return self.show_others(show, out);
+        }
+        match self.show_scanned(show, out) {
+            Err(end) => end,
+            Ok(()) => {
+                if show.one {
+                    End::Full
+                } else {
+                    self.show_others(show, out)
+                }
+            }
+        }
+    }
+
+    /// Appends what is written of the item whose first bytes were scanned, once it is whole.
+    fn show_scanned(&mut self, show: &Show, out: &mut Vec<u8>) -> Result<(), End>
+        ensures written { OnOk result ((written : List ℕ)
+            × (out.new.items ≡ out.old.items ++ written)
+            × IsShownOfFirst (Shows show.now) self.old written self.new) }
+        ensures ends { IfErr result (EndsSo (steps_of show.now) self.new) }
+        ensures unchanged { OnErr result (out.new.items ≡ out.old.items) }
+        ensures kept { OnErr result (self.new ≡ self.old) }
+    {
+        match self.scan() {
+            Extent::Item(len) => match show_first(show, self.rest(), Some(len), out) {
+                Ok(used) => {
+                    self.pass(used);
+                    Ok(())
+                }
+                Err(end) => Err(end),
+            },
+            Extent::Cut if self.rest().is_empty() => Err(End::Done),
+            Extent::Cut => Err(End::Cut),
+            Extent::Fault { error, end } => Err(End::Fault { error, end }),
+        }
+    }
+
+    /// Appends what is written of items of which nothing was scanned.
+    fn show_others(&mut self, show: &Show, out: &mut Vec<u8>) -> End
+        ensures written { (written : List ℕ) × (out.new.items ≡ out.old.items ++ written)
+            × IsShownOfFirst (Shows show.now) self.old written self.new }
+        ensures ends { EndsSo (steps_of show.now) self.new result }
+    {
+        let shown = show_items(show, self.rest(), out);
+        self.pass(shown.used);
+        self.scan_cut(shown.end);
+        shown.end
+    }
+
+    /// Begins to scan the item at the front if it is cut.
+    fn scan_cut(&mut self, end: End)
+        ensures { self.new ≡ self.old }
+    {
+        if end == End::Cut {
+            let _ = self.scan();
+        }
+    }
+}

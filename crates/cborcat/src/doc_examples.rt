@@ -1,0 +1,77 @@
+//! The examples of the doc comments of `cbor_inspect`, line for line: `docs/check_examples`
+//! compares.
+
+use cbor_diag::{Error, parse_hex};
+use cbor_inspect::{
+    End, Form, Hint, Input, Show, Stream, hint_of, is_shown, notation_fault, place_of_digit,
+    recognize, show_items, skip_items, steps_of,
+};
+use std::test::Fail;
+
+#[test]
+fn hex_is_shown(rt: HostRuntime) -> Result<(), Fail> {
+    let alloc = rt.alloc();
+    let found = recognize(alloc, b"0x82 01 02 # two numbers")?;
+    let mut out = Vec::new(alloc);
+    let shown = show_items(&Show::new(alloc, Form::Diag), &found.bytes, &mut out);
+    assert_eq!(rt; shown.end, End::Done);
+    assert_eq!(rt; out.as_slice(), b"[1,2]\n".as_slice());
+    Ok(())
+}
+
+#[test]
+fn notation_is_recognized(rt: HostRuntime) -> Result<(), Fail> {
+    let alloc = rt.alloc();
+    let found = recognize(alloc, b"[1, 2]")?;
+    assert_eq!(rt; found.form, Input::Diag);
+    assert_eq!(rt; found.bytes.as_slice(), b"\x82\x01\x02".as_slice());
+    Ok(())
+}
+
+#[test]
+fn a_float_is_noted(rt: HostRuntime) -> Result<(), Fail> {
+    let alloc = rt.alloc();
+    let item = parse_hex(alloc, "f9 3e 00")?;
+    let text = Show::new(alloc, Form::Pretty).style.write(alloc, &item)?;
+    assert_eq!(rt; text.as_slice(), b"float'3e00' /1.5/\n".as_slice());
+    Ok(())
+}
+
+#[test]
+fn items_are_passed(rt: HostRuntime) -> Result<(), Fail> {
+    let shown = skip_items(b"\x01\x82\x02", false);
+    assert_eq!(rt; shown.used, 1);
+    assert_eq!(rt; shown.end, End::Cut);
+    Ok(())
+}
+
+#[test]
+fn items_come_in_pieces(rt: HostRuntime) -> Result<(), Fail> {
+    let alloc = rt.alloc();
+    let show = Show::new(alloc, Form::Diag);
+    let mut out = Vec::new(alloc);
+    let mut stream = Stream::new(Vec::from_slice(alloc, b"\x01\x82\x02")?);
+    assert_eq!(rt; stream.show(&show, &mut out), End::Cut);
+    stream.push(alloc, b"\x03")?;
+    assert_eq!(rt; stream.show(&show, &mut out), End::Done);
+    assert_eq!(rt; out.as_slice(), b"1\n[2,3]\n".as_slice());
+    Ok(())
+}
+
+#[test]
+fn texts_hide_characters(rt: HostRuntime) -> Result<(), Fail> {
+    assert!(rt; is_shown(true, b"two\nlines"));
+    assert!(rt; !is_shown(false, b"two\nlines"));
+    Ok(())
+}
+
+#[test]
+fn places_are_found(rt: HostRuntime) -> Result<(), Fail> {
+    let alloc = rt.alloc();
+    assert_eq!(rt; place_of_digit(b"0x82 01", 2), 5);
+    assert_eq!(rt; steps_of(alloc, "2/@/1")?.len(), 3);
+    let fault = notation_fault(alloc, b"[1,]")?;
+    assert_eq!(rt; fault, Some((Error::Notation, 3)));
+    assert_eq!(rt; hint_of(b"[1,]", 3), Hint::Comma);
+    Ok(())
+}

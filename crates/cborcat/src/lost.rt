@@ -1,0 +1,144 @@
+//! Where a path leads nowhere.
+
+use crate::messages::{Place, label, say_out_of_memory};
+use crate::words::Job;
+use cbor_diag::{DataItem, parse_bytes_partial};
+use cbor_inspect::{is_shown, lost_at};
+use std::alloc::{AllocError, Global};
+
+/// Says where the path of an item leads nowhere, and what is there.
+pub fn report_lost(rt: &HostRuntime, job: &Job, place: &Place, bytes: &[u8]) {
+    let alloc = rt.alloc();
+    let Ok(Some((item, _))) = parse_bytes_partial(alloc, bytes) else {
+        return;
+    };
+    let said = match lost_at(alloc, &item, &job.show.steps) {
+        Ok(lost) => {
+            let path = first_steps(alloc, job.path, lost.steps.saturating_add(1));
+            let there = there(alloc, job.path, lost.steps);
+            match (path, there) {
+                (Ok(path), Ok(there)) => say_lost(alloc, &lost.item, (&path, &there)),
+                _ => Err(AllocError),
+            }
+        }
+        Err(_) => Err(AllocError),
+    };
+    match said {
+        Ok(said) => {
+            let _ = eprintln!(rt; "cborcat: {}: {said}", label(place.name));
+        }
+        Err(_) => {
+            let _ = say_out_of_memory(rt, place.name);
+        }
+    }
+}
+
+/// What is said of an item that does not have the next step of a path: `path` ends with that step,
+/// and `there` says where the item is.
+fn say_lost(alloc: Global, item: &DataItem, words: (&str, &str)) -> Result<String, AllocError> {
+    let (path, there) = words;
+    match item {
+        DataItem::Map { content, .. } => {
+            let keys = keys_of(alloc, content)?;
+            format!(in alloc; "{path}: no such key; the map{there} has {keys}")
+        }
+        DataItem::Array { content, .. } => {
+            let count = content.len();
+            format!(in alloc; "{path}: no such index; the array{there} has {count} items")
+        }
+        DataItem::ByteString(_) => {
+            format!(in alloc; "{path}: the bytes{there} are not one item")
+        }
+        _ => format!(in alloc; "{path}: no array, map or bytes are{there}"),
+    }
+}
+
+/// The first steps of a path, as they were given.
+fn first_steps(alloc: Global, path: &str, count: usize) -> Result<String, AllocError> {
+    let mut text = String::new(alloc);
+    let mut left = count;
+    let mut quoted = false;
+    for c in path.chars() {
+        if c == '"' {
+            quoted = !quoted;
+        }
+        if c == '/' && !quoted {
+            left = left.saturating_sub(1);
+        }
+        if left == 0 {
+            break;
+        }
+        text.push(c)?;
+    }
+    Ok(text)
+}
+
+/// Where the item is that so many steps of a path lead to, in words: nothing is said of the whole
+/// item.
+fn there(alloc: Global, path: &str, count: usize) -> Result<String, AllocError> {
+    if count == 0 {
+        return Ok(String::new(alloc));
+    }
+    let before = first_steps(alloc, path, count)?;
+    format!(in alloc; " at {before}")
+}
+
+/// How many keys are named.
+const KEYS: usize = 12;
+
+/// The keys of a map in a few words: as `1 to 7`, or the first of them.
+fn keys_of(alloc: Global, pairs: &[(DataItem, DataItem)]) -> Result<String, AllocError> {
+    if pairs.is_empty() {
+        return String::from_str(alloc, "no keys");
+    }
+    if let Some((first, last)) = range_of(pairs) {
+        return format!(in alloc; "{first} to {last}");
+    }
+    let mut text = String::new(alloc);
+    for (index, pair) in pairs.iter().enumerate() {
+        if index > 0 {
+            text.push_str(", ")?;
+        }
+        if index == KEYS {
+            text.push_str("..")?;
+            break;
+        }
+        push_key(&mut text, &pair.0)?;
+    }
+    Ok(text)
+}
+
+/// Appends a key in notation, if it may be shown as it is.
+fn push_key(text: &mut String, key: &DataItem) -> Result<(), AllocError> {
+    if !key.is_well_formed() {
+        return Ok(());
+    }
+    let Ok(key) = key.to_diag(*text.allocator()) else {
+        return Err(AllocError);
+    };
+    if is_shown(false, key.as_bytes()) {
+        text.push_str(&key)
+    } else {
+        text.push_str("a text")
+    }
+}
+
+/// The first and the last of the keys, if they are numbers, each one more than the one before, and
+/// more than two.
+fn range_of(pairs: &[(DataItem, DataItem)]) -> Option<(u64, u64)> {
+    let mut range: Option<(u64, u64)> = None;
+    for pair in pairs {
+        let DataItem::Integer { value, .. } = &pair.0 else {
+            return None;
+        };
+        range = match range {
+            None => Some((*value, *value)),
+            Some((first, last)) if last < u64::MAX && *value == last + 1 => Some((first, *value)),
+            _ => return None,
+        };
+    }
+    match range {
+        Some((first, last)) if last.saturating_sub(first) >= 2 => range,
+        _ => None,
+    }
+}
