@@ -9,6 +9,7 @@
 //! inlined, and a map's loop reads key and value itself, so that an item is not moved from one to
 //! the other.
 mod content;
+mod fault;
 mod number;
 mod scan;
 mod start;
@@ -27,6 +28,8 @@ ghost use Rattle.cbor_diag.specs.NotationRefused.{IsNoNotation, GaveOrTooDeep};
 ghost use Rattle.cbor_diag.specs.Reading.{Gives};
 ghost use Rattle.cbor_diag.specs.mirror.NotationReading.{read_core, read_integer, read_item};
 ghost use Rattle.cbor_diag.specs.mirror.NotationReading.{read_members, notation_of, read_pair};
+
+pub use fault::diag_fault;
 
 use crate::error::{Error, Result};
 use crate::syntax::{DEEPEST, DataItem, Tag};
