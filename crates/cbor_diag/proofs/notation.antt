@@ -18,4 +18,6 @@ pub mod Tokens
 pub mod Cores
 pub mod OnePiece
 pub mod PublicReader
+pub mod GrownTokens
+pub mod DeadTokens
 pub mod sound

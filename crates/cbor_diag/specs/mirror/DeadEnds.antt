@@ -1,13 +1,13 @@
 -- Texts that nothing can continue so that they are read, as the code of `parse/notation/fault.rt` finds them. No
 -- public clause names these.
-use Rattle.std.specs.Prelude.{◌≡◌, ℕ, Bool, true, false, not, ◌==◌, ◌||◌, ◌&&◌, if◌then◌else◌, List, [], ◌∷◌, ◌++◌, Result, Ok, Err}
+use Rattle.std.specs.Prelude.{◌≡◌, ℕ, Bool, true, false, not, ◌==◌, ◌||◌, ◌&&◌, if◌then◌else◌, List, [], ◌∷◌, ◌++◌, Option, Result, Ok, Err}
 use Rattle.cbor_diag.specs.declared.error.Error.{Error}
 use Rattle.cbor_diag.specs.declared.parse.notation.fault.Member.{Member}
 use Rattle.cbor_diag.specs.declared.parse.notation.fault.Member.TheVariants as member
 use Rattle.cbor_diag.specs.Item.{Chunk, Item}
 use Rattle.cbor_diag.specs.StringKind.{StringKind}
 use Rattle.cbor_diag.specs.Reading.{Read}
-use Rattle.cbor_diag.specs.mirror.NotationReading.{read_pair, read_chunk, members_from, read_pieces}
+use Rattle.cbor_diag.specs.mirror.NotationReading.{read_number, read_pair, read_chunk, members_from, read_pieces}
 use Rattle.cbor_diag.specs.mirror.StringView.{kind_view}
 
 abbrev pub NotRead : {Y : Type 0} → Result Y Error → Type 0
@@ -34,6 +34,11 @@ abbrev pub is_settled : List ℕ → Bool
 is_settled [] = false
 is_settled (b ∷ []) = not ((b == 95) || (b == 98) || (b == 111) || (b == 120))
 is_settled (b ∷ c ∷ text) = true
+
+-- More text changes nothing of the number at the front, nor of there being none; and another byte follows it.
+abbrev pub HasEnd : List ℕ → Type 0
+HasEnd text = ((more : List ℕ) → read_number (text ++ more) ≡ grown more (read_number text))
+    × ((x : (ℕ × Option ℕ) × List ℕ) → read_number text ≡ Ok x → is_settled x.1 ≡ true)
 
 -- whether an item before this text, and the blank after it, end here
 abbrev pub is_firm : List ℕ → Bool

@@ -1,9 +1,9 @@
 //! Whether the token at the front of a text is wrong for good, whatever follows the text.
-ghost use Rattle.std.specs.Prelude.{◌≡◌, ◌⊎◌, ◌++◌, List, ℕ, None, IsTrue, IfOk, IfSome, Ok};
+ghost use Rattle.std.specs.Prelude.{◌≡◌, ◌⊎◌, ◌++◌, List, ℕ, false, None, IsTrue, IfOk};
 ghost use Rattle.cbor_notes.specs.TokenReading.{unquoted};
-ghost use Rattle.cbor_diag.specs.mirror.DeadEnds.{NeverReads, grown, ends_blank, is_firm};
+ghost use Rattle.cbor_diag.specs.mirror.DeadEnds.{NeverReads, HasEnd, ends_blank, is_firm};
 ghost use Rattle.cbor_diag.specs.mirror.DeadEnds.{is_settled, closes, NotRead};
-ghost use Rattle.cbor_diag.specs.mirror.NotationReading.{after_end, after_word, read_number};
+ghost use Rattle.cbor_diag.specs.mirror.NotationReading.{after_end, after_word};
 ghost use Rattle.cbor_diag.specs.mirror.NotationReading.{read_unsigned_number, read_word};
 ghost use Rattle.cbor_diag.specs.mirror.NotationReading.{read_negative_number, read_simple};
 ghost use Rattle.cbor_diag.specs.mirror.NotationReading.{read_float, b_notation, h_notation};
@@ -46,6 +46,7 @@ pub(super) fn is_firm(text: &[u8]) -> bool
 }
 
 /// Whether no list ends here, whatever follows the text.
+#[tactic(auto, using(crate::proofs::notation::DeadTokens::comma_open, crate::proofs::notation::DeadTokens::other_open))]
 pub(super) fn is_open(text: &[u8], close: u8) -> bool
     ensures { IsTrue result → (more : List ℕ) → after_end close (text.now ++ more) ≡ None }
 {
@@ -57,6 +58,7 @@ pub(super) fn is_open(text: &[u8], close: u8) -> bool
 }
 
 /// Whether the text and the word differ before either ends.
+#[tactic(auto, using(crate::proofs::notation::GrownTokens::word_apart))]
 pub(super) fn is_apart(text: &[u8], word: &[u8]) -> bool
     ensures { IsTrue result → (more : List ℕ) → after_word word.now (text.now ++ more) ≡ None }
 {
@@ -64,9 +66,9 @@ pub(super) fn is_apart(text: &[u8], word: &[u8]) -> bool
 }
 
 /// Whether the number at the front is the same whatever follows the text, or there is none.
+#[tactic(auto, using(crate::proofs::notation::DeadTokens::number_stays, crate::proofs::notation::DeadTokens::number_never))]
 fn has_all_digits(text: &[u8]) -> bool
-    ensures { IsTrue result → (more : List ℕ)
-        → read_number (text.now ++ more) ≡ grown more (read_number text.now) }
+    ensures { IsTrue result → HasEnd text.now }
 {
     match read_number(text) {
         Ok((_, rest)) => is_settled(rest),
@@ -75,6 +77,7 @@ fn has_all_digits(text: &[u8]) -> bool
 }
 
 /// Whether no unsigned number is at the front, whatever follows.
+#[tactic(auto, using(crate::proofs::notation::DeadTokens::unsigned_dead, crate::proofs::notation::DeadTokens::failed))]
 pub(super) fn is_dead_unsigned(text: &[u8]) -> bool
     ensures { IsTrue result → NeverReads read_unsigned_number text.now }
 {
@@ -86,6 +89,7 @@ pub(super) fn is_dead_unsigned(text: &[u8]) -> bool
 }
 
 /// Whether no number of a negative integer is at the front, whatever follows.
+#[tactic(auto, using(crate::proofs::notation::DeadTokens::negative_dead, crate::proofs::notation::DeadTokens::failed))]
 pub(super) fn is_dead_negative(text: &[u8]) -> bool
     ensures { IsTrue result → NeverReads read_negative_number text.now }
 {
@@ -97,6 +101,7 @@ pub(super) fn is_dead_negative(text: &[u8]) -> bool
 }
 
 /// Whether no simple value is after its `simple(`, whatever follows.
+#[tactic(auto, using(crate::proofs::notation::DeadTokens::simple_dead, crate::proofs::notation::DeadTokens::failed))]
 fn is_dead_simple(text: &[u8]) -> bool
     ensures { IsTrue result → NeverReads read_simple text.now }
 {
@@ -108,6 +113,7 @@ fn is_dead_simple(text: &[u8]) -> bool
 }
 
 /// Whether no float is after its `float'`, whatever follows.
+#[tactic(auto, using(crate::proofs::notation::DeadTokens::float_dead, crate::proofs::notation::DeadTokens::failed))]
 fn is_dead_float(text: &[u8]) -> bool
     ensures { IsTrue result → NeverReads read_float text.now }
 {
@@ -119,6 +125,7 @@ fn is_dead_float(text: &[u8]) -> bool
 }
 
 /// Whether no word is at the front, whatever follows.
+#[tactic(auto, using(crate::proofs::notation::DeadTokens::word_simple_dead, crate::proofs::notation::DeadTokens::word_float_dead))]
 pub(super) fn is_dead_word(text: &[u8]) -> bool
     ensures { IsTrue result → NeverReads read_word text.now }
 {
@@ -132,6 +139,7 @@ pub(super) fn is_dead_word(text: &[u8]) -> bool
 }
 
 /// Whether the text differs from each word before it ends.
+#[tactic(auto, using(crate::proofs::notation::DeadTokens::no_word_dead))]
 fn is_no_word(text: &[u8]) -> bool
     ensures { IsTrue result → NeverReads read_word text.now }
 {
@@ -189,6 +197,7 @@ fn are_closed(text: &[u8], comments: bool) -> bool
 }
 
 /// Whether no other bytes behind the text change that it is no `b32'..'` or `b64'..'` after the `b`.
+#[tactic(auto, using(crate::proofs::notation::DeadTokens::b32_dead, crate::proofs::notation::DeadTokens::b64_dead, crate::proofs::notation::DeadTokens::b_dead))]
 fn is_dead_b(text: &[u8]) -> bool
     ensures { IsTrue result → NotRead (b_notation text.now) → NeverReads b_notation text.now }
 {
@@ -202,6 +211,7 @@ fn is_dead_b(text: &[u8]) -> bool
 }
 
 /// Whether no other bytes behind the text change that it is no `h'..'` or `h32'..'` after the `h`.
+#[tactic(auto, using(crate::proofs::notation::DeadTokens::h16_dead, crate::proofs::notation::DeadTokens::h32_dead, crate::proofs::notation::DeadTokens::h_dead))]
 fn is_dead_h(text: &[u8]) -> bool
     ensures { IsTrue result → NotRead (h_notation text.now) → NeverReads h_notation text.now }
 {
@@ -215,6 +225,7 @@ fn is_dead_h(text: &[u8]) -> bool
 }
 
 /// Whether no `b32'..'` or `b64'..'` is after the `b`, whatever follows.
+#[tactic(auto, using(crate::proofs::notation::DeadTokens::failed))]
 pub(super) fn is_dead_b_notation(alloc: Global, text: &[u8]) -> Result<bool>
     ensures { IfOk result (λ dead. IsTrue dead → NeverReads b_notation text.now) }
 {
@@ -226,6 +237,7 @@ pub(super) fn is_dead_b_notation(alloc: Global, text: &[u8]) -> Result<bool>
 }
 
 /// Whether no `h'..'` or `h32'..'` is after the `h`, whatever follows.
+#[tactic(auto, using(crate::proofs::notation::DeadTokens::failed))]
 pub(super) fn is_dead_h_notation(alloc: Global, text: &[u8]) -> Result<bool>
     ensures { IfOk result (λ dead. IsTrue dead → NeverReads h_notation text.now) }
 {
