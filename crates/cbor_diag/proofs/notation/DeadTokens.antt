@@ -16,13 +16,13 @@ use Rattle.cbor_diag.specs.declared.syntax.FloatWidth.{FloatWidth}
 use Rattle.cbor_diag.specs.declared.error.Error.{Error}
 use Rattle.cbor_diag.specs.declared.error.Error.TheVariants as refusal
 use Rattle.cbor_diag.specs.Item.{Item, atom, simple, float}
-use Rattle.cbor_diag.specs.Reading.{Read, ◌>>=◌, Fails}
+use Rattle.cbor_diag.specs.Reading.{Read, ◌>>=◌, Fails, Gives}
 use Rattle.cbor_diag.specs.mirror.NotationReading.{or_refused, skip_blank, after_byte, after_word, after_space, after_end}
 use Rattle.cbor_diag.specs.mirror.NotationReading.{read_number, with_width, negative_number, read_unsigned_number}
 use Rattle.cbor_diag.specs.mirror.NotationReading.{read_negative_number, read_simple, simple_value, read_float, float_of}
 use Rattle.cbor_diag.specs.mirror.NotationReading.{numeral, read_word, b_notation, h_notation, read_decoded, base16_of}
 use Rattle.cbor_diag.specs.mirror.NotationReading.{base32_of, base64_of}
-use Rattle.cbor_diag.specs.mirror.DeadEnds.{NotRead, NeverReads, HasEnd, grown, ends_blank, is_settled, is_firm, closes}
+use Rattle.cbor_diag.specs.mirror.DeadEnds.{NotRead, IsRefused, NeverReads, HasEnd, grown, ends_blank, is_settled, is_firm, closes}
 use Rattle.cbor_diag.proofs.notation.GrownTokens.{byte_grown, no_byte_grown, word_grown, number_grown, no_number_grown}
 use Rattle.cbor_diag.proofs.notation.GrownTokens.{decoded_grown, some_is, is_list, behind}
 use Rattle.cbor_diag.proofs.bytes.Heads.{ok_is}
@@ -49,6 +49,12 @@ failed r refusal.OddHex apart f = not_by (Err _) r f tt
 failed r refusal.BadHex apart f = not_by (Err _) r f tt
 failed r refusal.Notation apart f = not_by (Err _) r f tt
 failed r refusal.PastWidth apart f = not_by (Err _) r f tt
+
+-- what a function that returned such an error mirrors is an error
+pub refused : {X Y : Type 0} (view : X → Y) (r : Result X Error) (read : Result Y Error) → Gives view r read
+    → IsRefused r → NotRead read
+refused view (Ok x) read g is = absurd is
+refused view (Err e) read g is = failed read e is g
 
 not_grown : {X : Type 0} (more : List ℕ) (r : Read X) → NotRead r → NotRead (grown more r)
 not_grown more (Ok x) n = absurd n

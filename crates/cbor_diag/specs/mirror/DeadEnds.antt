@@ -1,13 +1,14 @@
 -- Texts that nothing can continue so that they are read, as the code of `parse/notation/fault.rt` finds them. No
 -- public clause names these.
-use Rattle.std.specs.Prelude.{◌≡◌, ℕ, Bool, true, false, not, ◌==◌, ◌||◌, ◌&&◌, if◌then◌else◌, List, [], ◌∷◌, ◌++◌, Option, Result, Ok, Err}
+use Rattle.std.specs.Prelude.{◌≡◌, ◌≢◌, ℕ, Bool, true, false, not, ◌==◌, ◌||◌, ◌&&◌, if◌then◌else◌, List, [], ◌∷◌, ◌++◌, Option, Result, Ok, Err}
 use Rattle.cbor_diag.specs.declared.error.Error.{Error}
+use Rattle.cbor_diag.specs.declared.error.Error.TheVariants as refusal
 use Rattle.cbor_diag.specs.declared.parse.notation.fault.Member.{Member}
 use Rattle.cbor_diag.specs.declared.parse.notation.fault.Member.TheVariants as member
 use Rattle.cbor_diag.specs.Item.{Chunk, Item}
 use Rattle.cbor_diag.specs.StringKind.{StringKind}
 use Rattle.cbor_diag.specs.Reading.{Read}
-use Rattle.cbor_diag.specs.mirror.NotationReading.{read_number, read_pair, read_chunk, members_from, read_pieces}
+use Rattle.cbor_diag.specs.mirror.NotationReading.{skip_blank, read_number, read_pair, read_chunk, members_from, read_pieces}
 use Rattle.cbor_diag.specs.mirror.StringView.{kind_view}
 
 abbrev pub NotRead : {Y : Type 0} → Result Y Error → Type 0
@@ -17,6 +18,11 @@ NotRead (Err e) = Unit {0}
 -- whatever follows this text, it is not read
 abbrev pub NeverReads : {Y : Type 0} → (List ℕ → Result Y Error) → List ℕ → Type 0
 NeverReads read text = (more : List ℕ) → NotRead (read (text ++ more))
+
+-- an error other than out of memory
+abbrev pub IsRefused : {Y : Type 0} → Result Y Error → Type 0
+IsRefused (Ok y) = ⊥
+IsRefused (Err e) = e ≢ refusal.Memory
 
 -- the same with more bytes behind the rest
 abbrev pub grown : {X : Type 0} → List ℕ → Read X → Read X
@@ -40,9 +46,9 @@ abbrev pub HasEnd : List ℕ → Type 0
 HasEnd text = ((more : List ℕ) → read_number (text ++ more) ≡ grown more (read_number text))
     × ((x : (ℕ × Option ℕ) × List ℕ) → read_number text ≡ Ok x → is_settled x.1 ≡ true)
 
--- whether an item before this text, and the blank after it, end here
+-- whether an item before this text and the blank after it end here
 abbrev pub is_firm : List ℕ → Bool
-is_firm text = ends_blank text && is_settled text
+is_firm text = let rest = skip_blank text in ends_blank rest && is_settled rest
 
 -- whether an apostrophe closes these digits; the second argument says whether they begin in a comment
 abbrev pub closes : Bool → Bool → List ℕ → Bool

@@ -2,15 +2,15 @@
 ghost use Rattle.std.specs.Prelude.{◌≡◌, ◌⊎◌, ◌++◌, List, ℕ, false, None, IsTrue, IfOk};
 ghost use Rattle.cbor_notes.specs.TokenReading.{unquoted};
 ghost use Rattle.cbor_diag.specs.mirror.DeadEnds.{NeverReads, HasEnd, ends_blank, is_firm};
-ghost use Rattle.cbor_diag.specs.mirror.DeadEnds.{is_settled, closes, NotRead};
-ghost use Rattle.cbor_diag.specs.mirror.NotationReading.{after_end, after_word};
+ghost use Rattle.cbor_diag.specs.mirror.DeadEnds.{is_settled, closes, NotRead, IsRefused};
+ghost use Rattle.cbor_diag.specs.mirror.NotationReading.{after_end, after_space, after_word};
 ghost use Rattle.cbor_diag.specs.mirror.NotationReading.{read_unsigned_number, read_word};
 ghost use Rattle.cbor_diag.specs.mirror.NotationReading.{read_negative_number, read_simple};
 ghost use Rattle.cbor_diag.specs.mirror.NotationReading.{read_float, b_notation, h_notation};
 
 use super::super::content::{b_notation, h_notation};
 use super::super::number::{read_negative_number, read_number, read_unsigned_number};
-use super::super::scan::{after_byte, after_space, after_word, whitespace_len};
+use super::super::scan::{after_blank, after_space, after_word, whitespace_len};
 use super::super::word::{find_apostrophe, read_float, read_simple};
 use crate::error::{Error, Result};
 use std::alloc::Global;
@@ -38,11 +38,23 @@ fn is_settled(text: &[u8]) -> bool
     }
 }
 
-/// Whether an item before this text, and the blank after it, end here, whatever follows the text.
+/// Whether an item before this text and the blank after it end here, whatever follows the text.
 pub(super) fn is_firm(text: &[u8]) -> bool
     ensures { result ≡ is_firm text.now }
 {
-    ends_blank(text) && is_settled(text)
+    let rest = after_blank(text);
+    ends_blank(rest) && is_settled(rest)
+}
+
+/// Whether this is an error other than `Memory`.
+fn is_refused<T: Drop>(answer: Result<T>) -> bool
+    ensures { IsTrue result → IsRefused answer }
+{
+    match answer {
+        Ok(_) => false,
+        Err(Error::Memory) => false,
+        Err(_) => true,
+    }
 }
 
 /// Whether no list ends here, whatever follows the text.
@@ -52,8 +64,19 @@ pub(super) fn is_open(text: &[u8], close: u8) -> bool
 {
     match text {
         [] => false,
-        [b',', rest @ ..] => whitespace_len(rest).is_some() && after_space(rest, close).is_none(),
+        [b',', rest @ ..] => has_no_end(rest, close),
         [first, ..] => *first != close,
+    }
+}
+
+/// Whether whitespace and the closing byte are not next, whatever follows the text.
+#[tactic(auto, using(crate::proofs::notation::DeadTokens::space_grown))]
+fn has_no_end(text: &[u8], close: u8) -> bool
+    ensures { IsTrue result → (more : List ℕ) → after_space close (text.now ++ more) ≡ None }
+{
+    match whitespace_len(text) {
+        Some(_) => after_space(text, close).is_none(),
+        None => false,
     }
 }
 
@@ -77,50 +100,37 @@ fn has_all_digits(text: &[u8]) -> bool
 }
 
 /// Whether no unsigned number is at the front, whatever follows.
-#[tactic(auto, using(crate::proofs::notation::DeadTokens::unsigned_dead, crate::proofs::notation::DeadTokens::failed))]
+#[tactic(auto, using(crate::proofs::notation::DeadTokens::unsigned_dead, crate::proofs::notation::DeadTokens::refused))]
 pub(super) fn is_dead_unsigned(text: &[u8]) -> bool
     ensures { IsTrue result → NeverReads read_unsigned_number text.now }
 {
-    match read_unsigned_number(text) {
-        Ok(_) => false,
-        Err(Error::Memory) => false,
-        Err(_) => has_all_digits(text),
-    }
+    has_all_digits(text) && is_refused(read_unsigned_number(text))
 }
 
 /// Whether no number of a negative integer is at the front, whatever follows.
-#[tactic(auto, using(crate::proofs::notation::DeadTokens::negative_dead, crate::proofs::notation::DeadTokens::failed))]
+#[tactic(auto, using(crate::proofs::notation::DeadTokens::negative_dead, crate::proofs::notation::DeadTokens::refused))]
 pub(super) fn is_dead_negative(text: &[u8]) -> bool
     ensures { IsTrue result → NeverReads read_negative_number text.now }
 {
-    match read_negative_number(text) {
-        Ok(_) => false,
-        Err(Error::Memory) => false,
-        Err(_) => has_all_digits(text),
-    }
+    has_all_digits(text) && is_refused(read_negative_number(text))
 }
 
 /// Whether no simple value is after its `simple(`, whatever follows.
-#[tactic(auto, using(crate::proofs::notation::DeadTokens::simple_dead, crate::proofs::notation::DeadTokens::failed))]
+#[tactic(auto, using(crate::proofs::notation::DeadTokens::simple_dead, crate::proofs::notation::DeadTokens::refused))]
 fn is_dead_simple(text: &[u8]) -> bool
     ensures { IsTrue result → NeverReads read_simple text.now }
 {
-    match read_simple(text) {
-        Ok(_) => false,
-        Err(Error::Memory) => false,
-        Err(_) => has_all_digits(text),
-    }
+    has_all_digits(text) && is_refused(read_simple(text))
 }
 
 /// Whether no float is after its `float'`, whatever follows.
-#[tactic(auto, using(crate::proofs::notation::DeadTokens::float_dead, crate::proofs::notation::DeadTokens::failed))]
+#[tactic(auto, using(crate::proofs::notation::DeadTokens::float_dead, crate::proofs::notation::DeadTokens::refused))]
 fn is_dead_float(text: &[u8]) -> bool
     ensures { IsTrue result → NeverReads read_float text.now }
 {
-    match read_float(text) {
-        Ok(_) => false,
-        Err(Error::Memory) => false,
-        Err(_) => find_apostrophe(text).is_ok(),
+    match find_apostrophe(text) {
+        Ok(_) => is_refused(read_float(text)),
+        Err(_) => false,
     }
 }
 
@@ -225,7 +235,7 @@ fn is_dead_h(text: &[u8]) -> bool
 }
 
 /// Whether no `b32'..'` or `b64'..'` is after the `b`, whatever follows.
-#[tactic(auto, using(crate::proofs::notation::DeadTokens::failed))]
+#[tactic(auto, using(crate::proofs::notation::DeadTokens::refused))]
 pub(super) fn is_dead_b_notation(alloc: Global, text: &[u8]) -> Result<bool>
     ensures { IfOk result (λ dead. IsTrue dead → NeverReads b_notation text.now) }
 {
@@ -237,7 +247,7 @@ pub(super) fn is_dead_b_notation(alloc: Global, text: &[u8]) -> Result<bool>
 }
 
 /// Whether no `h'..'` or `h32'..'` is after the `h`, whatever follows.
-#[tactic(auto, using(crate::proofs::notation::DeadTokens::failed))]
+#[tactic(auto, using(crate::proofs::notation::DeadTokens::refused))]
 pub(super) fn is_dead_h_notation(alloc: Global, text: &[u8]) -> Result<bool>
     ensures { IfOk result (λ dead. IsTrue dead → NeverReads h_notation text.now) }
 {
