@@ -20,4 +20,5 @@ pub mod OnePiece
 pub mod PublicReader
 pub mod GrownTokens
 pub mod DeadTokens
+pub mod GrownItems
 pub mod sound

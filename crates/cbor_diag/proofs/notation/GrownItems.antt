@@ -3,10 +3,10 @@ use Rattle.std.proofs.Common.{◌≡◌, ℕ, zero, suc, ◌+◌, ◌<◌, ◌�
 use Rattle.std.proofs.Common.{◌||◌, List, [], ◌∷◌, ◌++◌, length, take, codes, Option, Some, None, Result, Ok, Err, ◌⊎◌}
 use Rattle.std.proofs.Common.{inl, inr, refl, sym, ap, ◌∙◌, subst, arith, length-append, append_assoc}
 use Rattle.std.specs.List.{position, prefix_len, starts_with}
-use Rattle.std.proofs.lemmas.Bool.{and_parts, or_parts, or_cases, eqb-true, false≢true, lt-ltb, cond-false}
+use Rattle.std.proofs.lemmas.Bool.{and_parts, or_parts, or_cases, eqb-true, not-true, false≢true, lt-ltb, cond-false}
 use Rattle.std.proofs.lemmas.Slice.Eq.{bytes_eq-Decides}
-use Rattle.cbor_notes.specs.Token.{is_whitespace}
-use Rattle.cbor_notes.specs.TokenReading.{number_of, digits_in, digits_of, some_digits, with_front}
+use Rattle.cbor_notes.specs.Token.{is_whitespace, is_digit}
+use Rattle.cbor_notes.specs.TokenReading.{number_of, digits_in, digits_of, some_digits, with_front, unquoted}
 use Rattle.cbor_diag.specs.declared.error.Error.{Error}
 use Rattle.cbor_diag.specs.declared.error.Error.TheVariants as refusal
 use Rattle.cbor_diag.specs.declared.parse.notation.start.Start.{Start}
@@ -24,6 +24,10 @@ use Rattle.cbor_diag.specs.mirror.NotationReading.{read_content, checked, read_s
 use Rattle.cbor_diag.specs.mirror.NotationReading.{kind_from, string_of, read_string_item, read_word, read_integer}
 use Rattle.cbor_diag.specs.mirror.NotationReading.{read_negative, read_unsigned_number, read_negative_number, core_of}
 use Rattle.cbor_diag.specs.mirror.NotationReading.{read_core, read_item, read_simple, read_float, integer_or_tag}
+use Rattle.cbor_diag.specs.mirror.NotationReading.{either_word, base16_of, base32_of, base64_of}
+use Rattle.cbor_notes.specs.Base32.{standard, extended_hex}
+use Rattle.cbor_diag.specs.Written.{encoded_items}
+use Rattle.cbor_diag.specs.View.{items_of}
 use Rattle.cbor_diag.specs.mirror.DeadEnds.{ends_blank, is_settled, is_firm, closes, grown}
 use Rattle.cbor_diag.proofs.bytes.Heads.{bind_ok, ok_is}
 use Rattle.cbor_diag.proofs.notation.Ends.{holds_of, passed_twice}
@@ -32,7 +36,7 @@ use Rattle.cbor_diag.proofs.notation.Pieces.{pieces_go, pieces_stop}
 use Rattle.cbor_diag.proofs.notation.sound.Lists.{end_is}
 use Rattle.cbor_diag.proofs.notation.sound.Steps.{a_test, none_some, after_byte_is, after_word_is}
 use Rattle.cbor_diag.proofs.notation.GrownTokens.{some_is, byte_grown, no_byte_grown, blank_grown, word_grown, word_apart}
-use Rattle.cbor_diag.proofs.notation.GrownTokens.{quoted_grown, decoded_grown}
+use Rattle.cbor_diag.proofs.notation.GrownTokens.{quoted_grown, decoded_grown, other_digits, number_grown}
 use Rattle.cbor_diag.proofs.notation.DeadTokens.{space_grown}
 
 -- ---- what was read, and more bytes behind the rest
@@ -90,7 +94,7 @@ end_grown close text more rest closes e =
 
 firm_close : (close : ℕ) (text : List ℕ) → IsClose close → is_firm (close ∷ text) ≡ true
 firm_close close [] closes = holds_of (λ c. is_firm (c ∷ [])) list_closes close refl closes
-firm_close close (b ∷ text) closes = ?
+firm_close close (b ∷ text) closes = holds_of (λ c. is_firm (c ∷ b ∷ text)) list_closes close refl closes
 
 firm_comma : (text : List ℕ) → is_firm (44 ∷ text) ≡ true
 firm_comma [] = refl
@@ -129,6 +133,15 @@ comma_grown close text more ends none =
 
 module _ {X : Type 0} (read : List ℕ → Read X) (grows : Grows read) (begins : Begins read) (close : ℕ)
     (closes : IsClose close) where
+  first_begins : (n : ℕ) (text : List ℕ) (y : List X × List ℕ) → members_from read close n text ≡ Ok y
+      → can_begin (skip_blank text) ≡ true
+  unfolding members_from
+  first_begins zero text y e = absurd cc
+  first_begins (suc n) text y e =
+      let first = bind_ok (read text) (λ x. more_members (members_from read close n) x.1 (after_end close x.1)
+      >>= λ xs. Ok (x.0 ∷ xs.0, xs.1)) y e in
+      begins text first.0 first.1
+
   pub from_grown : (n m : ℕ) (text more : List ℕ) (y : List X × List ℕ) → n ≤ m → members_from read close n text ≡ Ok y
       → members_from read close m (text ++ more) ≡ Ok (more_behind more y)
   unfolding members_from
@@ -142,21 +155,338 @@ module _ {X : Type 0} (read : List ℕ → Read X) (grows : Grows read) (begins 
       (λ xs. Ok (x.0 ∷ xs.0, xs.1)) y first.2 in
       let zs = others.0 in
       let same : ◌≡◌ {A = List X × List ℕ} (x.0 ∷ zs.0, zs.1) y = ok_is _ y others.2 in
-      after x first.1 zs same (after_end close x.1) refl others.1
+      after (λ next rs is. from_grown n m next more rs (omega (arith, le)) is) x first.1 zs same (after_end close x.1)
+      refl others.1
     where
-      after : (x : X × List ℕ) → read text ≡ Ok x → (zs : List X × List ℕ)
+      after : ((next : List ℕ) (rs : List X × List ℕ) → members_from read close n next ≡ Ok rs
+          → members_from read close m (next ++ more) ≡ Ok (more_behind more rs)) → (x : X × List ℕ) → read text ≡ Ok x → (zs : List X × List ℕ)
           → ◌≡◌ {A = List X × List ℕ} (x.0 ∷ zs.0, zs.1) y → (o : Option (List ℕ)) → after_end close x.1 ≡ o
           → more_members (members_from read close n) x.1 o ≡ Ok zs
           → (read (text ++ more) >>= λ x. more_members (members_from read close m) x.1 (after_end close x.1)
           >>= λ xs. Ok (x.0 ∷ xs.0, xs.1)) ≡ Ok (more_behind more y)
-      after x is zs same (Some rest) ended more_is =
+      after later x is zs same (Some rest) ended more_is =
           let next = grows text more x is (end_firm close x.1 rest closes ended) in
           let left : ◌≡◌ {A = List X × List ℕ} ([], rest) zs = ok_is _ zs more_is in
           rw (next, end_grown close x.1 more rest closes ended)
           (ap (λ (z : List X × List ℕ). Ok (x.0 ∷ z.0, z.1 ++ more)) left
           ∙ ap (λ (z : List X × List ℕ). Ok (more_behind more z)) same)
-      after x is zs same None ended more_is = ?
+      after later x is zs same None ended more_is =
+          let comma = bind_ok (or_refused (after_byte 44 x.1)) (members_from read close n) zs more_is in
+          let next : List ℕ = comma.0 in
+          let at : after_byte 44 x.1 ≡ Some next = of_some (after_byte 44 x.1) next comma.1 in
+          let left_is : x.1 ≡ 44 ∷ next = after_byte_is 44 x.1 next at in
+          let begun = begin_blank (skip_blank next) (first_begins n next zs comma.2) in
+          let none : after_space close next ≡ None = sym (ap (after_end close) left_is) ∙ ended in
+          let still : after_end close (x.1 ++ more) ≡ None =
+          ap (λ (t : List ℕ). after_end close (t ++ more)) left_is ∙ comma_grown close next more begun none in
+          rw (
+            grows text more x is (subst (λ (t : List ℕ). is_firm t ≡ true) (sym left_is) (firm_comma next)),
+            still,
+            byte_grown 44 x.1 more next at,
+            later next zs comma.2,
+          ) (ap (λ (z : List X × List ℕ). Ok (more_behind more z)) same)
+
+  open_begin : (text more : List ℕ) → can_begin text ≡ true → after_end close text ≡ None
+      → after_end close (text ++ more) ≡ None
+  open_begin [] more begun none = absurd (false≢true begun)
+  open_begin (b ∷ text) more begun none =
+      let comma : (b == 44) ≡ false = not-true (b == 44) (and_parts (not (b == 47)) (not (b == 44)) begun).1 in
+      let here : after_byte close (b ∷ text) ≡ None = rw comma at none in
+      rw comma (no_byte_grown close b text more here)
 
   pub members_grown : Closed (read_members read close)
   unfolding read_members
-  members_grown text more y e = ?
+  members_grown text more y e = by (after_end close (skip_blank text)) refl e
+    where
+      here : ends_blank (skip_blank text) ≡ true → read_members read close (text ++ more)
+          ≡ members_or_end read close (skip_blank text ++ more) (after_end close (skip_blank text ++ more))
+      here ends = ap (λ (f : List ℕ). members_or_end read close f (after_end close f)) (blank_grown text more ends)
+
+      by : (o : Option (List ℕ)) → after_end close (skip_blank text) ≡ o
+          → members_or_end read close (skip_blank text) o ≡ Ok y
+          → read_members read close (text ++ more) ≡ Ok (more_behind more y)
+      by (Some rest) ended is =
+          let firm = end_firm close (skip_blank text) rest closes ended in
+          let ends = subst (λ (t : List ℕ). ends_blank t ≡ true) (passed_twice text)
+          (firm_blank (skip_blank text) firm) in
+          here ends ∙ ap (members_or_end read close (skip_blank text ++ more))
+          (end_grown close (skip_blank text) more rest closes ended)
+          ∙ ap (λ (z : List X × List ℕ). Ok (more_behind more z)) (ok_is ([], rest) y is)
+      by None ended is =
+          let first : List ℕ = skip_blank text in
+          let begun = subst (λ (t : List ℕ). can_begin t ≡ true) (passed_twice text)
+          (first_begins (suc (length first)) first y is) in
+          here (begin_blank first begun) ∙ ap (members_or_end read close (first ++ more))
+          (open_begin first more begun ended)
+          ∙ from_grown (suc (length first)) (suc (length (first ++ more))) first more y
+          (omega (arith, length-append first more)) is
+
+-- ---- pairs
+
+module _ (read : List ℕ → Read Item) (grows : Grows read) (begins : Begins read) where
+  firm_colon : (text : List ℕ) → is_firm (58 ∷ text) ≡ true
+  firm_colon [] = refl
+  firm_colon (b ∷ text) = refl
+
+  pub pair_grows : Grows (read_pair read)
+  pair_grows text more y e firm =
+      let key = bind_ok (read text) (λ k. or_refused (after_byte 58 k.1) >>= λ rest. read rest
+      >>= λ v. Ok ((k.0, v.0), v.1)) y e in
+      let k = key.0 in
+      let colon = bind_ok (or_refused (after_byte 58 k.1)) (λ rest. read rest >>= λ v. Ok ((k.0, v.0), v.1)) y key.2 in
+      let rest : List ℕ = colon.0 in
+      let at : after_byte 58 k.1 ≡ Some rest = of_some (after_byte 58 k.1) rest colon.1 in
+      let value = bind_ok (read rest) (λ v. Ok ((k.0, v.0), v.1)) y colon.2 in
+      let v = value.0 in
+      let same : ◌≡◌ {A = (Item × Item) × List ℕ} ((k.0, v.0), v.1) y = ok_is _ y value.2 in
+      let firm_key : is_firm k.1 ≡ true =
+      subst (λ (t : List ℕ). is_firm t ≡ true) (sym (after_byte_is 58 k.1 rest at)) (firm_colon rest) in
+      let firm_value : is_firm v.1 ≡ true =
+      subst (λ (z : (Item × Item) × List ℕ). is_firm z.1 ≡ true) (sym same) firm in
+      rw (
+        grows text more k key.1 firm_key,
+        byte_grown 58 k.1 more rest at,
+        grows rest more v value.1 firm_value,
+      ) (ap (λ (z : (Item × Item) × List ℕ). Ok (more_behind more z)) same)
+
+  pub pair_begins : Begins (read_pair read)
+  pair_begins text y e =
+      let key = bind_ok (read text) (λ k. or_refused (after_byte 58 k.1) >>= λ rest. read rest
+      >>= λ v. Ok ((k.0, v.0), v.1)) y e in
+      begins text key.0 key.1
+
+-- ---- notations of bytes
+
+closed_if_read : (comments inside : Bool) (text : List ℕ) (x : List ℕ × List ℕ) → digits_in comments inside text ≡ Some x
+    → closes comments inside text ≡ true
+closed_if_read comments inside [] x e = absurd (none_some x e)
+closed_if_read comments true (b ∷ text) x e = closed_if_read comments (not (b == 47)) text x e
+closed_if_read comments false (b ∷ text) x e =
+    elim (a_test (b == 39)) [
+      | inl this ↦ rw this refl
+      | inr other ↦ elim (a_test (is_digit comments b)) [
+        | inl digit ↦
+            let plain : (comments && (b == 47)) ≡ false =
+            (or_parts (is_whitespace b || (b == 39)) (comments && (b == 47)) (not-true _ digit)).1 in
+            let here : with_front (b ∷ []) (digits_in comments false text) ≡ Some x = rw (digit, other) at e in
+            let found = from_front (b ∷ []) (digits_in comments false text) x here in
+            rw (other, plain) (closed_if_read comments false text found.0 found.1)
+        | inr blank ↦
+            rw other (closed_if_read comments (comments && (b == 47)) text x (rw (blank, other) at e))
+      ]
+    ]
+  where
+    from_front : (front : List ℕ) (o : Option (List ℕ × List ℕ)) (z : List ℕ × List ℕ) → with_front front o ≡ Some z
+        → (w : List ℕ × List ℕ) × (o ≡ Some w)
+    from_front front None z is = absurd (none_some z is)
+    from_front front (Some w) z is = (w, refl)
+
+decoded_closed : (comments : Bool) (decode : List ℕ → Option (List ℕ)) (text : List ℕ) (y : List ℕ × List ℕ)
+    → read_decoded comments decode text ≡ Ok y → closes comments false text ≡ true
+decoded_closed comments decode [] y e = absurd cc
+decoded_closed comments decode (b ∷ text) y e =
+    elim (a_test (b == 39)) [
+      | inl this ↦ rw this refl
+      | inr other ↦
+          let digits = bind_ok (or_refused (digits_of comments (b ∷ text))) (λ x. or_refused (decode x.0)
+          >>= λ bytes. Ok (bytes, x.1)) y e in
+          let some = of_some (digits_of comments (b ∷ text)) digits.0 digits.1 in
+          let here : some_digits (digits_in comments false (b ∷ text)) ≡ Some digits.0 =
+          sym (other_digits comments b text other) ∙ some in
+          let found = from_some (digits_in comments false (b ∷ text)) digits.0 here in
+          closed_if_read comments false (b ∷ text) found.0 found.1
+    ]
+  where
+    from_some : (o : Option (List ℕ × List ℕ)) (z : List ℕ × List ℕ) → some_digits o ≡ Some z
+        → (w : List ℕ × List ℕ) × (o ≡ Some w)
+    from_some None z is = absurd (none_some z is)
+    from_some (Some w) z is = (w, refl)
+
+decoded_more : (comments : Bool) (decode : List ℕ → Option (List ℕ)) → Closed (read_decoded comments decode)
+decoded_more comments decode text more y e =
+    decoded_grown comments decode text more (decoded_closed comments decode text y e) ∙ ap (grown more) e
+
+b_closed : Closed b_notation
+b_closed text more y e = by (after_word (codes "32'") text) refl (after_word (codes "64'") text) refl e
+  where
+    by : (o : Option (List ℕ)) → after_word (codes "32'") text ≡ o → (p : Option (List ℕ))
+        → after_word (codes "64'") text ≡ p
+        → either_word o (read_decoded true (base32_of standard)) p (read_decoded false base64_of) ≡ Ok y
+        → b_notation (text ++ more) ≡ Ok (more_behind more y)
+    by (Some digits) is p at read =
+        ap b_notation (word_grown (codes "32'") text more digits is)
+        ∙ decoded_more true (base32_of standard) digits more y read
+    by None is (Some digits) at read =
+        ap b_notation (word_grown (codes "64'") text more digits at) ∙ decoded_more false base64_of digits more y read
+    by None is None at read = absurd cc
+
+h_closed : Closed h_notation
+h_closed text more y e = by (after_word (codes "'") text) refl (after_word (codes "32'") text) refl e
+  where
+    by : (o : Option (List ℕ)) → after_word (codes "'") text ≡ o → (p : Option (List ℕ))
+        → after_word (codes "32'") text ≡ p
+        → either_word o (read_decoded true base16_of) p (read_decoded true (base32_of extended_hex)) ≡ Ok y
+        → h_notation (text ++ more) ≡ Ok (more_behind more y)
+    by (Some digits) is p at read =
+        ap h_notation (word_grown (codes "'") text more digits is) ∙ decoded_more true base16_of digits more y read
+    by None is (Some digits) at read =
+        ap h_notation (word_grown (codes "32'") text more digits at)
+        ∙ decoded_more true (base32_of extended_hex) digits more y read
+    by None is None at read = absurd cc
+
+quoted_closed : (quote : ℕ) → Closed (λ text. or_refused (unquoted quote false text))
+quoted_closed quote text more y e =
+    rw (quoted_grown quote false text more y (of_some (unquoted quote false text) y e)) refl
+
+-- ---- strings
+
+no_start : (kind : StringKind) → false ≡ begins_piece kind (first_start [])
+no_start bytes_kind = refl
+no_start text_kind = refl
+
+module _ (read : List ℕ → Read Item) (grows : Grows read) (begins : Begins read) where
+  pub embedded_closed : Closed (read_embedded read)
+  embedded_closed text more y e =
+      let opened = bind_ok (or_refused (after_byte 60 text)) (λ first. read_members read 62 first
+      >>= λ is. or_refused (after_byte 62 is.1) >>= λ rest. Ok (encoded_items (items_of is.0), rest)) y e in
+      let first : List ℕ = opened.0 in
+      let members = bind_ok (read_members read 62 first)
+      (λ is. or_refused (after_byte 62 is.1) >>= λ rest. Ok (encoded_items (items_of is.0), rest)) y opened.2 in
+      let is = members.0 in
+      let closed = bind_ok (or_refused (after_byte 62 is.1)) (λ rest. Ok (encoded_items (items_of is.0), rest)) y
+      members.2 in
+      let rest : List ℕ = closed.0 in
+      let same : ◌≡◌ {A = List ℕ × List ℕ} (encoded_items (items_of is.0), rest) y = ok_is _ y closed.2 in
+      rw (
+        byte_grown 60 text more first (of_some (after_byte 60 text) first opened.1),
+        members_grown read grows begins 62 refl first more is members.1,
+        byte_grown 62 is.1 more rest (of_some (after_byte 62 is.1) rest closed.1),
+      ) (ap (λ (z : List ℕ × List ℕ). Ok (more_behind more z)) same)
+
+  piece_of_closed : (s : Start) → Closed (piece_of read s)
+  piece_of_closed start.Quote text more y e = quoted_closed 34 text more y e
+  piece_of_closed start.Apostrophe text more y e = quoted_closed 39 text more y e
+  piece_of_closed start.Angle text more y e = embedded_closed text more y e
+  piece_of_closed start.LetterB text more y e = b_closed text more y e
+  piece_of_closed start.LetterH text more y e = h_closed text more y e
+  piece_of_closed start.Parenthesis text more y e = absurd cc
+  piece_of_closed start.Minus text more y e = absurd cc
+  piece_of_closed start.Digit text more y e = absurd cc
+  piece_of_closed start.Bracket text more y e = absurd cc
+  piece_of_closed start.Brace text more y e = absurd cc
+  piece_of_closed start.Other text more y e = absurd cc
+
+  pub piece_closed : Closed (read_piece read)
+  unfolding read_piece
+  piece_closed [] more y e = absurd cc
+  piece_closed (b ∷ text) more y e = piece_of_closed (start_of b) text more y e
+
+  -- pieces that are not blank before: what stops them is there
+  stopped : (n : ℕ) (kind : StringKind) (text : List ℕ) (y : List ℕ × List ℕ) → skip_blank text ≡ text
+      → read_pieces read kind n text ≡ Ok y → is_firm y.1 ≡ true → ends_blank text ≡ true
+  unfolding read_pieces start_of
+  stopped zero kind text y passed e firm = absurd cc
+  stopped (suc n) kind [] y passed e firm =
+      let same : ◌≡◌ {A = List ℕ × List ℕ} ([], []) y = ok_is _ y e in
+      absurd (false≢true (subst (λ (z : List ℕ × List ℕ). is_firm z.1 ≡ true) (sym same) firm))
+  stopped (suc n) kind (b ∷ text) y passed e firm =
+      elim (a_test (b == 47)) [
+        | inl this ↦
+            let slash : b ≡ 47 = eqb-true b 47 this in
+            let stops : read_pieces read kind (suc n) (b ∷ text) ≡ Ok ([], b ∷ text) =
+            pieces_stop read kind n (b ∷ text) (subst (λ (c : ℕ). begins_piece kind (start_of c) ≡ false) (sym slash)
+            refl) in
+            let same : ◌≡◌ {A = List ℕ × List ℕ} ([], b ∷ text) y = ok_is _ y (sym stops ∙ e) in
+            let here = subst (λ (z : List ℕ × List ℕ). is_firm z.1 ≡ true) (sym same) firm in
+            let ends = firm_blank (b ∷ text) here in
+            let first : ends_blank (b ∷ text) ≡ true = subst (λ (t : List ℕ). ends_blank t ≡ true) passed ends in
+            first
+        | inr other ↦ rw other refl
+      ]
+
+  pub pieces_grown : (n m : ℕ) (kind : StringKind) (text more : List ℕ) (y : List ℕ × List ℕ) → n ≤ m
+      → read_pieces read kind n text ≡ Ok y → is_firm y.1 ≡ true
+      → read_pieces read kind m (text ++ more) ≡ Ok (more_behind more y)
+  unfolding read_pieces
+  pieces_grown zero m kind text more y le e firm = absurd cc
+  pieces_grown (suc n) zero kind text more y le e firm = absurd (omega (arith, le))
+  pieces_grown (suc n) (suc m) kind text more y le e firm =
+      elim (a_test (begins_piece kind (first_start text))) [
+        | inl goes ↦
+            let all = sym (pieces_go read kind n text goes) ∙ e in
+            let piece = bind_ok (read_piece read text) (λ x. read_pieces read kind n (skip_blank x.1)
+            >>= λ xs. Ok (x.0 ++ xs.0, xs.1)) y all in
+            let x = piece.0 in
+            let others = bind_ok (read_pieces read kind n (skip_blank x.1)) (λ xs. Ok (x.0 ++ xs.0, xs.1)) y piece.2 in
+            let xs = others.0 in
+            let same : ◌≡◌ {A = List ℕ × List ℕ} (x.0 ++ xs.0, xs.1) y = ok_is _ y others.2 in
+            let firm_rest : is_firm xs.1 ≡ true =
+            subst (λ (z : List ℕ × List ℕ). is_firm z.1 ≡ true) (sym same) firm in
+            let ends = stopped n kind (skip_blank x.1) xs (passed_twice x.1) others.1 firm_rest in
+            pieces_go read kind m (text ++ more) (still text goes)
+            ∙ rw (
+              piece_closed text more x piece.1,
+              blank_grown x.1 more ends,
+              pieces_grown n m kind (skip_blank x.1) more xs (omega (arith, le)) others.1 firm_rest,
+            ) (ap (λ (z : List ℕ × List ℕ). Ok (more_behind more z)) same)
+        | inr ends ↦
+            let same : ◌≡◌ {A = List ℕ × List ℕ} ([], text) y =
+            ok_is _ y (sym (pieces_stop read kind n text ends) ∙ e) in
+            let firm_text : is_firm text ≡ true =
+            subst (λ (z : List ℕ × List ℕ). is_firm z.1 ≡ true) (sym same) firm in
+            let some = firm_some text firm_text in
+            pieces_stop read kind m (text ++ more) (still_not text some.0 some.1 some.2 ends)
+            ∙ ap (λ (z : List ℕ × List ℕ). Ok (more_behind more z)) same
+      ]
+    where
+      still : (t : List ℕ) → begins_piece kind (first_start t) ≡ true
+          → begins_piece kind (first_start (t ++ more)) ≡ true
+      still [] goes = absurd (false≢true (no_start kind ∙ goes))
+      still (b ∷ t) goes = goes
+
+      still_not : (t : List ℕ) (b : ℕ) (rest : List ℕ) → t ≡ b ∷ rest → begins_piece kind (first_start t) ≡ false
+          → begins_piece kind (first_start (t ++ more)) ≡ false
+      still_not [] b rest is ends = absurd cc
+      still_not (c ∷ t) b rest is ends = ends
+
+  none_begins : (kind : StringKind) (y : List ℕ × List ℕ) → read_content read kind [] ≡ Ok y → ⊥
+  none_begins bytes_kind y e = cc
+  none_begins text_kind y e = cc
+
+  pub content_grows : (kind : StringKind) → Grows (read_content read kind)
+  content_grows kind [] more y e firm = absurd (none_begins kind y e)
+  content_grows kind (b ∷ text) more y e firm =
+      by (begins_string kind (start_of b)) refl e
+    where
+      by : (t : Bool) → begins_string kind (start_of b) ≡ t → content_of read kind (b ∷ text) t ≡ Ok y
+          → content_of read kind (b ∷ (text ++ more)) (begins_string kind (start_of b)) ≡ Ok (more_behind more y)
+      by false is read_it = absurd cc
+      by true is read_it =
+          ap (content_of read kind (b ∷ (text ++ more))) is
+          ∙ pieces_grown (suc (suc (length text))) (suc (suc (length (text ++ more)))) kind (b ∷ text) more y
+          (omega (arith, length-append text more)) read_it firm
+
+  pub string_grows : (kind : StringKind) → Grows (read_string read kind)
+  unfolding read_string
+  string_grows kind text more y e firm =
+      let content = bind_ok (read_content read kind text) (λ x. checked kind x.0 >>= λ c. Ok (c, x.1)) y e in
+      let x = content.0 in
+      let chunk = bind_ok (checked kind x.0) (λ c. Ok (c, x.1)) y content.2 in
+      let same : ◌≡◌ {A = Chunk × List ℕ} (chunk.0, x.1) y = ok_is _ y chunk.2 in
+      let firm_rest : is_firm x.1 ≡ true = subst (λ (z : Chunk × List ℕ). is_firm z.1 ≡ true) (sym same) firm in
+      rw (content_grows kind text more x content.1 firm_rest, chunk.1)
+      (ap (λ (z : Chunk × List ℕ). Ok (more_behind more z)) same)
+
+  string_ends : (kind : StringKind) (text : List ℕ) (y : Chunk × List ℕ) → read_string read kind text ≡ Ok y
+      → can_begin text ≡ true
+  unfolding read_string start_of
+  string_ends kind text y e = ?
+
+  pub chunk_grows : (kind : StringKind) → Grows (read_chunk read kind)
+  chunk_grows kind text more y e firm =
+      let begun = string_ends kind (skip_blank text) y e in
+      ap (read_string read kind) (blank_grown text more (begin_blank (skip_blank text) begun))
+      ∙ string_grows kind (skip_blank text) more y e firm
+
+  pub chunk_begins : (kind : StringKind) → Begins (read_chunk read kind)
+  chunk_begins kind text y e = string_ends kind (skip_blank text) y e

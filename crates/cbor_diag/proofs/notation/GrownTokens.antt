@@ -343,7 +343,7 @@ abbrev some_behind : List ℕ → Option (List ℕ × List ℕ) → Option (List
 some_behind more None = None
 some_behind more (Some x) = Some (x.0, x.1 ++ more)
 
-other_digits : (comments : Bool) (b : ℕ) (text : List ℕ) → (b == 39) ≡ false
+pub other_digits : (comments : Bool) (b : ℕ) (text : List ℕ) → (b == 39) ≡ false
     → digits_of comments (b ∷ text) ≡ some_digits (digits_in comments false (b ∷ text))
 other_digits comments b text e = rw e refl
 

@@ -55,6 +55,7 @@ fn but_memory<T: Drop>(answer: Result<T>) -> Result<Option<T>>
 }
 
 /// The text after the item at the front.
+#[tactic(auto, using(crate::proofs::notation::GrownItems::firm_some))]
 fn after_item(alloc: Global, text: &[u8], level: u8) -> Result<&[u8]>
     requires { level ≤ 129 }
     ensures { IfOk result (λ rest. (x : Item)
