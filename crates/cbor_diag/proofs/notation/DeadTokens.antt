@@ -25,8 +25,8 @@ use Rattle.cbor_diag.specs.mirror.NotationReading.{base32_of, base64_of}
 use Rattle.cbor_diag.specs.mirror.DeadEnds.{NotRead, IsRefused, NeverReads, HasEnd, grown, ends_blank, is_settled, is_firm, closes}
 use Rattle.cbor_diag.proofs.notation.GrownTokens.{byte_grown, no_byte_grown, word_grown, number_grown, no_number_grown}
 use Rattle.cbor_diag.proofs.notation.GrownTokens.{decoded_grown, some_is, is_list, behind}
-use Rattle.cbor_diag.proofs.bytes.Heads.{ok_is}
-use Rattle.cbor_diag.proofs.notation.sound.Steps.{a_test, none_some, after_word_is}
+use Rattle.cbor_diag.proofs.bytes.Heads.{bind_ok, ok_is}
+use Rattle.cbor_diag.proofs.notation.sound.Steps.{a_test, none_some, after_word_is, after_byte_is}
 
 -- ---- errors
 
@@ -337,3 +337,61 @@ comma_open close text more n at none = space_grown close text more n at none
 
 pub other_open : (close b : ℕ) (text more : List ℕ) → b ≢ 44 → b ≢ close → after_end close ((b ∷ text) ++ more) ≡ None
 other_open close b text more comma other = rw (ne_eqb b 44 comma, ne_eqb b close other) refl
+
+-- ---- what was read stays so
+
+pub simple_closed : (text more : List ℕ) (y : Item × List ℕ) → read_simple text ≡ Ok y
+    → read_simple (text ++ more) ≡ Ok (y.0, y.1 ++ more)
+simple_closed text more y e =
+    let number = bind_ok (read_number text) (simple_after text) y e in
+    let x = number.0 in
+    let digits : List ℕ = take (length text - length x.1) text in
+    let value = bind_ok (simple_value x.0.0 digits) (λ n. closing n x.1) y number.2 in
+    let close = bind_ok (or_refused (after_byte 41 x.1)) (λ r. Ok (atom (simple value.0), r)) y value.2 in
+    let rest : List ℕ = close.0 in
+    let at : after_byte 41 x.1 ≡ Some rest = some_of (after_byte 41 x.1) rest close.1 in
+    let settled : is_settled x.1 ≡ true =
+    subst (λ (t : List ℕ). is_settled t ≡ true) (sym (after_byte_is 41 x.1 rest at)) (settled_close rest) in
+    let end = number_stays text x number.1 settled in
+    let front = after_number text x number.1 in
+    let same : take (length (text ++ more) - length (x.1 ++ more)) (text ++ more) ≡ digits =
+    ap (λ (t : List ℕ). take (length (t ++ more) - length (x.1 ++ more)) (t ++ more)) front.1
+    ∙ ap (λ (t : List ℕ). take (length t - length (x.1 ++ more)) t) (append_assoc front.0 x.1 more)
+    ∙ in_front front.0 (x.1 ++ more) ∙ sym (in_front front.0 x.1)
+    ∙ ap (λ (t : List ℕ). take (length t - length x.1) t) (sym front.1) in
+    ap (λ (r : Read (ℕ × Option ℕ)). r >>= simple_after (text ++ more)) (end.0 more ∙ ap (grown more) number.1)
+    ∙ ap (λ (d : List ℕ). simple_value x.0.0 d >>= λ n. closing n (x.1 ++ more)) same
+    ∙ ap (λ (w : Result ℕ Error). w >>= λ n. closing n (x.1 ++ more)) value.1
+    ∙ ap (λ (o : Option (List ℕ)). or_refused o >>= λ r. Ok (atom (simple value.0), r)) (byte_grown 41 x.1 more rest at)
+    ∙ ap (λ (z : Item × List ℕ). Ok (z.0, z.1 ++ more)) (ok_is _ y close.2)
+  where
+    settled_close : (rest : List ℕ) → is_settled (41 ∷ rest) ≡ true
+    settled_close [] = refl
+    settled_close (b ∷ rest) = refl
+
+    some_of : (o : Option (List ℕ)) (x : List ℕ) → or_refused o ≡ Ok x → o ≡ Some x
+    some_of None x e = absurd cc
+    some_of (Some z) x e = ap Some (ok_is z x e)
+
+float_more : (w : Option FloatWidth) (bits : Option ℕ) (rest more : List ℕ) (y : Item × List ℕ)
+    → float_end w bits rest ≡ Ok y → float_end w bits (rest ++ more) ≡ Ok (y.0, y.1 ++ more)
+float_more None bits rest more y e = absurd cc
+float_more (Some w) None rest more y e = absurd cc
+float_more (Some w) (Some n) rest more y e = ap (λ (z : Item × List ℕ). Ok (z.0, z.1 ++ more)) (ok_is _ y e)
+
+pub float_closed : (text more : List ℕ) (y : Item × List ℕ) → read_float text ≡ Ok y
+    → read_float (text ++ more) ≡ Ok (y.0, y.1 ++ more)
+float_closed text more y e = by (position (λ b. b == 39) text) refl e
+  where
+    by : (o : Option ℕ) → position (λ b. b == 39) text ≡ o
+        → (or_refused o >>= λ n. float_after n (take n text) (drop (n + 1) text)) ≡ Ok y
+        → read_float (text ++ more) ≡ Ok (y.0, y.1 ++ more)
+    by None at is = absurd cc
+    by (Some count) at is =
+        let place = at_place (λ b. b == 39) text count at in
+        ap (λ (o : Option ℕ). or_refused o >>= λ n. float_after n (take n (text ++ more)) (drop (n + 1) (text ++ more)))
+        (position_grown (λ b. b == 39) text more count at)
+        ∙ ap (λ (d : List ℕ). float_after count d (drop (count + 1) (text ++ more)))
+        (take-append-le count text more (omega (arith, place.0)))
+        ∙ ap (float_after count (take count text)) (drop-append-le (count + 1) text more (omega (arith, place.0)))
+        ∙ float_more (float_of count) (numeral 16 (take count text)) (drop (count + 1) text) more y is

@@ -17,7 +17,7 @@ use Rattle.cbor_diag.specs.Notation.{Closes}
 use Rattle.cbor_diag.specs.Reading.{Read, ◌>>=◌}
 use Rattle.cbor_diag.specs.mirror.NotationReading.{or_refused, skip_blank, after_byte, after_word, after_space, after_end}
 use Rattle.cbor_diag.specs.mirror.NotationReading.{read_number, more_members, members_from, members_or_end, read_members}
-use Rattle.cbor_diag.specs.mirror.NotationReading.{read_pair, read_array, read_map, length_of, read_decoded, b_notation}
+use Rattle.cbor_diag.specs.mirror.NotationReading.{read_pair, read_array, read_map, read_length, read_decoded, b_notation}
 use Rattle.cbor_diag.specs.mirror.NotationReading.{h_notation, read_embedded, piece_of, read_piece, read_pieces}
 use Rattle.cbor_diag.specs.mirror.NotationReading.{begins_piece, begins_string, first_start, start_of, content_of}
 use Rattle.cbor_diag.specs.mirror.NotationReading.{read_content, checked, read_string, read_chunk, chunks_of, read_chunks}
@@ -27,7 +27,11 @@ use Rattle.cbor_diag.specs.mirror.NotationReading.{read_core, read_item, read_si
 use Rattle.cbor_diag.specs.mirror.NotationReading.{either_word, base16_of, base32_of, base64_of}
 use Rattle.cbor_notes.specs.Base32.{standard, extended_hex}
 use Rattle.cbor_diag.specs.Written.{encoded_items}
-use Rattle.cbor_diag.specs.View.{items_of}
+use Rattle.cbor_diag.specs.View.{items_of, pairs_of}
+use Rattle.cbor_diag.specs.Item as spec
+use Rattle.cbor_diag.specs.Item.{array, atom, chunked_string, integer, negative, string, tagged}
+use Rattle.cbor_diag.specs.declared.syntax.IntegerWidth.{IntegerWidth}
+use Rattle.cbor_diag.specs.declared.syntax.IntegerWidth.TheVariants.{Unknown}
 use Rattle.cbor_diag.specs.mirror.DeadEnds.{ends_blank, is_settled, is_firm, closes, grown}
 use Rattle.cbor_diag.proofs.bytes.Heads.{bind_ok, ok_is}
 use Rattle.cbor_diag.proofs.notation.Ends.{holds_of, passed_twice}
@@ -220,6 +224,22 @@ module _ {X : Type 0} (read : List ℕ → Read X) (grows : Grows read) (begins 
           (open_begin first more begun ended)
           ∙ from_grown (suc (length first)) (suc (length (first ++ more))) first more y
           (omega (arith, length-append first more)) is
+
+  -- what a list begins with is no unfinished comment
+  pub members_ends : (text : List ℕ) (y : List X × List ℕ) → read_members read close text ≡ Ok y
+      → ends_blank (skip_blank text) ≡ true
+  unfolding read_members
+  members_ends text y e = by (after_end close (skip_blank text)) refl e
+    where
+      by : (o : Option (List ℕ)) → after_end close (skip_blank text) ≡ o
+          → members_or_end read close (skip_blank text) o ≡ Ok y → ends_blank (skip_blank text) ≡ true
+      by (Some rest) ended is =
+          subst (λ (t : List ℕ). ends_blank t ≡ true) (passed_twice text)
+          (firm_blank (skip_blank text) (end_firm close (skip_blank text) rest closes ended))
+      by None ended is =
+          let first : List ℕ = skip_blank text in
+          begin_blank first (subst (λ (t : List ℕ). can_begin t ≡ true) (passed_twice text)
+          (first_begins (suc (length first)) first y is))
 
 -- ---- pairs
 
@@ -477,10 +497,43 @@ module _ (read : List ℕ → Read Item) (grows : Grows read) (begins : Begins r
       rw (content_grows kind text more x content.1 firm_rest, chunk.1)
       (ap (λ (z : Chunk × List ℕ). Ok (more_behind more z)) same)
 
+  no_string : (kind : StringKind) (c : ℕ) (text : List ℕ) (x : List ℕ × List ℕ) → (c ≡ 47) ⊎ (c ≡ 44)
+      → read_content read kind (c ∷ text) ≡ Ok x → ⊥
+  unfolding start_of
+  no_string bytes_kind c text x (inl is) e =
+      let here : read_content read bytes_kind (47 ∷ text) ≡ Ok x =
+      subst (λ (d : ℕ). read_content read bytes_kind (d ∷ text) ≡ Ok x) is e in cc
+  no_string bytes_kind c text x (inr is) e =
+      let here : read_content read bytes_kind (44 ∷ text) ≡ Ok x =
+      subst (λ (d : ℕ). read_content read bytes_kind (d ∷ text) ≡ Ok x) is e in cc
+  no_string text_kind c text x (inl is) e =
+      let here : read_content read text_kind (47 ∷ text) ≡ Ok x =
+      subst (λ (d : ℕ). read_content read text_kind (d ∷ text) ≡ Ok x) is e in cc
+  no_string text_kind c text x (inr is) e =
+      let here : read_content read text_kind (44 ∷ text) ≡ Ok x =
+      subst (λ (d : ℕ). read_content read text_kind (d ∷ text) ≡ Ok x) is e in cc
+
   string_ends : (kind : StringKind) (text : List ℕ) (y : Chunk × List ℕ) → read_string read kind text ≡ Ok y
       → can_begin text ≡ true
   unfolding read_string start_of
-  string_ends kind text y e = ?
+  string_ends kind [] y e =
+      let content = bind_ok (read_content read kind []) (λ x. checked kind x.0 >>= λ c. Ok (c, x.1)) y e in
+      absurd (none_begins kind content.0 content.1)
+  string_ends kind (b ∷ text) y e =
+      let content = bind_ok (read_content read kind (b ∷ text)) (λ x. checked kind x.0 >>= λ c. Ok (c, x.1)) y e in
+      elim (a_test (b == 47)) [
+        | inl this ↦
+            let is : b ≡ 47 = eqb-true b 47 this in
+            absurd (no_string kind 47 text content.0 (inl refl)
+            (subst (λ (c : ℕ). read_content read kind (c ∷ text) ≡ Ok content.0) is content.1))
+        | inr slash ↦ elim (a_test (b == 44)) [
+          | inl this ↦
+              let is : b ≡ 44 = eqb-true b 44 this in
+              absurd (no_string kind 44 text content.0 (inr refl)
+              (subst (λ (c : ℕ). read_content read kind (c ∷ text) ≡ Ok content.0) is content.1))
+          | inr comma ↦ rw (slash, comma) refl
+        ]
+      ]
 
   pub chunk_grows : (kind : StringKind) → Grows (read_chunk read kind)
   chunk_grows kind text more y e firm =
@@ -490,3 +543,64 @@ module _ (read : List ℕ → Read Item) (grows : Grows read) (begins : Begins r
 
   pub chunk_begins : (kind : StringKind) → Begins (read_chunk read kind)
   chunk_begins kind text y e = string_ends kind (skip_blank text) y e
+
+  length_grown : (b : ℕ) (text more : List ℕ) → read_length ((b ∷ text) ++ more)
+      ≡ ((read_length (b ∷ text)).0, (read_length (b ∷ text)).1 ++ more)
+  length_grown b text more =
+      elim (a_test (b == 95)) [
+        | inl this ↦ rw this refl
+        | inr other ↦ rw other refl
+      ]
+
+  pub array_closed : Closed (read_array read)
+  array_closed [] more y e =
+      let is = bind_ok (read_members read 93 []) (λ is. Ok (array (items_of is.0) (Some Unknown), is.1)) y e in
+      absurd (false≢true (members_ends read grows begins 93 refl [] is.0 is.1))
+  array_closed (b ∷ text) more y e =
+      let opened = read_length (b ∷ text) in
+      let is = bind_ok (read_members read 93 opened.1) (λ is. Ok (array (items_of is.0) opened.0, is.1)) y e in
+      ap (λ (o : Option IntegerWidth × List ℕ). read_members read 93 o.1 >>= λ is. Ok (array (items_of is.0) o.0, is.1))
+      (length_grown b text more)
+      ∙ ap (λ (r : Read (List Item)). r >>= λ is. Ok (array (items_of is.0) opened.0, is.1))
+      (members_grown read grows begins 93 refl opened.1 more is.0 is.1)
+      ∙ ap (λ (z : Item × List ℕ). Ok (more_behind more z)) (ok_is _ y is.2)
+
+  pub map_closed : Closed (read_map read)
+  map_closed [] more y e =
+      let ps = bind_ok (read_members (read_pair read) 125 []) (λ ps. Ok (spec.map (pairs_of ps.0) (Some Unknown), ps.1))
+      y e in
+      absurd (false≢true (members_ends (read_pair read) (pair_grows read grows begins) (pair_begins read grows begins) 125
+      refl [] ps.0 ps.1))
+  map_closed (b ∷ text) more y e =
+      let opened = read_length (b ∷ text) in
+      let ps = bind_ok (read_members (read_pair read) 125 opened.1)
+      (λ ps. Ok (spec.map (pairs_of ps.0) opened.0, ps.1)) y e in
+      ap (λ (o : Option IntegerWidth × List ℕ). read_members (read_pair read) 125 o.1
+      >>= λ ps. Ok (spec.map (pairs_of ps.0) o.0, ps.1)) (length_grown b text more)
+      ∙ ap (λ (r : Read (List (Item × Item))). r >>= λ ps. Ok (spec.map (pairs_of ps.0) opened.0, ps.1))
+      (members_grown (read_pair read) (pair_grows read grows begins) (pair_begins read grows begins) 125 refl opened.1
+      more ps.0 ps.1)
+      ∙ ap (λ (z : Item × List ℕ). Ok (more_behind more z)) (ok_is _ y ps.2)
+
+  pub first_grown : (text more : List ℕ) → ends_blank text ≡ true → first_start (text ++ more) ≡ first_start text
+  first_grown [] more e = absurd (false≢true e)
+  first_grown (b ∷ text) more e = refl
+
+  pub chunks_closed : Closed (read_chunks read)
+  chunks_closed text more y e =
+      let opens = bind_ok (or_refused (after_byte 95 text)) (λ o.
+      chunks_of read (kind_from (first_start (skip_blank o))) (skip_blank o)) y e in
+      let opened : List ℕ = opens.0 in
+      let first : List ℕ = skip_blank opened in
+      let kind : StringKind = kind_from (first_start first) in
+      let cs = bind_ok (read_members (read_chunk read kind) 41 first)
+      (λ cs. Ok (atom (chunked_string kind cs.0), cs.1)) y opens.2 in
+      let ends = subst (λ (t : List ℕ). ends_blank t ≡ true) (passed_twice opened)
+      (members_ends (read_chunk read kind) (chunk_grows kind) (chunk_begins kind) 41 refl first cs.0 cs.1) in
+      ap (λ (o : Option (List ℕ)). or_refused o >>= λ o. chunks_of read (kind_from (first_start (skip_blank o)))
+      (skip_blank o)) (byte_grown 95 text more opened (of_some (after_byte 95 text) opened opens.1))
+      ∙ ap (λ (f : List ℕ). chunks_of read (kind_from (first_start f)) f) (blank_grown opened more ends)
+      ∙ ap (λ (s : Start). chunks_of read (kind_from s) (first ++ more)) (first_grown first more ends)
+      ∙ ap (λ (r : Read (List Chunk)). r >>= λ cs. Ok (atom (chunked_string kind cs.0), cs.1))
+      (members_grown (read_chunk read kind) (chunk_grows kind) (chunk_begins kind) 41 refl first more cs.0 cs.1)
+      ∙ ap (λ (z : Item × List ℕ). Ok (more_behind more z)) (ok_is _ y cs.2)
