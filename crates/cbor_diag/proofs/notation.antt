@@ -21,4 +21,5 @@ pub mod PublicReader
 pub mod GrownTokens
 pub mod DeadTokens
 pub mod GrownItems
+pub mod DeadItems
 pub mod sound

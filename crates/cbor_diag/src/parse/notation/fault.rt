@@ -13,6 +13,7 @@ ghost use Rattle.cbor_diag.specs.WellFormed.{levels_left};
 ghost use Rattle.cbor_diag.specs.Item.{Item, Chunk};
 ghost use Rattle.cbor_diag.specs.Notation.{IsNotation};
 ghost use Rattle.cbor_diag.specs.DeadEnd.{IsDeadEnd, IsDiagFault};
+ghost use Rattle.cbor_diag.specs.NotationRefused.{IsNoNotation};
 ghost use Rattle.cbor_diag.specs.mirror.DeadEnds.{NeverReads, NeverPieces, Value, read_member};
 ghost use Rattle.cbor_diag.specs.mirror.NotationReading.{read_core, read_integer, read_item};
 ghost use Rattle.cbor_diag.specs.mirror.NotationReading.{read_members, read_pair, read_chunk};
@@ -24,7 +25,7 @@ use super::number::read_unsigned_number;
 use super::scan::{after_blank, after_byte, expect_byte, read_length};
 use super::start::Start;
 use super::strings::{read_content, read_piece};
-use super::{read_item, read_items, whole_text};
+use super::{parse_diag, read_item, read_items};
 use crate::error::{Error, Result};
 use crate::syntax::DEEPEST;
 use crate::syntax::strings::StringKind;
@@ -45,7 +46,8 @@ enum Member {
 
 /// What was read, or `None` for any error but `Memory`.
 fn but_memory<T: Drop>(answer: Result<T>) -> Result<Option<T>>
-    ensures { IfOk result (λ found. IfSome found (λ x. answer ≡ Ok x)) }
+    ensures dead { IfOk result (λ found. IfSome found (λ x. answer ≡ Ok x)) }
+    ensures refused { IfErr result (λ e. e ≡ Error.Memory) }
 {
     match answer {
         Ok(x) => Ok(Some(x)),
@@ -55,21 +57,23 @@ fn but_memory<T: Drop>(answer: Result<T>) -> Result<Option<T>>
 }
 
 /// The text after the item at the front.
-#[tactic(auto, using(crate::proofs::notation::GrownItems::firm_some))]
 fn after_item(alloc: Global, text: &[u8], level: u8) -> Result<&[u8]>
     requires { level ≤ 129 }
-    ensures { IfOk result (λ rest. (x : Item)
+    ensures found { IfOk result (λ rest. (x : Item)
         × (read_item (levels_left level) text.now ≡ Ok (x, rest.now))) }
+    ensures shorter { IfOk result (λ rest. length rest.now ≤ length text.now) }
 {
     let (_, rest) = read_item(alloc, text, level)?;
     Ok(rest)
 }
 
 /// The text after the pair at the front.
+#[tactic(auto, using(crate::proofs::notation::DeadItems::pair_found))]
 fn after_pair(alloc: Global, text: &[u8], level: u8) -> Result<&[u8]>
     requires { level ≤ 129 }
-    ensures { IfOk result (λ rest. (x : Item × Item)
+    ensures found { IfOk result (λ rest. (x : Item × Item)
         × (read_pair (read_item (levels_left level)) text.now ≡ Ok (x, rest.now))) }
+    ensures shorter { IfOk result (λ rest. length rest.now ≤ length text.now) }
 {
     let rest = after_item(alloc, text, level)?;
     let rest = expect_byte(rest, b':')?;
@@ -77,11 +81,13 @@ fn after_pair(alloc: Global, text: &[u8], level: u8) -> Result<&[u8]>
 }
 
 /// The text after the chunk at the front.
+#[tactic(auto, using(crate::proofs::notation::DeadItems::chunk_found))]
 fn after_chunk(alloc: Global, kind: StringKind, text: &[u8], level: u8) -> Result<&[u8]>
     requires { level ≤ 129 }
-    ensures { IfOk result (λ rest. (x : Chunk)
+    ensures found { IfOk result (λ rest. (x : Chunk)
         × (read_chunk (read_item (levels_left level)) (kind_view kind) text.now
         ≡ Ok (x, rest.now))) }
+    ensures shorter { IfOk result (λ rest. length rest.now ≤ length text.now) }
 {
     let (content, rest) = read_content(alloc, kind, after_blank(text), level)?;
     if kind.may_hold(&content) {
@@ -94,8 +100,9 @@ fn after_chunk(alloc: Global, kind: StringKind, text: &[u8], level: u8) -> Resul
 /// The text after the member at the front.
 fn after_member(alloc: Global, member: Member, text: &[u8], level: u8) -> Result<&[u8]>
     requires { level ≤ 129 }
-    ensures { IfOk result (λ rest. (x : Value member)
+    ensures found { IfOk result (λ rest. (x : Value member)
         × (read_member member (read_item (levels_left level)) text.now ≡ Ok (x, rest.now))) }
+    ensures shorter { IfOk result (λ rest. length rest.now ≤ length text.now) }
 {
     match member {
         Member::Item => after_item(alloc, text, level),
@@ -106,10 +113,12 @@ fn after_member(alloc: Global, member: Member, text: &[u8], level: u8) -> Result
 
 /// Whether no item is at the front, whatever follows the text.
 #[cycle(fault)]
+#[tactic(auto, using(crate::proofs::notation::DeadItems::item_dead, crate::proofs::notation::DeadItems::too_deep))]
 fn is_dead_item(alloc: Global, text: &[u8], level: u8) -> Result<bool>
     requires { level ≤ 129 }
-    ensures { IfOk result (λ dead. IsTrue dead
+    ensures dead { IfOk result (λ dead. IsTrue dead
         → NeverReads (read_item (levels_left level)) text.now) }
+    ensures refused { IfErr result (λ e. e ≡ Error.Memory) }
 {
     let core = after_blank(text);
     if !ends_blank(core) {
@@ -127,8 +136,9 @@ fn is_dead_core(alloc: Global, text: &[u8], inner: u8) -> Result<bool>
     requires low { 1 ≤ inner }
     requires high { inner ≤ 129 }
     requires some { 0 < length text.now }
-    ensures { IfOk result (λ dead. IsTrue dead
+    ensures dead { IfOk result (λ dead. IsTrue dead
         → NeverReads (read_core (read_item (levels_left inner))) text.now) }
+    ensures refused { IfErr result (λ e. e ≡ Error.Memory) }
 {
     let (start, rest) = Start::split(text);
     match start {
@@ -153,10 +163,12 @@ fn is_dead_core(alloc: Global, text: &[u8], inner: u8) -> Result<bool>
 
 /// Whether neither an integer nor a tag is at the front, whatever follows.
 #[cycle(fault)]
+#[tactic(auto, using(crate::proofs::notation::DeadItems::number_dead, crate::proofs::notation::DeadItems::tag_item_dead, crate::proofs::notation::DeadItems::tag_close_dead))]
 fn is_dead_integer(alloc: Global, text: &[u8], inner: u8) -> Result<bool>
     requires { inner ≤ 129 }
-    ensures { IfOk result (λ dead. IsTrue dead
+    ensures dead { IfOk result (λ dead. IsTrue dead
         → NeverReads (read_integer (read_item (levels_left inner))) text.now) }
+    ensures refused { IfErr result (λ e. e ≡ Error.Memory) }
 {
     let Ok((_, after)) = read_unsigned_number(text) else {
         return Ok(is_dead_unsigned(text));
@@ -172,10 +184,12 @@ fn is_dead_integer(alloc: Global, text: &[u8], inner: u8) -> Result<bool>
 
 /// Whether no pair is at the front, whatever follows.
 #[cycle(fault)]
+#[tactic(auto, using(crate::proofs::notation::DeadItems::pair_key_dead, crate::proofs::notation::DeadItems::pair_colon_dead, crate::proofs::notation::DeadItems::pair_value_dead))]
 fn is_dead_pair(alloc: Global, text: &[u8], level: u8) -> Result<bool>
     requires { level ≤ 129 }
-    ensures { IfOk result (λ dead. IsTrue dead
+    ensures dead { IfOk result (λ dead. IsTrue dead
         → NeverReads (read_pair (read_item (levels_left level))) text.now) }
+    ensures refused { IfErr result (λ e. e ≡ Error.Memory) }
 {
     let Some(after) = but_memory(after_item(alloc, text, level))? else {
         return is_dead_item(alloc, text, level);
@@ -191,10 +205,12 @@ fn is_dead_pair(alloc: Global, text: &[u8], level: u8) -> Result<bool>
 
 /// Whether no chunk is at the front, whatever follows.
 #[cycle(fault)]
+#[tactic(auto, using(crate::proofs::notation::DeadItems::chunk_dead))]
 fn is_dead_chunk(alloc: Global, kind: StringKind, text: &[u8], level: u8) -> Result<bool>
     requires { level ≤ 129 }
-    ensures { IfOk result (λ dead. IsTrue dead
+    ensures dead { IfOk result (λ dead. IsTrue dead
         → NeverReads (read_chunk (read_item (levels_left level)) (kind_view kind)) text.now) }
+    ensures refused { IfErr result (λ e. e ≡ Error.Memory) }
 {
     let core = after_blank(text);
     if !ends_blank(core) {
@@ -207,8 +223,9 @@ fn is_dead_chunk(alloc: Global, kind: StringKind, text: &[u8], level: u8) -> Res
 #[cycle(fault)]
 fn is_dead_member(alloc: Global, member: Member, text: &[u8], level: u8) -> Result<bool>
     requires { level ≤ 129 }
-    ensures { IfOk result (λ dead. IsTrue dead
+    ensures dead { IfOk result (λ dead. IsTrue dead
         → NeverReads (read_member member (read_item (levels_left level))) text.now) }
+    ensures refused { IfErr result (λ e. e ≡ Error.Memory) }
 {
     match member {
         Member::Item => is_dead_item(alloc, text, level),
@@ -228,8 +245,9 @@ fn is_dead_list(
     level: u8,
 ) -> Result<bool>
     requires { level ≤ 129 }
-    ensures { IfOk result (λ dead. IsTrue dead → NeverReads
+    ensures dead { IfOk result (λ dead. IsTrue dead → NeverReads
         (read_members (read_member member (read_item (levels_left level))) close) text.now) }
+    ensures refused { IfErr result (λ e. e ≡ Error.Memory) }
 {
     let mut rest = after_blank(text);
     if !ends_blank(rest) || !is_open(rest, close) {
@@ -251,10 +269,12 @@ fn is_dead_list(
 
 /// Whether no indefinite string is after its `(`, whatever follows.
 #[cycle(fault)]
+#[tactic(auto, using(crate::proofs::notation::DeadItems::chunks_open_dead, crate::proofs::notation::DeadItems::chunks_list_dead))]
 fn is_dead_chunks(alloc: Global, text: &[u8], inner: u8) -> Result<bool>
     requires { inner ≤ 129 }
-    ensures { IfOk result (λ dead. IsTrue dead
+    ensures dead { IfOk result (λ dead. IsTrue dead
         → NeverReads (read_chunks (read_item (levels_left inner))) text.now) }
+    ensures refused { IfErr result (λ e. e ≡ Error.Memory) }
 {
     let Some(opened) = after_byte(text, b'_') else {
         return Ok(!text.is_empty());
@@ -269,10 +289,12 @@ fn is_dead_chunks(alloc: Global, text: &[u8], inner: u8) -> Result<bool>
 
 /// Whether no items are after the first `<` of `<<`, up to their `>>`, whatever follows.
 #[cycle(fault)]
+#[tactic(auto, using(crate::proofs::notation::DeadItems::embedded_open_dead, crate::proofs::notation::DeadItems::embedded_close_dead, crate::proofs::notation::DeadItems::embedded_list_dead))]
 fn is_dead_embedded(alloc: Global, text: &[u8], inner: u8) -> Result<bool>
     requires { inner ≤ 129 }
-    ensures { IfOk result (λ dead. IsTrue dead
+    ensures dead { IfOk result (λ dead. IsTrue dead
         → NeverReads (read_embedded (read_item (levels_left inner))) text.now) }
+    ensures refused { IfErr result (λ e. e ≡ Error.Memory) }
 {
     let Some(first) = after_byte(text, b'<') else {
         return Ok(!text.is_empty());
@@ -287,8 +309,9 @@ fn is_dead_embedded(alloc: Global, text: &[u8], inner: u8) -> Result<bool>
 #[cycle(fault)]
 fn is_dead_piece(alloc: Global, text: &[u8], inner: u8) -> Result<bool>
     requires { inner ≤ 129 }
-    ensures { IfOk result (λ dead. IsTrue dead
+    ensures dead { IfOk result (λ dead. IsTrue dead
         → NeverReads (read_piece (read_item (levels_left inner))) text.now) }
+    ensures refused { IfErr result (λ e. e ≡ Error.Memory) }
 {
     let (start, rest) = Start::split(text);
     match start {
@@ -305,8 +328,9 @@ fn is_dead_piece(alloc: Global, text: &[u8], inner: u8) -> Result<bool>
 #[cycle(fault)]
 fn is_dead_pieces(alloc: Global, kind: StringKind, text: &[u8], inner: u8) -> Result<bool>
     requires { inner ≤ 129 }
-    ensures { IfOk result (λ dead. IsTrue dead
+    ensures dead { IfOk result (λ dead. IsTrue dead
         → NeverPieces (read_item (levels_left inner)) (kind_view kind) text.now) }
+    ensures refused { IfErr result (λ e. e ≡ Error.Memory) }
 {
     let mut rest = text;
     'pieces: while Start::of(rest).begins_piece(kind) {
@@ -323,10 +347,12 @@ fn is_dead_pieces(alloc: Global, kind: StringKind, text: &[u8], inner: u8) -> Re
 
 /// Whether no string of this kind and of definite length is at the front, whatever follows.
 #[cycle(fault)]
+#[tactic(auto, using(crate::proofs::notation::DeadItems::string_start_dead, crate::proofs::notation::DeadItems::string_pieces_dead, crate::proofs::notation::DeadItems::string_content_dead))]
 fn is_dead_string(alloc: Global, kind: StringKind, text: &[u8], inner: u8) -> Result<bool>
     requires { inner ≤ 129 }
-    ensures { IfOk result (λ dead. IsTrue dead
+    ensures dead { IfOk result (λ dead. IsTrue dead
         → NeverReads (read_string (read_item (levels_left inner)) (kind_view kind)) text.now) }
+    ensures refused { IfErr result (λ e. e ≡ Error.Memory) }
 {
     if !Start::of(text).begins_string(kind) {
         return Ok(!text.is_empty());
@@ -339,10 +365,12 @@ fn is_dead_string(alloc: Global, kind: StringKind, text: &[u8], inner: u8) -> Re
 
 /// The same, or an indefinite string of no chunks.
 #[cycle(fault)]
+#[tactic(auto, using(crate::proofs::notation::DeadItems::string_item_dead))]
 fn is_dead_string_item(alloc: Global, kind: StringKind, text: &[u8], inner: u8) -> Result<bool>
     requires { inner ≤ 129 }
-    ensures { IfOk result (λ dead. IsTrue dead → NeverReads
+    ensures dead { IfOk result (λ dead. IsTrue dead → NeverReads
         (read_string_item (read_item (levels_left inner)) (kind_view kind)) text.now) }
+    ensures refused { IfErr result (λ e. e ≡ Error.Memory) }
 {
     let apart = match kind {
         StringKind::Bytes => is_apart(text, b"''_"),
@@ -355,8 +383,10 @@ fn is_dead_string_item(alloc: Global, kind: StringKind, text: &[u8], inner: u8) 
 }
 
 /// Whether no text that begins so is notation of an item.
+#[tactic(auto, using(crate::proofs::notation::DeadItems::item_end_dead, crate::proofs::notation::DeadItems::rest_dead))]
 fn is_dead_end(alloc: Global, text: &[u8]) -> Result<bool>
-    ensures { IfOk result (λ dead. IsTrue dead → IsDeadEnd text.now) }
+    ensures dead { IfOk result (λ dead. IsTrue dead → IsDeadEnd text.now) }
+    ensures refused { IfErr result (λ e. e ≡ Error.Memory) }
 {
     match but_memory(after_item(alloc, text, 1))? {
         Some(rest) => Ok(is_firm(rest)),
@@ -367,7 +397,8 @@ fn is_dead_end(alloc: Global, text: &[u8]) -> Result<bool>
 /// The least number of first bytes that are found to be a dead end. All of the text is one.
 fn first_dead_end(alloc: Global, text: &[u8]) -> Result<usize>
     requires { IsDeadEnd text.now }
-    ensures { IfOk result (λ end. (end ≤ length text.now) × IsDeadEnd (take end text.now)) }
+    ensures dead { IfOk result (λ end. (end ≤ length text.now) × IsDeadEnd (take end text.now)) }
+    ensures refused { IfErr result (λ e. e ≡ Error.Memory) }
 {
     let mut low = 0;
     let mut end = text.len();
@@ -416,15 +447,24 @@ pub fn diag_fault(alloc: Global, text: &str) -> Result<Option<(Error, usize)>>
 
     ensures refused { IfErr result (λ e. e ≡ Error.Memory) }
 {
-    let error = match whole_text(alloc, text) {
+    let error = match parse_diag(alloc, text) {
         Ok(_) => return Ok(None),
         Err(Error::Memory) => return Err(Error::Memory),
         Err(error) => error,
     };
-    let bytes = text.as_bytes();
-    if !is_dead_end(alloc, bytes)? {
-        return Ok(Some((Error::CutShort, bytes.len())));
+    Ok(Some(fault_of(alloc, text.as_bytes(), error)?))
+}
+
+/// What is wrong with a text that has this error, and where.
+#[tactic(auto, using(crate::proofs::notation::DeadItems::fault_is, crate::proofs::notation::DeadItems::cut_is))]
+fn fault_of(alloc: Global, text: &[u8], error: Error) -> Result<(Error, usize)>
+    requires { IsNoNotation text.now error }
+    ensures fault { IfOk result (λ x. IsDiagFault text.now x.0 x.1) }
+    ensures refused { IfErr result (λ e. e ≡ Error.Memory) }
+{
+    if !is_dead_end(alloc, text)? {
+        return Ok((Error::CutShort, text.len()));
     }
-    let end = first_dead_end(alloc, bytes)?;
-    Ok(Some((error, end)))
+    let end = first_dead_end(alloc, text)?;
+    Ok((error, end))
 }

@@ -1,5 +1,5 @@
 //! Whether the token at the front of a text is wrong for good, whatever follows the text.
-ghost use Rattle.std.specs.Prelude.{◌≡◌, ◌⊎◌, ◌++◌, List, ℕ, false, None, IsTrue, IfOk};
+ghost use Rattle.std.specs.Prelude.{◌≡◌, ◌⊎◌, ◌++◌, List, ℕ, false, None, IsTrue, IfErr, IfOk};
 ghost use Rattle.cbor_notes.specs.TokenReading.{unquoted};
 ghost use Rattle.cbor_diag.specs.mirror.DeadEnds.{NeverReads, HasEnd, ends_blank, is_firm};
 ghost use Rattle.cbor_diag.specs.mirror.DeadEnds.{is_settled, closes, NotRead, IsRefused};
@@ -237,7 +237,8 @@ fn is_dead_h(text: &[u8]) -> bool
 /// Whether no `b32'..'` or `b64'..'` is after the `b`, whatever follows.
 #[tactic(auto, using(crate::proofs::notation::DeadTokens::refused))]
 pub(super) fn is_dead_b_notation(alloc: Global, text: &[u8]) -> Result<bool>
-    ensures { IfOk result (λ dead. IsTrue dead → NeverReads b_notation text.now) }
+    ensures dead { IfOk result (λ dead. IsTrue dead → NeverReads b_notation text.now) }
+    ensures refused { IfErr result (λ e. e ≡ Error.Memory) }
 {
     match b_notation(alloc, text) {
         Ok(_) => Ok(false),
@@ -249,7 +250,8 @@ pub(super) fn is_dead_b_notation(alloc: Global, text: &[u8]) -> Result<bool>
 /// Whether no `h'..'` or `h32'..'` is after the `h`, whatever follows.
 #[tactic(auto, using(crate::proofs::notation::DeadTokens::refused))]
 pub(super) fn is_dead_h_notation(alloc: Global, text: &[u8]) -> Result<bool>
-    ensures { IfOk result (λ dead. IsTrue dead → NeverReads h_notation text.now) }
+    ensures dead { IfOk result (λ dead. IsTrue dead → NeverReads h_notation text.now) }
+    ensures refused { IfErr result (λ e. e ≡ Error.Memory) }
 {
     match h_notation(alloc, text) {
         Ok(_) => Ok(false),
