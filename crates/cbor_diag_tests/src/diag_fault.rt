@@ -36,7 +36,7 @@ const FAULTS: &[(&str, Option<(Error, usize)>)] = &[
     ("-0 ", Some((Error::Notation, 3))),
     ("-x", Some((Error::Notation, 2))),
     // strings
-    ("[\"a\\n\"]", Some((Error::Notation, 4))),
+    ("[\"a\\n\"]", Some((Error::Notation, 5))),
     ("\"abc", Some((Error::CutShort, 4))),
     ("[h'0', 1]", Some((Error::Notation, 5))),
     ("[h'0g', 1]", Some((Error::Notation, 6))),
@@ -57,7 +57,7 @@ const FAULTS: &[(&str, Option<(Error, usize)>)] = &[
 fn places_of_faults(rt: HostRuntime) -> Result<(), Fail> {
     let alloc = rt.alloc();
     for (text, fault) in FAULTS {
-        assert_eq!(rt; diag_fault(alloc, text)?, fault, "{text:?}");
+        assert_eq!(rt; diag_fault(alloc, text)?, *fault, "{text:?}");
     }
     Ok(())
 }

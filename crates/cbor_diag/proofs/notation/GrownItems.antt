@@ -632,8 +632,15 @@ module _ (read : List ℕ → Read Item) (grows : Grows read) (begins : Begins r
   short_string text_kind (a ∷ b ∷ []) y is none e firm =
       let here : read_string read text_kind (34 ∷ 34 ∷ []) ≡ Ok y =
       subst (λ (t : List ℕ). read_string read text_kind t ≡ Ok y) is e in
-      let same : ◌≡◌ {A = Chunk × List ℕ} (record { bytes = []; width = Unknown }, []) y = ok_is _ y here in
-      false≢true (subst (λ (z : Chunk × List ℕ). is_firm z.1 ≡ true) (sym same) firm)
+      let content = bind_ok (read_content read text_kind (34 ∷ 34 ∷ [])) (λ x. checked text_kind x.0
+      >>= λ c. Ok (c, x.1)) y here in
+      let x = content.0 in
+      let nothing : ◌≡◌ {A = List ℕ × List ℕ} ([], []) x = ok_is ([], []) x content.1 in
+      let chunk = bind_ok (checked text_kind x.0) (λ c. Ok (c, x.1)) y content.2 in
+      let same : ◌≡◌ {A = Chunk × List ℕ} (chunk.0, x.1) y = ok_is (chunk.0, x.1) y chunk.2 in
+      let firm_rest : is_firm x.1 ≡ true =
+      subst (λ (z : Chunk × List ℕ). is_firm z.1 ≡ true) (sym same) firm in
+      false≢true (subst (λ (z : List ℕ × List ℕ). is_firm z.1 ≡ true) (sym nothing) firm_rest)
   short_string text_kind (a ∷ b ∷ c ∷ text) y is none e firm =
       let left : List ℕ = take (length text) [] in
       let here : after_word (no_chunks text_kind) (34 ∷ 34 ∷ 95 ∷ left) ≡ None =
