@@ -22,4 +22,5 @@ pub mod GrownTokens
 pub mod DeadTokens
 pub mod GrownItems
 pub mod DeadItems
+pub mod DeadCores
 pub mod sound

@@ -8,14 +8,14 @@
 mod tokens;
 
 ghost use Rattle.std.specs.Prelude.{◌≡◌, ◌≤◌, ◌<◌, ◌⊎◌, ℕ, length, take, not, IfOk, IfErr, IfSome, IsTrue};
-ghost use Rattle.std.specs.Prelude.{Ok, Some, None, IfNone};
+ghost use Rattle.std.specs.Prelude.{true, Ok, Some, None, IfNone};
 ghost use Rattle.cbor_diag.specs.WellFormed.{levels_left};
 ghost use Rattle.cbor_diag.specs.Item.{Item, Chunk};
 ghost use Rattle.cbor_diag.specs.Notation.{IsNotation};
 ghost use Rattle.cbor_diag.specs.DeadEnd.{IsDeadEnd, IsDiagFault};
 ghost use Rattle.cbor_diag.specs.NotationRefused.{IsNoNotation};
-ghost use Rattle.cbor_diag.specs.mirror.DeadEnds.{NeverReads, NeverPieces, Value, read_member};
-ghost use Rattle.cbor_diag.specs.mirror.NotationReading.{read_core, read_integer, read_item};
+ghost use Rattle.cbor_diag.specs.mirror.DeadEnds.{NeverReads, NeverPieces, Value, read_member, is_firm};
+ghost use Rattle.cbor_diag.specs.mirror.NotationReading.{after_byte, read_core, read_integer, read_item};
 ghost use Rattle.cbor_diag.specs.mirror.NotationReading.{read_members, read_pair, read_chunk};
 ghost use Rattle.cbor_diag.specs.mirror.NotationReading.{read_chunks, read_piece, read_string};
 ghost use Rattle.cbor_diag.specs.mirror.NotationReading.{read_embedded, read_string_item};
@@ -161,6 +161,24 @@ fn is_dead_core(alloc: Global, text: &[u8], inner: u8) -> Result<bool>
     }
 }
 
+/// Whether no `)` is after the item of a tag, whatever follows the text.
+fn is_unclosed(text: &[u8]) -> bool
+    ensures firm { IsTrue result → is_firm text.now ≡ true }
+    ensures other { IsTrue result → after_byte 41 text.now ≡ None }
+{
+    is_firm(text) && is_other(text, b')')
+}
+
+/// Whether the text does not begin with this byte.
+fn is_other(text: &[u8], byte: u8) -> bool
+    ensures { IsTrue result → after_byte byte text.now ≡ None }
+{
+    match after_byte(text, byte) {
+        Some(_) => false,
+        None => true,
+    }
+}
+
 /// Whether neither an integer nor a tag is at the front, whatever follows.
 #[cycle(fault)]
 #[tactic(auto, using(crate::proofs::notation::DeadItems::number_dead, crate::proofs::notation::DeadItems::tag_item_dead, crate::proofs::notation::DeadItems::tag_close_dead))]
@@ -177,7 +195,7 @@ fn is_dead_integer(alloc: Global, text: &[u8], inner: u8) -> Result<bool>
         return Ok(false);
     };
     match but_memory(after_item(alloc, rest, inner))? {
-        Some(after) => Ok(is_firm(after) && after_byte(after, b')').is_none()),
+        Some(after) => Ok(is_unclosed(after)),
         None => is_dead_item(alloc, rest, inner),
     }
 }
@@ -300,7 +318,7 @@ fn is_dead_embedded(alloc: Global, text: &[u8], inner: u8) -> Result<bool>
         return Ok(!text.is_empty());
     };
     match but_memory(read_items(alloc, b'>', first, inner))? {
-        Some((_, rest)) => Ok(!rest.is_empty() && after_byte(rest, b'>').is_none()),
+        Some((_, rest)) => Ok(!rest.is_empty() && is_other(rest, b'>')),
         None => is_dead_list(alloc, Member::Item, b'>', first, inner),
     }
 }
