@@ -28,10 +28,11 @@ use Rattle.cbor_diag.specs.mirror.NotationReading.{start_of, notation_of, whole}
 use Rattle.cbor_diag.specs.mirror.DeadEnds.{NotRead, NeverReads, NeverMembers, NeverPieces, Value, read_member, is_firm}
 use Rattle.cbor_diag.specs.mirror.DeadEnds.{ends_blank}
 use Rattle.cbor_diag.proofs.shared.Utf8.{utf8_passes, utf8_fails}
+use Rattle.cbor_diag.proofs.notation.Ends.{passed_twice}
 use Rattle.cbor_diag.proofs.notation.Pieces.{pieces_go}
 use Rattle.cbor_diag.proofs.notation.GrownTokens.{blank_grown, byte_grown, no_byte_grown}
 use Rattle.cbor_diag.proofs.notation.DeadTokens.{not_bind, not_by}
-use Rattle.cbor_diag.proofs.notation.GrownItems.{Grows, Begins, more_behind, item_grows, item_begins, pair_grows}
+use Rattle.cbor_diag.proofs.notation.GrownItems.{firm_blank, Grows, Begins, more_behind, item_grows, item_begins, pair_grows}
 use Rattle.cbor_diag.proofs.notation.GrownItems.{pair_begins, chunk_grows, chunk_begins, no_byte_firm, content_grows}
 use Rattle.cbor_diag.proofs.notation.GrownItems.{piece_closed, members_grown, first_grown, unsigned_grows}
 use Rattle.cbor_diag.proofs.notation.sound.Steps.{a_test, after_byte_is}
@@ -52,12 +53,14 @@ member_grows (member.Chunk kind) left =
     chunk_grows (read_item left) (item_grows left) (item_begins left) (kind_view kind)
 
 module _ {X : Type 0} (read : List ℕ → Read X) (close : ℕ) where
-  pub list_begun : (text rest : List ℕ) → rest ≡ skip_blank text → ends_blank rest ≡ true → Open close rest
+  pub list_begun : (text rest : List ℕ) → rest ≡ skip_blank text → is_firm rest ≡ true → Open close rest
       → NeverMembers read close rest → NeverReads (read_members read close) text
   unfolding read_members
-  list_begun text rest is ends open_here never more =
+  list_begun text rest is firm open_here never more =
+      let ends : ends_blank (skip_blank text) ≡ true = subst (λ (t : List ℕ). ends_blank t ≡ true) (passed_twice text)
+      (subst (λ (t : List ℕ). ends_blank (skip_blank t) ≡ true) is (firm_blank rest firm)) in
       let blank : skip_blank (text ++ more) ≡ rest ++ more =
-      blank_grown text more (subst (λ (t : List ℕ). ends_blank t ≡ true) is ends)
+      blank_grown text more ends
       ∙ ap (λ (t : List ℕ). t ++ more) (sym is) in
       not_by (members_from read close (suc (length (rest ++ more))) (rest ++ more)) (read_members read close (text ++ more))
       (ap (λ (f : List ℕ). members_or_end read close f (after_end close f)) blank

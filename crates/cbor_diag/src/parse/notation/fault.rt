@@ -8,14 +8,14 @@
 mod tokens;
 
 ghost use Rattle.std.specs.Prelude.{◌≡◌, ◌≤◌, ◌<◌, ◌⊎◌, ℕ, length, take, not, IfOk, IfErr, IfSome, IsTrue};
-ghost use Rattle.std.specs.Prelude.{true, Ok, Some, None, IfNone};
+ghost use Rattle.std.specs.Prelude.{◌++◌, List, true, Ok, Some, None, IfNone};
 ghost use Rattle.cbor_diag.specs.WellFormed.{levels_left};
 ghost use Rattle.cbor_diag.specs.Item.{Item, Chunk};
 ghost use Rattle.cbor_diag.specs.Notation.{IsNotation};
 ghost use Rattle.cbor_diag.specs.DeadEnd.{IsDeadEnd, IsDiagFault};
 ghost use Rattle.cbor_diag.specs.NotationRefused.{IsNoNotation};
 ghost use Rattle.cbor_diag.specs.mirror.DeadEnds.{NeverReads, NeverPieces, Value, read_member, is_firm};
-ghost use Rattle.cbor_diag.specs.mirror.NotationReading.{after_byte, read_core, read_integer, read_item};
+ghost use Rattle.cbor_diag.specs.mirror.NotationReading.{after_byte, after_end, read_core, read_integer, read_item};
 ghost use Rattle.cbor_diag.specs.mirror.NotationReading.{read_members, read_pair, read_chunk};
 ghost use Rattle.cbor_diag.specs.mirror.NotationReading.{read_chunks, read_piece, read_string};
 ghost use Rattle.cbor_diag.specs.mirror.NotationReading.{read_embedded, read_string_item};
@@ -252,6 +252,14 @@ fn is_dead_member(alloc: Global, member: Member, text: &[u8], level: u8) -> Resu
     }
 }
 
+/// Whether an item before this text ends here and its list does not, whatever follows the text.
+fn is_unended(text: &[u8], close: u8) -> bool
+    ensures firm { IsTrue result → is_firm text.now ≡ true }
+    ensures unended { IsTrue result → (more : List ℕ) → after_end close (text.now ++ more) ≡ None }
+{
+    is_firm(text) && is_open(text, close)
+}
+
 /// Whether no list of such members ends with `close`, whatever follows. The text is what follows
 /// its opening.
 #[cycle(fault)]
@@ -268,14 +276,14 @@ fn is_dead_list(
     ensures refused { IfErr result (λ e. e ≡ Error.Memory) }
 {
     let mut rest = after_blank(text);
-    if !ends_blank(rest) || !is_open(rest, close) {
+    if !is_unended(rest, close) {
         return Ok(false);
     }
     'members: loop {
         let Some(after) = but_memory(after_member(alloc, member, rest, level))? else {
             return is_dead_member(alloc, member, rest, level);
         };
-        if !is_firm(after) || !is_open(after, close) {
+        if !is_unended(after, close) {
             return Ok(false);
         }
         let Some(next) = after_byte(after, b',') else {

@@ -5,7 +5,8 @@ use Rattle.cbor_diag.specs.StringKind.{bytes_kind}
 use Rattle.cbor_diag.specs.mirror.StringView.{kind_view}
 use Rattle.cbor_diag.specs.mirror.NotationReading.{read_item, read_members, read_pair, read_negative_number, kind_from}
 use Rattle.cbor_diag.specs.mirror.NotationReading.{read_string_item}
-use Rattle.cbor_diag.specs.mirror.DeadEnds.{NeverReads}
+use Rattle.cbor_diag.specs.mirror.DeadEnds.{NeverReads, read_member}
+use Rattle.cbor_diag.specs.declared.parse.notation.fault.Member.{Member}
 use Rattle.cbor_diag.proofs.notation.Cores.{bytes_core}
 use Rattle.cbor_diag.proofs.notation.DeadTokens.{not_bind, not_by}
 use Rattle.cbor_diag.proofs.notation.DeadItems.{core_dead, array_dead, map_dead, chunks_list_dead}
@@ -116,3 +117,21 @@ is_dead_piece-returns-in-LetterH-clause-dead t c =
     dead_from c.is_dead_h_notation.result
     (λ never. letter_h_dead (129 - c.args.inner) c.args.text.now c.split-start.result.1.now
     (sym c.in-LetterH.is ∙ c.split-start.ensures.start) c.split-start.ensures.rest never) c.is_dead_h_notation.ensures.dead
+
+pub is_dead_member-returns-in-Item-clause-dead : goal.is_dead_member-returns-in-Item-clause-dead
+is_dead_member-returns-in-Item-clause-dead t c =
+    subst (λ (m : Member). IfOk c.is_dead_item.result (λ dead. IsTrue dead
+    → NeverReads (read_member m (read_item (129 - c.args.level))) c.args.text.now)) (sym c.in-Item.is)
+    c.is_dead_item.ensures.dead
+
+pub is_dead_member-returns-in-Pair-clause-dead : goal.is_dead_member-returns-in-Pair-clause-dead
+is_dead_member-returns-in-Pair-clause-dead t c =
+    subst (λ (m : Member). IfOk c.is_dead_pair.result (λ dead. IsTrue dead
+    → NeverReads (read_member m (read_item (129 - c.args.level))) c.args.text.now)) (sym c.in-Pair.is)
+    c.is_dead_pair.ensures.dead
+
+pub is_dead_member-returns-in-Chunk-clause-dead : goal.is_dead_member-returns-in-Chunk-clause-dead
+is_dead_member-returns-in-Chunk-clause-dead t c =
+    subst (λ (m : Member). IfOk c.is_dead_chunk.result (λ dead. IsTrue dead
+    → NeverReads (read_member m (read_item (129 - c.args.level))) c.args.text.now)) (sym c.in-Chunk.is)
+    c.is_dead_chunk.ensures.dead
