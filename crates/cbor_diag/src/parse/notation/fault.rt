@@ -14,8 +14,8 @@ ghost use Rattle.cbor_diag.specs.Item.{Item, Chunk};
 ghost use Rattle.cbor_diag.specs.Notation.{IsNotation};
 ghost use Rattle.cbor_diag.specs.DeadEnd.{IsDeadEnd, IsDiagFault};
 ghost use Rattle.cbor_diag.specs.NotationRefused.{IsNoNotation};
-ghost use Rattle.cbor_diag.specs.mirror.DeadEnds.{NeverReads, NeverPieces, Value, read_member, is_firm};
-ghost use Rattle.cbor_diag.specs.mirror.NotationReading.{after_byte, after_end, read_core, read_integer, read_item};
+ghost use Rattle.cbor_diag.specs.mirror.DeadEnds.{NeverReads, NeverPieces, Value, read_member, is_firm, NotRead};
+ghost use Rattle.cbor_diag.specs.mirror.NotationReading.{after_byte, after_end, checked, read_core, read_integer, read_item};
 ghost use Rattle.cbor_diag.specs.mirror.NotationReading.{read_members, read_pair, read_chunk};
 ghost use Rattle.cbor_diag.specs.mirror.NotationReading.{read_chunks, read_piece, read_string};
 ghost use Rattle.cbor_diag.specs.mirror.NotationReading.{read_embedded, read_string_item};
@@ -371,6 +371,15 @@ fn is_dead_pieces(alloc: Global, kind: StringKind, text: &[u8], inner: u8) -> Re
     Ok(false)
 }
 
+/// Whether a string before this text ends here, whatever follows, and may not have this content.
+#[tactic(auto, using(crate::proofs::notation::DeadItems::no_content))]
+fn is_dead_content(kind: StringKind, content: &Vec<u8>, rest: &[u8]) -> bool
+    ensures firm { IsTrue result → is_firm rest.now ≡ true }
+    ensures content { IsTrue result → NotRead (checked (kind_view kind) content.now.items) }
+{
+    is_firm(rest) && !kind.may_hold(content)
+}
+
 /// Whether no string of this kind and of definite length is at the front, whatever follows.
 #[cycle(fault)]
 #[tactic(auto, using(crate::proofs::notation::DeadItems::string_start_dead, crate::proofs::notation::DeadItems::string_pieces_dead, crate::proofs::notation::DeadItems::string_content_dead))]
@@ -384,7 +393,7 @@ fn is_dead_string(alloc: Global, kind: StringKind, text: &[u8], inner: u8) -> Re
         return Ok(!text.is_empty());
     }
     match but_memory(read_content(alloc, kind, text, inner))? {
-        Some((content, rest)) => Ok(is_firm(rest) && !kind.may_hold(&content)),
+        Some((content, rest)) => Ok(is_dead_content(kind, &content, rest)),
         None => is_dead_pieces(alloc, kind, text, inner),
     }
 }

@@ -8,13 +8,13 @@ use Rattle.cbor_diag.specs.mirror.NotationReading.{read_string_item}
 use Rattle.cbor_diag.specs.mirror.DeadEnds.{NeverReads, Value, read_member}
 use Rattle.cbor_diag.specs.Item.{Item}
 use Rattle.cbor_diag.specs.Reading.{Gives}
-use Rattle.cbor_diag.specs.mirror.NotationReading.{begins_piece, read_piece}
+use Rattle.cbor_diag.specs.mirror.NotationReading.{begins_piece, read_piece, read_content}
 use Rattle.cbor_diag.specs.declared.parse.notation.fault.Member.{Member}
 use Rattle.cbor_diag.proofs.notation.Cores.{bytes_core}
 use Rattle.cbor_diag.proofs.notation.DeadTokens.{not_bind, not_by}
 use Rattle.cbor_diag.proofs.notation.DeadItems.{tag_item_dead, tag_close_dead, too_deep, item_dead}
 use Rattle.cbor_diag.proofs.notation.DeadItems.{list_begun, member_dead, member_wrong, member_next, member_grows}
-use Rattle.cbor_diag.proofs.notation.DeadItems.{pair_value_dead, piece_dead, pieces_next}
+use Rattle.cbor_diag.proofs.notation.DeadItems.{pair_value_dead, piece_dead, pieces_next, string_content_dead}
 use Rattle.cbor_diag.proofs.notation.DeadItems.{core_dead, array_dead, map_dead, chunks_list_dead}
 use Rattle.cbor_diag.proofs.notation.DeadCores.{quote_dead, apostrophe_dead, angle_dead, letter_b_dead, letter_h_dead}
 use Rattle.cbor_diag.proofs.parse.notation.fault.+fault.Goals as goal
@@ -243,3 +243,11 @@ is_dead_pieces-pieces-preserved t c never =
     c.pieces.invariant (pieces_next (129 - c.args.inner) (kind_view c.args.kind) c.pieces.rest.now
     c.in-Some.field-0-0.items c.in-Some.after.now c.after_blank-rest.result.now goes read
     c.after_blank-rest.ensures.gives (sym c.ends_blank.ensures ∙ c.if-not-ends_blank.false) never)
+
+pub is_dead_string-returns-in-Some-clause-dead : goal.is_dead_string-returns-in-Some-clause-dead
+is_dead_string-returns-in-Some-clause-dead t c is =
+    let read = was_given c.read_content.result c.in_ok-content.field-0 (c.in-Some.content, c.in-Some.rest)
+    (λ x. (x.0.items, x.1.now)) (read_content (read_item (129 - c.args.inner)) (kind_view c.args.kind) c.args.text.now)
+    c.in_ok-content.ensures.dead c.in-Some.is c.read_content.ensures.gives in
+    string_content_dead (129 - c.args.inner) (kind_view c.args.kind) c.args.text.now c.in-Some.content.items
+    c.in-Some.rest.now read (c.is_dead_content.ensures.firm is) (c.is_dead_content.ensures.content is)
