@@ -3,8 +3,8 @@
 // docs/DUMP.md.
 
 use cbor_diag::{
-    Error, Extent, Scanner, bytes_to_bytes, bytes_to_diag, diag_fault, extent, hex_fault, hex_place,
-    hex_to_bytes, hex_to_diag, parse_bytes, parse_bytes_partial, parse_diag, parse_hex,
+    Error, Extent, Scanner, bytes_to_bytes, bytes_to_diag, diag_fault, extent, hex_fault,
+    hex_place, hex_to_bytes, hex_to_diag, parse_bytes, parse_bytes_partial, parse_diag, parse_hex,
     push_bytes_to_diag_partial,
 };
 use std::alloc::Global;

@@ -83,7 +83,7 @@ number_stays text x e s = (
   λ more. ap numbered (number_grown text more (x.0.0, x.0.1, x.1) (read_is (number_of text) x e) s)
       ∙ ap (grown more) (sym e),
   λ y is. let same : ◌≡◌ {A = (ℕ × Option ℕ) × List ℕ} x y = ok_is x y (sym e ∙ is) in
-  subst (λ (z : (ℕ × Option ℕ) × List ℕ). is_settled z.1 ≡ true) same s,
+      subst (λ (z : (ℕ × Option ℕ) × List ℕ). is_settled z.1 ≡ true) same s,
 )
 
 pub number_never : (text : List ℕ) → read_number text ≡ Err refusal.Notation → 0 < length text → HasEnd text
@@ -138,7 +138,6 @@ in_front front rest = take_at front rest (length (front ++ rest) - length rest)
 abbrev simple_after : List ℕ → (ℕ × Option ℕ) × List ℕ → Read Item
 simple_after text x = simple_value x.0.0 (take (length text - length x.1) text) >>= λ n. or_refused (after_byte 41 x.1)
     >>= λ rest. Ok (atom (simple n), rest)
-
 
 abbrev closing : ℕ → List ℕ → Read Item
 closing n rest = or_refused (after_byte 41 rest) >>= λ r. Ok (atom (simple n), r)

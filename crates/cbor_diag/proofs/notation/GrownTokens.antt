@@ -148,8 +148,8 @@ after_grown value (c ∷ d ∷ left) more s =
             absurd (unsettled (small_run 0 (d ∷ left)).1 none (rw this at s))
         | inr some ↦
             rw this (ap (λ (r : ℕ × List ℕ). (value, Some r.0, r.1))
-                (small_grown 0 (d ∷ left) more some.0 some.1 some.2)
-                ∙ ap (λ (z : List ℕ). (value, Some (small_run 0 (d ∷ left)).0, z ++ more)) (sym some.2))
+            (small_grown 0 (d ∷ left) more some.0 some.1 some.2)
+            ∙ ap (λ (z : List ℕ). (value, Some (small_run 0 (d ∷ left)).0, z ++ more)) (sym some.2))
       ]
       | inr other ↦ rw other refl
     ]

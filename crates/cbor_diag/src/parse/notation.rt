@@ -29,10 +29,9 @@ ghost use Rattle.cbor_diag.specs.Reading.{Gives};
 ghost use Rattle.cbor_diag.specs.mirror.NotationReading.{read_core, read_integer, read_item};
 ghost use Rattle.cbor_diag.specs.mirror.NotationReading.{read_members, notation_of, read_pair};
 
-pub use fault::diag_fault;
-
 use crate::error::{Error, Result};
 use crate::syntax::{DEEPEST, DataItem, Tag};
+pub use fault::diag_fault;
 use number::{read_negative_number, read_unsigned_number};
 use scan::{after_blank, after_byte, after_end, expect_byte, read_length};
 use start::Start;

@@ -30,8 +30,10 @@ use crate::error::{Error, Result};
 use crate::syntax::DEEPEST;
 use crate::syntax::strings::StringKind;
 use std::alloc::Global;
-use tokens::{ends_blank, has_bad_escape, is_apart, is_dead_b_notation, is_dead_h_notation};
-use tokens::{is_dead_negative, is_dead_unsigned, is_dead_word, is_firm, is_open};
+use tokens::{
+    ends_blank, has_bad_escape, is_apart, is_dead_b_notation, is_dead_h_notation, is_dead_negative,
+    is_dead_unsigned, is_dead_word, is_firm, is_open,
+};
 
 /// What the members of a list are.
 #[derive(Clone, Copy)]
@@ -263,13 +265,7 @@ fn is_unended(text: &[u8], close: u8) -> bool
 /// Whether no list of such members ends with `close`, whatever follows. The text is what follows
 /// its opening.
 #[cycle(fault)]
-fn is_dead_list(
-    alloc: Global,
-    member: Member,
-    close: u8,
-    text: &[u8],
-    level: u8,
-) -> Result<bool>
+fn is_dead_list(alloc: Global, member: Member, close: u8, text: &[u8], level: u8) -> Result<bool>
     requires { level ≤ 129 }
     ensures dead { IfOk result (λ dead. IsTrue dead → NeverReads
         (read_members (read_member member (read_item (levels_left level))) close) text.now) }
