@@ -35,7 +35,7 @@ pub use encode::{
 };
 pub use error::{Error, Result};
 pub use parse::{
-    Extent, Scanner, Turns, extent, hex_bytes, hex_fault, hex_place, parse_bytes,
+    Extent, Scanner, Turns, diag_fault, extent, hex_bytes, hex_fault, hex_place, parse_bytes,
     parse_bytes_counted, parse_bytes_partial, parse_diag, parse_hex,
 };
 pub use rewrite::{bytes_to_bytes, hex_to_bytes};

@@ -4,8 +4,8 @@
 
 use cbor_diag::{
     Error, Extent, Scanner, bytes_to_bytes, bytes_to_diag, bytes_to_diag_pretty, bytes_to_hex,
-    extent, hex_bytes, hex_fault, hex_place, hex_to_bytes, hex_to_diag, hex_to_diag_pretty,
-    hex_to_hex, parse_bytes, parse_bytes_partial, parse_diag, parse_hex,
+    diag_fault, extent, hex_bytes, hex_fault, hex_place, hex_to_bytes, hex_to_diag,
+    hex_to_diag_pretty, hex_to_hex, parse_bytes, parse_bytes_partial, parse_diag, parse_hex,
     push_bytes_to_diag_partial, push_bytes_to_diag_pretty_partial, push_bytes_to_hex_partial,
 };
 use std::alloc::Global;
@@ -176,6 +176,14 @@ fn of_places_in_hex(rt: &impl Abort) {
     assert_eq!(rt; hex_place("82 01 # one\n02 # two", 3), None);
 }
 
+fn of_places_in_notation(rt: &impl Abort, alloc: Global) -> Result<(), Fail> {
+    // After `1` the text cannot go on with `.`.
+    assert_eq!(rt; diag_fault(alloc, "[1.5]")?, Some((Error::Notation, 3)));
+    assert_eq!(rt; diag_fault(alloc, "[1, 2")?, Some((Error::CutShort, 5)));
+    assert_eq!(rt; diag_fault(alloc, "[1, 2]")?, None);
+    Ok(())
+}
+
 #[test]
 fn examples_of_doc_comments(rt: HostRuntime) -> Result<(), Fail> {
     assert_eq!(rt;
@@ -198,6 +206,7 @@ fn examples_of_doc_comments(rt: HostRuntime) -> Result<(), Fail> {
     of_dumped_hex(&rt, rt.alloc())?;
     of_shown_lines(&rt, rt.alloc())?;
     of_encodings(&rt, rt.alloc())?;
+    of_places_in_notation(&rt, rt.alloc())?;
     of_extents(&rt);
     of_pieces(&rt);
     of_hex_digits(&rt, rt.alloc())?;
