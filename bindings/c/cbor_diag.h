@@ -159,13 +159,15 @@ static inline int64_t cbor_diag_extent_checked(const void *input, size_t input_l
  * place. Call it after a conversion has failed.
  *
  * Returns 0 if the input is an item, and otherwise minus a number of enum cbor_diag_error. `*place` is set to how many
- * bytes of the input come before the fault, or to CBOR_DIAG_NO_PLACE if there is no error, out of memory, for no form,
- * and in notation, whose errors have no place yet.
+ * bytes of the input come before the fault, or to CBOR_DIAG_NO_PLACE if there is no error, out of memory, and for no
+ * form.
  *
  * - In bytes the fault is the byte at fault, or the last byte of a text that is not UTF-8: `*end` - 1 of
  *   cbor_diag_extent. It is the end of bytes that are cut, and the first byte after an item that is not the last.
  * - In hex it is the first digit of that byte; or the digit that is wrong, which is the last of an odd number; or the
  *   end of a text whose bytes are cut.
+ * - In notation it is the last of the first bytes after which no notation can follow; or the end of a text that may only
+ *   be cut short. It may be inside a character.
  * - In hex or notation that is not UTF-8 it is the first byte that is not.
  *
  * `input` may be null if its length is 0, and `place` may be null.

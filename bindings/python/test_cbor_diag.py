@@ -404,7 +404,9 @@ class Errors(unittest.TestCase):
             (Form.HEX, b"82 # \xff", Error.UTF8, 5),
             (Form.HEX, "82 # \u00e9\ud800", Error.UTF8, 6),
             (Form.PRETTY, b'["\xc3\xbc", \xff]', Error.UTF8, 7),
-            (Form.DIAG, "[1, 2.5]", Error.NOTATION, None),
+            (Form.DIAG, "[1, 2.5]", Error.NOTATION, 5),
+            (Form.DIAG, "[1, 2", Error.NOTATION, 5),
+            (Form.DIAG, '["\u00e9", 2.5]', Error.NOTATION, 7),  # characters
         ):
             for target in Form:
                 with self.subTest(source=source, target=target, given=given):

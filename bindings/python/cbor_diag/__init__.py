@@ -89,12 +89,12 @@ class CborDiagError(ValueError):
     """The input is not an item, or memory ran out. The text is the library's.
 
     `error` says which error it is. `offset` says where: how many bytes of the input come before the fault, or how many
-    characters if `convert` was given a `str`. It is `None` where there is no place: out of memory, for no form, and in
-    notation.
+    characters if `convert` was given a `str`. It is `None` where there is no place: out of memory, and for no form.
 
     The fault is the byte that no item can have there; the last byte of a text that is not UTF-8; the end of what is cut
     short; or the first byte after the item. In hex it is the first digit of that byte, or the digit that is wrong, which
-    is the last of an odd number. In hex or notation that is not UTF-8 it is the first byte that is not.
+    is the last of an odd number. In notation it is where no notation can go on so, or the end of a text that may only
+    be cut short. In hex or notation that is not UTF-8 it is the first byte that is not.
 
     If `extent`, `Scanner.feed` or `items` raised it, `end` is the number of first bytes that have the error.
     """

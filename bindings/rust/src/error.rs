@@ -60,11 +60,11 @@ impl Error {
     ///
     /// In bytes the fault is the byte that no item can have there, or the last byte of a text that is not UTF-8; the
     /// end of bytes that are cut short; or the first byte after an item that is not the last. In hex it is the first
-    /// digit of that byte; or the digit that is wrong, which is the last of an odd number. In hex or notation that is
-    /// not UTF-8 it is the first byte that is not.
+    /// digit of that byte; or the digit that is wrong, which is the last of an odd number. In notation it is where no
+    /// notation can go on so, or the end of a text that may only be cut short. In hex or notation that is not UTF-8 it
+    /// is the first byte that is not.
     ///
-    /// Returns `None` if the input does not have this error, if memory runs out, and in notation, whose errors have no
-    /// place yet.
+    /// Returns `None` if the input does not have this error, and if memory runs out.
     ///
     /// ```rust
     /// use semphluk::{convert, Form};

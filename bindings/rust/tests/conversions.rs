@@ -123,7 +123,7 @@ fn extents() {
 
 #[test]
 fn places_of_errors() {
-    let rows: [(Form, &[u8], Error, Option<usize>); 14] = [
+    let rows: [(Form, &[u8], Error, Option<usize>); 15] = [
         (Form::Bytes, b"", Error::CutShort, Some(0)),
         (Form::Bytes, b"\x82\x01", Error::CutShort, Some(2)),
         (Form::Bytes, b"\x82\x01\x1c\x00", Error::Head, Some(2)),
@@ -136,8 +136,9 @@ fn places_of_errors() {
         (Form::Hex, b"82 01 0 # half", Error::OddHex, Some(6)),
         (Form::Hex, b"82 # \xff", Error::Utf8, Some(5)),
         (Form::Pretty, b"[\"\xc3\xbc\", \xff]", Error::Utf8, Some(7)),
-        (Form::Diag, b"[1, 2.5]", Error::Notation, None),
-        (Form::Diag, b"300_0", Error::PastWidth, None),
+        (Form::Diag, b"[1, 2.5]", Error::Notation, Some(5)),
+        (Form::Diag, b"[1, 2", Error::Notation, Some(5)),
+        (Form::Diag, b"300_0", Error::PastWidth, Some(4)),
     ];
     for (from, input, error, place) in rows {
         assert_eq!(convert(from, Form::Bytes, input), Err(error), "{input:x?}");

@@ -7,6 +7,7 @@ use Rattle.cbor_diag.specs.declared.error.Error.{Error}
 use Rattle.cbor_diag.specs.declared.error.Error.TheVariants as refusal
 use Rattle.cbor_diag.specs.Item.{Item}
 use Rattle.cbor_diag.specs.Facts.{BeginsWithItem, IsCut}
+use Rattle.cbor_diag.specs.DeadEnd.{IsDeadEnd}
 use Rattle.cbor_diag.specs.Extent.{FaultEnds}
 use Rattle.cbor_diag.specs.HexText.{IsKeptByte, IsHexFault}
 use Rattle.cbor_diag.specs.Refusals.{number_of}
@@ -41,13 +42,17 @@ IsHexPlace text e place =
     ⊎ ((bytes : List ℕ) × (n : ℕ) × (decode_of (uncommented text) ≡ Ok bytes)
     × IsBytesPlace bytes e n × IsDigitsPlace text n place)
 
--- In text: after the longest front that is UTF-8, or where the text is no item in its form; notation has no place yet.
+-- In notation: the last of the first bytes that no notation begins with, or the end of the text.
+abbrev pub IsDiagPlace : List ℕ → ℕ → Type 0
+IsDiagPlace text place = IsDeadEnd (take (place + 1) text) ⊎ (place ≡ length text)
+
+-- In text: after the longest front that is UTF-8, or where the text is no item in its form.
 abbrev pub IsPlace : Source → List ℕ → Error → ℕ → Type 0
 IsPlace source.Bytes input e place = IsBytesPlace input e place
 IsPlace source.Hex input e place =
     (¬ IsUtf8 input × IsValidUpTo input place) ⊎ (IsUtf8 input × IsHexPlace input e place)
 IsPlace source.Diag input e place =
-    (¬ IsUtf8 input × IsValidUpTo input place) ⊎ (IsUtf8 input × (place ≡ no_place))
+    (¬ IsUtf8 input × IsValidUpTo input place) ⊎ (IsUtf8 input × IsDiagPlace input place)
 
 -- the input is an item in the form of this number
 abbrev pub IsItemIn : ℕ → List ℕ → Type 0

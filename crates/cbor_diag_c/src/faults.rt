@@ -9,12 +9,13 @@ ghost use Rattle.cbor_convert.specs.Output.{Reads, Refuses};
 ghost use Rattle.cbor_diag_c.specs.Forms.{IsNoForm};
 ghost use Rattle.cbor_diag_c.specs.Answers.{IfLength, IfError};
 ghost use Rattle.cbor_diag_c.specs.Places.{no_place, IsBytesPlace, IsDigitsPlace, IsHexPlace};
+ghost use Rattle.cbor_diag_c.specs.Places.{IsDiagPlace};
 ghost use Rattle.cbor_diag_c.specs.Places.{IsPlace, IsItemIn, IsFaultIn};
 
 use crate::answer::refused;
 use crate::conversion::{NO_FORM, form, read_as};
 use cbor_convert::Source;
-use cbor_diag::{Error, Extent, extent, hex_bytes, hex_fault, hex_place, parse_diag};
+use cbor_diag::{Error, Extent, diag_fault, extent, hex_bytes, hex_fault, hex_place, parse_diag};
 use std::alloc::Global;
 
 /// Why an input is no item, and how many of its bytes come before the fault; `None` if it is one.
@@ -73,17 +74,30 @@ fn in_hex(alloc: Global, text: &str) -> Result<Fault, Error>
     }
 }
 
-/// The fault of notation, which has no place. The only error is `Memory`.
+/// The fault of notation. The only error is `Memory`.
 fn in_diag(alloc: Global, text: &str) -> Result<Fault, Error>
     ensures none { IfOk result (λ f. f ≡ None → (i : Item) × IsNotation text.now i) }
     ensures refused { IfOk result (λ f. IfSome f (λ x. IsNoNotation text.now x.0)) }
-    ensures place { IfOk result (λ f. IfSome f (λ x. x.1 ≡ no_place)) }
+    ensures place { IfOk result (λ f. IfSome f (λ x. IsDiagPlace text.now x.1)) }
     ensures memory { IfErr result (λ e. e ≡ Error.Memory) }
 {
     match parse_diag(alloc, text) {
         Ok(_) => Ok(None),
         Err(Error::Memory) => Err(Error::Memory),
-        Err(error) => Ok(Some((error, NO_PLACE))),
+        Err(error) => Ok(Some((error, diag_place(alloc, text)?))),
+    }
+}
+
+/// The place of the fault in notation, or the end of a text that may only be cut short. The only
+/// error is `Memory`.
+#[tactic(auto, using(crate::proofs::Refusals::dead_place))]
+fn diag_place(alloc: Global, text: &str) -> Result<usize, Error>
+    ensures place { IfOk result (λ place. IsDiagPlace text.now place) }
+    ensures memory { IfErr result (λ e. e ≡ Error.Memory) }
+{
+    match diag_fault(alloc, text)? {
+        None | Some((Error::CutShort, _)) => Ok(text.len()),
+        Some((_, end)) => Ok(end.saturating_sub(1)),
     }
 }
 
@@ -111,12 +125,14 @@ fn fault(alloc: Global, from: Source, input: &[u8]) -> Result<Fault, Error>
 ///
 /// Returns 0 if it is one, and otherwise minus the number of the error that `cbor_diag_convert` has
 /// for it. Sets `place` to how many bytes of the input come before the fault, and to 2^64 - 1 where
-/// there is no place: without an error, out of memory, for no form, and in notation.
+/// there is no place: without an error, out of memory, and for no form.
 ///
 /// In bytes it is the last of the first bytes that have the error, as `cbor_diag_extent` counts
 /// them; their end if they are cut; or the end of the item if more follow. In hex it is the first
-/// digit of that byte; or the digit that is wrong, which is the last one of an odd number. In a
-/// text that is not UTF-8 it is the end of the longest front that is.
+/// digit of that byte; or the digit that is wrong, which is the last one of an odd number. In
+/// notation it is the last of the first bytes after which no notation can follow, or the end of a
+/// text that may only be cut short. In a text that is not UTF-8 it is the end of the longest front
+/// that is.
 #[unsafe(no_mangle)]
 pub extern "C" fn cbor_diag_fault(alloc: Global, from: u32, input: &[u8], place: &mut usize) -> i64
     ensures none { IfLength result (λ n. (n ≡ 0) × IsItemIn from input.now
