@@ -1,39 +1,35 @@
 -- Items that are not read, whatever follows the text.
-use Rattle.std.proofs.Common.{◌≡◌, ℕ, zero, suc, ◌<◌, Bool, true, false, not, ◌==◌, List, [], ◌∷◌, ◌++◌, ◌≤◌, length, take, codes}
-use Rattle.std.proofs.Common.{Option, Some, None, Result, Ok, Err, refl, sym, ap, ◌∙◌, subst, arith, inl, inr, ◌≢◌}
+use Rattle.std.proofs.Common.{◌≡◌, ℕ, zero, suc, ◌<◌, true, false, not, ◌==◌, List, [], ◌∷◌, ◌++◌, ◌≤◌, length, take}
+use Rattle.std.proofs.Common.{Option, Some, None, Result, Ok, Err, refl, sym, ap, ◌∙◌, subst, arith, inl, inr}
 use Rattle.std.proofs.lemmas.Bool.{false≢true}
-use Rattle.cbor_notes.specs.TokenReading.{unquoted}
 use Rattle.cbor_diag.specs.declared.error.Error.{Error}
 use Rattle.cbor_diag.specs.declared.error.Error.TheVariants as refusal
 use Rattle.cbor_diag.specs.declared.parse.notation.fault.Member.{Member}
 use Rattle.cbor_diag.specs.declared.parse.notation.fault.Member.TheVariants as member
 use Rattle.cbor_diag.specs.declared.parse.notation.start.Start.{Start}
-use Rattle.cbor_diag.specs.declared.parse.notation.start.Start.TheVariants as start
 use Rattle.cbor_diag.specs.declared.syntax.IntegerWidth.{IntegerWidth}
 use Rattle.cbor_diag.specs.declared.syntax.IntegerWidth.TheVariants.{Unknown}
 use Rattle.cbor_diag.specs.Item.{Chunk, Item}
-use Rattle.cbor_diag.specs.Item as spec
 use Rattle.cbor_diag.specs.StringKind.{StringKind, bytes_kind, text_kind, no_chunks, IsContent}
-use Rattle.cbor_diag.specs.View.{items_of, pairs_of}
 use Rattle.cbor_diag.specs.Reading.{Read, ◌>>=◌}
 use Rattle.cbor_diag.specs.mirror.StringView.{kind_view}
 use Rattle.cbor_diag.specs.mirror.NotationReading.{or_refused, skip_blank, after_byte, after_word, after_end}
-use Rattle.cbor_diag.specs.mirror.NotationReading.{more_members, members_from, members_or_end, read_members, read_pair}
+use Rattle.cbor_diag.specs.mirror.NotationReading.{members_from, members_or_end, read_members, read_pair}
 use Rattle.cbor_diag.specs.mirror.NotationReading.{read_chunk, read_string, read_content, read_pieces, read_piece}
-use Rattle.cbor_diag.specs.mirror.NotationReading.{checked, begins_piece, begins_string, first_start, rest_of, content_of}
+use Rattle.cbor_diag.specs.mirror.NotationReading.{checked, begins_piece, begins_string, first_start, rest_of}
 use Rattle.cbor_diag.specs.mirror.NotationReading.{read_embedded, read_chunks, chunks_of, kind_from, read_array, read_map}
 use Rattle.cbor_diag.specs.mirror.NotationReading.{read_length, read_integer, integer_or_tag, read_unsigned_number}
-use Rattle.cbor_diag.specs.mirror.NotationReading.{read_core, core_of, read_item, read_string_item, string_of, piece_of}
-use Rattle.cbor_diag.specs.mirror.NotationReading.{start_of, notation_of, whole}
-use Rattle.cbor_diag.specs.mirror.DeadEnds.{NotRead, NeverReads, NeverMembers, NeverPieces, Value, read_member, is_firm}
+use Rattle.cbor_diag.specs.mirror.NotationReading.{read_core, core_of, read_item, read_string_item}
+use Rattle.cbor_diag.specs.mirror.NotationReading.{notation_of, whole}
+use Rattle.cbor_diag.specs.mirror.DeadEnds.{NotRead, NeverReads, NeverMembers, NeverPieces, read_member, is_firm}
 use Rattle.cbor_diag.specs.mirror.DeadEnds.{ends_blank}
 use Rattle.cbor_diag.proofs.shared.Utf8.{utf8_passes, utf8_fails}
 use Rattle.cbor_diag.proofs.notation.Ends.{passed_twice}
 use Rattle.cbor_diag.proofs.notation.Pieces.{pieces_go}
 use Rattle.cbor_diag.proofs.notation.GrownTokens.{blank_grown, byte_grown, no_byte_grown}
 use Rattle.cbor_diag.proofs.notation.DeadTokens.{not_bind, not_by}
-use Rattle.cbor_diag.proofs.notation.GrownItems.{firm_blank, Grows, Begins, more_behind, item_grows, item_begins, pair_grows}
-use Rattle.cbor_diag.proofs.notation.GrownItems.{pair_begins, chunk_grows, chunk_begins, no_byte_firm, content_grows}
+use Rattle.cbor_diag.proofs.notation.GrownItems.{firm_blank, Grows, item_grows, item_begins, pair_grows}
+use Rattle.cbor_diag.proofs.notation.GrownItems.{chunk_grows, no_byte_firm, content_grows}
 use Rattle.cbor_diag.proofs.notation.GrownItems.{piece_closed, members_grown, first_grown, unsigned_grows}
 use Rattle.cbor_diag.proofs.notation.sound.Steps.{a_test, after_byte_is}
 use Rattle.cbor_diag.proofs.notation.ItemsFound.{notation_again}

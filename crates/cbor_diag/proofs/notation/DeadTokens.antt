@@ -1,30 +1,29 @@
 -- Tokens that are wrong, whatever follows the text.
-use Rattle.std.proofs.Common.{◌≡◌, ℕ, zero, suc, ◌+◌, ◌-◌, ◌<◌, ◌≤◌, Bool, true, false, not, nat_lt, nat_eq, IsTrue}
-use Rattle.std.proofs.Common.{◌==◌, ◌&&◌, cond, List, [], ◌∷◌, ◌++◌, length, take, drop, codes, Option, Some, None, Ok}
-use Rattle.std.proofs.Common.{Err, Result, ◌⊎◌, inl, inr, refl, sym, ap, ◌∙◌, subst, arith, append_assoc, ◌≢◌}
+use Rattle.std.proofs.Common.{◌≡◌, ℕ, ◌+◌, ◌-◌, ◌<◌, Bool, true, false, not, nat_lt}
+use Rattle.std.proofs.Common.{◌==◌, cond, List, [], ◌∷◌, ◌++◌, length, take, drop, codes, Option, Some, None, Ok}
+use Rattle.std.proofs.Common.{Err, Result, inl, inr, refl, sym, ap, ◌∙◌, subst, arith, append_assoc, ◌≢◌}
 use Rattle.std.proofs.Common.{length-append, length-drop, option_and_then}
-use Rattle.std.specs.List.{position, prefix_len, list_all, starts_with}
-use Rattle.std.specs.Char.{digit_value}
-use Rattle.std.proofs.lemmas.Bool.{eq-eqb, ne_eqb, cases_eq, not-true, false≢true, ltb-true, lt-ltb}
+use Rattle.std.specs.List.{position, prefix_len}
+use Rattle.std.proofs.lemmas.Bool.{ne_eqb, false≢true, ltb-true, lt-ltb}
 use Rattle.std.proofs.lemmas.List.{take_at, take-append-le, drop-append-le}
 use Rattle.std.proofs.lemmas.List.Folds.{prefix_len-append}
 use Rattle.cbor_notes.specs.Base32.{standard, extended_hex}
 use Rattle.cbor_notes.specs.Token.{is_whitespace}
-use Rattle.cbor_notes.specs.TokenReading.{number_of, unquoted}
+use Rattle.cbor_notes.specs.TokenReading.{number_of}
 use Rattle.cbor_notes.proofs.tokens.Numbers.{IsNumber-number_of}
 use Rattle.cbor_diag.specs.declared.syntax.FloatWidth.{FloatWidth}
 use Rattle.cbor_diag.specs.declared.error.Error.{Error}
 use Rattle.cbor_diag.specs.declared.error.Error.TheVariants as refusal
 use Rattle.cbor_diag.specs.Item.{Item, atom, simple, float}
 use Rattle.cbor_diag.specs.Reading.{Read, ◌>>=◌, Fails, Gives}
-use Rattle.cbor_diag.specs.mirror.NotationReading.{or_refused, skip_blank, after_byte, after_word, after_space, after_end}
+use Rattle.cbor_diag.specs.mirror.NotationReading.{or_refused, after_byte, after_word, after_space, after_end}
 use Rattle.cbor_diag.specs.mirror.NotationReading.{read_number, with_width, negative_number, read_unsigned_number}
 use Rattle.cbor_diag.specs.mirror.NotationReading.{read_negative_number, read_simple, simple_value, read_float, float_of}
 use Rattle.cbor_diag.specs.mirror.NotationReading.{numeral, read_word, b_notation, h_notation, read_decoded, base16_of}
 use Rattle.cbor_diag.specs.mirror.NotationReading.{base32_of, base64_of}
-use Rattle.cbor_diag.specs.mirror.DeadEnds.{NotRead, IsRefused, NeverReads, HasEnd, grown, ends_blank, is_settled, is_firm, closes}
+use Rattle.cbor_diag.specs.mirror.DeadEnds.{NotRead, IsRefused, NeverReads, HasEnd, grown, is_settled, closes}
 use Rattle.cbor_diag.proofs.notation.GrownTokens.{byte_grown, no_byte_grown, word_grown, number_grown, no_number_grown}
-use Rattle.cbor_diag.proofs.notation.GrownTokens.{decoded_grown, some_is, is_list, behind}
+use Rattle.cbor_diag.proofs.notation.GrownTokens.{decoded_grown}
 use Rattle.cbor_diag.proofs.bytes.Heads.{bind_ok, ok_is}
 use Rattle.cbor_diag.proofs.notation.sound.Steps.{a_test, none_some, after_word_is, after_byte_is}
 

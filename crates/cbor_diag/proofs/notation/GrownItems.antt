@@ -1,12 +1,12 @@
 -- Items that end before the text does: more bytes behind the text change nothing of them.
-use Rattle.std.proofs.Common.{◌≡◌, ℕ, zero, suc, ◌+◌, ◌<◌, ◌≤◌, Bool, true, false, not, nat_lt, nat_eq, ◌==◌, ◌&&◌}
+use Rattle.std.proofs.Common.{◌≡◌, ℕ, zero, suc, ◌<◌, ◌≤◌, Bool, true, false, not, nat_eq, ◌==◌, ◌&&◌}
 use Rattle.std.proofs.Common.{◌||◌, List, [], ◌∷◌, ◌++◌, length, take, drop, codes, Option, Some, None, Result, Ok, Err, ◌⊎◌}
 use Rattle.std.proofs.Common.{inl, inr, refl, sym, ap, ◌∙◌, subst, arith, length-append, append_assoc}
 use Rattle.std.specs.List.{position, prefix_len, starts_with}
-use Rattle.std.proofs.lemmas.Bool.{and_parts, or_parts, or_cases, eqb-true, not-true, false≢true, lt-ltb, cond-false}
+use Rattle.std.proofs.lemmas.Bool.{and_parts, or_parts, or_cases, eqb-true, not-true, false≢true, lt-ltb}
 use Rattle.std.proofs.lemmas.Slice.Eq.{bytes_eq-Decides}
 use Rattle.cbor_notes.specs.Token.{is_whitespace, is_digit}
-use Rattle.cbor_notes.specs.TokenReading.{number_of, digits_in, digits_of, some_digits, with_front, unquoted}
+use Rattle.cbor_notes.specs.TokenReading.{digits_in, digits_of, some_digits, with_front, unquoted}
 use Rattle.cbor_diag.specs.declared.error.Error.{Error}
 use Rattle.cbor_diag.specs.declared.error.Error.TheVariants as refusal
 use Rattle.cbor_diag.specs.declared.parse.notation.start.Start.{Start}
@@ -39,9 +39,9 @@ use Rattle.cbor_diag.proofs.notation.Ends.{holds_of, passed_twice}
 use Rattle.cbor_diag.proofs.notation.Lists.{IsClose, list_closes, end_closed}
 use Rattle.cbor_diag.proofs.notation.Pieces.{pieces_go, pieces_stop}
 use Rattle.cbor_diag.proofs.notation.sound.Lists.{end_is}
-use Rattle.cbor_diag.proofs.notation.sound.Steps.{a_test, none_some, after_byte_is, after_word_is}
-use Rattle.cbor_diag.proofs.notation.GrownTokens.{some_is, byte_grown, no_byte_grown, blank_grown, word_grown, word_apart}
-use Rattle.cbor_diag.proofs.notation.GrownTokens.{quoted_grown, decoded_grown, other_digits, number_grown}
+use Rattle.cbor_diag.proofs.notation.sound.Steps.{a_test, none_some, after_byte_is}
+use Rattle.cbor_diag.proofs.notation.GrownTokens.{byte_grown, no_byte_grown, blank_grown, word_grown, word_apart}
+use Rattle.cbor_diag.proofs.notation.GrownTokens.{quoted_grown, decoded_grown, other_digits}
 use Rattle.cbor_diag.proofs.notation.DeadTokens.{space_grown, number_stays, simple_closed, float_closed}
 
 -- ---- what was read, and more bytes behind the rest

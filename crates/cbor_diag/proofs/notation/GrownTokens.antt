@@ -1,24 +1,24 @@
 -- Tokens that end before the text does: more bytes behind the text change nothing of them.
-use Rattle.std.proofs.Common.{◌≡◌, ℕ, zero, suc, ◌+◌, ◌*◌, ◌<◌, ◌≤◌, Bool, true, false, not, nat_lt, nat_le, nat_eq}
-use Rattle.std.proofs.Common.{◌==◌, ◌&&◌, ◌||◌, cond, List, [], ◌∷◌, ◌++◌, length, drop, Ok, Option, Some, None, ◌⊎◌}
+use Rattle.std.proofs.Common.{◌≡◌, ℕ, ◌+◌, ◌*◌, ◌≤◌, Bool, true, false, not, nat_lt, nat_le, nat_eq}
+use Rattle.std.proofs.Common.{◌==◌, ◌&&◌, ◌||◌, List, [], ◌∷◌, ◌++◌, length, drop, Ok, Option, Some, None, ◌⊎◌}
 use Rattle.std.proofs.Common.{inl, inr, refl, sym, ap, ◌∙◌, subst, arith, append_assoc, ◌≢◌}
 use Rattle.std.specs.Char.{digit_value}
 use Rattle.std.specs.List.{starts_with}
-use Rattle.std.proofs.lemmas.Bool.{and_parts, or_parts, eq-eqb, ne_eqb, eqb-true, eqb-false, cases_eq, not-true}
-use Rattle.std.proofs.lemmas.Bool.{false≢true, ltb-true, lt-ltb}
+use Rattle.std.proofs.lemmas.Bool.{or_parts, eq-eqb, ne_eqb, eqb-false, cases_eq, not-true}
+use Rattle.std.proofs.lemmas.Bool.{false≢true, ltb-true}
 use Rattle.cbor_notes.specs.Token.{is_whitespace, AreDigits, Base, decimal_base, hexadecimal_base, octal_base}
 use Rattle.cbor_notes.specs.Token.{binary_base, prefix, radix, is_digit}
-use Rattle.cbor_notes.specs.TokenReading.{after_blank, digit_run, small_run, indicator_of, after_run, number_in}
+use Rattle.cbor_notes.specs.TokenReading.{digit_run, small_run, after_run, number_in}
 use Rattle.cbor_notes.specs.TokenReading.{number_of, base_of, starts_with_digit, unquoted, with_front, digits_in, digits_of}
 use Rattle.cbor_notes.specs.TokenReading.{some_digits}
 use Rattle.cbor_notes.proofs.tokens.Blanks.{blank_left, length-after_blank, after_blank-append, after_blank-ends}
 use Rattle.cbor_notes.proofs.tokens.NumberFronts.{decimal_number}
 use Rattle.cbor_notes.proofs.tokens.NumberPlaces.{base_of-other, base_of-short}
 use Rattle.cbor_notes.proofs.tokens.Numbers.{number_of-reaches}
-use Rattle.cbor_diag.specs.mirror.NotationReading.{skip_blank, after_byte, after_word, after_space, after_end}
+use Rattle.cbor_diag.specs.mirror.NotationReading.{skip_blank, after_byte, after_word}
 use Rattle.cbor_diag.specs.mirror.NotationReading.{or_refused, read_decoded}
 use Rattle.cbor_diag.specs.Reading.{◌>>=◌}
-use Rattle.cbor_diag.specs.mirror.DeadEnds.{ends_blank, is_settled, is_firm, closes, grown}
+use Rattle.cbor_diag.specs.mirror.DeadEnds.{ends_blank, is_settled, closes, grown}
 use Rattle.cbor_diag.proofs.notation.Ends.{passed_twice}
 use Rattle.cbor_diag.proofs.notation.sound.Steps.{a_test, none_some, after_byte_is, after_word_is}
 

@@ -1,4 +1,4 @@
-use Rattle.std.proofs.Common.{◌≡◌, ℕ, suc, ◌+◌, ◌-◌, ◌∙◌, Option, Some, IfSome, arith, ◌++◌, Bool, true, false, not, Result, Ok, Err, IfOk, IsTrue, sym, ap, subst}
+use Rattle.std.proofs.Common.{◌≡◌, ℕ, suc, ◌+◌, ◌-◌, ◌∙◌, Option, Some, IfSome, arith, ◌++◌, Bool, Result, Ok, Err, IfOk, IsTrue, sym, ap, subst}
 use Rattle.cbor_diag.specs.declared.error.Error.{Error}
 use Rattle.cbor_diag.specs.declared.parse.notation.start.Start.TheVariants as start
 use Rattle.cbor_diag.specs.StringKind.{bytes_kind}

@@ -1,5 +1,4 @@
-use Rattle.std.proofs.Common.{◌≡◌, ◌-◌, ℕ, List, Result, Ok, Err, IfOk, Bor, sym, subst}
-use Rattle.cbor_diag.specs.declared.error.Error.{Error}
+use Rattle.std.proofs.Common.{◌≡◌, ◌-◌, Ok, IfOk, sym, subst}
 use Rattle.cbor_diag.specs.declared.parse.notation.fault.Member.{Member}
 use Rattle.cbor_diag.specs.mirror.DeadEnds.{Value, read_member}
 use Rattle.cbor_diag.specs.mirror.NotationReading.{read_item}

@@ -1,4 +1,3 @@
-use Rattle.std.proofs.Common.{◌≡◌}
 use Rattle.cbor_diag.specs.View.{view}
 use Rattle.cbor_diag.specs.mirror.NotationReading.{read_float}
 use Rattle.cbor_diag.proofs.notation.GrownItems.{of_some}
