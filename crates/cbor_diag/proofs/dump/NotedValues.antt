@@ -1,12 +1,14 @@
 -- What the note on a value depends on: of a container that is no address, nothing.
-use Rattle.std.proofs.Common.{◌≡◌, ◌≢◌, ℕ, zero, suc, ◌+◌, List, length, Option, Some, None, Ok, IsSome, refl, sym, ap, subst, ◌∙◌}
+use Rattle.std.proofs.Common.{◌≡◌, ◌≢◌, ℕ, zero, suc, ◌+◌, List, length, Option, Some, None, Ok, IsSome, refl, sym, ap}
+use Rattle.std.proofs.Common.{subst, ◌∙◌}
 use Rattle.std.proofs.lemmas.Bool.{ne_eqb}
 use Rattle.cbor_notes.specs.Element.{element_size}
 use Rattle.cbor_diag.specs.Item as spec
 use Rattle.cbor_diag.specs.Item.{Item, atom, simple, array, tagged}
 use Rattle.cbor_diag.specs.ItemHead.{ItemHead}
 use Rattle.cbor_diag.specs.Notes.{null_value, typed_array_note, value_note}
-use Rattle.cbor_diag.specs.Reading.{Counted, Frame, items_in, pairs_in, value_of, tag_of, tagged_with, opened, put, after_end}
+use Rattle.cbor_diag.specs.Reading.{Counted, Frame, items_in, pairs_in, value_of, tag_of, tagged_with, opened, put}
+use Rattle.cbor_diag.specs.Reading.{after_end}
 use Rattle.cbor_diag.specs.Reading.{closed, close_or, ◌>>-◌, parts_from, read_body, read_head, counted_item}
 use Rattle.cbor_diag.specs.WellFormed.{levels_left}
 use Rattle.cbor_diag.specs.mirror.AtLevel.{read_at}

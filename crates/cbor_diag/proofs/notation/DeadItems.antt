@@ -17,7 +17,8 @@ use Rattle.cbor_diag.specs.mirror.NotationReading.{or_refused, skip_blank, after
 use Rattle.cbor_diag.specs.mirror.NotationReading.{members_from, members_or_end, read_members, read_pair}
 use Rattle.cbor_diag.specs.mirror.NotationReading.{read_chunk, read_string, read_content, read_pieces, read_piece}
 use Rattle.cbor_diag.specs.mirror.NotationReading.{checked, begins_piece, begins_string, first_start, rest_of}
-use Rattle.cbor_diag.specs.mirror.NotationReading.{read_embedded, read_chunks, chunks_of, kind_from, read_array, read_map}
+use Rattle.cbor_diag.specs.mirror.NotationReading.{read_embedded, read_chunks, chunks_of, kind_from, read_array}
+use Rattle.cbor_diag.specs.mirror.NotationReading.{read_map}
 use Rattle.cbor_diag.specs.mirror.NotationReading.{read_length, read_integer, integer_or_tag, read_unsigned_number}
 use Rattle.cbor_diag.specs.mirror.NotationReading.{read_core, core_of, read_item, read_string_item}
 use Rattle.cbor_diag.specs.mirror.NotationReading.{notation_of, whole}

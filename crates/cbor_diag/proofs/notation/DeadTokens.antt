@@ -18,7 +18,8 @@ use Rattle.cbor_diag.specs.Item.{Item, atom, simple, float}
 use Rattle.cbor_diag.specs.Reading.{Read, ◌>>=◌, Fails, Gives}
 use Rattle.cbor_diag.specs.mirror.NotationReading.{or_refused, after_byte, after_word, after_space, after_end}
 use Rattle.cbor_diag.specs.mirror.NotationReading.{read_number, with_width, negative_number, read_unsigned_number}
-use Rattle.cbor_diag.specs.mirror.NotationReading.{read_negative_number, read_simple, simple_value, read_float, float_of}
+use Rattle.cbor_diag.specs.mirror.NotationReading.{read_negative_number, read_simple, simple_value, read_float}
+use Rattle.cbor_diag.specs.mirror.NotationReading.{float_of}
 use Rattle.cbor_diag.specs.mirror.NotationReading.{numeral, read_word, b_notation, h_notation, read_decoded, base16_of}
 use Rattle.cbor_diag.specs.mirror.NotationReading.{base32_of, base64_of}
 use Rattle.cbor_diag.specs.mirror.DeadEnds.{NotRead, IsRefused, NeverReads, HasEnd, grown, is_settled, closes}

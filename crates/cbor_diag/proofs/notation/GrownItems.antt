@@ -1,6 +1,7 @@
 -- Items that end before the text does: more bytes behind the text change nothing of them.
 use Rattle.std.proofs.Common.{◌≡◌, ℕ, zero, suc, ◌<◌, ◌≤◌, Bool, true, false, not, nat_eq, ◌==◌, ◌&&◌}
-use Rattle.std.proofs.Common.{◌||◌, List, [], ◌∷◌, ◌++◌, length, take, drop, codes, Option, Some, None, Result, Ok, Err, ◌⊎◌}
+use Rattle.std.proofs.Common.{◌||◌, List, [], ◌∷◌, ◌++◌, length, take, drop, codes, Option, Some, None, Result, Ok, Err}
+use Rattle.std.proofs.Common.{◌⊎◌}
 use Rattle.std.proofs.Common.{inl, inr, refl, sym, ap, ◌∙◌, subst, arith, length-append, append_assoc}
 use Rattle.std.specs.List.{position, prefix_len, starts_with}
 use Rattle.std.proofs.lemmas.Bool.{and_parts, or_parts, or_cases, eqb-true, not-true, false≢true, lt-ltb}
@@ -15,12 +16,16 @@ use Rattle.cbor_diag.specs.Item.{Chunk, Item}
 use Rattle.cbor_diag.specs.StringKind.{StringKind, bytes_kind, text_kind, no_chunks}
 use Rattle.cbor_diag.specs.Notation.{Closes}
 use Rattle.cbor_diag.specs.Reading.{Read, ◌>>=◌}
-use Rattle.cbor_diag.specs.mirror.NotationReading.{or_refused, skip_blank, after_byte, after_word, after_space, after_end}
-use Rattle.cbor_diag.specs.mirror.NotationReading.{read_number, more_members, members_from, members_or_end, read_members}
-use Rattle.cbor_diag.specs.mirror.NotationReading.{read_pair, read_array, read_map, read_length, read_decoded, b_notation}
+use Rattle.cbor_diag.specs.mirror.NotationReading.{or_refused, skip_blank, after_byte, after_word, after_space}
+use Rattle.cbor_diag.specs.mirror.NotationReading.{after_end}
+use Rattle.cbor_diag.specs.mirror.NotationReading.{read_number, more_members, members_from, members_or_end}
+use Rattle.cbor_diag.specs.mirror.NotationReading.{read_members}
+use Rattle.cbor_diag.specs.mirror.NotationReading.{read_pair, read_array, read_map, read_length, read_decoded}
+use Rattle.cbor_diag.specs.mirror.NotationReading.{b_notation}
 use Rattle.cbor_diag.specs.mirror.NotationReading.{h_notation, read_embedded, piece_of, read_piece, read_pieces}
 use Rattle.cbor_diag.specs.mirror.NotationReading.{begins_piece, begins_string, first_start, start_of, content_of}
-use Rattle.cbor_diag.specs.mirror.NotationReading.{read_content, checked, read_string, read_chunk, chunks_of, read_chunks}
+use Rattle.cbor_diag.specs.mirror.NotationReading.{read_content, checked, read_string, read_chunk, chunks_of}
+use Rattle.cbor_diag.specs.mirror.NotationReading.{read_chunks}
 use Rattle.cbor_diag.specs.mirror.NotationReading.{kind_from, string_of, read_string_item, read_word, read_integer}
 use Rattle.cbor_diag.specs.mirror.NotationReading.{read_negative, read_unsigned_number, read_negative_number, core_of}
 use Rattle.cbor_diag.specs.mirror.NotationReading.{read_core, read_item, read_simple, read_float, integer_or_tag}

@@ -9,7 +9,8 @@ use Rattle.std.proofs.lemmas.Bool.{false≢true, ltb-true}
 use Rattle.cbor_notes.specs.Token.{is_whitespace, AreDigits, Base, decimal_base, hexadecimal_base, octal_base}
 use Rattle.cbor_notes.specs.Token.{binary_base, prefix, radix, is_digit}
 use Rattle.cbor_notes.specs.TokenReading.{digit_run, small_run, after_run, number_in}
-use Rattle.cbor_notes.specs.TokenReading.{number_of, base_of, starts_with_digit, unquoted, with_front, digits_in, digits_of}
+use Rattle.cbor_notes.specs.TokenReading.{number_of, base_of, starts_with_digit, unquoted, with_front, digits_in}
+use Rattle.cbor_notes.specs.TokenReading.{digits_of}
 use Rattle.cbor_notes.specs.TokenReading.{some_digits}
 use Rattle.cbor_notes.proofs.tokens.Blanks.{blank_left, length-after_blank, after_blank-append, after_blank-ends}
 use Rattle.cbor_notes.proofs.tokens.NumberFronts.{decimal_number}

@@ -1,5 +1,6 @@
 -- Contents of strings that come in pieces, and what is due after some of their bytes.
-use Rattle.std.proofs.Common.{◌≡◌, ℕ, zero, suc, ◌+◌, ◌-◌, ◌^◌, ◌<◌, ◌≤◌, Bool, true, false, if◌then◌else◌, List, [], ◌∷◌, ◌++◌}
+use Rattle.std.proofs.Common.{◌≡◌, ℕ, zero, suc, ◌+◌, ◌-◌, ◌^◌, ◌<◌, ◌≤◌, Bool, true, false, if◌then◌else◌, List, []}
+use Rattle.std.proofs.Common.{◌∷◌, ◌++◌}
 use Rattle.std.proofs.Common.{length, get_or, take, drop, Ok, Err, ◌⊎◌, inl, inr, refl, sym, ap, subst, ◌∙◌}
 use Rattle.std.proofs.Common.{arith, ltb}
 use Rattle.std.specs.Prelude.{IsUtf8}
@@ -8,7 +9,8 @@ use Rattle.std.specs.Char.{len_utf8}
 use lib.Utf8.{encode, encodes}
 use Rattle.std.proofs.Math.Seq.{drop-append-add}
 use Rattle.std.proofs.lemmas.Bool.{cases_Bool, cases_lt, lt-ltb, le-ltb}
-use Rattle.std.proofs.lemmas.List.{append-nil, length-append, length-drop, length-take, take-append-drop, take_at, drop_at}
+use Rattle.std.proofs.lemmas.List.{append-nil, length-append, length-drop, length-take, take-append-drop, take_at}
+use Rattle.std.proofs.lemmas.List.{drop_at}
 use Rattle.std.proofs.lemmas.List.{take-append-le, drop_more, drop_all}
 use Rattle.std.proofs.lemmas.Str.{IsUtf8-append, IsUtf8-drop, IsUtf8-take, IsUtf8-from_is_utf8, is_utf8-from_IsUtf8}
 use Rattle.std.proofs.lemmas.Str.{IsCharBoundary-from_take, IsCharBoundary-past_char, len_utf8_bounds}
@@ -31,7 +33,8 @@ use Rattle.cbor_diag.proofs.bytes.StringRefusals.{bad_content, content_refuses}
 use Rattle.cbor_diag.proofs.bytes.HeadRefusals.{InfoRefusal, cut_info, bad_info, info_refused}
 use Rattle.cbor_diag.proofs.bytes.HeadRefusals.{HeadRefusal, no_head, short_head, bad_head, head_refused}
 use Rattle.cbor_diag.specs.Refused.{CutHead, cut_head}
-use Rattle.cbor_diag.proofs.skipping.Skips.{goes_at, goes_then, shows_then, content_cut, content_goes, stops_within, more_keeps}
+use Rattle.cbor_diag.proofs.skipping.Skips.{goes_at, goes_then, shows_then, content_cut, content_goes, stops_within}
+use Rattle.cbor_diag.proofs.skipping.Skips.{more_keeps}
 
 -- ---- contents
 

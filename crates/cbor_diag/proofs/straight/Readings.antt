@@ -15,7 +15,8 @@ use Rattle.cbor_diag.specs.Item.{Chunk, string, Item, atom, Items, no_items, ite
 use Rattle.cbor_diag.specs.ItemHead as item_head
 use Rattle.cbor_diag.specs.ItemHead.{ItemHead}
 use Rattle.cbor_diag.specs.NotationText.{text_with}
-use Rattle.cbor_diag.specs.Reading.{Read, Fails, read_content, read_atom, Counted, ◌>>=◌, ◌>>-◌, Frame, items_in, pairs_in, value_of, tag_of}
+use Rattle.cbor_diag.specs.Reading.{Read, Fails, read_content, read_atom, Counted, ◌>>=◌, ◌>>-◌, Frame, items_in}
+use Rattle.cbor_diag.specs.Reading.{pairs_in, value_of, tag_of}
 use Rattle.cbor_diag.specs.Reading.{tagged_with, opened, joined, joined_pairs, one_less, put, after_members, after_end}
 use Rattle.cbor_diag.specs.Reading.{closed, read_parts, read_body, read_head, no_level_left, counted_item, read_item}
 use Rattle.cbor_diag.specs.StringKind.{StringKind}

@@ -1,6 +1,7 @@
 -- Texts that nothing can continue so that they are read, as the code of `parse/notation/fault.rt` finds them. No
 -- public clause names these.
-use Rattle.std.specs.Prelude.{◌≡◌, ◌≢◌, ℕ, Bool, true, false, not, ◌==◌, ◌||◌, ◌&&◌, if◌then◌else◌, List, [], ◌∷◌, ◌++◌, Option, Result, Ok, Err}
+use Rattle.std.specs.Prelude.{◌≡◌, ◌≢◌, ℕ, Bool, true, false, not, ◌==◌, ◌||◌, ◌&&◌, if◌then◌else◌, List, [], ◌∷◌, ◌++◌}
+use Rattle.std.specs.Prelude.{Option, Result, Ok, Err}
 use Rattle.cbor_diag.specs.declared.error.Error.{Error}
 use Rattle.cbor_diag.specs.declared.error.Error.TheVariants as refusal
 use Rattle.cbor_diag.specs.declared.parse.notation.fault.Member.{Member}
@@ -8,7 +9,8 @@ use Rattle.cbor_diag.specs.declared.parse.notation.fault.Member.TheVariants as m
 use Rattle.cbor_diag.specs.Item.{Chunk, Item}
 use Rattle.cbor_diag.specs.StringKind.{StringKind}
 use Rattle.cbor_diag.specs.Reading.{Read}
-use Rattle.cbor_diag.specs.mirror.NotationReading.{skip_blank, read_number, read_pair, read_chunk, members_from, read_pieces}
+use Rattle.cbor_diag.specs.mirror.NotationReading.{skip_blank, read_number, read_pair, read_chunk, members_from}
+use Rattle.cbor_diag.specs.mirror.NotationReading.{read_pieces}
 use Rattle.cbor_diag.specs.mirror.StringView.{kind_view}
 
 abbrev pub NotRead : {Y : Type 0} → Result Y Error → Type 0

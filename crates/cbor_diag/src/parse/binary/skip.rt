@@ -27,7 +27,8 @@ ghost use Rattle.cbor_diag.specs.ItemHead.{string};
 ghost use Rattle.cbor_diag.specs.mirror.HeadView.{argument_view, head_view};
 ghost use Rattle.cbor_diag.specs.mirror.StringView.{kind_view};
 ghost use Rattle.cbor_diag.specs.mirror.Skipping.{here, Goes, StopsSo, stop_of};
-ghost use Rattle.cbor_diag.specs.mirror.Skipping.{skip_content, skip_chunks, after_chunk, after_chunk_length};
+ghost use Rattle.cbor_diag.specs.mirror.Skipping.{skip_content, skip_chunks, after_chunk};
+ghost use Rattle.cbor_diag.specs.mirror.Skipping.{after_chunk_length};
 ghost use Rattle.cbor_diag.specs.mirror.Skipping.{skip_item, skip_body, begun};
 
 use super::argument::Argument;

@@ -7,18 +7,20 @@
 //! again, once at each level.
 mod tokens;
 
-ghost use Rattle.std.specs.Prelude.{◌≡◌, ◌≤◌, ◌<◌, ◌⊎◌, ℕ, length, take, not, IfOk, IfErr, IfSome, IsTrue};
-ghost use Rattle.std.specs.Prelude.{◌++◌, List, true, Ok, Some, None, IfNone};
+ghost use Rattle.std.specs.Prelude.{◌≡◌, ◌≤◌, ◌<◌, ◌⊎◌, ◌++◌, ℕ, List, length, take, not, true, Ok};
+ghost use Rattle.std.specs.Prelude.{Some, None, IfOk, IfErr, IfSome, IfNone, IsTrue};
 ghost use Rattle.cbor_diag.specs.WellFormed.{levels_left};
 ghost use Rattle.cbor_diag.specs.Item.{Item, Chunk};
 ghost use Rattle.cbor_diag.specs.Notation.{IsNotation};
 ghost use Rattle.cbor_diag.specs.DeadEnd.{IsDeadEnd, IsDiagFault};
 ghost use Rattle.cbor_diag.specs.NotationRefused.{IsNoNotation};
-ghost use Rattle.cbor_diag.specs.mirror.DeadEnds.{NeverReads, NeverPieces, Value, read_member, is_firm, NotRead};
-ghost use Rattle.cbor_diag.specs.mirror.NotationReading.{after_byte, after_end, checked, read_core, read_integer, read_item};
-ghost use Rattle.cbor_diag.specs.mirror.NotationReading.{read_members, read_pair, read_chunk};
-ghost use Rattle.cbor_diag.specs.mirror.NotationReading.{read_chunks, read_piece, read_string};
-ghost use Rattle.cbor_diag.specs.mirror.NotationReading.{read_embedded, read_string_item};
+ghost use Rattle.cbor_diag.specs.mirror.DeadEnds.{NeverReads, NeverPieces, NotRead, Value};
+ghost use Rattle.cbor_diag.specs.mirror.DeadEnds.{read_member, is_firm};
+ghost use Rattle.cbor_diag.specs.mirror.NotationReading.{after_byte, after_end, checked, read_core};
+ghost use Rattle.cbor_diag.specs.mirror.NotationReading.{read_integer, read_item, read_members};
+ghost use Rattle.cbor_diag.specs.mirror.NotationReading.{read_pair, read_chunk, read_chunks};
+ghost use Rattle.cbor_diag.specs.mirror.NotationReading.{read_piece, read_string, read_embedded};
+ghost use Rattle.cbor_diag.specs.mirror.NotationReading.{read_string_item};
 ghost use Rattle.cbor_diag.specs.mirror.StringView.{kind_view};
 
 use super::number::read_unsigned_number;
@@ -31,8 +33,8 @@ use crate::syntax::DEEPEST;
 use crate::syntax::strings::StringKind;
 use std::alloc::Global;
 use tokens::{
-    ends_blank, has_bad_escape, is_apart, is_dead_b_notation, is_dead_h_notation, is_dead_negative,
-    is_dead_unsigned, is_dead_word, is_firm, is_open,
+    but_memory, ends_blank, has_bad_escape, is_apart, is_dead_b_notation, is_dead_h_notation,
+    is_dead_negative, is_dead_unsigned, is_dead_word, is_firm, is_open,
 };
 
 /// What the members of a list are.
@@ -44,18 +46,6 @@ enum Member {
     Pair,
     /// Chunks of an indefinite string of this kind.
     Chunk(StringKind),
-}
-
-/// What was read, or `None` for any error but `Memory`.
-fn but_memory<T: Drop>(answer: Result<T>) -> Result<Option<T>>
-    ensures dead { IfOk result (λ found. IfSome found (λ x. answer ≡ Ok x)) }
-    ensures refused { IfErr result (λ e. e ≡ Error.Memory) }
-{
-    match answer {
-        Ok(x) => Ok(Some(x)),
-        Err(Error::Memory) => Err(Error::Memory),
-        Err(_) => Ok(None),
-    }
 }
 
 /// The text after the item at the front.
@@ -444,8 +434,8 @@ fn first_dead_end(alloc: Global, text: &[u8]) -> Result<usize>
     Ok(end)
 }
 
-/// Finds where diagnostic notation is wrong: the error that [`parse_diag`] returns for the text, and
-/// how many of its first bytes show it. Returns `None` if `parse_diag` reads the text.
+/// Finds where diagnostic notation is wrong: the error that [`parse_diag`] returns, and how many of
+/// the first bytes show it. Returns `None` if `parse_diag` reads the text.
 ///
 /// No text that begins with these bytes is notation of an item within 128 levels, and the last of
 /// them is the first that cannot stand where it stands, or is in the same word, number or string.
@@ -454,8 +444,8 @@ fn first_dead_end(alloc: Global, text: &[u8]) -> Result<usize>
 /// The error is `CutShort`, with the length of the text, if the text may only end too early, as in
 /// `[1, 2` or `"abc`. A fault in a string or in digits without a closing quote is reported so, too.
 ///
-/// It reads the text again, some twenty times for a long one, and then each time at each level that
-/// is open. It allocates what it reads. Returns `Memory` if an allocation fails.
+/// It reads a long text again some twenty times, each time once at each open level. It allocates
+/// what it reads. Returns `Memory` if an allocation fails.
 ///
 /// ```rust
 /// use cbor_diag::{Error, diag_fault};
@@ -475,7 +465,6 @@ pub fn diag_fault(alloc: Global, text: &str) -> Result<Option<(Error, usize)>>
 
     // Otherwise why it is none, and first bytes that are a dead end, or that it is cut short.
     ensures fault { IfOk result (λ found. IfSome found (λ x. IsDiagFault text.now x.0 x.1)) }
-
     ensures refused { IfErr result (λ e. e ≡ Error.Memory) }
 {
     let error = match parse_diag(alloc, text) {

@@ -1,5 +1,6 @@
 //! Whether the token at the front of a text is wrong for good, whatever follows the text.
-ghost use Rattle.std.specs.Prelude.{◌≡◌, ◌⊎◌, ◌++◌, List, ℕ, false, None, IsTrue, IfErr, IfOk};
+ghost use Rattle.std.specs.Prelude.{◌≡◌, ◌⊎◌, ◌++◌, List, ℕ, false, Ok, None, IsTrue, IfErr, IfOk};
+ghost use Rattle.std.specs.Prelude.{IfSome};
 ghost use Rattle.cbor_notes.specs.TokenReading.{unquoted};
 ghost use Rattle.cbor_diag.specs.mirror.DeadEnds.{NeverReads, HasEnd, ends_blank, is_firm};
 ghost use Rattle.cbor_diag.specs.mirror.DeadEnds.{is_settled, closes, NotRead, IsRefused};
@@ -54,6 +55,18 @@ fn is_refused<T: Drop>(answer: Result<T>) -> bool
         Ok(_) => false,
         Err(Error::Memory) => false,
         Err(_) => true,
+    }
+}
+
+/// What was read, or `None` for any error but `Memory`.
+pub(super) fn but_memory<T: Drop>(answer: Result<T>) -> Result<Option<T>>
+    ensures found { IfOk result (λ found. IfSome found (λ x. answer ≡ Ok x)) }
+    ensures refused { IfErr result (λ e. e ≡ Error.Memory) }
+{
+    match answer {
+        Ok(x) => Ok(Some(x)),
+        Err(Error::Memory) => Err(Error::Memory),
+        Err(_) => Ok(None),
     }
 }
 

@@ -2,7 +2,8 @@ use Rattle.std.proofs.Common.{◌+◌, ◌++◌, codes, Some, IfOk, IfErr, refl,
 use Rattle.std.proofs.lemmas.Result.{err_from_is_err_and}
 use Rattle.std.specs.String.{string_bytes}
 use Rattle.cbor_diag.specs.Item as spec
-use Rattle.cbor_diag.specs.Item.{atom, integer, negative, string, float, simple, array, tagged, no_items, item, no_pairs}
+use Rattle.cbor_diag.specs.Item.{atom, integer, negative, string, float, simple, array, tagged, no_items, item}
+use Rattle.cbor_diag.specs.Item.{no_pairs}
 use Rattle.cbor_diag.specs.Item.{pair}
 use Rattle.cbor_diag.specs.ItemHead as item_head
 use Rattle.cbor_diag.specs.Embedded.{sequence_at}

@@ -1,4 +1,5 @@
-use Rattle.std.proofs.Common.{◌≡◌, ◌≢◌, ℕ, ◌/◌, ◌%◌, ◌≤◌, List, ◌∷◌, get_or, length, Ok, Err, subst, ap, sym, ◌∙◌, arith}
+use Rattle.std.proofs.Common.{◌≡◌, ◌≢◌, ℕ, ◌/◌, ◌%◌, ◌≤◌, List, ◌∷◌, get_or, length, Ok, Err, subst, ap, sym, ◌∙◌}
+use Rattle.std.proofs.Common.{arith}
 use Rattle.cbor_diag.specs.declared.syntax.IntegerWidth.{IntegerWidth}
 use Rattle.cbor_diag.specs.declared.error.Error.TheVariants.{Head}
 use Rattle.cbor_diag.specs.Argument.{number}

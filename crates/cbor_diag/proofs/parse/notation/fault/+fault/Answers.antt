@@ -1,4 +1,5 @@
-use Rattle.std.proofs.Common.{◌≡◌, ℕ, suc, ◌+◌, ◌-◌, ◌∙◌, Option, Some, IfSome, arith, ◌++◌, Bool, Result, Ok, Err, IfOk, IsTrue, sym, ap, subst}
+use Rattle.std.proofs.Common.{◌≡◌, ℕ, suc, ◌+◌, ◌-◌, ◌∙◌, Option, Some, IfSome, arith, ◌++◌, Bool, Result, Ok, Err}
+use Rattle.std.proofs.Common.{IfOk, IsTrue, sym, ap, subst}
 use Rattle.cbor_diag.specs.declared.error.Error.{Error}
 use Rattle.cbor_diag.specs.declared.parse.notation.start.Start.TheVariants as start
 use Rattle.cbor_diag.specs.StringKind.{bytes_kind}
@@ -161,7 +162,7 @@ pub is_dead_integer-returns-in-Some-2-clause-dead : goal.is_dead_integer-returns
 is_dead_integer-returns-in-Some-2-clause-dead t c is =
     let item = was_read c.after_item.result c.in_ok-after.field-0 c.in-Some-2.after
     (λ rest. (x : Item) × (read_item (129 - c.args.inner) c.in-Some.rest.now ≡ Ok (x, rest.now)))
-    c.in_ok-after.ensures.dead c.in-Some-2.is c.after_item.ensures.found in
+    c.in_ok-after.ensures.found c.in-Some-2.is c.after_item.ensures.found in
     tag_close_dead (129 - c.args.inner) c.args.text.now _ c.in-Ok.after.now c.in-Some.rest.now item.0
     c.in-Some-2.after.now c.in-Ok.ensures.gives (sym c.in-Some.ensures.gives) item.1 (c.is_unclosed.ensures.firm is)
     (c.is_unclosed.ensures.other is)
@@ -199,7 +200,7 @@ is_dead_list-returns-in_default-after_byte-clause-dead t c is =
     let read = read_member c.args.member (read_item (129 - c.args.level)) in
     let x = was_read c.after_member.result c.in_ok-after.field-0 c.in-Some.after
     (λ rest. (x : Value c.args.member) × (read_member c.args.member (read_item (129 - c.args.level)) c.members.rest.now
-    ≡ Ok (x, rest.now))) c.in_ok-after.ensures.dead c.in-Some.is c.after_member.ensures.found in
+    ≡ Ok (x, rest.now))) c.in_ok-after.ensures.found c.in-Some.is c.after_member.ensures.found in
     c.members.invariant (member_wrong read c.args.close (member_grows c.args.member (129 - c.args.level))
     c.members.rest.now x.0 c.in-Some.after.now x.1 (c.is_unended-in-members.ensures.firm c.if-not-is_unended-2.false)
     (c.is_unended-in-members.ensures.unended c.if-not-is_unended-2.false) (sym c.in_default-after_byte.ensures.gives))
@@ -209,7 +210,7 @@ is_dead_list-members-preserved t c never =
     let read = read_member c.args.member (read_item (129 - c.args.level)) in
     let x = was_read c.after_member.result c.in_ok-after.field-0 c.in-Some.after
     (λ rest. (x : Value c.args.member) × (read_member c.args.member (read_item (129 - c.args.level)) c.members.rest.now
-    ≡ Ok (x, rest.now))) c.in_ok-after.ensures.dead c.in-Some.is c.after_member.ensures.found in
+    ≡ Ok (x, rest.now))) c.in_ok-after.ensures.found c.in-Some.is c.after_member.ensures.found in
     c.members.invariant (member_next read c.args.close (member_grows c.args.member (129 - c.args.level))
     c.members.rest.now x.0 c.in-Some.after.now x.1 (c.is_unended-in-members.ensures.firm c.if-not-is_unended-2.false)
     (c.is_unended-in-members.ensures.unended c.if-not-is_unended-2.false) c.in-Some-after_byte.next.now
@@ -219,7 +220,7 @@ pub is_dead_pair-returns-in-Some-after_byte-clause-dead : goal.is_dead_pair-retu
 is_dead_pair-returns-in-Some-after_byte-clause-dead t c =
     let x = was_read c.after_item.result c.in_ok-after.field-0 c.in-Some.after
     (λ rest. (x : Item) × (read_item (129 - c.args.level) c.args.text.now ≡ Ok (x, rest.now)))
-    c.in_ok-after.ensures.dead c.in-Some.is c.after_item.ensures.found in
+    c.in_ok-after.ensures.found c.in-Some.is c.after_item.ensures.found in
     dead_from c.is_dead_item-in-Some-after_byte.result
     (λ never. pair_value_dead (129 - c.args.level) c.args.text.now x.0 c.in-Some.after.now
     c.in-Some-after_byte.value.now x.1 (sym c.is_firm.ensures ∙ c.if-not-is_firm.false)
@@ -239,7 +240,7 @@ is_dead_pieces-pieces-preserved t c never =
     ∙ c.pieces-test.true in
     let read = was_given c.read_piece.result c.in_ok-after.field-0 (c.in-Some.field-0-0, c.in-Some.after)
     (λ x. (x.0.items, x.1.now)) (read_piece (read_item (129 - c.args.inner)) c.pieces.rest.now)
-    c.in_ok-after.ensures.dead c.in-Some.is c.read_piece.ensures.gives in
+    c.in_ok-after.ensures.found c.in-Some.is c.read_piece.ensures.gives in
     c.pieces.invariant (pieces_next (129 - c.args.inner) (kind_view c.args.kind) c.pieces.rest.now
     c.in-Some.field-0-0.items c.in-Some.after.now c.after_blank-rest.result.now goes read
     c.after_blank-rest.ensures.gives (sym c.ends_blank.ensures ∙ c.if-not-ends_blank.false) never)
