@@ -249,6 +249,6 @@ pub is_dead_string-returns-in-Some-clause-dead : goal.is_dead_string-returns-in-
 is_dead_string-returns-in-Some-clause-dead t c is =
     let read = was_given c.read_content.result c.in_ok-content.field-0 (c.in-Some.content, c.in-Some.rest)
     (λ x. (x.0.items, x.1.now)) (read_content (read_item (129 - c.args.inner)) (kind_view c.args.kind) c.args.text.now)
-    c.in_ok-content.ensures.dead c.in-Some.is c.read_content.ensures.gives in
+    c.in_ok-content.ensures.found c.in-Some.is c.read_content.ensures.gives in
     string_content_dead (129 - c.args.inner) (kind_view c.args.kind) c.args.text.now c.in-Some.content.items
     c.in-Some.rest.now read (c.is_dead_content.ensures.firm is) (c.is_dead_content.ensures.content is)
