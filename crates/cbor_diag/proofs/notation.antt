@@ -18,4 +18,9 @@ pub mod Tokens
 pub mod Cores
 pub mod OnePiece
 pub mod PublicReader
+pub mod GrownTokens
+pub mod DeadTokens
+pub mod GrownItems
+pub mod DeadItems
+pub mod DeadCores
 pub mod sound

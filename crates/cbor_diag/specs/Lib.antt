@@ -31,6 +31,7 @@ pub mod Pretty
 pub mod Normal
 pub mod Facts
 pub mod NotationRefused
+pub mod DeadEnd
 pub mod Extent
 pub mod Scanning
 pub mod mirror

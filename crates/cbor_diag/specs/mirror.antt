@@ -6,6 +6,7 @@ pub mod OpenStack
 pub mod Scanning
 pub mod Scanned
 pub mod NotationReading
+pub mod DeadEnds
 pub mod Appends
 pub mod Straight
 pub mod Passes

@@ -31,8 +31,8 @@ mod syntax;
 pub use encode::{bytes_to_diag, hex_to_diag, push_bytes_to_diag, push_bytes_to_diag_partial};
 pub use error::{Error, Result};
 pub use parse::{
-    Extent, Scanner, Turns, extent, hex_fault, hex_place, parse_bytes, parse_bytes_counted,
-    parse_bytes_partial, parse_diag, parse_hex,
+    Extent, Scanner, Turns, diag_fault, extent, hex_fault, hex_place, parse_bytes,
+    parse_bytes_counted, parse_bytes_partial, parse_diag, parse_hex,
 };
 pub use rewrite::{bytes_to_bytes, hex_to_bytes};
 pub use syntax::{ByteString, DataItem, FloatWidth, IntegerWidth, Simple, Tag, TextString};

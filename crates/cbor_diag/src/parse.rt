@@ -11,5 +11,5 @@ pub(crate) use binary::{
 pub use binary::{Extent, Scanner, extent, parse_bytes, parse_bytes_counted, parse_bytes_partial};
 pub(crate) use hex_text::{decode, uncommented};
 pub use hex_text::{hex_fault, hex_place, parse_hex};
-pub use notation::parse_diag;
+pub use notation::{diag_fault, parse_diag};
 pub use turns::Turns;

@@ -3,8 +3,8 @@
 // docs/DUMP.md.
 
 use cbor_diag::{
-    Error, Extent, Scanner, bytes_to_bytes, bytes_to_diag, extent, hex_fault, hex_place,
-    hex_to_bytes, hex_to_diag, parse_bytes, parse_bytes_partial, parse_diag, parse_hex,
+    Error, Extent, Scanner, bytes_to_bytes, bytes_to_diag, diag_fault, extent, hex_fault,
+    hex_place, hex_to_bytes, hex_to_diag, parse_bytes, parse_bytes_partial, parse_diag, parse_hex,
     push_bytes_to_diag_partial,
 };
 use std::alloc::Global;
@@ -129,6 +129,14 @@ fn of_places_in_hex(rt: &impl Abort) {
     assert_eq!(rt; hex_place("82 01 # one\n02 # two", 3), None);
 }
 
+fn of_places_in_notation(rt: &impl Abort, alloc: Global) -> Result<(), Fail> {
+    // After `1` the text cannot go on with `.`.
+    assert_eq!(rt; diag_fault(alloc, "[1.5]")?, Some((Error::Notation, 3)));
+    assert_eq!(rt; diag_fault(alloc, "[1, 2")?, Some((Error::CutShort, 5)));
+    assert_eq!(rt; diag_fault(alloc, "[1, 2]")?, None);
+    Ok(())
+}
+
 #[test]
 fn examples_of_doc_comments(rt: HostRuntime) -> Result<(), Fail> {
     assert_eq!(rt;
@@ -147,6 +155,7 @@ fn examples_of_doc_comments(rt: HostRuntime) -> Result<(), Fail> {
     of_shown_parts(&rt, rt.alloc())?;
     of_shown_hex(&rt, rt.alloc())?;
     of_encodings(&rt, rt.alloc())?;
+    of_places_in_notation(&rt, rt.alloc())?;
     of_extents(&rt);
     of_pieces(&rt);
     of_places_in_hex(&rt);

@@ -7,6 +7,8 @@ mod bytes;
 #[cfg(test)]
 mod calls;
 #[cfg(test)]
+mod diag_fault;
+#[cfg(test)]
 mod doc_examples;
 #[cfg(test)]
 mod ends;

@@ -9,6 +9,7 @@
 //! inlined, and a map's loop reads key and value itself, so that an item is not moved from one to
 //! the other.
 mod content;
+mod fault;
 mod number;
 mod scan;
 mod start;
@@ -30,6 +31,7 @@ ghost use Rattle.cbor_diag.specs.mirror.NotationReading.{read_members, notation_
 
 use crate::error::{Error, Result};
 use crate::syntax::{DEEPEST, DataItem, Tag};
+pub use fault::diag_fault;
 use number::{read_negative_number, read_unsigned_number};
 use scan::{after_blank, after_byte, after_end, expect_byte, read_length};
 use start::Start;

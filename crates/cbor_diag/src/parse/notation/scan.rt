@@ -58,14 +58,14 @@ pub(super) fn after_word<'a>(text: &'a [u8], word: &[u8]) -> Option<&'a [u8]>
 }
 
 /// How many bytes of whitespace come first, if another byte follows them.
-fn whitespace_len(text: &[u8]) -> Option<usize>
+pub(super) fn whitespace_len(text: &[u8]) -> Option<usize>
     ensures { result ≡ position (λ b. not (is_whitespace b)) text.now }
 {
     text.iter().position(|byte| !is_whitespace(*byte))
 }
 
 /// The text after whitespace and the closing byte of a list, if it begins with both.
-fn after_space(text: &[u8], close: u8) -> Option<&[u8]>
+pub(super) fn after_space(text: &[u8], close: u8) -> Option<&[u8]>
     ensures gives { option_map (λ x. x.now) result ≡ after_space close text.now }
     ensures shorter { IfSome result (λ x. length x.now < length text.now) }
 {

@@ -126,7 +126,7 @@ fn read_embedded(alloc: Global, text: &[u8], inner: u8) -> crate::Result<(Vec<u8
 /// A piece of a string: a text, or a notation of bytes, whose items are at `inner`.
 #[cycle(diag)]
 #[tactic(auto, using(crate::proofs::notation::Cores::piece_by))]
-fn read_piece(alloc: Global, text: &[u8], inner: u8) -> crate::Result<(Vec<u8>, &[u8])>
+pub(super) fn read_piece(alloc: Global, text: &[u8], inner: u8) -> crate::Result<(Vec<u8>, &[u8])>
     requires { inner ≤ 129 }
     ensures gives { Gives (λ x. (x.0.items, x.1.now)) result
         (read_piece (read_item (levels_left inner)) text.now) }
@@ -170,7 +170,7 @@ fn read_pieces(
 /// The content of a string of this kind and of definite length, with the blank after it.
 #[cycle(diag)]
 #[tactic(auto, using(crate::proofs::notation::Cores::content_by))]
-fn read_content(
+pub(super) fn read_content(
     alloc: Global,
     kind: StringKind,
     text: &[u8],

@@ -21,7 +21,7 @@ fn are_decimal(digits: &[u8]) -> bool
 }
 
 /// A simple value after `simple(`: decimal digits of a value below 256, and `)`.
-fn read_simple(text: &[u8]) -> Result<(DataItem, &[u8])>
+pub(super) fn read_simple(text: &[u8]) -> Result<(DataItem, &[u8])>
     ensures gives { Gives (λ x. (view x.0, x.1.now)) result (read_simple text.now) }
     ensures well { IfOk result (λ x. (level : ℕ) → level ≤ deepest → WellFormed level (view x.0)) }
     ensures shorter { IfOk result (λ x. length x.1.now < length text.now) }
@@ -70,7 +70,7 @@ fn hex_number(digits: &[u8]) -> Result<u64>
 }
 
 /// The index of the first apostrophe.
-fn find_apostrophe(text: &[u8]) -> Result<usize>
+pub(super) fn find_apostrophe(text: &[u8]) -> Result<usize>
     ensures gives { Gives (λ n. n) result (or_refused (position (λ b. b == 39) text.now)) }
     ensures within { IfOk result (λ n. n < length text.now) }
 {
@@ -81,7 +81,7 @@ fn find_apostrophe(text: &[u8]) -> Result<usize>
 }
 
 /// A float after `float'`: 4, 8 or 16 hex digits and `'`.
-fn read_float(text: &[u8]) -> Result<(DataItem, &[u8])>
+pub(super) fn read_float(text: &[u8]) -> Result<(DataItem, &[u8])>
     ensures gives { Gives (λ x. (view x.0, x.1.now)) result (read_float text.now) }
     ensures well { IfOk result (λ x. (level : ℕ) → level ≤ deepest → WellFormed level (view x.0)) }
     ensures shorter { IfOk result (λ x. length x.1.now < length text.now) }

@@ -1,0 +1,10 @@
+use Rattle.std.proofs.Common.{◌≡◌, ◌++◌, List, ℕ, false, None, length}
+use Rattle.cbor_notes.specs.TokenReading.{unquoted}
+use Rattle.cbor_diag.proofs.parse.notation.fault.tokens.has_bad_escape.Given as goal
+
+abbrev pub invariant-content : goal.invariant-content
+invariant-content l = (more : List ℕ) → unquoted l.quote false (l.rest ++ more) ≡ None
+    → unquoted l.quote false (l.text ++ more) ≡ None
+
+abbrev pub decreases-content : goal.decreases-content
+decreases-content l = length l.rest

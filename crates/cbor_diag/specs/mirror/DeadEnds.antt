@@ -1,0 +1,75 @@
+-- Texts that nothing can continue so that they are read, as the code of `parse/notation/fault.rt` finds them. No
+-- public clause names these.
+use Rattle.std.specs.Prelude.{◌≡◌, ◌≢◌, ℕ, Bool, true, false, not, ◌==◌, ◌||◌, ◌&&◌, if◌then◌else◌, List, [], ◌∷◌, ◌++◌, Option, Result, Ok, Err}
+use Rattle.cbor_diag.specs.declared.error.Error.{Error}
+use Rattle.cbor_diag.specs.declared.error.Error.TheVariants as refusal
+use Rattle.cbor_diag.specs.declared.parse.notation.fault.Member.{Member}
+use Rattle.cbor_diag.specs.declared.parse.notation.fault.Member.TheVariants as member
+use Rattle.cbor_diag.specs.Item.{Chunk, Item}
+use Rattle.cbor_diag.specs.StringKind.{StringKind}
+use Rattle.cbor_diag.specs.Reading.{Read}
+use Rattle.cbor_diag.specs.mirror.NotationReading.{skip_blank, read_number, read_pair, read_chunk, members_from, read_pieces}
+use Rattle.cbor_diag.specs.mirror.StringView.{kind_view}
+
+abbrev pub NotRead : {Y : Type 0} → Result Y Error → Type 0
+NotRead (Ok y) = ⊥
+NotRead (Err e) = Unit {0}
+
+-- whatever follows this text, it is not read
+abbrev pub NeverReads : {Y : Type 0} → (List ℕ → Result Y Error) → List ℕ → Type 0
+NeverReads read text = (more : List ℕ) → NotRead (read (text ++ more))
+
+-- an error other than out of memory
+abbrev pub IsRefused : {Y : Type 0} → Result Y Error → Type 0
+IsRefused (Ok y) = ⊥
+IsRefused (Err e) = e ≢ refusal.Memory
+
+-- the same with more bytes behind the rest
+abbrev pub grown : {X : Type 0} → List ℕ → Read X → Read X
+grown more (Ok x) = Ok (x.0, x.1 ++ more)
+grown more (Err e) = Err e
+
+-- Whether a blank before this text ends here, whatever follows: there is a byte, and it opens no comment.
+abbrev pub ends_blank : List ℕ → Bool
+ends_blank [] = false
+ends_blank (b ∷ text) = not (b == 47)
+
+-- Whether a number before this text ends here, whatever follows. It may go on with two bytes that begin with `_`,
+-- `b`, `o` or `x`.
+abbrev pub is_settled : List ℕ → Bool
+is_settled [] = false
+is_settled (b ∷ []) = not ((b == 95) || (b == 98) || (b == 111) || (b == 120))
+is_settled (b ∷ c ∷ text) = true
+
+-- More text changes nothing of the number at the front, nor of there being none; and another byte follows it.
+abbrev pub HasEnd : List ℕ → Type 0
+HasEnd text = ((more : List ℕ) → read_number (text ++ more) ≡ grown more (read_number text))
+    × ((x : (ℕ × Option ℕ) × List ℕ) → read_number text ≡ Ok x → is_settled x.1 ≡ true)
+
+-- whether an item before this text and the blank after it end here
+abbrev pub is_firm : List ℕ → Bool
+is_firm text = let rest = skip_blank text in ends_blank rest && is_settled rest
+
+-- whether an apostrophe closes these digits; the second argument says whether they begin in a comment
+abbrev pub closes : Bool → Bool → List ℕ → Bool
+closes comments inside [] = false
+closes comments true (b ∷ text) = closes comments (not (b == 47)) text
+closes comments false (b ∷ text) = if b == 39 then true else closes comments (comments && (b == 47)) text
+
+-- what the members of a list are
+abbrev pub Value : Member → Type 0
+Value member.Item = Item
+Value member.Pair = Item × Item
+Value (member.Chunk kind) = Chunk
+
+abbrev pub read_member : (m : Member) → (List ℕ → Read Item) → List ℕ → Read (Value m)
+read_member member.Item read text = read text
+read_member member.Pair read text = read_pair read text
+read_member (member.Chunk kind) read text = read_chunk read (kind_view kind) text
+
+-- however many members are looked for
+abbrev pub NeverMembers : {X : Type 0} → (List ℕ → Read X) → ℕ → List ℕ → Type 0
+NeverMembers read close text = (n : ℕ) → NeverReads (members_from read close n) text
+
+abbrev pub NeverPieces : (List ℕ → Read Item) → StringKind → List ℕ → Type 0
+NeverPieces read kind text = (n : ℕ) → NeverReads (read_pieces read kind n) text
