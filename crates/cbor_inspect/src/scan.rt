@@ -68,17 +68,19 @@ pub fn hint_of(text: &[u8], at: usize) -> Hint<'_> {
         return Hint::None;
     };
     match (before.last(), *byte) {
-        (_, b'"' | b'\'') => escape_hint(text, at),
         (Some(b','), b']' | b'}' | b')') => Hint::Comma,
         (Some(b'0'..=b'9'), b'.' | b'e' | b'E') => float_hint(text, at),
-        _ => Hint::None,
+        _ => escape_hint(text, at),
     }
 }
 
 /// The first escape, up to this place, of a character that is not escaped.
 fn escape_hint(text: &[u8], at: usize) -> Hint<'_> {
     let mut within = Within::Nothing;
-    for (index, byte) in text.iter().enumerate().take(at) {
+    for (index, byte) in text.iter().enumerate() {
+        if index > at {
+            break;
+        }
         let known = match within {
             Within::TextEscape => *byte == b'"' || *byte == b'\\',
             Within::BytesEscape => *byte == b'\'' || *byte == b'\\',
