@@ -32,7 +32,7 @@ impl Within {
     }
 
     /// What the text is within after this character.
-    fn after(self, byte: u8) -> Within
+    pub(crate) fn after(self, byte: u8) -> Within
         ensures { result ≡ after self byte }
     {
         match self {

@@ -25,7 +25,6 @@ mod loose;
 mod notation;
 mod path;
 mod scan;
-mod search;
 mod stream;
 
 pub use decode::{Input, Recognized, Refusal, recognize};

@@ -1,11 +1,12 @@
 //! Where a text stops being notation, and what its author may have meant. It serves messages alone:
 //! whether a text is notation is what `parse_diag` says.
-use crate::search::{Slip, slip_of};
-use cbor_diag::Error;
+use crate::breaks::Within;
+use cbor_diag::{Error, diag_fault};
 use std::alloc::{AllocError, Global};
 
-/// Finds the place at which a text stops being notation: the last byte of the shortest front that no
-/// text in notation has, or the end of the text if it may go on. Returns the error, too.
+/// Finds the error of a text that is not notation, and the place of the first character that cannot
+/// stand where it stands, or that ends a string that is wrong. If the text may only end too early,
+/// the error is `CutShort`, and the place is after its last character that is no blank.
 ///
 /// ```rust
 /// use cbor_diag::Error;
@@ -15,11 +16,31 @@ use std::alloc::{AllocError, Global};
 /// assert_eq!(rt; fault, Some((Error::Notation, 3)));
 /// ```
 pub fn notation_fault(alloc: Global, text: &[u8]) -> Result<Option<(Error, usize)>, AllocError> {
-    match slip_of(alloc, text)? {
-        Some((at, Slip::Escape)) => Ok(Some((Error::Notation, at.saturating_add(1)))),
-        Some((at, _)) => Ok(Some((Error::Notation, at))),
-        None => Ok(None),
+    let text = match str::from_utf8(text) {
+        Ok(text) => text,
+        Err(error) => return Ok(Some((Error::Utf8, error.valid_up_to()))),
+    };
+    match diag_fault(alloc, text) {
+        Ok(Some((Error::CutShort, _))) => {
+            let len = text.as_bytes().trim_ascii_end().len();
+            Ok(Some((Error::CutShort, len)))
+        }
+        Ok(Some((error, end))) => Ok(Some((error, last_character(text.as_bytes(), end)))),
+        Ok(None) => Ok(None),
+        Err(_) => Err(AllocError),
     }
+}
+
+/// Where the last character begins of this many bytes.
+fn last_character(text: &[u8], end: usize) -> usize {
+    let mut at = end.saturating_sub(1);
+    for _ in 0..4 {
+        match text.get(at) {
+            Some(byte) if *byte & 0xc0 == 0x80 => at = at.saturating_sub(1),
+            _ => break,
+        }
+    }
+    at
 }
 
 /// What the author of a text may have meant, where it stops being notation.
@@ -29,8 +50,8 @@ pub enum Hint<'a> {
     None,
     /// This number, which has a point or an exponent.
     Float(&'a str),
-    /// An escape: a backslash is before a character that is not escaped.
-    Escape,
+    /// An escape: at this place a backslash is before a character that is not escaped.
+    Escape(usize),
     /// A last comma, which has no blank after it.
     Comma,
 }
@@ -47,11 +68,30 @@ pub fn hint_of(text: &[u8], at: usize) -> Hint<'_> {
         return Hint::None;
     };
     match (before.last(), *byte) {
-        (Some(b'\\'), _) => Hint::Escape,
         (Some(b','), b']' | b'}' | b')') => Hint::Comma,
         (Some(b'0'..=b'9'), b'.' | b'e' | b'E') => float_hint(text, at),
-        _ => Hint::None,
+        _ => escape_hint(text, at),
     }
+}
+
+/// The first escape, up to this place, of a character that is not escaped.
+fn escape_hint(text: &[u8], at: usize) -> Hint<'_> {
+    let mut within = Within::Nothing;
+    for (index, byte) in text.iter().enumerate() {
+        if index > at {
+            break;
+        }
+        let known = match within {
+            Within::TextEscape => *byte == b'"' || *byte == b'\\',
+            Within::BytesEscape => *byte == b'\'' || *byte == b'\\',
+            _ => true,
+        };
+        if !known {
+            return Hint::Escape(index.saturating_sub(1));
+        }
+        within = within.after(*byte);
+    }
+    Hint::None
 }
 
 /// Whether a byte may be after the digits of a number that has a point or an exponent.

@@ -17,7 +17,7 @@ pub fn report_notation(rt: &HostRuntime, name: &str, text: &[u8], error: Error) 
         Err(_) => return say_out_of_memory(rt, name),
     };
     match hint_of(text, at) {
-        Hint::Escape => report_escape(rt, name, text, at),
+        Hint::Escape(backslash) => report_escape(rt, name, text, backslash),
         Hint::Comma => say_at(
             rt,
             (name, text),
@@ -39,14 +39,14 @@ fn report_character(rt: &HostRuntime, input: (&str, &[u8]), at: usize, error: Er
     show_line(rt, input.1, at, "^");
 }
 
-/// Says that the character at a place is not escaped.
-fn report_escape(rt: &HostRuntime, name: &str, text: &[u8], at: usize) {
-    let next = match text.get(at) {
+/// Says that a backslash is before a character that is not escaped.
+fn report_escape(rt: &HostRuntime, name: &str, text: &[u8], backslash: usize) {
+    let next = match text.get(backslash.saturating_add(1)) {
         Some(byte) if byte.is_ascii_graphic() => char::from(*byte),
         _ => '?',
     };
     match format!(in rt.alloc(); "\\{next} is no escape; only \\\\ and \\\" are") {
-        Ok(what) => say_at(rt, (name, text), at.saturating_sub(1), &what),
+        Ok(what) => say_at(rt, (name, text), backslash, &what),
         Err(_) => {
             let _ = say_out_of_memory(rt, name);
         }
