@@ -2,9 +2,12 @@
 
 use crate::samples::{SAMPLES, Sample, embedded_digits, embedded_text};
 use cbor_diag::{
-    ByteString, DataItem, Error, IntegerWidth, Result, TextString, Turns, bytes_to_diag,
-    hex_to_diag, parse_bytes, parse_bytes_counted, parse_bytes_partial, parse_diag, parse_hex,
-    push_bytes_to_diag, push_bytes_to_diag_partial,
+    ByteString, DataItem, Error, IntegerWidth, Result, TextString, Turns, bytes_to_bytes,
+    bytes_to_diag, bytes_to_diag_pretty, bytes_to_hex, diag_fault, hex_bytes, hex_to_bytes,
+    hex_to_diag, hex_to_diag_pretty, hex_to_hex, parse_bytes, parse_bytes_counted,
+    parse_bytes_partial, parse_diag, parse_hex, push_bytes_to_diag, push_bytes_to_diag_partial,
+    push_bytes_to_diag_pretty, push_bytes_to_diag_pretty_partial, push_bytes_to_hex,
+    push_bytes_to_hex_partial,
 };
 use std::alloc::Global;
 use std::io::Print;
@@ -22,6 +25,18 @@ enum Call {
     PushBytesToDiag,
     PushBytesToDiagPartial,
     HexToDiag,
+    BytesToDiagPretty,
+    PushBytesToDiagPretty,
+    PushBytesToDiagPrettyPartial,
+    HexToDiagPretty,
+    BytesToHex,
+    PushBytesToHex,
+    PushBytesToHexPartial,
+    HexToHex,
+    BytesToBytes,
+    HexToBytes,
+    HexBytes,
+    DiagFault,
     ToBytes,
     PushBytes,
     ToHex,
@@ -34,9 +49,13 @@ enum Call {
     CloneTextString,
 }
 
-/// The call that makes most is the first, so that it can be left out.
+/// The calls that make most are the first, so that they can be left out.
 const CALLS: &[Call] = &[
     Call::ToHex,
+    Call::BytesToHex,
+    Call::PushBytesToHex,
+    Call::PushBytesToHexPartial,
+    Call::HexToHex,
     Call::ParseBytes,
     Call::ParseBytesPartial,
     Call::ParseBytesCounted,
@@ -46,6 +65,14 @@ const CALLS: &[Call] = &[
     Call::PushBytesToDiag,
     Call::PushBytesToDiagPartial,
     Call::HexToDiag,
+    Call::BytesToDiagPretty,
+    Call::PushBytesToDiagPretty,
+    Call::PushBytesToDiagPrettyPartial,
+    Call::HexToDiagPretty,
+    Call::BytesToBytes,
+    Call::HexToBytes,
+    Call::HexBytes,
+    Call::DiagFault,
     Call::ToBytes,
     Call::PushBytes,
     Call::ToDiag,
@@ -94,23 +121,69 @@ fn read(alloc: Global, call: Call, sample: &Sample) -> Result<String> {
     }
 }
 
+/// The number of calls that make a dump, which are the first.
+const DUMPS: usize = 5;
+
+/// A text, and a remark if not all of `len` bytes were used for it.
+fn text_shown(text: String, used: Option<usize>, len: usize) -> Result<String> {
+    let mut text = text;
+    if used != Some(len) {
+        text.push_str(" is not all")?;
+    }
+    Ok(text)
+}
+
 /// The result of a printer of bytes or hex on a sample.
 fn print_straight(alloc: Global, call: Call, sample: &Sample) -> Result<String> {
     let Ok(bytes) = hex::decode(alloc, sample.digits) else {
         return Err(Error::Memory);
     };
     let mut text = String::new(alloc);
-    match call {
+    let used = match call {
         Call::BytesToDiag => return bytes_to_diag(alloc, &bytes),
+        Call::BytesToDiagPretty => return bytes_to_diag_pretty(alloc, &bytes),
+        Call::BytesToHex => return bytes_to_hex(alloc, &bytes),
         Call::HexToDiag => return hex_to_diag(alloc, sample.dump),
-        Call::PushBytesToDiag => push_bytes_to_diag(alloc, &bytes, &mut text)?,
-        _ => {
-            if push_bytes_to_diag_partial(alloc, &bytes, &mut text)? != Some(bytes.len()) {
-                text.push_str(" is not all")?;
-            }
+        Call::HexToDiagPretty => return hex_to_diag_pretty(alloc, sample.dump),
+        Call::HexToHex => return hex_to_hex(alloc, sample.dump),
+        Call::PushBytesToDiag => {
+            push_bytes_to_diag(alloc, &bytes, &mut text)?;
+            Some(bytes.len())
         }
-    }
-    Ok(text)
+        Call::PushBytesToDiagPretty => {
+            push_bytes_to_diag_pretty(alloc, &bytes, &mut text)?;
+            Some(bytes.len())
+        }
+        Call::PushBytesToHex => {
+            push_bytes_to_hex(alloc, &bytes, &mut text)?;
+            Some(bytes.len())
+        }
+        Call::PushBytesToDiagPartial => push_bytes_to_diag_partial(alloc, &bytes, &mut text)?,
+        Call::PushBytesToHexPartial => push_bytes_to_hex_partial(alloc, &bytes, &mut text)?,
+        _ => push_bytes_to_diag_pretty_partial(alloc, &bytes, &mut text)?,
+    };
+    text_shown(text, used, bytes.len())
+}
+
+/// The result of a call that gives bytes, in hex, or of the search for a fault.
+fn rewrite(alloc: Global, call: Call, sample: &Sample) -> Result<String> {
+    let bytes = match call {
+        Call::HexToBytes => hex_to_bytes(alloc, sample.dump)?,
+        Call::HexBytes => hex_bytes(alloc, sample.dump)?,
+        Call::BytesToBytes => {
+            let Ok(bytes) = hex::decode(alloc, sample.digits) else {
+                return Err(Error::Memory);
+            };
+            bytes_to_bytes(alloc, bytes)?
+        }
+        _ => {
+            return match diag_fault(alloc, sample.diag)? {
+                None => Ok(String::from_str(alloc, sample.digits)?),
+                Some(_) => Ok(String::from_str(alloc, "a fault")?),
+            };
+        }
+    };
+    Ok(hex::encode(alloc, &bytes)?)
 }
 
 /// The result of a printer on a sample.
@@ -163,7 +236,18 @@ fn answer(alloc: Global, call: Call, sample: &Sample) -> Result<String> {
         Call::BytesToDiag
         | Call::PushBytesToDiag
         | Call::PushBytesToDiagPartial
-        | Call::HexToDiag => print_straight(alloc, call, sample),
+        | Call::HexToDiag
+        | Call::BytesToDiagPretty
+        | Call::PushBytesToDiagPretty
+        | Call::PushBytesToDiagPrettyPartial
+        | Call::HexToDiagPretty
+        | Call::BytesToHex
+        | Call::PushBytesToHex
+        | Call::PushBytesToHexPartial
+        | Call::HexToHex => print_straight(alloc, call, sample),
+        Call::BytesToBytes | Call::HexToBytes | Call::HexBytes | Call::DiagFault => {
+            rewrite(alloc, call, sample)
+        }
         Call::Clone | Call::CloneByteString | Call::CloneTextString => copy(alloc, call, sample),
         _ => print(alloc, call, sample),
     }
@@ -173,14 +257,23 @@ fn answer(alloc: Global, call: Call, sample: &Sample) -> Result<String> {
 fn expected<'a>(call: Call, sample: &Sample<'a>) -> &'a str {
     match call {
         Call::ParseDiag => sample.normal,
-        Call::ToHex => sample.dump,
+        Call::ToHex
+        | Call::BytesToHex
+        | Call::PushBytesToHex
+        | Call::PushBytesToHexPartial
+        | Call::HexToHex => sample.dump,
         Call::BytesToDiag
         | Call::PushBytesToDiag
         | Call::PushBytesToDiagPartial
         | Call::HexToDiag
         | Call::ToDiag
         | Call::PushDiag => sample.diag,
-        Call::ToDiagPretty | Call::PushDiagPretty => sample.pretty,
+        Call::ToDiagPretty
+        | Call::PushDiagPretty
+        | Call::BytesToDiagPretty
+        | Call::PushBytesToDiagPretty
+        | Call::PushBytesToDiagPrettyPartial
+        | Call::HexToDiagPretty => sample.pretty,
         _ => sample.digits,
     }
 }
@@ -230,8 +323,8 @@ fn print_calls(
 
 // `compare/failing_calls` runs this while it makes allocations fail, and reads the lines: a call
 // in which one failed has to print `memory`, and any other `ok`. If none fails, as in the gate,
-// this shows no more than the test above. The dump of the deepest item is
-// left out: it has 800 kilobytes.
+// this shows no more than the test above. The dumps of the deepest item are
+// left out: each has 800 kilobytes.
 #[test]
 fn a_call_answers_or_memory_is_refused(rt: HostRuntime) -> std::result::Result<(), Fail> {
     for sample in &SAMPLES {
@@ -251,7 +344,12 @@ fn a_call_answers_or_memory_is_refused(rt: HostRuntime) -> std::result::Result<(
                 pretty: diag,
                 normal: digits,
             };
-            print_calls(&rt, rt.alloc(), CALLS.get(1..).unwrap_or(CALLS), &sample)
+            print_calls(
+                &rt,
+                rt.alloc(),
+                CALLS.get(DUMPS..).unwrap_or(CALLS),
+                &sample,
+            )
         }
         _ => Ok(println!(rt; "the deepest item: memory")?),
     }
