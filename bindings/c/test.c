@@ -469,7 +469,7 @@ static void test_faults(void)
         {DIAG, TEXT("[1, 2.5]"), CBOR_DIAG_ERROR_NOTATION, 5},
         {DIAG, TEXT("[1, 2"), CBOR_DIAG_ERROR_NOTATION, 5},
         {DIAG, TEXT("[1, 2]]"), CBOR_DIAG_ERROR_NOTATION, 6},
-        {PRETTY, TEXT("300_0"), CBOR_DIAG_ERROR_PAST_WIDTH, 4},
+        {PRETTY, TEXT("[300_0]"), CBOR_DIAG_ERROR_PAST_WIDTH, 6},
         {PRETTY, TEXT("[\"\xc3\xbc\", \xff]"), CBOR_DIAG_ERROR_UTF8, 7},
         {4, TEXT("\x01"), CBOR_DIAG_ERROR_NO_FORM, CBOR_DIAG_NO_PLACE},
     };

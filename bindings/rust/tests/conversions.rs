@@ -138,7 +138,7 @@ fn places_of_errors() {
         (Form::Pretty, b"[\"\xc3\xbc\", \xff]", Error::Utf8, Some(7)),
         (Form::Diag, b"[1, 2.5]", Error::Notation, Some(5)),
         (Form::Diag, b"[1, 2", Error::Notation, Some(5)),
-        (Form::Diag, b"300_0", Error::PastWidth, Some(4)),
+        (Form::Diag, b"[300_0]", Error::PastWidth, Some(6)),
     ];
     for (from, input, error, place) in rows {
         assert_eq!(convert(from, Form::Bytes, input), Err(error), "{input:x?}");
