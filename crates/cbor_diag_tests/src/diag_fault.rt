@@ -74,7 +74,10 @@ fn short_texts(alloc: Global) -> Result<Vec<String>, Fail> {
         let before = texts.len();
         for place in done..before {
             for letter in LETTERS {
-                let mut text = texts[place].clone()?;
+                let Some(front) = texts.get(place) else {
+                    break;
+                };
+                let mut text = front.clone()?;
                 text.push(*letter)?;
                 texts.push(text)?;
             }
