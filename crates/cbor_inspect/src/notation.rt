@@ -12,6 +12,7 @@ ghost use Rattle.cbor_inspect.specs.Hidden.{IsShown};
 
 mod cost;
 mod embedded;
+mod heads;
 mod leaves;
 mod notes;
 mod print;
@@ -24,6 +25,8 @@ use leaves::Base;
 use print::{Content, Look, Spot, push_item};
 use std::alloc::Global;
 use wanted::wants;
+
+pub(crate) use heads::may_want;
 
 /// The notation of an item: on one line, or with `lines`.
 pub(crate) fn notation_of(
