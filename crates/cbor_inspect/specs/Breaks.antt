@@ -6,7 +6,10 @@ use Rattle.cbor_inspect.specs.declared.breaks.Within.TheVariants as within
 -- what a text is within after one more character
 abbrev pub after : Within → ℕ → Within
 after within.Nothing b =
-    if b == 34 then within.Text else if b == 39 then within.Bytes else if b == 47 then within.Comment else within.Nothing
+    if b == 34 then within.Text
+    else if b == 39 then within.Bytes
+    else if b == 47 then within.Comment
+    else within.Nothing
 after within.Text b = if b == 92 then within.TextEscape else if b == 34 then within.Nothing else within.Text
 after within.TextEscape b = within.Text
 after within.Bytes b = if b == 92 then within.BytesEscape else if b == 39 then within.Nothing else within.Bytes

@@ -114,8 +114,8 @@ pub fn show_items(show: &Show, bytes: &[u8], out: &mut Vec<u8>) -> Shown
     }
 }
 
-/// Appends what is written of the item at the front, and returns how many bytes it takes. Its length
-/// may be known already.
+/// Appends what is written of the item at the front, and returns how many bytes it takes. Its
+/// length may be known already.
 pub(crate) fn show_first(
     show: &Show,
     bytes: &[u8],
@@ -219,7 +219,8 @@ fn first_encoding(
     }
 }
 
-/// The length of the item at the front, which is found out unless it is known, or why there is none.
+/// The length of the item at the front, which is found out unless it is known, or why there is
+/// none.
 fn first_len(bytes: &[u8], known: Option<usize>) -> Result<usize, End>
     requires { IfSome known (λ n. (i : Item) × BeginsWithItem bytes.now i n) }
     ensures found { IfOk result (λ n. (i : Item) × BeginsWithItem bytes.now i n) }
