@@ -282,7 +282,7 @@ fn first_lines(alloc: Global, style: Style, bytes: &[u8]) -> Result<(Vec<u8>, us
         Ok(used) => used,
         Err(end) => return Err(end),
     };
-    if !may_be_written(true, text.as_bytes()) || may_want(&bytes[..used], style.notes) {
+    if may_want(&bytes[..used], style.notes) || !may_be_written(true, text.as_bytes()) {
         return first_whole(alloc, style, bytes);
     }
     match line_of(text) {

@@ -4,8 +4,8 @@ ghost use Rattle.std.specs.Prelude.{◌≤◌};
 use crate::notation::wanted::{has_note, holds_items};
 
 /// Whether there may be something to show in the item that the bytes are, but for hidden characters
-/// in its texts, and without `--embedded`. It goes from head to head, so an item without anything to
-/// show need not be built.
+/// in its texts, and without `--embedded`. It goes from head to head, so an item without anything
+/// to show need not be built.
 pub(crate) fn may_want(bytes: &[u8], notes: bool) -> bool {
     let mut at = 0usize;
     'heads: while at < bytes.len() {
