@@ -10,7 +10,8 @@ use Rattle.cbor_diag.specs.declared.syntax.IntegerWidth.TheVariants.{SixtyFour}
 use Rattle.cbor_diag.specs.declared.syntax.FloatWidth.{FloatWidth}
 use Rattle.cbor_diag.specs.declared.syntax.FloatWidth.TheVariants as float_width
 use Rattle.cbor_diag.specs.Item as spec
-use Rattle.cbor_diag.specs.Item.{Atom, integer, negative, string, chunked_string, float, simple, Item, atom, array, tagged}
+use Rattle.cbor_diag.specs.Item.{Atom, integer, negative, string, chunked_string, float, simple, Item, atom, array}
+use Rattle.cbor_diag.specs.Item.{tagged}
 use Rattle.cbor_diag.specs.Head.{HeadThen}
 use Rattle.cbor_diag.specs.Bytes.{any, SpellsFloat, SpellsSimple, MembersThen}
 use Rattle.cbor_diag.specs.Facts.{IsItem, BeginsWithItem}
@@ -89,13 +90,17 @@ front_of b (k ∷ ks) some h =
         omega (arith, long),
         subst (λ (x : List ℕ). IsItem x k) (sym (ap (take (length front)) whole ∙ take_front front after)) h.3,
       );
-      later = (ks, subst (λ (x : List ℕ). ItemsThen x ks []) (sym (ap (drop (length front)) whole ∙ drop_front front after)) h.4);
+      later = (
+        ks,
+        subst (λ (x : List ℕ). ItemsThen x ks []) (sym (ap (drop (length front)) whole ∙ drop_front front after)) h.4,
+      );
     }
 
 -- ---- one item more
 
 pub one_more : (b : List ℕ) (used count : ℕ) → (items : List Item) × ItemsThen b items (drop used b)
-    → (i : Item) × BeginsWithItem (drop used b) i count → (items : List Item) × ItemsThen b items (drop (used + count) b)
+    → (i : Item) × BeginsWithItem (drop used b) i count
+    → (items : List Item) × ItemsThen b items (drop (used + count) b)
 one_more b used count first found =
     let next = rw (drop-drop count used b) at (item_then (drop used b) count found.0 found.1.2) in
     (first.0 ++ found.0 ∷ [], items_then b first.0 (found.0 ∷ []) (drop used b) (drop (used + count) b) first.1 next)

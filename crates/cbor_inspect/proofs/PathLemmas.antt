@@ -11,7 +11,8 @@ use Rattle.cbor_diag.specs.declared.syntax.IntegerWidth.{IntegerWidth}
 use Rattle.cbor_diag.specs.View.{view, pairs_view}
 use Rattle.cbor_inspect.specs.declared.path.Step.TheVariants as step
 use Rattle.cbor_diag.specs.Item as spec
-use Rattle.cbor_diag.specs.Item.{Atom, integer, negative, string, chunked_string, float, simple, Item, atom, array, tagged}
+use Rattle.cbor_diag.specs.Item.{Atom, integer, negative, string, chunked_string, float, simple, Item, atom, array}
+use Rattle.cbor_diag.specs.Item.{tagged}
 use Rattle.cbor_diag.specs.View.{items_of, pairs_of}
 use Rattle.cbor_diag.specs.Notation.{list_of, pairs_list}
 use Rattle.cbor_inspect.specs.declared.form.Form.{Form}

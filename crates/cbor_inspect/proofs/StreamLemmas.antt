@@ -1,5 +1,6 @@
 -- The bytes that a stream keeps, and those that were scanned.
-use Rattle.std.proofs.Common.{◌≡◌, ℕ, ◌≤◌, Bool, true, false, List, [], ◌∷◌, ◌++◌, length, take, drop, refl, sym, ap, subst, arith}
+use Rattle.std.proofs.Common.{◌≡◌, ℕ, ◌≤◌, Bool, true, false, List, [], ◌∷◌, ◌++◌, length, take, drop, sym}
+use Rattle.std.proofs.Common.{subst, arith}
 use Rattle.std.proofs.Common.{Result, Ok, Err, OnOk, if◌then◌else◌, length-append}
 use Rattle.std.proofs.lemmas.List.{take-append-le}
 use Rattle.std.specs.declared.alloc.AllocError.{AllocError}
@@ -32,8 +33,8 @@ still_scanned scanner n start kept bytes new true none before is =
 still_scanned scanner n start kept bytes new false none before is = rw is before
 
 -- what was written of the bytes before is what was written of these and those that come later, if any do
-pub shown_if_came : (r : Result (Unit {0}) AllocError) (Shows : Item → List ℕ → Type 0) (came written old bytes new : List ℕ)
-    → OnOk r (new ≡ old ++ bytes)
+pub shown_if_came : (r : Result (Unit {0}) AllocError) (Shows : Item → List ℕ → Type 0)
+    (came written old bytes new : List ℕ) → OnOk r (new ≡ old ++ bytes)
     → OnOk r (IsShownOfFirst Shows came written old → IsShownOfFirst Shows (came ++ bytes) written new)
 shown_if_came (Ok u) Shows came written old bytes new is = λ h.
     subst (λ (x : List ℕ). IsShownOfFirst Shows (came ++ bytes) written x) (sym is)

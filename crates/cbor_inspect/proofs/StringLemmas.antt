@@ -1,15 +1,17 @@
 -- The normal form of an item has the same byte strings, but for those that tags 24 and 63 show as items.
-use Rattle.std.proofs.Common.{◌≡◌, ℕ, zero, suc, ◌==◌, ◌||◌, Bool, true, false, List, [], ◌∷◌, ◌++◌, map, Option, Some, None}
-use Rattle.std.proofs.Common.{if◌then◌else◌, refl, sym, ap, ◌∙◌}
+use Rattle.std.proofs.Common.{◌≡◌, ℕ, zero, suc, ◌==◌, ◌||◌, Bool, true, false, List, [], ◌∷◌, map, Option, Some}
+use Rattle.std.proofs.Common.{None}
+use Rattle.std.proofs.Common.{if◌then◌else◌, refl, ap}
 use Rattle.cbor_diag.specs.Item as spec
-use Rattle.cbor_diag.specs.Item.{Chunk, Atom, integer, negative, string, chunked_string, float, simple, Item, atom, array, tagged}
+use Rattle.cbor_diag.specs.Item.{Chunk, Atom, integer, negative, string, chunked_string, float, simple, Item, atom}
+use Rattle.cbor_diag.specs.Item.{array, tagged}
 use Rattle.cbor_diag.specs.Item.{Items, no_items, item, Pairs, no_pairs, pair}
 use Rattle.cbor_diag.specs.StringKind.{bytes_kind, text_kind}
 use Rattle.cbor_diag.specs.Embedded.{embedded_at, sequence_at}
 use Rattle.cbor_diag.specs.Facts.{normal_of}
-use Rattle.cbor_diag.specs.Normal.{normal_at, normal_with, normal_atom, normal_chunk, normal_content, normal_items}
+use Rattle.cbor_diag.specs.Normal.{normal_at, normal_atom, normal_chunk, normal_items}
 use Rattle.cbor_diag.specs.Normal.{normal_pairs, normal_embedded, normal_sequence}
-use Rattle.cbor_inspect.specs.Strings.{holds_items, strings_of, strings_in, strings_in_items, strings_in_pairs}
+use Rattle.cbor_inspect.specs.Strings.{strings_of, strings_in, strings_in_items, strings_in_pairs}
 
 -- what becomes of the content of a byte string below a tag: nothing, unless it is shown as items
 content_of : (is24 is63 : Bool) (b x y : List ℕ)

@@ -1,6 +1,6 @@
 //! Line feeds in a text of notation.
-ghost use Rattle.std.specs.Prelude.{◌≡◌, true, IsTrue};
-ghost use Rattle.cbor_inspect.specs.Breaks.{after, BreaksApart};
+ghost use Rattle.std.specs.Prelude.{◌≡◌, ◌≤◌, true, IsTrue, drop};
+ghost use Rattle.cbor_inspect.specs.Breaks.{after, IsPlain, BreaksApart};
 ghost use Rattle.cbor_inspect.specs.Hidden.{IsShown};
 ghost use Rattle.cbor_inspect.specs.declared.breaks.Within.TheVariants as within;
 
@@ -62,6 +62,31 @@ impl Within {
     }
 }
 
+/// Whether a byte neither is a line feed nor changes what a text is within, but after a backslash.
+fn is_plain(byte: u8) -> bool
+    ensures { IsTrue result → IsPlain byte }
+{
+    byte != b'\n' && byte != b'"' && byte != b'\'' && byte != b'/' && byte != b'\\'
+}
+
+/// The next place at which a text is to be looked at, from a place where it is within this: bytes
+/// that change nothing are passed. Most are such, and each takes a few instructions here, and more
+/// than twenty where it is looked at.
+fn passed(within: Within, text: &[u8], from: usize) -> usize
+    ensures later { from ≤ result }
+    ensures same { BreaksApart within (drop result text.now)
+        → BreaksApart within (drop from text.now) }
+{
+    if within == Within::TextEscape || within == Within::BytesEscape {
+        return from;
+    }
+    let mut at = from;
+    'plain: while at < text.len() && is_plain(text[at]) {
+        at += 1;
+    }
+    at
+}
+
 /// Whether every line feed of a text is outside of quotes and comments.
 pub(crate) fn breaks_apart(text: &[u8]) -> bool
     ensures { IsTrue result → BreaksApart within.Nothing text.now }
@@ -74,7 +99,7 @@ pub(crate) fn breaks_apart(text: &[u8]) -> bool
             return false;
         }
         within = within.after(byte);
-        at += 1;
+        at = passed(within, text, at + 1);
     }
     true
 }

@@ -66,8 +66,8 @@ impl Style {
         // The item in the form.
         ensures form { IfOk result (λ output. IsForm self.form (view item.now) output.items) }
 
-        // What notation is read back as has the same byte strings, but for those that tags 24 and 63
-        // show as items. So `<<..>>` elsewhere is read back as the same bytes.
+        // What notation is read back as has the same byte strings, but for those that tags 24 and
+        // 63 show as items. So `<<..>>` elsewhere is read back as the same bytes.
         ensures embedded { strings_in None (normal_of (view item.now))
             ≡ strings_in None (view item.now) }
     {

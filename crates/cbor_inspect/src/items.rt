@@ -1,22 +1,27 @@
 //! Items one after the other, as far as they have come.
 ghost use Rattle.std.specs.Prelude.{◌≡◌, ◌↔◌, ℕ, ◌+◌, ◌-◌, ◌<◌, ◌≤◌, ◌++◌, [], List, length, drop};
-ghost use Rattle.std.specs.Prelude.{IfOk, IfErr, IfSome, OnErr, false};
+ghost use Rattle.std.specs.Prelude.{IfOk, IfErr, IfSome, OnErr, false, Ok, None, Some};
 ghost use Rattle.cbor_diag.specs.Item.{Item};
 ghost use Rattle.cbor_diag.specs.View.{view};
 ghost use Rattle.std.specs.String.{string_bytes};
-ghost use Rattle.cbor_diag.specs.Facts.{IsItem, IsWellFormed, BeginsWithItem, HasFault, diag_of};
+ghost use Rattle.cbor_diag.specs.Answer.{RefusedSo};
+ghost use Rattle.cbor_diag.specs.Dump.{dump};
+ghost use Rattle.cbor_diag.specs.Facts.{IsItem, IsWellFormed, BeginsWithItem, IsCut, HasFault};
+ghost use Rattle.cbor_diag.specs.Facts.{diag_of, pretty_of};
 ghost use Rattle.cbor_diag.specs.Written.{encoded};
 ghost use Rattle.cbor_inspect.specs.Forms.{IsForm};
 ghost use Rattle.cbor_inspect.specs.declared.path.Step.{Step};
 ghost use Rattle.cbor_inspect.specs.Sequence.{IsSequence, ItemsThen, IsShownOfFirst, ShowsFront};
 ghost use Rattle.cbor_inspect.specs.Ends.{EndsSo, Shows, steps_of};
 
+use crate::breaks::may_be_written;
 use crate::form::{Form, Style, line_of};
 use crate::hidden::is_shown;
+use crate::notation::may_want;
 use crate::path::{Part, Step, part_written};
 use cbor_diag::{
     DataItem, Error, Extent, bytes_to_bytes, extent, parse_bytes_partial,
-    push_bytes_to_diag_partial,
+    push_bytes_to_diag_partial, push_bytes_to_diag_pretty_partial, push_bytes_to_hex_partial,
 };
 use std::alloc::Global;
 
@@ -109,8 +114,8 @@ pub fn show_items(show: &Show, bytes: &[u8], out: &mut Vec<u8>) -> Shown
     }
 }
 
-/// Appends what is written of the item at the front, and returns how many bytes it takes. Its length
-/// may be known already.
+/// Appends what is written of the item at the front, and returns how many bytes it takes. Its
+/// length may be known already.
 pub(crate) fn show_first(
     show: &Show,
     bytes: &[u8],
@@ -154,7 +159,9 @@ fn first_written(
     }
     match show.style.form {
         Form::Bytes => first_encoding(alloc, bytes, known),
+        Form::Hex => first_dump(alloc, bytes),
         Form::Diag if !show.style.embedded => first_line(alloc, show.style, bytes),
+        Form::Pretty if !show.style.embedded => first_lines(alloc, show.style, bytes),
         _ => first_whole(alloc, show.style, bytes),
     }
 }
@@ -212,7 +219,8 @@ fn first_encoding(
     }
 }
 
-/// The length of the item at the front, which is found out unless it is known, or why there is none.
+/// The length of the item at the front, which is found out unless it is known, or why there is
+/// none.
 fn first_len(bytes: &[u8], known: Option<usize>) -> Result<usize, End>
     requires { IfSome known (λ n. (i : Item) × BeginsWithItem bytes.now i n) }
     ensures found { IfOk result (λ n. (i : Item) × BeginsWithItem bytes.now i n) }
@@ -246,12 +254,10 @@ fn first_line(alloc: Global, style: Style, bytes: &[u8]) -> Result<(Vec<u8>, usi
     ensures ends { (steps : List Step) → IfErr result (EndsSo steps bytes.now) }
 {
     let mut text = String::new(alloc);
-    let used = match push_bytes_to_diag_partial(alloc, bytes, &mut text) {
-        Ok(Some(used)) => used,
-        Ok(None) if bytes.is_empty() => return Err(End::Done),
-        Ok(None) => return Err(End::Cut),
-        Err(Error::Memory) => return Err(End::Failed(Error::Memory)),
-        Err(error) => return Err(fault_of(bytes, error)),
+    let found = push_bytes_to_diag_partial(alloc, bytes, &mut text);
+    let used = match len_of(bytes, found) {
+        Ok(used) => used,
+        Err(end) => return Err(end),
     };
     if !is_shown(false, text.as_bytes()) {
         return first_whole(alloc, style, bytes);
@@ -259,6 +265,59 @@ fn first_line(alloc: Global, style: Style, bytes: &[u8]) -> Result<(Vec<u8>, usi
     match line_of(text) {
         Ok(line) => Ok((line, used)),
         Err(error) => Err(End::Failed(error)),
+    }
+}
+
+/// The item at the front in pretty notation. It is built only if its heads ask for more than the
+/// plain notation, which is made straight from the bytes, or if that may not be written.
+fn first_lines(alloc: Global, style: Style, bytes: &[u8]) -> Result<(Vec<u8>, usize), End>
+    requires { style.form ≡ Form.Pretty }
+    ensures written { IfOk result (λ x.
+        ShowsFront (IsForm Form.Pretty) bytes.now x.0.items x.1) }
+    ensures ends { (steps : List Step) → IfErr result (EndsSo steps bytes.now) }
+{
+    let mut text = String::new(alloc);
+    let found = push_bytes_to_diag_pretty_partial(alloc, bytes, &mut text);
+    let used = match len_of(bytes, found) {
+        Ok(used) => used,
+        Err(end) => return Err(end),
+    };
+    if may_want(&bytes[..used], style.notes) || !may_be_written(true, text.as_bytes()) {
+        return first_whole(alloc, style, bytes);
+    }
+    match line_of(text) {
+        Ok(line) => Ok((line, used)),
+        Err(error) => Err(End::Failed(error)),
+    }
+}
+
+/// The dump of the item at the front, of which no item is built.
+fn first_dump(alloc: Global, bytes: &[u8]) -> Result<(Vec<u8>, usize), End>
+    ensures written { IfOk result (λ x.
+        ShowsFront (IsForm Form.Hex) bytes.now x.0.items x.1) }
+    ensures ends { (steps : List Step) → IfErr result (EndsSo steps bytes.now) }
+{
+    let mut text = String::new(alloc);
+    let found = push_bytes_to_hex_partial(alloc, bytes, &mut text);
+    match len_of(bytes, found) {
+        Ok(used) => Ok((text.into_bytes(), used)),
+        Err(end) => Err(end),
+    }
+}
+
+/// The length of the item at the front that was written straight from the bytes, or why none was.
+fn len_of(bytes: &[u8], found: cbor_diag::Result<Option<usize>>) -> Result<usize, End>
+    requires cut { found ≡ Ok None → IsCut bytes.now }
+    requires refused { RefusedSo found (HasFault bytes.now) }
+    ensures found { IfOk result (λ used. found ≡ Ok (Some used)) }
+    ensures ends { (steps : List Step) → IfErr result (EndsSo steps bytes.now) }
+{
+    match found {
+        Ok(Some(used)) => Ok(used),
+        Ok(None) if bytes.is_empty() => Err(End::Done),
+        Ok(None) => Err(End::Cut),
+        Err(Error::Memory) => Err(End::Failed(Error::Memory)),
+        Err(error) => Err(fault_of(bytes, error)),
     }
 }
 

@@ -1,6 +1,7 @@
 //! Notation in which every character may be shown, with notes and embedded items.
 //!
-//! A text with more than the plain notation is read back before it is used: it has to be the same item.
+//! A text with more than the plain notation is read back before it is used: it has to be the same
+//! item.
 ghost use Rattle.std.specs.Prelude.{◌≡◌, ℕ, true, IsTrue, IfOk, Ok};
 ghost use Rattle.std.specs.String.{string_bytes};
 ghost use Rattle.cbor_diag.specs.Item.{Item};
@@ -12,6 +13,7 @@ ghost use Rattle.cbor_inspect.specs.Hidden.{IsShown};
 
 mod cost;
 mod embedded;
+mod heads;
 mod leaves;
 mod notes;
 mod print;
@@ -20,6 +22,7 @@ mod wanted;
 use crate::breaks::may_be_written;
 use crate::form::Style;
 use cbor_diag::{DataItem, Error, parse_diag};
+pub(crate) use heads::may_want;
 use leaves::Base;
 use print::{Content, Look, Spot, push_item};
 use std::alloc::Global;

@@ -1,8 +1,10 @@
 //! Parts of an item, by a path.
-ghost use Rattle.std.specs.Prelude.{◌≡◌, ◌↔◌, IsTrue, IfOk, IfSome, IfNone, option_map, map, List, []};
+ghost use Rattle.std.specs.Prelude.{◌≡◌, ◌↔◌, IsTrue, IfOk, IfSome, IfNone, option_map, map, List};
+ghost use Rattle.std.specs.Prelude.{[]};
 ghost use Rattle.cbor_diag.specs.Item.{Item};
 ghost use Rattle.cbor_diag.specs.View.{view};
-ghost use Rattle.cbor_inspect.specs.Paths.{untagged, IsKey, IsValue, element_of, IsMember, IsInside};
+ghost use Rattle.cbor_inspect.specs.Paths.{untagged, IsKey, IsValue, element_of, IsMember};
+ghost use Rattle.cbor_inspect.specs.Paths.{IsInside};
 ghost use Rattle.cbor_inspect.specs.Paths.{pair_views};
 ghost use Rattle.cbor_inspect.specs.declared.path.Step.{Step};
 ghost use Rattle.cbor_inspect.specs.Parts.{HasPart};
@@ -88,7 +90,8 @@ fn value_of<'a>(wanted: &DataItem, pairs: &'a [(DataItem, DataItem)]) -> Option<
 
 /// The member of an array.
 fn element<'a>(wanted: &DataItem, items: &'a [DataItem]) -> Option<&'a DataItem>
-    ensures { option_map (λ m. view m.now) result ≡ element_of (view wanted.now) (map view items.now) }
+    ensures { option_map (λ m. view m.now) result
+        ≡ element_of (view wanted.now) (map view items.now) }
 {
     let DataItem::Integer { value, .. } = wanted else {
         return None;

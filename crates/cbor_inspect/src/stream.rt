@@ -124,7 +124,8 @@ impl Stream {
         self.show_next(show, out)
     }
 
-    /// Goes past the next items without memory and writes nothing, and tells why it goes no further.
+    /// Goes past the next items without memory and writes nothing, and tells why it goes no
+    /// further.
     pub fn skip(&mut self, one: bool) -> End
         // Items are passed.
         ensures items { (items : List Item) × ItemsThen self.old items self.new }

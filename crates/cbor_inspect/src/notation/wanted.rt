@@ -44,12 +44,12 @@ fn any_pair_wants(pairs: &Vec<(DataItem, DataItem)>, look: Look) -> bool {
 }
 
 /// Whether byte strings right below a tag are shown as items, which may have something to show.
-fn holds_items(tag: u64) -> bool {
+pub(super) fn holds_items(tag: u64) -> bool {
     tag == 24 || tag == 63
 }
 
 /// Whether values right below a tag have notes.
-fn has_note(tag: u64) -> bool {
+pub(super) fn has_note(tag: u64) -> bool {
     match tag {
         0 | 1 | 37 | 52 | 54 | 100 | 260 | 1004 => true,
         _ => false,

@@ -16,5 +16,9 @@ items-preserved c =
     (drop c.in-Ok.count (drop used bytes)) before.2 next.2) in
     record {
       within = omega (arith, length-drop used bytes, within.1);
-      output = (before.0 ++ next.0, cc (next.1, before.1, append_assoc (vec_items c.args.out.now) before.0 next.0), whole);
+      output = (
+        before.0 ++ next.0,
+        cc (next.1, before.1, append_assoc (vec_items c.args.out.now) before.0 next.0),
+        whole,
+      );
     }

@@ -11,7 +11,8 @@ use Rattle.cbor_inspect.proofs.path.is_key.Goals as goal
 pub returns-in-IndefiniteByteString : goal.returns-in-IndefiniteByteString
 returns-in-IndefiniteByteString c =
     let wanted = view c.args.wanted.now in
-    let is : wanted ≡ atom (chunked_string bytes_kind (map byte_chunk c.in-IndefiniteByteString.field-0.items)) = rw c.in-IndefiniteByteString.is (search (rules, the_lemmas)) in
+    let is : wanted ≡ atom (chunked_string bytes_kind (map byte_chunk c.in-IndefiniteByteString.field-0.items)) =
+    rw c.in-IndefiniteByteString.is (search (rules, the_lemmas)) in
     let other : IsOther wanted = subst IsOther (sym is) tt in
     let plain : plain_key wanted ≡ wanted = subst (λ (x : Item). plain_key x ≡ x) (sym is) refl in
     let same : IsTrue c.eq-in-IndefiniteByteString.result ↔ (wanted ≡ view c.args.key.now) = search rules in
@@ -20,7 +21,8 @@ returns-in-IndefiniteByteString c =
 pub returns-in-IndefiniteTextString : goal.returns-in-IndefiniteTextString
 returns-in-IndefiniteTextString c =
     let wanted = view c.args.wanted.now in
-    let is : wanted ≡ atom (chunked_string text_kind (map text_chunk c.in-IndefiniteTextString.field-0.items)) = rw c.in-IndefiniteTextString.is (search (rules, the_lemmas)) in
+    let is : wanted ≡ atom (chunked_string text_kind (map text_chunk c.in-IndefiniteTextString.field-0.items)) =
+    rw c.in-IndefiniteTextString.is (search (rules, the_lemmas)) in
     let other : IsOther wanted = subst IsOther (sym is) tt in
     let plain : plain_key wanted ≡ wanted = subst (λ (x : Item). plain_key x ≡ x) (sym is) refl in
     let same : IsTrue c.eq-in-IndefiniteTextString.result ↔ (wanted ≡ view c.args.key.now) = search rules in
@@ -29,7 +31,8 @@ returns-in-IndefiniteTextString c =
 pub returns-in-Array : goal.returns-in-Array
 returns-in-Array c =
     let wanted = view c.args.wanted.now in
-    let is : wanted ≡ array (items_view c.in-Array.content.items) c.in-Array.bitwidth = rw c.in-Array.is (search (rules, the_lemmas)) in
+    let is : wanted ≡ array (items_view c.in-Array.content.items) c.in-Array.bitwidth =
+    rw c.in-Array.is (search (rules, the_lemmas)) in
     let other : IsOther wanted = subst IsOther (sym is) tt in
     let plain : plain_key wanted ≡ wanted = subst (λ (x : Item). plain_key x ≡ x) (sym is) refl in
     let same : IsTrue c.eq-in-Array.result ↔ (wanted ≡ view c.args.key.now) = search rules in
@@ -38,7 +41,8 @@ returns-in-Array c =
 pub returns-in-Map : goal.returns-in-Map
 returns-in-Map c =
     let wanted = view c.args.wanted.now in
-    let is : wanted ≡ spec.map (pairs_view c.in-Map.content.items) c.in-Map.bitwidth = rw c.in-Map.is (search (rules, the_lemmas)) in
+    let is : wanted ≡ spec.map (pairs_view c.in-Map.content.items) c.in-Map.bitwidth =
+    rw c.in-Map.is (search (rules, the_lemmas)) in
     let other : IsOther wanted = subst IsOther (sym is) tt in
     let plain : plain_key wanted ≡ wanted = subst (λ (x : Item). plain_key x ≡ x) (sym is) refl in
     let same : IsTrue c.eq-in-Map.result ↔ (wanted ≡ view c.args.key.now) = search rules in
@@ -47,7 +51,8 @@ returns-in-Map c =
 pub returns-in-Tag : goal.returns-in-Tag
 returns-in-Tag c =
     let wanted = view c.args.wanted.now in
-    let is : wanted ≡ tagged c.in-Tag.tag.0 c.in-Tag.bitwidth (view c.in-Tag.value.value) = rw c.in-Tag.is (search (rules, the_lemmas)) in
+    let is : wanted ≡ tagged c.in-Tag.tag.0 c.in-Tag.bitwidth (view c.in-Tag.value.value) =
+    rw c.in-Tag.is (search (rules, the_lemmas)) in
     let other : IsOther wanted = subst IsOther (sym is) tt in
     let plain : plain_key wanted ≡ wanted = subst (λ (x : Item). plain_key x ≡ x) (sym is) refl in
     let same : IsTrue c.eq-in-Tag.result ↔ (wanted ≡ view c.args.key.now) = search rules in

@@ -1,4 +1,4 @@
-use Rattle.std.proofs.Common.{◌≡◌, List, ◌++◌, OnOk, subst, sym, rules, is_ok}
+use Rattle.std.proofs.Common.{◌≡◌, ◌++◌, subst, sym, rules, is_ok}
 use Rattle.cbor_inspect.specs.Ends.{Shows}
 use Rattle.cbor_inspect.specs.Sequence.{IsShownOfFirst}
 use Rattle.cbor_inspect.proofs.Sequences.{shown_later}

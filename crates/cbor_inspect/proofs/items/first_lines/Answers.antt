@@ -1,0 +1,16 @@
+use Rattle.std.proofs.Common.{◌++◌, ap, ◌∙◌, arith}
+use Rattle.std.specs.String.{string_bytes}
+use Rattle.cbor_diag.specs.Facts.{pretty_of}
+use Rattle.cbor_inspect.proofs.LineLemmas.{lines_shown}
+use Rattle.cbor_inspect.proofs.items.first_lines.Goals as goal
+
+pub returns-in-Ok-line_of-clause-written : goal.returns-in-Ok-line_of-clause-written
+returns-in-Ok-line_of-clause-written c =
+    let found = rw c.in-Ok.ensures.found at c.push_bytes_to_diag_pretty_partial-found.ensures.found in
+    let is = found.2 ∙ ap (λ x. x ++ pretty_of found.0) c.new-text.ensures.bytes in
+    let safe = c.if-not-may_be_written.false in
+    lines_shown c.args.bytes.now c.in-Ok.used found.0
+    (string_bytes c.push_bytes_to_diag_pretty_partial-found.new.out) c.in-Ok-line_of.line.items
+    (λ n. omega (arith, c.type_inv.bytes n)) found.1 is
+    (rw c.as_bytes.ensures.value at (c.may_be_written.ensures.shown safe))
+    (rw c.as_bytes.ensures.value at (c.may_be_written.ensures.breaks safe)) c.in-Ok-line_of.ensures
