@@ -111,8 +111,10 @@ fn shorter_texts_go_on(rt: HostRuntime) -> Result<(), Fail> {
                 assert!(rt; goes_on(alloc, text, &texts)?, "{text:?}");
             }
             Some((_, end)) => {
-                assert!(rt; !goes_on(alloc, &text[..end], &texts)?, "{text:?}");
-                assert!(rt; goes_on(alloc, &text[..end - 1], &texts)?, "{text:?}");
+                let front = text.get(..end).unwrap_or("1");
+                assert!(rt; !goes_on(alloc, front, &texts)?, "{text:?}");
+                let shorter = text.get(..end.saturating_sub(1)).unwrap_or("x");
+                assert!(rt; goes_on(alloc, shorter, &texts)?, "{text:?}");
             }
         }
     }
