@@ -1,3 +1,4 @@
+-- That three inputs are cut is shown part by part.
 use Rattle.std.proofs.Common.{[], ◌∷◌, refl, arith, inl}
 use Rattle.cbor_diag.specs.declared.syntax.IntegerWidth.TheVariants.{Zero}
 use Rattle.cbor_diag.specs.StringKind.{bytes_kind, text_kind}

@@ -1,3 +1,4 @@
+-- The items embedded in a few bytes are computed.
 use Rattle.std.proofs.Common.{refl}
 use Rattle.cbor_diag.specs.Reading.{read_wide, read_argument, head_of, read_head, read_content, parts_from}
 use Rattle.cbor_diag.specs.Reading.{counted_item}

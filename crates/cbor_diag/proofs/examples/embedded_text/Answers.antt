@@ -1,3 +1,4 @@
+-- The texts of a few items with embedded items are computed.
 use Rattle.std.proofs.Common.{refl}
 use Rattle.std.specs.Fmt.{digits}
 use Rattle.hex.specs.Hex.{encode_with}

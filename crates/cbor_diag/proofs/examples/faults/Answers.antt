@@ -1,3 +1,4 @@
+-- That five inputs have a fault is shown part by part.
 use lib.Utf8.{encode}
 use Rattle.std.proofs.Common.{◌≡◌, false, [], ◌∷◌, refl, sym, ◌∙◌, arith, inr}
 use Rattle.std.proofs.lemmas.Bool.{false≢true}

@@ -1,3 +1,4 @@
+-- Reading shows that a few texts are these strings.
 use Rattle.std.proofs.Common.{codes, refl}
 use Rattle.hex.specs.Hex.{decode_pairs}
 use Rattle.base64.specs.Rfc4648.{encode_symbols}

@@ -1,3 +1,4 @@
+-- The turns of a few cut or wrong inputs are counted part by part.
 use Rattle.std.proofs.Common.{◌≡◌, ℕ, zero, suc, ◌+◌, [], ◌∷◌, refl, arith}
 use Rattle.cbor_diag.specs.declared.error.Error.TheVariants.{TooDeep}
 use Rattle.cbor_diag.specs.declared.syntax.IntegerWidth.TheVariants.{Zero}

@@ -1,3 +1,4 @@
+-- What is said of bytes that embed no item is exactly what the grammar has.
 use Rattle.cbor_diag.proofs.shared.EmbeddedItems.{rejects_exactly}
 use Rattle.cbor_diag.proofs.laws.embedded_refusals.Goals as goal
 

@@ -1,3 +1,4 @@
+-- The function that reads notation returns only what is true of the text.
 use Rattle.cbor_diag.proofs.notation.sound.Items.{notation_sound}
 use Rattle.cbor_diag.proofs.laws.notation_read.Goals as goal
 

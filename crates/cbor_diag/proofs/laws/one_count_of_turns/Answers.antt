@@ -1,3 +1,4 @@
+-- The turns of a cut or a fault do not depend on how it is shown.
 use Rattle.cbor_diag.proofs.turns.ItemTurns.{one_cut_spent, one_fault_spent}
 use Rattle.cbor_diag.proofs.laws.one_count_of_turns.Goals as goal
 

@@ -1,3 +1,4 @@
+-- Bytes begin in exactly one of three ways.
 use Rattle.std.proofs.Common.{◌-◌, arith}
 use Rattle.cbor_diag.proofs.bytes.ExactlyOne.{one_outcome}
 use Rattle.cbor_diag.proofs.laws.one_of_three.Goals as goal

@@ -1,3 +1,4 @@
+-- No text is two items.
 use Rattle.cbor_diag.proofs.notation.OneReading.{one_reading}
 use Rattle.cbor_diag.proofs.laws.one_reading.Goals as goal
 

@@ -1,3 +1,4 @@
+-- The encoding of each item that the bytes are, and each error that they have, is returned.
 use Rattle.std.proofs.Common.{◌≡◌, refl}
 use Rattle.cbor_diag.specs.Written.{encoded}
 use Rattle.cbor_diag.proofs.bytes.ExactlyOne.{one_outcome}

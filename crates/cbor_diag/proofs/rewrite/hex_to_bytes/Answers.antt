@@ -1,3 +1,4 @@
+-- The encoding of each item that the hex is, and each error that it has, is returned.
 use Rattle.std.proofs.Common.{◌∙◌}
 use Rattle.std.proofs.lemmas.Result.{err_from_is_err_and}
 use Rattle.cbor_diag.proofs.hex.Digits.{digits_want_memory, digits_refused, bytes_refused}

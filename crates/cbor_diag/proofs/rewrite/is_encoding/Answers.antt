@@ -1,3 +1,4 @@
+-- Bytes without a simple value that is too long are the encoding of their item; the errors are those of the bytes.
 use Rattle.cbor_diag.proofs.bytes.Outcomes.{fault_refusal}
 use Rattle.cbor_diag.proofs.bytes.StrictHeads.{strict_is}
 use Rattle.cbor_diag.proofs.rewrite.is_encoding.Goals as goal

@@ -1,3 +1,4 @@
+-- The copies so far are the items so far.
 use Rattle.std.proofs.Common.{◌≡◌, map, take}
 use Rattle.cbor_diag.specs.declared.syntax.DataItem.{DataItem}
 use Rattle.cbor_diag.specs.Item.{Item}

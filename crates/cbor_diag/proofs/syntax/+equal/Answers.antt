@@ -1,3 +1,4 @@
+-- Lists of different lengths are not equal.
 use Rattle.std.proofs.Common.{◌≡◌, ◌≢◌, ◌↔◌, ℕ, false, IsTrue, sym, ap, ◌∙◌, arith}
 use Rattle.std.proofs.lemmas.Bool.{false≢true}
 use Rattle.cbor_diag.specs.View.{items_view, pairs_view}

@@ -1,3 +1,4 @@
+-- What is appended for an item, an array, a map or a tag is its encoding.
 use Rattle.std.proofs.Common.{◌≡◌, ℕ, List, ◌++◌, subst, ◌∙◌, append_assoc, arith, Option, Result, rules}
 use Rattle.cbor_diag.specs.declared.syntax.IntegerWidth.{IntegerWidth}
 use Rattle.cbor_diag.specs.mirror.Appends.{Appends}

@@ -1,3 +1,4 @@
+-- What is written and the encoding of the members that are left are the encoding of all members.
 use Rattle.std.proofs.Common.{◌≡◌, ℕ, ◌++◌, drop}
 use Rattle.std.specs.Io.{StartsWith}
 use Rattle.cbor_diag.specs.View.{items_view, pairs_view}

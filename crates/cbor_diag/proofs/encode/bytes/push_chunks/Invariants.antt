@@ -1,3 +1,4 @@
+-- What is written, the encoding of the chunks that are left and the break are the whole string.
 use Rattle.std.proofs.Common.{◌≡◌, [], ◌∷◌, ◌++◌, map, drop}
 use Rattle.std.specs.Io.{StartsWith}
 use Rattle.std.specs.List.{AllByRecursion, flat_map}

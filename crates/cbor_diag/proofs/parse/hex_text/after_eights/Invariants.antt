@@ -1,3 +1,4 @@
+-- What is passed are spaces.
 use Rattle.std.proofs.Common.{◌≡◌, ◌≤◌, length}
 use Rattle.cbor_notes.specs.Columns.{unspaced}
 use Rattle.cbor_diag.proofs.parse.hex_text.after_eights.Given as goal

@@ -1,3 +1,4 @@
+-- What follows is what is after the first line feed, or nothing.
 use Rattle.std.proofs.Common.{ℕ, ◌+◌, ◌==◌, drop, length, sym, ap, ◌∙◌, arith}
 use Rattle.std.specs.List.{position_or_len}
 use Rattle.std.proofs.lemmas.List.{drop_all, take_rest}

@@ -1,3 +1,4 @@
+-- What is passed are spaces, within the bytes that are near.
 use Rattle.std.proofs.Common.{◌≡◌, ◌≤◌, ◌-◌, length, drop}
 use Rattle.cbor_notes.specs.Columns.{unspaced}
 use Rattle.cbor_diag.proofs.parse.hex_text.after_spaces.Given as goal

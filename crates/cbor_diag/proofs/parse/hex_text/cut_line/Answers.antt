@@ -1,3 +1,4 @@
+-- What is kept of a text is what is kept of its first line and of the lines after it.
 use Rattle.std.proofs.Common.{ℕ, ◌+◌, ◌++◌, List, take, length, sym, ap, ◌∙◌, arith, append-nil}
 use Rattle.std.proofs.lemmas.List.{drop_all, take_rest}
 use Rattle.cbor_notes.specs.Columns.{unspaced, uncommented}

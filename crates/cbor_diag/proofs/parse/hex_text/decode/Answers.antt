@@ -1,3 +1,4 @@
+-- Digits are refused because their number is odd, or because one of them is no digit.
 use Rattle.std.proofs.Common.{inl, inr, refl}
 use Rattle.cbor_diag.proofs.hex.Digits.{odd_refused, bad_refused, sized_refused}
 use Rattle.cbor_diag.proofs.parse.hex_text.decode.Goals as goal

@@ -1,3 +1,4 @@
+-- None of the bytes so far is a space.
 use Rattle.std.proofs.Common.{◌≢◌, ℕ, ◌<◌, ◌≤◌, ◌-◌, length, get_or}
 use Rattle.cbor_diag.proofs.parse.hex_text.first_space.Given as goal
 

@@ -1,3 +1,4 @@
+-- What is written and the rest without its spaces are the whole line without its spaces.
 use Rattle.std.proofs.Common.{◌≡◌, ◌≢◌, ◌<◌, ◌++◌, length, slice_index}
 use Rattle.cbor_notes.specs.Columns.{unspaced}
 use Rattle.cbor_diag.proofs.parse.hex_text.push_unspaced.Given as goal

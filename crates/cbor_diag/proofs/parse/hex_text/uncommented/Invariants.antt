@@ -1,3 +1,4 @@
+-- What is gathered and what the lines that are left keep is what all lines keep.
 use Rattle.std.proofs.Common.{◌≡◌, ◌++◌, length}
 use Rattle.cbor_notes.specs.Columns.{uncommented}
 use Rattle.cbor_diag.proofs.parse.hex_text.uncommented.Given as goal

@@ -1,3 +1,4 @@
+-- What is promised of the encoding: it is the one strict spelling, is read back, and tells items apart.
 use Rattle.std.proofs.Common.{◌++◌, ap, sym, subst, ◌∙◌}
 use Rattle.cbor_diag.specs.View.{view}
 use Rattle.cbor_diag.specs.Written.{encoded, resolve}

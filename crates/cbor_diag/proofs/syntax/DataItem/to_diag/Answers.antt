@@ -1,3 +1,4 @@
+-- What is promised of the text: it is read back, is that of the normal form, and tells normal forms apart.
 use Rattle.std.proofs.Common.{◌++◌, None, refl, ap, sym, subst, ◌∙◌, arith}
 use Rattle.cbor_diag.specs.Encoding.{Base16}
 use Rattle.cbor_diag.specs.View.{view}

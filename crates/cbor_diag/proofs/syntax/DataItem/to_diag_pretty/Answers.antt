@@ -1,3 +1,4 @@
+-- The text is read back as the normal form, and embedded items are exactly what the bytes spell.
 use Rattle.std.proofs.Common.{◌++◌, None, refl, ap, sym, subst, ◌∙◌, arith}
 use Rattle.cbor_diag.specs.Encoding.{Base16}
 use Rattle.cbor_diag.specs.Layout.{Pretty}

@@ -1,3 +1,4 @@
+-- What is promised of the dump: its lines, digits, column and notes, and that it is read back.
 use Rattle.std.proofs.Common.{◌≡◌, List, ℕ, Ok, ◌∙◌, ◌+◌, ap, sym, subst}
 use Rattle.std.proofs.lemmas.Result.{err_from_is_err_and}
 use Rattle.cbor_notes.specs.Columns.{IsColumn, uncommented}

@@ -1,3 +1,4 @@
+-- The test of all chunks holds exactly where each length fits its width.
 use Rattle.std.proofs.Common.{rules}
 use Rattle.std.proofs.lemmas.Iterator.{cases_from_all, YieldsList-from_slice}
 use Rattle.cbor_diag.specs.WellFormed.{IsChunk}

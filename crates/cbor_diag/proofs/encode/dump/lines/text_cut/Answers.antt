@@ -1,3 +1,4 @@
+-- A text is cut at the last boundary between characters within the length of a line.
 use Rattle.cbor_diag.proofs.dump.Pieces.{floor_is}
 use Rattle.cbor_diag.proofs.encode.dump.lines.text_cut.Goals as goal
 

@@ -1,3 +1,4 @@
+-- What is promised of the dump of all bytes: each item and each error, its digits, its column and its notes.
 use Rattle.std.proofs.Common.{◌≡◌, refl, arith}
 use Rattle.std.specs.String.{string_bytes}
 use Rattle.cbor_diag.specs.Dump.{dump}

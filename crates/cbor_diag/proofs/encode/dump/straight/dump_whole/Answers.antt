@@ -1,3 +1,4 @@
+-- A dump is returned of one whole item alone; bytes that remain after it are an error.
 use Rattle.std.proofs.Common.{◌≡◌, ℕ, List, [], length, Ok, sym, subst, ◌∙◌, arith}
 use Rattle.std.proofs.lemmas.Bool.{eqb-true, eqb-false}
 use Rattle.std.proofs.lemmas.List.{nil_from_length}

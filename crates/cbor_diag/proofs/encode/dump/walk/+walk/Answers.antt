@@ -1,3 +1,4 @@
+-- The lines that a walk over bytes writes are the dump of the item that reading them gives.
 use Rattle.std.proofs.Common.{◌≡◌, ◌+◌, ◌≤◌, ℕ, List, Ok, OnOk, length, option_copied, refl, ap, sym, subst, ◌∙◌}
 use Rattle.std.proofs.Common.{arith, rules}
 use Rattle.std.proofs.lemmas.Bool.{eqb-true, eqb-false}

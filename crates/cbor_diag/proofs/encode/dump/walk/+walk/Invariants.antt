@@ -1,3 +1,4 @@
+-- The walk ends, and what it wrote in a loop are the lines of the members before the rest.
 use Rattle.std.proofs.Common.{◌≡◌, ◌+◌, ◌-◌, ◌*◌, ◌≤◌, length}
 use Rattle.cbor_diag.specs.Dump.{shared_in_items, shared_in_pairs}
 use Rattle.cbor_diag.specs.Item.{Items, no_items, Pairs, no_pairs, item_count, pair_count}

@@ -1,3 +1,4 @@
+-- Where an array, a map or a tag is found at the front, the item there is a container.
 use Rattle.cbor_diag.specs.mirror.HeadView.{head_view}
 use Rattle.cbor_diag.proofs.dump.NotedValues.{container_is}
 use Rattle.cbor_diag.proofs.encode.dump.walk.begins_container.Goals as goal

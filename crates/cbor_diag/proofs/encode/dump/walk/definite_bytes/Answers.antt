@@ -1,3 +1,4 @@
+-- What is found at the front is the content of the item there, if that is a byte string of definite length.
 use Rattle.std.proofs.Common.{Some, ap, sym, ◌∙◌, arith}
 use Rattle.cbor_diag.specs.Argument.{number}
 use Rattle.cbor_diag.specs.ItemHead as item_head

@@ -1,3 +1,4 @@
+-- The lines of a string in chunks are those of the chunks that reading gives, and of the break.
 use Rattle.std.proofs.Common.{◌+◌, ◌-◌, ℕ, List, [], ◌∷◌, ◌++◌, length, refl, ap, sym, ◌∙◌, arith}
 use Rattle.std.proofs.lemmas.Result.{err_from_is_err_and}
 use Rattle.cbor_diag.specs.Item.{Chunk}

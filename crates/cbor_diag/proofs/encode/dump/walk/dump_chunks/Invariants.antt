@@ -1,3 +1,4 @@
+-- What is written are the lines of the chunks before the rest, and each chunk shortens the rest.
 use Rattle.std.proofs.Common.{◌≡◌, ℕ, ◌≤◌, List, length}
 use Rattle.std.specs.List.{flat_map}
 use Rattle.cbor_diag.specs.Dump.{inside, string_lines}

@@ -1,3 +1,4 @@
+-- The lines of a string of definite length are those of the content that reading gives.
 use Rattle.std.proofs.Common.{refl, arith}
 use Rattle.cbor_diag.specs.mirror.StringView.{kind_view}
 use Rattle.cbor_diag.proofs.dump.Fronts.{string_dumped}

@@ -1,3 +1,4 @@
+-- The note that is written is the one of the whole value, also where the value is not read.
 use Rattle.std.proofs.Common.{ap, sym, ◌∙◌}
 use Rattle.std.specs.Option.{option_map}
 use Rattle.cbor_diag.specs.mirror.NotesView.{note_view}

@@ -1,3 +1,4 @@
+-- The value that is returned has the same note as the one at the front.
 use Rattle.std.proofs.Common.{ap, sym, ◌∙◌, arith}
 use Rattle.cbor_diag.specs.Notes.{value_note}
 use Rattle.cbor_diag.specs.View.{view}

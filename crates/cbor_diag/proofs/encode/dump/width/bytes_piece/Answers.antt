@@ -1,3 +1,4 @@
+-- An element of a typed array is no longer than a line of bytes.
 use Rattle.std.proofs.Common.{◌∙◌, sym, subst, arith}
 use Rattle.cbor_diag.proofs.dump.Elements.{Small, element_small}
 use Rattle.cbor_diag.proofs.encode.dump.width.bytes_piece.Goals as goal

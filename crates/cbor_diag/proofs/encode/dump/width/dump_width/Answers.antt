@@ -1,3 +1,4 @@
+-- The width found from bytes is the width of the dump of their item.
 use Rattle.std.proofs.Common.{max, ap, sym, ◌∙◌}
 use Rattle.cbor_diag.specs.Dump.{top}
 use Rattle.cbor_diag.specs.WellFormed.{levels_left}

@@ -1,3 +1,4 @@
+-- The longest piece that is found is the longest of all.
 use Rattle.std.proofs.Common.{◌∙◌, length, take, drop, ap, sym, subst, arith}
 use Rattle.std.specs.Str.{IsUtf8}
 use Rattle.std.proofs.lemmas.List.{length-take}

@@ -1,3 +1,4 @@
+-- The longest piece so far is as long as any before the rest, and each piece shortens the rest.
 use denote.Shadow.{shadow}
 use denote.Text.{Utf8}
 use Rattle.std.proofs.Common.{◌≡◌, ◌≤◌, length, max}

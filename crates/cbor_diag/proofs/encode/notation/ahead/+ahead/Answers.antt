@@ -1,3 +1,4 @@
+-- What a look at bytes leaves of the budget is what the estimate of their item leaves.
 use Rattle.std.proofs.Common.{refl, ap, arith}
 use Rattle.cbor_diag.specs.Estimate.{digit_count}
 use Rattle.cbor_diag.specs.Item.{atom, integer, negative, float, simple}

@@ -1,3 +1,4 @@
+-- The look ends, and in a loop the budget lacks the estimate of the members before the rest.
 use Rattle.std.proofs.Common.{◌+◌, ◌*◌, ◌≤◌}
 use Rattle.cbor_diag.proofs.straight.Ahead.{ItemsSoFar, PairsSoFar}
 use Rattle.cbor_diag.proofs.encode.notation.ahead.+ahead.Given as goal

@@ -1,3 +1,4 @@
+-- What a look at chunks leaves of the budget is what the estimate of their string leaves.
 use Rattle.std.proofs.Common.{arith}
 use Rattle.cbor_diag.specs.Reading.{read_chunk_length}
 use Rattle.cbor_diag.specs.mirror.MajorNumber.{major_number}

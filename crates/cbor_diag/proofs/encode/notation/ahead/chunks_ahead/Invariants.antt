@@ -1,3 +1,4 @@
+-- The budget lacks the estimate of the chunks before the rest, and each chunk takes some of it.
 use Rattle.std.proofs.Common.{◌≤◌}
 use Rattle.cbor_diag.specs.mirror.StringView.{kind_view}
 use Rattle.cbor_diag.proofs.straight.StringsAhead.{ChunksSoFar}

@@ -1,3 +1,4 @@
+-- A string that is only skipped takes what its estimate is, by its length alone.
 use Rattle.std.proofs.Common.{length, ap, subst}
 use Rattle.cbor_diag.specs.declared.error.Error.TheVariants as refusal
 use Rattle.cbor_diag.specs.Estimate.{estimated_string}

@@ -1,3 +1,4 @@
+-- What is left of the budget is what the items of the sequence leave, whatever follows them.
 use Rattle.std.proofs.Common.{◌-◌}
 use Rattle.cbor_diag.proofs.straight.SequencesAhead.{nothing_yet, one_more_item, item_takes_rest, no_more_items}
 use Rattle.cbor_diag.proofs.encode.notation.ahead.left_after_sequence.Goals as goal

@@ -1,3 +1,4 @@
+-- The budget lacks the estimate of the items before the rest, and each item takes some of it.
 use Rattle.std.proofs.Common.{◌-◌}
 use Rattle.cbor_diag.proofs.straight.SequencesAhead.{SequenceSoFar}
 use Rattle.cbor_diag.proofs.encode.notation.ahead.left_after_sequence.Given as goal

@@ -1,3 +1,4 @@
+-- A string takes what its estimate is, whole or in chunks.
 use Rattle.std.proofs.Common.{arith}
 use Rattle.cbor_diag.specs.Argument.{indefinite}
 use Rattle.cbor_diag.specs.ItemHead as item_head

@@ -1,3 +1,4 @@
+-- A map leaves of the budget what its pairs leave.
 use Rattle.std.proofs.Common.{ap, ◌∙◌, arith}
 use Rattle.cbor_diag.specs.View.{view}
 use Rattle.cbor_diag.specs.Estimate.{estimated_length}

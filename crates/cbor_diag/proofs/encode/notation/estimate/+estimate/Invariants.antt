@@ -1,3 +1,4 @@
+-- The members that are left leave of the rest what all members leave of the budget.
 use Rattle.std.proofs.Common.{◌≡◌, ◌-◌, drop}
 use Rattle.cbor_diag.specs.View.{items_view, pairs_view}
 use Rattle.cbor_diag.specs.Estimate.{estimated_items, estimated_pairs}

@@ -1,3 +1,4 @@
+-- The chunks that are left leave of the rest what all chunks leave of the budget.
 use Rattle.std.proofs.Common.{◌≡◌, ◌-◌, map, drop}
 use Rattle.cbor_diag.specs.Estimate.{estimated_chunks}
 use Rattle.cbor_diag.proofs.encode.notation.estimate.left_after_chunks.Given as goal

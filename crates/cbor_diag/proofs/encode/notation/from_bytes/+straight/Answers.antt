@@ -1,3 +1,4 @@
+-- What is appended from bytes is the text of the item that reading them gives, or reading fails the same.
 use Rattle.std.proofs.Common.{◌+◌, ◌++◌, codes, Some, IfOk, IfErr, refl, ap, sym, subst, ◌∙◌, arith}
 use Rattle.std.proofs.lemmas.Result.{err_from_is_err_and}
 use Rattle.std.specs.String.{string_bytes}

@@ -1,3 +1,4 @@
+-- The recursion ends, and what is written is the text of the members before the rest.
 use Rattle.std.proofs.Common.{◌≡◌, ◌+◌, ◌-◌, ◌*◌, ◌≤◌, ◌++◌, codes, length}
 use Rattle.std.specs.String.{string_bytes}
 use Rattle.cbor_diag.specs.Embedded.{sequence_at}

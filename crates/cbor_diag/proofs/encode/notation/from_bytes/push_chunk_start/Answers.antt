@@ -1,3 +1,4 @@
+-- What is written before the first chunk is the opening of the string.
 use Rattle.std.proofs.Common.{sym, subst}
 use Rattle.std.specs.String.{string_bytes}
 use Rattle.cbor_diag.specs.mirror.Appends.{Appends}

@@ -1,3 +1,4 @@
+-- After the items stand the closing brackets, and what begins with no item as bytes.
 use Rattle.std.proofs.Common.{◌≡◌, ℕ, ◌++◌, List, codes, ap, ◌∙◌, append_assoc, arith}
 use Rattle.std.specs.String.{string_bytes}
 use Rattle.cbor_diag.specs.NotationText.{last_line, rest_text}

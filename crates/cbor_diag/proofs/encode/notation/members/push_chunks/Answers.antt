@@ -1,3 +1,4 @@
+-- What is appended for a string in chunks is its text, which keeps the kind where there are none.
 use Rattle.std.proofs.Common.{◌≡◌, ◌+◌, List, ℕ, [], ◌∷◌, ◌++◌, map, length, drop, eqb, false, sym, ap, ◌∙◌}
 use Rattle.std.proofs.lemmas.List.{drop_all, length-map}
 use Rattle.std.specs.String.{string_bytes}

@@ -1,3 +1,4 @@
+-- What is written and the text of the chunks that are left are the text of all chunks.
 use Rattle.std.proofs.Common.{◌≡◌, ◌++◌, true, map, drop}
 use Rattle.std.specs.Io.{StartsWith}
 use Rattle.std.specs.String.{string_bytes}

@@ -1,3 +1,4 @@
+-- The line has the first blanks, and one more for each round.
 use Rattle.std.proofs.Common.{◌≡◌, ◌∷◌, ◌++◌, replicate}
 use Rattle.std.specs.String.{string_bytes}
 use Rattle.cbor_diag.proofs.encode.notation.members.push_far_line.Given as goal

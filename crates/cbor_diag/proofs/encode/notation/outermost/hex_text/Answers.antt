@@ -1,3 +1,4 @@
+-- The text of hex with comments: each item that it is, and each error that it has.
 use Rattle.std.proofs.Common.{◌∙◌}
 use Rattle.std.proofs.lemmas.Result.{err_from_is_err_and}
 use Rattle.cbor_diag.proofs.hex.Digits.{digits_want_memory, digits_refused, bytes_refused}

@@ -1,3 +1,4 @@
+-- A text is written of one whole item alone, and after an error none of it is left.
 use Rattle.std.proofs.Common.{◌≡◌, List, [], ℕ, length, Ok, sym, subst, ◌∙◌, arith}
 use Rattle.std.proofs.lemmas.Bool.{eqb-true, eqb-false}
 use Rattle.std.proofs.lemmas.List.{nil_from_length}

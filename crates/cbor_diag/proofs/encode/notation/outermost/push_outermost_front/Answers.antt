@@ -1,3 +1,4 @@
+-- The place where an error cuts the text back is a boundary between characters.
 use Rattle.cbor_diag.proofs.shared.Appending.{cut_back}
 use Rattle.cbor_diag.proofs.encode.notation.outermost.push_outermost_front.Goals as goal
 

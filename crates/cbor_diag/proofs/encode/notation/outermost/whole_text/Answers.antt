@@ -1,3 +1,4 @@
+-- The text of the bytes is read back as the normal form of their item.
 use Rattle.std.proofs.Common.{◌++◌, None, refl, ap, sym, subst, ◌∙◌, arith}
 use Rattle.cbor_diag.specs.Encoding.{Base16}
 use Rattle.cbor_diag.specs.Normal.{normal_at}

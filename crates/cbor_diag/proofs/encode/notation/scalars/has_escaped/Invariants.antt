@@ -1,3 +1,4 @@
+-- What is found is whether one of the bytes so far is escaped.
 use Rattle.std.proofs.Common.{◌≡◌, if◌then◌else◌, take}
 use Rattle.std.specs.List.{list_any}
 use Rattle.cbor_notes.specs.Ascii.{quote}

@@ -1,3 +1,4 @@
+-- What is appended is the text with its quotes and backslashes escaped, also where it has none.
 use Rattle.std.proofs.Common.{◌≡◌, ◌<◌, ◌+◌, ◌-◌, [], ◌∷◌, ◌++◌, length, get_or, take, drop, refl, sym, ap, ◌∙◌, arith}
 use Rattle.std.proofs.lemmas.List.{drop-take}
 use Rattle.cbor_notes.specs.Ascii.{quote}

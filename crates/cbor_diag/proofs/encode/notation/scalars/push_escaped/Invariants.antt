@@ -1,3 +1,4 @@
+-- What is written and the bytes not yet copied are the escaped text so far.
 use Rattle.std.proofs.Common.{◌≡◌, ◌≤◌, ◌++◌, take, drop}
 use Rattle.std.specs.Io.{StartsWith}
 use Rattle.std.specs.Str.{IsCharBoundary}

@@ -1,3 +1,4 @@
+-- What is shown as embedded items is exactly what the bytes spell.
 use Rattle.cbor_diag.proofs.shared.EmbeddedItems.{embeds_exactly}
 use Rattle.cbor_diag.proofs.encode.notation.straight.bytes_to_diag_pretty.Goals as goal
 

@@ -1,3 +1,4 @@
+-- Skipping chunks goes on after each of them, and stops where one of them does.
 use Rattle.std.proofs.Common.{arith}
 use Rattle.std.proofs.lemmas.Result.{err_from_is_err_and}
 use Rattle.cbor_diag.proofs.skipping.Skips.{goes_then, stops_then}

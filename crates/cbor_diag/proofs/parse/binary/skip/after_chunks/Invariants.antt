@@ -1,3 +1,4 @@
+-- Skipping the chunks that are left is skipping all of them, and each chunk shortens the rest.
 use Rattle.std.proofs.Common.{◌≤◌, length}
 use Rattle.cbor_diag.specs.mirror.Skipping.{Goes, skip_chunks}
 use Rattle.cbor_diag.specs.mirror.StringView.{kind_view}

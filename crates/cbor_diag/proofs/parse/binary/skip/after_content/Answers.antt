@@ -1,3 +1,4 @@
+-- The content of a string is skipped where it is all there and, in a text, is UTF-8.
 use Rattle.std.proofs.Common.{List, ℕ, length, take, subst, sym, arith}
 use Rattle.cbor_diag.specs.declared.error.Error.TheVariants.{Utf8}
 use Rattle.cbor_diag.specs.StringKind.{IsContent}

@@ -1,3 +1,4 @@
+-- An item is skipped at the front exactly where reading finds one.
 use Rattle.std.proofs.Common.{◌-◌, arith}
 use Rattle.cbor_diag.proofs.skipping.Extents.{item_there, none_there}
 use Rattle.cbor_diag.proofs.parse.binary.skip.after_front.Goals as goal

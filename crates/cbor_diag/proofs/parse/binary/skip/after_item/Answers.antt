@@ -1,3 +1,4 @@
+-- Skipping an item goes on from part to part over the open containers, and stops where a part does.
 use Rattle.std.proofs.Common.{◌≡◌, ◌-◌, List, length, replicate, sym, subst, arith}
 use Rattle.std.proofs.lemmas.Result.{err_from_is_err_and}
 use Rattle.cbor_diag.specs.declared.parse.binary.skip.to_come.ToCome.{ToCome}

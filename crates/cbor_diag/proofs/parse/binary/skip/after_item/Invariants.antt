@@ -1,3 +1,4 @@
+-- Skipping the open containers that are left is skipping the item, and each turn brings its end closer.
 use Rattle.std.proofs.Common.{◌+◌, ◌*◌, length}
 use Rattle.cbor_diag.specs.WellFormed.{levels_left}
 use Rattle.cbor_diag.specs.mirror.Skipping.{Goes, skip_item, skip_open}

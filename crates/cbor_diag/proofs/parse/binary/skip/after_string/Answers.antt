@@ -1,3 +1,4 @@
+-- A string of definite length is skipped as its content is, and skipping stops where that does.
 use Rattle.std.proofs.lemmas.Result.{IfOk-weaker, IfErr-weaker}
 use Rattle.cbor_diag.specs.mirror.Skipping.{skip_content}
 use Rattle.cbor_diag.specs.mirror.StringView.{kind_view}

@@ -1,3 +1,4 @@
+-- Where skipping stops says how the bytes begin: an item, a cut or a fault with its end.
 use Rattle.std.proofs.Common.{arith}
 use Rattle.cbor_diag.proofs.skipping.Extents.{item_extent, cut_extent, fault_extent}
 use Rattle.cbor_diag.proofs.parse.binary.skip.begins.Goals as goal

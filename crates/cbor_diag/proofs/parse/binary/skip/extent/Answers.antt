@@ -1,3 +1,4 @@
+-- How the bytes begin, in the words of the grammar: exactly if it is so, and whatever follows.
 use Rattle.std.proofs.Common.{arith}
 use Rattle.cbor_diag.proofs.bytes.ExactlyOne.{one_outcome}
 use Rattle.cbor_diag.proofs.skipping.Extents.{item_is, every_item, cut_exactly, fault_is, every_fault, fault_shown}

@@ -1,3 +1,4 @@
+-- The next chunk is skipped as it is read, and skipping stops where its head or its content stops it.
 use Rattle.std.proofs.lemmas.Result.{err_from_is_err_and}
 use Rattle.cbor_diag.specs.declared.syntax.IntegerWidth.TheVariants.{Zero}
 use Rattle.cbor_diag.specs.Reading.{◌>>=◌}

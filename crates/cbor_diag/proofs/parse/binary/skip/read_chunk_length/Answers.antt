@@ -1,3 +1,4 @@
+-- The head of a chunk is skipped as it is read, and skipping stops where it is cut or has a fault.
 use Rattle.std.proofs.Common.{◌≡◌, ◌≢◌, ℕ, ◌/◌, ◌%◌, ◌≤◌, List, ◌∷◌, get_or, length, Ok, Err, subst, ap, sym, ◌∙◌}
 use Rattle.std.proofs.Common.{arith}
 use Rattle.cbor_diag.specs.declared.syntax.IntegerWidth.{IntegerWidth}

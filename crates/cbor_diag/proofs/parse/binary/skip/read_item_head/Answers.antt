@@ -1,3 +1,4 @@
+-- The head of an item is skipped as it is read, and skipping stops where it is cut, has a fault or is too deep.
 use Rattle.std.proofs.Common.{◌-◌, ℕ, List, get_or, length, Err, ap, sym, ◌∙◌, arith}
 use Rattle.cbor_diag.specs.declared.error.Error.TheVariants.{TooDeep}
 use Rattle.cbor_diag.specs.Reading.{read_head}

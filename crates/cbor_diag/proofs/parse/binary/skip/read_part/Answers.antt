@@ -1,3 +1,4 @@
+-- After a head what it opens is still to come, or the item is skipped whole.
 use Rattle.std.proofs.Common.{◌-◌, ap, sym, ◌∙◌}
 use Rattle.std.specs.Prelude.{option_map}
 use Rattle.std.proofs.lemmas.Result.{err_from_is_err_and}

@@ -1,3 +1,4 @@
+-- A space, a line end or a comment keeps nothing, and any other byte keeps itself.
 use Rattle.std.proofs.Common.{arith}
 use Rattle.std.proofs.lemmas.Option.{IfSome_then}
 use Rattle.cbor_diag.proofs.hex.Kept.{space_here, feed_here, return_here, comment_here, kept_here}

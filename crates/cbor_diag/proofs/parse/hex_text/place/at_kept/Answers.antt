@@ -1,3 +1,4 @@
+-- The bytes that are passed keep nothing, and the first after them is kept.
 use Rattle.cbor_diag.proofs.hex.Kept.{keeps_here, still_none}
 use Rattle.cbor_diag.proofs.parse.hex_text.place.at_kept.Goals as goal
 

@@ -1,3 +1,4 @@
+-- The bytes so far keep nothing.
 use Rattle.std.proofs.Common.{[], length}
 use Rattle.cbor_diag.specs.mirror.HexPlaces.{Keeps}
 use Rattle.cbor_diag.proofs.parse.hex_text.place.at_kept.Given as goal

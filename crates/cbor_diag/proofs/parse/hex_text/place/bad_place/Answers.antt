@@ -1,3 +1,4 @@
+-- The place is that of a kept byte that is no digit, and those kept before are digits.
 use Rattle.std.proofs.Common.{◌≡◌, true, ℕ, [], ◌∷◌, get_or, arith}
 use Rattle.std.proofs.Common.{sym, ap, ◌∙◌}
 use Rattle.std.specs.List.{AllPass}

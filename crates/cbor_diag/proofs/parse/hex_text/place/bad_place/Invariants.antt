@@ -1,3 +1,4 @@
+-- All bytes kept so far are digits.
 use Rattle.std.proofs.Common.{length}
 use Rattle.std.specs.List.{AllPass}
 use Rattle.hex.specs.Hex.{is_hex_digit}

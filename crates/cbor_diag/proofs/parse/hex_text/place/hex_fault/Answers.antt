@@ -1,3 +1,4 @@
+-- The error and its place are those of the kept bytes; there is none exactly where these are whole bytes in hex.
 use Rattle.std.proofs.Common.{◌-◌, List, ℕ, arith, refl, sym, subst}
 use Rattle.cbor_diag.specs.declared.error.Error.TheVariants as refusal
 use Rattle.cbor_diag.specs.HexText.{AreHexDigits, IsHexFault}

@@ -1,3 +1,4 @@
+-- The count is the number of kept bytes.
 use Rattle.std.proofs.Common.{◌≡◌, ◌+◌, List, ℕ, [], ◌∷◌, length, get_or, arith, refl, sym}
 use Rattle.std.proofs.lemmas.List.{length-append}
 use Rattle.cbor_diag.proofs.hex.Kept.{walk_starts, walk_steps, walk_ends, kept_shorter, steps_shorter}

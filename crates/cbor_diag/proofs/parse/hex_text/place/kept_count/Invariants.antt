@@ -1,3 +1,4 @@
+-- The count is that of the bytes kept so far.
 use Rattle.std.proofs.Common.{◌≡◌, ◌+◌, ◌≤◌, length}
 use Rattle.cbor_diag.proofs.hex.Kept.{Walked}
 use Rattle.cbor_diag.proofs.parse.hex_text.place.kept_count.Given as goal

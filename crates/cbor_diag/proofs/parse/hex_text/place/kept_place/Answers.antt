@@ -1,3 +1,4 @@
+-- The place is that of the kept byte with this number, if there are as many.
 use Rattle.std.proofs.Common.{◌≡◌, ◌+◌, ◌-◌, List, ℕ, [], ◌∷◌, length, get_or, arith, refl}
 use Rattle.std.proofs.lemmas.List.{length-append}
 use Rattle.cbor_diag.proofs.hex.Kept.{walk_starts, walk_steps, walk_ends, walk_place, walk_front, kept_shorter}

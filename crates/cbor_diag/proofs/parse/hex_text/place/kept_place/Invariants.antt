@@ -1,3 +1,4 @@
+-- The bytes kept so far are counted, and are no more than are asked for.
 use Rattle.std.proofs.Common.{◌≡◌, ◌+◌, ◌≤◌, length}
 use Rattle.cbor_diag.proofs.hex.Kept.{Walked}
 use Rattle.cbor_diag.proofs.parse.hex_text.place.kept_place.Given as goal

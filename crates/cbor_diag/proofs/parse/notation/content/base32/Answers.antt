@@ -1,3 +1,4 @@
+-- The digits of base 32 are decoded, or refused, as the definition does.
 use Rattle.cbor_notes.specs.Base32.{standard}
 use Rattle.cbor_diag.proofs.notation.DigitsFound.{base32_answer}
 use Rattle.cbor_diag.proofs.parse.notation.content.base32.Goals as goal

@@ -1,3 +1,4 @@
+-- The digits of base 64 are decoded, or refused, as the definition does.
 use Rattle.cbor_diag.proofs.notation.DigitsFound.{base64_answer}
 use Rattle.cbor_diag.proofs.parse.notation.content.base64.Goals as goal
 

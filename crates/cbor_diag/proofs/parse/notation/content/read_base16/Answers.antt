@@ -1,3 +1,4 @@
+-- Hex digits decoded in place give what they give gathered.
 use Rattle.std.proofs.Common.{get_or, sym, arith}
 use Rattle.std.proofs.lemmas.Bool.{eqb-true}
 use Rattle.cbor_diag.proofs.notation.PlainDigits.{plain_digits}

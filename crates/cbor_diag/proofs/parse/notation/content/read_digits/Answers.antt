@@ -1,3 +1,4 @@
+-- The digits up to the apostrophe are those of the definition, or there are none.
 use Rattle.std.proofs.Common.{Ok, drop, ap, ◌∙◌, sym}
 use Rattle.std.proofs.lemmas.List.{take_rest}
 use Rattle.cbor_diag.specs.mirror.NotationReading.{or_refused}

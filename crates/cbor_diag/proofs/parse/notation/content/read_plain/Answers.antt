@@ -1,3 +1,4 @@
+-- A content without escapes is what is between the quotes.
 use Rattle.std.proofs.Common.{sym, ◌∙◌}
 use Rattle.cbor_diag.proofs.notation.OnePiece.{plain}
 use Rattle.cbor_diag.proofs.notation.sound.Steps.{after_byte_is}

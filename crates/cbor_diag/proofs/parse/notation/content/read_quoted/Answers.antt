@@ -1,3 +1,4 @@
+-- The content up to the closing quote is that of the definition, or there is none.
 use Rattle.std.proofs.Common.{Ok, drop, ap, ◌∙◌, sym, arith}
 use Rattle.std.proofs.lemmas.List.{take_rest}
 use Rattle.cbor_diag.specs.mirror.NotationReading.{or_refused}

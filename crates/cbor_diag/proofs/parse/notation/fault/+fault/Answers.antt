@@ -1,3 +1,4 @@
+-- What is found to be a dead end is no notation, whatever is written after it.
 use Rattle.std.proofs.Common.{◌≡◌, ℕ, suc, ◌+◌, ◌-◌, ◌∙◌, Option, Some, IfSome, arith, ◌++◌, Bool, Result, Ok, Err}
 use Rattle.std.proofs.Common.{IfOk, IsTrue, sym, ap, subst}
 use Rattle.cbor_diag.specs.declared.error.Error.{Error}

@@ -1,3 +1,4 @@
+-- The text after a member is where reading it ends, by the kind of the member.
 use Rattle.std.proofs.Common.{◌≡◌, ◌-◌, Ok, IfOk, sym, subst}
 use Rattle.cbor_diag.specs.declared.parse.notation.fault.Member.{Member}
 use Rattle.cbor_diag.specs.mirror.DeadEnds.{Value, read_member}

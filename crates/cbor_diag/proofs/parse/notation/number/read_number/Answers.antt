@@ -1,3 +1,4 @@
+-- The value and the indicator are those of the definition, or there is no number.
 use Rattle.std.proofs.Common.{refl}
 use Rattle.cbor_diag.proofs.notation.Tokens.{number_found, number_missing}
 use Rattle.cbor_diag.proofs.parse.notation.number.read_number.Goals as goal

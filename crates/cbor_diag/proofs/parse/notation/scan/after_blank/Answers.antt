@@ -1,3 +1,4 @@
+-- What follows a blank is what the definition leaves of the text.
 use Rattle.cbor_diag.proofs.notation.Tokens.{blank_left}
 use Rattle.cbor_diag.proofs.parse.notation.scan.after_blank.Goals as goal
 

@@ -1,3 +1,4 @@
+-- What follows whitespace and the closing byte is what the definition leaves, or one of them is missing.
 use Rattle.std.proofs.Common.{sym, ap, ◌∙◌}
 use Rattle.std.proofs.lemmas.List.{take_rest}
 use Rattle.cbor_diag.specs.mirror.NotationReading.{after_byte}

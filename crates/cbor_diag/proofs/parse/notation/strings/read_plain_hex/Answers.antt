@@ -1,3 +1,4 @@
+-- Hex digits that end a string are the whole string to the definition, too.
 use Rattle.std.proofs.Common.{◌+◌, ◌-◌, take, drop, length, get_or, sym, ◌∙◌, codes, arith}
 use Rattle.std.proofs.lemmas.Bool.{eqb-true}
 use Rattle.cbor_diag.proofs.notation.OnePiece.{plain_hex}

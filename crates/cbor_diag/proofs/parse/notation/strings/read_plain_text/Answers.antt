@@ -1,3 +1,4 @@
+-- A text without escapes that ends a string is the whole string to the definition, too.
 use Rattle.std.proofs.Common.{sym, ◌∙◌}
 use Rattle.cbor_diag.proofs.notation.OnePiece.{plain_text}
 use Rattle.cbor_diag.proofs.notation.sound.Steps.{after_byte_is}

@@ -1,3 +1,4 @@
+-- The index is that of the first apostrophe, or there is none.
 use Rattle.std.proofs.Common.{◌==◌, ap, sym, ◌∙◌, rules, tests}
 use Rattle.std.proofs.lemmas.Iterator.{YieldsList-from_slice}
 use Rattle.std.proofs.lemmas.Iterator.Search.{position_from_yields_List}

@@ -1,3 +1,4 @@
+-- The digits are a number below 16 to the power of their count, so no step of it overflows.
 use Rattle.std.proofs.Common.{arith}
 use Rattle.cbor_diag.proofs.notation.Tokens.{numeral-hex_after, room_for_digit}
 use Rattle.cbor_diag.proofs.parse.notation.word.hex_number.Goals as goal

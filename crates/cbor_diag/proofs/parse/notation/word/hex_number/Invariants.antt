@@ -1,3 +1,4 @@
+-- The number of the digits so far, continued by those that are left, is the number of all.
 use Rattle.std.proofs.Common.{◌≡◌, ◌^◌, ◌<◌, drop}
 use Rattle.cbor_diag.specs.mirror.NotationReading.{numeral}
 use Rattle.cbor_diag.proofs.notation.Tokens.{hex_after}

@@ -1,3 +1,4 @@
+-- The test of all fields is the one of the definition.
 use Rattle.std.proofs.lemmas.Bool.Decides.{same_from_decides}
 use Rattle.cbor_diag.specs.View.{view}
 use Rattle.cbor_diag.specs.mirror.SameDecides.{same_decides}

@@ -1,3 +1,4 @@
+-- A number of seconds that does not fit 64 bits is no date and time of the calendar.
 use Rattle.std.proofs.Common.{sym}
 use Rattle.std.specs.Int.{w128}
 use Rattle.std.proofs.lemmas.Int.{to_z-of_z}

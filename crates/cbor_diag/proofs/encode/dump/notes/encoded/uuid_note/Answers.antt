@@ -1,3 +1,4 @@
+-- The note of 16 bytes is their UUID: its first line is the text, and the others stand below.
 use Rattle.std.proofs.Common.{ap, sym, ◌∙◌, arith}
 use Rattle.std.specs.String.{string_bytes}
 use Rattle.cbor_diag.specs.View.{view, byte_chunk}

@@ -1,3 +1,4 @@
+-- The note of a reference is its number, and says where no value with it was shared before.
 use Rattle.std.proofs.Common.{◌≡◌, false, [], nat_lt, codes, if◌then◌else◌, ap, ◌∙◌}
 use Rattle.std.specs.String.{string_bytes}
 use Rattle.cbor_notes.specs.Text.{grouped}

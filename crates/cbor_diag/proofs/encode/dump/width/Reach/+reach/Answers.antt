@@ -1,3 +1,4 @@
+-- How far digits reach is the width of the lines of the item that reading the bytes gives.
 use Rattle.std.proofs.Common.{◌+◌, Some, max, ap, sym, subst, ◌∙◌, arith}
 use Rattle.std.proofs.lemmas.Result.{err_from_is_err_and, IfOk-weaker, IfErr-weaker}
 use Rattle.cbor_diag.specs.Item as spec

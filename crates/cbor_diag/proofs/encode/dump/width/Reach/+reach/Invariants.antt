@@ -1,3 +1,4 @@
+-- The search ends, and in a loop it has the width of the members before the rest.
 use Rattle.std.proofs.Common.{◌≡◌, ◌+◌, ◌-◌, ◌*◌, ◌≤◌, length, max}
 use Rattle.cbor_diag.specs.Item.{Items, no_items, Pairs, no_pairs}
 use Rattle.cbor_diag.specs.Reading.{items_in, pairs_in}

@@ -1,3 +1,4 @@
+-- How far the digits of a string in chunks reach, and the error of a wrong chunk.
 use Rattle.std.proofs.Common.{◌+◌, List, [], ◌∷◌, ◌++◌, length, ap, ◌∙◌, arith}
 use Rattle.std.proofs.lemmas.Result.{err_from_is_err_and}
 use Rattle.cbor_diag.specs.Item.{Chunk}

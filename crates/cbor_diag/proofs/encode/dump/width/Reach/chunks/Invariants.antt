@@ -1,3 +1,4 @@
+-- What is found is the width of the chunks before the rest, and each chunk shortens the rest.
 use Rattle.std.proofs.Common.{◌≡◌, ℕ, ◌+◌, ◌≤◌, List, length, max}
 use Rattle.cbor_diag.specs.Item.{Chunk}
 use Rattle.cbor_diag.specs.Reading.{later, read_chunks}

@@ -1,3 +1,4 @@
+-- How far the digits of a string of definite length reach is found from its longest piece.
 use Rattle.cbor_diag.specs.mirror.StringView.{kind_view}
 use Rattle.cbor_diag.proofs.dump.FrontWidths.{string_measured}
 use Rattle.cbor_diag.proofs.encode.dump.width.Reach.string.Goals as goal

@@ -1,3 +1,4 @@
+-- What is written and the lines of the bytes that are left are the lines of all bytes.
 use Rattle.std.proofs.Common.{length}
 use Rattle.cbor_diag.specs.Comments.{bytes_comment}
 use Rattle.cbor_diag.specs.Pieces.{byte_pieces}

@@ -1,3 +1,4 @@
+-- The lines of a chunk are its head and its content, one deeper.
 use Rattle.std.proofs.Common.{[], ◌∷◌, ℕ, length, ap, subst, ◌∙◌}
 use Rattle.std.proofs.lemmas.Result.{on_ok_weaker}
 use Rattle.cbor_diag.specs.Argument.{number}

@@ -1,3 +1,4 @@
+-- The lines that are written of a typed array are one for each of its elements.
 use Rattle.std.proofs.Common.{◌∙◌, ℕ, List, [], length, take, drop, unwrap_or, ap, subst, arith}
 use Rattle.std.proofs.lemmas.List.{nil_from_length}
 use Rattle.cbor_notes.specs.Element.{element_text}

@@ -1,3 +1,4 @@
+-- What is written and the lines of the elements that are left are the lines of all elements.
 use Rattle.std.proofs.Common.{ℕ, List, [], length, unwrap_or}
 use Rattle.cbor_notes.specs.Element.{element_text}
 use Rattle.cbor_diag.specs.Dump.{element_lines, piece_line}

@@ -1,3 +1,4 @@
+-- The note of an embedded item has the lines of its dump, one below the other.
 use Rattle.std.proofs.Common.{[], ◌∷◌, ◌+◌, map, codes}
 use Rattle.std.proofs.lemmas.Result.{on_ok_weaker}
 use Rattle.cbor_notes.specs.Layout.{row, width_of}

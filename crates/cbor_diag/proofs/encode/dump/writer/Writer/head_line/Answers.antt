@@ -1,3 +1,4 @@
+-- The line of a head has its bytes, of which there are few, and its comment.
 use Rattle.std.proofs.Common.{[], ◌∷◌, List, ℕ, OnOk, ap, subst, ◌∙◌}
 use Rattle.cbor_diag.specs.Dump.{head_line}
 use Rattle.cbor_diag.specs.mirror.Dumped.{Wrote, head_bytes}

@@ -1,3 +1,4 @@
+-- A line has few digits, all of them ASCII, and a column that is narrow enough to be written.
 use Rattle.std.proofs.Common.{◌≤◌, ◌++◌, List, ℕ, length, ap, sym, subst, ◌∙◌, arith}
 use Rattle.std.specs.Str.{IsAscii}
 use Rattle.cbor_diag.specs.mirror.ShownLines.{style_hex}

@@ -1,3 +1,4 @@
+-- What is written and the lines of the texts that are left are the whole note.
 use Rattle.std.proofs.Common.{◌+◌, map, drop}
 use Rattle.std.specs.String.{string_bytes}
 use Rattle.cbor_diag.specs.Dump.{note_line, note_lines}

@@ -1,3 +1,4 @@
+-- A line of a note has no digits, and the text as its comment.
 use Rattle.std.proofs.Common.{◌≡◌, [], Bor, ℕ, List, refl}
 use Rattle.hex.specs.Hex.{encode_with}
 use Rattle.cbor_diag.specs.declared.encode.dump.comment.Comment.TheVariants as comment

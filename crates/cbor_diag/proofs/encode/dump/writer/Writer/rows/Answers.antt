@@ -1,3 +1,4 @@
+-- The lines of a dump become lines of a note, one for each.
 use Rattle.std.proofs.Common.{Some, None, map, arith}
 use Rattle.std.proofs.lemmas.Str.Pattern.{split_once_first, split_parts}
 use Rattle.cbor_notes.specs.Layout.{row}

@@ -1,3 +1,4 @@
+-- What is written and the lines of the text that is left are the lines of the whole dump.
 use denote.Shadow.{shadow}
 use denote.Text.{Utf8}
 use Rattle.std.proofs.Common.{◌≡◌, ℕ, List, length, map}

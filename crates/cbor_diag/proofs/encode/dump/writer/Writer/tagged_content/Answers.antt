@@ -1,3 +1,4 @@
+-- The elements of a typed array are short enough for a line.
 use Rattle.std.proofs.Common.{◌∙◌, sym, subst}
 use Rattle.cbor_diag.proofs.dump.Elements.{Small, element_small}
 use Rattle.cbor_diag.proofs.encode.dump.writer.Writer.tagged_content.Goals as goal

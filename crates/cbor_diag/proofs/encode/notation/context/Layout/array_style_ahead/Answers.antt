@@ -1,3 +1,4 @@
+-- The style that bytes give an array is the one that its items give it.
 use Rattle.std.proofs.Common.{◌+◌}
 use Rattle.cbor_diag.specs.Estimate.{estimated_items}
 use Rattle.cbor_diag.specs.Item.{array}

@@ -1,3 +1,4 @@
+-- The style that bytes give a string in chunks is the one that its chunks give it.
 use Rattle.std.proofs.Common.{◌+◌}
 use Rattle.cbor_diag.specs.Estimate.{estimated_chunks}
 use Rattle.cbor_diag.specs.Item.{atom, chunked_string}

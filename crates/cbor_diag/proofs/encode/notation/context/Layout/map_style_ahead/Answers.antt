@@ -1,3 +1,4 @@
+-- The style that bytes give a map is the one that its pairs give it.
 use Rattle.std.proofs.Common.{◌+◌}
 use Rattle.cbor_diag.specs.Estimate.{estimated_pairs}
 use Rattle.cbor_diag.specs.Item as spec

@@ -1,3 +1,4 @@
+-- Where scanning pauses in a string, which is the one item without parts that has content.
 use Rattle.std.proofs.Common.{ap, sym, subst}
 use Rattle.std.proofs.lemmas.Result.{IfErr-weaker}
 use Rattle.cbor_diag.specs.ItemHead.{ItemHead}

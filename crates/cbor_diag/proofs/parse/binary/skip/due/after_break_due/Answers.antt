@@ -1,3 +1,4 @@
+-- Scanning goes on from chunk to chunk up to the break, and pauses where a chunk does.
 use Rattle.std.proofs.Common.{arith}
 use Rattle.std.proofs.lemmas.Result.{err_from_is_err_and}
 use Rattle.cbor_diag.specs.declared.syntax.IntegerWidth.TheVariants.{Zero}

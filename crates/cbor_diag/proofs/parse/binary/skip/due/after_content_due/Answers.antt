@@ -1,3 +1,4 @@
+-- After the content of a chunk the chunks that follow are due, and after another content nothing.
 use Rattle.std.proofs.lemmas.Result.{IfOk-weaker, IfErr-weaker}
 use Rattle.cbor_diag.specs.declared.syntax.IntegerWidth.TheVariants.{Zero}
 use Rattle.cbor_diag.specs.Reading.{◌>>=◌}

@@ -1,3 +1,4 @@
+-- Where a content is cut, its rest and the chunks after it are due; where it has a fault, the string has it.
 use Rattle.cbor_diag.specs.declared.syntax.IntegerWidth.TheVariants.{Zero}
 use Rattle.cbor_diag.specs.mirror.StringView.{kind_view}
 use Rattle.cbor_diag.proofs.skipping.Scans.{content_longer, chunked_shows}

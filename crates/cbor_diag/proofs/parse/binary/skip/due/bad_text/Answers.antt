@@ -1,3 +1,4 @@
+-- A text that is not UTF-8 is a fault where its last byte is, and not before.
 use Rattle.std.proofs.Common.{arith}
 use Rattle.cbor_diag.proofs.skipping.Scans.{bad_text_waits, bad_text_shows}
 use Rattle.cbor_diag.proofs.parse.binary.skip.due.bad_text.Goals as goal

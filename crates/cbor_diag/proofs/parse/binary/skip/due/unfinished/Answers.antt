@@ -1,3 +1,4 @@
+-- Of a byte string that is cut, the bytes that are not here are due.
 use Rattle.std.proofs.Common.{arith}
 use Rattle.cbor_diag.proofs.skipping.Scans.{bytes_wait}
 use Rattle.cbor_diag.proofs.parse.binary.skip.due.unfinished.Goals as goal

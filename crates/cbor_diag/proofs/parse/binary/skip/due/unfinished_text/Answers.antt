@@ -1,3 +1,4 @@
+-- Of a text that is cut the rest is due: from its last whole character on, or all if it is not UTF-8.
 use Rattle.std.proofs.Common.{◌-◌, length, arith}
 use Rattle.std.proofs.lemmas.List.{take_rest, length-drop}
 use Rattle.cbor_diag.specs.declared.syntax.strings.StringKind.TheVariants.{Text}

@@ -1,3 +1,4 @@
+-- Where bytes stop being UTF-8, those before are whole characters.
 use Rattle.cbor_diag.proofs.skipping.Scans.{whole_chars_are}
 use Rattle.cbor_diag.proofs.parse.binary.skip.due.whole_chars.Goals as goal
 

@@ -1,3 +1,4 @@
+-- A number that was read stays the same whatever follows.
 use Rattle.std.proofs.Common.{sym, ◌∙◌}
 use Rattle.cbor_diag.proofs.notation.DeadTokens.{number_stays}
 use Rattle.cbor_diag.proofs.parse.notation.fault.tokens.has_all_digits.Goals as goal

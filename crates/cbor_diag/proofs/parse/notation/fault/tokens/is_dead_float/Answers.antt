@@ -1,3 +1,4 @@
+-- A float whose digits were read fails whatever follows.
 use Rattle.cbor_diag.specs.View.{view}
 use Rattle.cbor_diag.specs.mirror.NotationReading.{read_float}
 use Rattle.cbor_diag.proofs.notation.GrownItems.{of_some}

@@ -1,3 +1,4 @@
+-- The note of a prefix is its address, filled up with zeros, and its length.
 use Rattle.std.proofs.Common.{◌≤◌, ◌++◌, length, codes, decimal, sym, ap, ◌∙◌}
 use Rattle.cbor_diag.specs.Notes.{address_text, family_size}
 use Rattle.cbor_diag.specs.mirror.NotesView.{family_view}

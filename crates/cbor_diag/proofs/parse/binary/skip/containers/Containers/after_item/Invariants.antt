@@ -1,3 +1,4 @@
+-- What is due of the open containers that are left is what is due of the item.
 use Rattle.std.proofs.Common.{◌+◌, ◌*◌, length}
 use Rattle.cbor_diag.specs.mirror.Skipping.{Goes, skip_open}
 use Rattle.cbor_diag.proofs.parse.binary.skip.containers.Containers.after_item.Given as goal

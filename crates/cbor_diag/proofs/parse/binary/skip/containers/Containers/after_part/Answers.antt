@@ -1,3 +1,4 @@
+-- After a part, or after a head that opens a container, what is due is still the same item.
 use Rattle.std.proofs.Common.{◌≡◌, ◌-◌, ℕ, length, ap, sym, subst, arith, ◌∙◌}
 use Rattle.std.specs.Prelude.{option_map}
 use Rattle.std.proofs.lemmas.List.{length-append}

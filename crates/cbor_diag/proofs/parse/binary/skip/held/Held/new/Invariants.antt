@@ -1,3 +1,4 @@
+-- What is held is a copy of the bytes so far.
 use Rattle.std.proofs.Common.{◌≡◌, take}
 use Rattle.cbor_diag.proofs.parse.binary.skip.held.Held.new.Given as goal
 

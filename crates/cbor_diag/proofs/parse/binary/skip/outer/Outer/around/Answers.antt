@@ -1,3 +1,4 @@
+-- The containers around a level are as many as there are levels above it.
 use Rattle.std.proofs.Common.{◌-◌, arith}
 use Rattle.std.proofs.lemmas.List.{take-replicate}
 use Rattle.cbor_diag.specs.mirror.Skipping.{ended}

@@ -1,3 +1,4 @@
+-- The count of open containers is the length of their list.
 use Rattle.std.proofs.Common.{length, ap, sym, ◌∙◌}
 use Rattle.cbor_diag.proofs.skipping.OpenStacks.{stack_len}
 use Rattle.cbor_diag.proofs.parse.binary.skip.packed.Packed.len.Goals as goal

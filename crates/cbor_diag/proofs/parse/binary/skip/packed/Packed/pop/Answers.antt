@@ -1,3 +1,4 @@
+-- What is removed is the last of the list.
 use Rattle.std.proofs.Common.{◌-◌, arith, sym, ◌∙◌}
 use Rattle.cbor_diag.proofs.skipping.OpenStacks.{stack_pop}
 use Rattle.cbor_diag.proofs.parse.binary.skip.packed.Packed.pop.Goals as goal

@@ -1,3 +1,4 @@
+-- What is opened becomes the last of the list, for which there is room.
 use Rattle.std.proofs.Common.{◌<◌, ◌∷◌, [], ◌++◌, List, length, ap, arith, ◌∙◌}
 use Rattle.std.proofs.lemmas.List.{length-set}
 use Rattle.cbor_diag.specs.declared.parse.binary.skip.to_come.ToCome.{ToCome}

@@ -1,3 +1,4 @@
+-- What is due of an item ends in these bytes, or what is left of it is due after them.
 use Rattle.std.proofs.Common.{refl}
 use Rattle.cbor_diag.specs.Reading.{◌>>=◌}
 use Rattle.cbor_diag.specs.mirror.Skipping.{skip_open}

@@ -1,3 +1,4 @@
+-- The item ends in the bytes that were fed and these, or what is left of it is due after all of them.
 use Rattle.std.proofs.Common.{[], ◌∷◌, ◌++◌, length, get_or, refl, ap, ◌∙◌, arith}
 use Rattle.std.proofs.lemmas.List.{length-append}
 use Rattle.std.proofs.lemmas.Result.{IfOk-weaker, IfErr-weaker}

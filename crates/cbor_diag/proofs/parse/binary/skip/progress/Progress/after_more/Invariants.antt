@@ -1,3 +1,4 @@
+-- What is due was left by the bytes before the rest.
 use Rattle.std.proofs.Common.{◌≡◌, ◌≤◌, List, ℕ, ◌++◌, length}
 use Rattle.cbor_diag.specs.WellFormed.{deepest}
 use Rattle.cbor_diag.specs.mirror.Skipping.{skip_item}

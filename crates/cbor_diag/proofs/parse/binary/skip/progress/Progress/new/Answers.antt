@@ -1,3 +1,4 @@
+-- Before the first byte a whole item is due.
 use Rattle.cbor_diag.proofs.skipping.Progresses.{first_waits}
 use Rattle.cbor_diag.proofs.parse.binary.skip.progress.Progress.new.Goals as goal
 

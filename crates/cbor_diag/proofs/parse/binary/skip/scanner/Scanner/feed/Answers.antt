@@ -1,3 +1,4 @@
+-- The answer is how all bytes that were fed begin, and an item or a fault stays.
 use Rattle.std.proofs.Common.{ℕ, List, ◌++◌, sym, subst, ◌∙◌, arith}
 use Rattle.cbor_diag.specs.Extent.{IsExtent}
 use Rattle.cbor_diag.specs.Scanning.{HasScanned}

@@ -1,3 +1,4 @@
+-- After more bytes the scanner has scanned all that were fed.
 use Rattle.std.proofs.Common.{◌≡◌, ℕ, List, ◌++◌, length, sym, subst, ◌∙◌, arith}
 use Rattle.std.proofs.lemmas.List.{length-append}
 use Rattle.cbor_diag.specs.Scanning.{IsAnswer}
