@@ -55,7 +55,7 @@ pair_count_more (pair j u ps) k v = ap suc (pair_count_more ps k v)
 
 -- ---- what is held
 
--- so many more than are to come
+-- `k` more than are to come
 abbrev pub and_more : ℕ → Argument → Argument
 and_more k (number n w) = number (k + n) w
 and_more k indefinite = indefinite

@@ -99,7 +99,8 @@ front_of level b refusal.BadHex h = absurd h
 front_of level b refusal.Notation h = absurd h
 front_of level b refusal.PastWidth h = absurd h
 
-pub whole_outcome : (level : ℕ) (b : List ℕ) (i : Item) → Spells any level b i → IsOutcome level b (spelled i (length b))
+pub whole_outcome : (level : ℕ) (b : List ℕ) (i : Item) → Spells any level b i
+    → IsOutcome level b (spelled i (length b))
 whole_outcome level b i s = (omega arith, rw (take_all (length b) b (omega arith)) s)
 
 pub no_refused_item : (level : ℕ) (b : List ℕ) (i : Item) (e : Error) → OneOutcome level b → Spells any level b i
@@ -108,14 +109,16 @@ no_refused_item level b i e one s h =
     let f = front_of level b e h in
     f.3 i (one.only f.0 f.1 ∙ sym (one.only (spelled i (length b)) (whole_outcome level b i s)))
 
-pub one_refusal : (level : ℕ) (b : List ℕ) (e f : Error) → OneOutcome level b → IsRefused level b e → IsRefused level b f
+pub one_refusal : (level : ℕ) (b : List ℕ) (e f : Error) → OneOutcome level b → IsRefused level b e
+    → IsRefused level b f
     → e ≡ f
 one_refusal level b e f one h k =
     let x = front_of level b e h in
     let y = front_of level b f k in
     sym x.2 ∙ ap refusal_for (one.only x.0 x.1 ∙ sym (one.only y.0 y.1)) ∙ y.2
 
-pub refused_of : (level : ℕ) (b : List ℕ) (e : Error) → HasAnswer level b (Err e) → e ≢ refusal.Memory → IsRefused level b e
+pub refused_of : (level : ℕ) (b : List ℕ) (e : Error) → HasAnswer level b (Err e) → e ≢ refusal.Memory
+    → IsRefused level b e
 refused_of level b refusal.Memory h no_memory = absurd (no_memory refl)
 refused_of level b _ h no_memory = h
 

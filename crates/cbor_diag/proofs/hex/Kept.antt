@@ -326,9 +326,11 @@ walk_ends Fact text [] none w = subst Fact (sym (ap uncommented w.keeps.parts
 walk_ends Fact text (x ∷ rest) none w = absurd (omega arith)
 
 -- the bytes before the rest
-front_kept : (text rest bytes : List ℕ) → Keeps text rest bytes → uncommented (take (length text - length rest) text) ≡ bytes
+front_kept : (text rest bytes : List ℕ) → Keeps text rest bytes
+    → uncommented (take (length text - length rest) text) ≡ bytes
 front_kept text rest bytes k =
-    let count : length k.over ≡ length text - length rest = omega (arith, ap length k.parts, length-append k.over rest) in
+    let count : length k.over ≡ length text - length rest =
+    omega (arith, ap length k.parts, length-append k.over rest) in
     ap (λ (z : List ℕ). uncommented (take (length text - length rest) z)) k.parts
     ∙ ap uncommented (take_at k.over rest (length text - length rest) count ∙ sym (append-nil k.over))
     ∙ k.along [] (replaces_none rest) ∙ append-nil bytes
@@ -354,7 +356,8 @@ pub walk_byte : (Fact : List ℕ → Type 0) (text rest : List ℕ) → Walked F
     → get_or text (length text - length rest) 0 ≡ get_or rest 0 0
 walk_byte Fact text rest w =
     let k = w.keeps in
-    let count : length k.over ≡ length text - length rest = omega (arith, ap length k.parts, length-append k.over rest) in
+    let count : length k.over ≡ length text - length rest =
+    omega (arith, ap length k.parts, length-append k.over rest) in
     ap (λ (z : List ℕ). get_or z (length text - length rest) 0) k.parts ∙ byte_there k.over rest _ count
 
 pub walk_place : (Fact : List ℕ → Type 0) (text rest : List ℕ) → Walked Fact text rest → 0 < length rest
@@ -375,7 +378,8 @@ walk_place Fact text rest w some =
       within = omega arith;
       kept = all ∙ ap (λ (z : List ℕ). w.bytes ++ z) mine
           ∙ ap (λ (z : List ℕ). z ++ get_or rest 0 0 ∷ uncommented (drop 1 rest)) (sym (front_kept text rest w.bytes k))
-          ∙ ap (λ (x : ℕ). uncommented (take place text) ++ x ∷ uncommented (drop 1 rest)) (sym (walk_byte Fact text rest w))
+          ∙ ap (λ (x : ℕ). uncommented (take place text) ++ x ∷ uncommented (drop 1 rest))
+          (sym (walk_byte Fact text rest w))
           ∙ ap (λ (z : List ℕ). uncommented (take place text) ++ get_or text place 0 ∷ uncommented z) (sym after);
     }
 

@@ -54,7 +54,8 @@ pub shows_within : {f : List ℕ → Skip} (b : List ℕ) (e : Error) (after : �
 shows_within b e after s = omega (arith, ap length s.parts, length-append s.before (s.last ∷ s.behind), s.count)
 
 -- the bytes seen so far and the rest are all
-module _ (F G : List ℕ → Skip) (seen held rest all : List ℕ) (w : Waits F G seen held) (parts : seen ++ rest ≡ all) where
+module _ (F G : List ℕ → Skip) (seen held rest all : List ℕ) (w : Waits F G seen held)
+    (parts : seen ++ rest ≡ all) where
   -- no byte is left
   pub all_waits : length rest < 1 → Waits F G all held
   all_waits none = subst (λ (z : List ℕ). Waits F G z held)

@@ -31,7 +31,8 @@ bytes_append x y a b i =
       | inl lt ↦ rw (get_or_append_left x y 0 i lt) (a i)
       | inr le ↦
           let same : length x + (i - length x) ≡ i = omega arith in
-          subst (λ (k : ℕ). get_or (x ++ y) k 0 < 256) same (rw (get_or-append-add x y (i - length x) 0) (b (i - length x)))
+          subst (λ (k : ℕ). get_or (x ++ y) k 0 < 256) same
+          (rw (get_or-append-add x y (i - length x) 0) (b (i - length x)))
     ]
 
 -- an item or a fault stays

@@ -50,7 +50,8 @@ pub part_waits : (outer : List ToCome) (top : ToCome) (b : List ℕ) → None �
 part_waits outer top b none cut few =
     record { goes = goes_here b (λ c. refl); cut = part_stops outer top b stops.Cut none cut; few = few }
 
-pub pauses_in_then : (outer : List ToCome) (top : ToCome) (f g : List ℕ → Skip) (b r : List ℕ) (p : Pause) → Goes f g b r
+pub pauses_in_then : (outer : List ToCome) (top : ToCome) (f g : List ℕ → Skip) (b r : List ℕ) (p : Pause)
+    → Goes f g b r
     → PausesIn outer top g r p → PausesIn outer top f b p
 pauses_in_then outer top f g b r (pause.Cut d rest) x y = waits_then x y
 pauses_in_then outer top f g b r (pause.Fault e after) x y = shows_then x y

@@ -341,7 +341,7 @@ around_ended (suc n) left r = ap (λ s. s >>= skip_parts left ended) (around_end
     ends (Ok b) = frame_end left (items_in no_items (number 0 Zero)) b b refl
     ends (Err e) = refl
 
--- the first item inside so many that end after it
+-- the first item inside `n` containers that end after it
 pub item_goes : (n : ℕ) (b : List ℕ) (t : ToCome) → frame_of t ≡ emptied (tag_of 0 Zero)
     → Goes (skip_item (deepest - n)) (skip_open (replicate n ended) t) b b
 item_goes n b t is = goes_here b (λ c. first (deepest - n) c ∙ frame_alike (deepest - n) (tag_of 0 Zero) (frame_of t) c

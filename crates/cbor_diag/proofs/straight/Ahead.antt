@@ -169,7 +169,7 @@ grows (suc n) levels f b x e =
 
 -- ---- the items of an array
 
--- After so many items of an array this is left of the budget, and these bytes.
+-- After the first `held` items of an array this is left of the budget, and these bytes.
 abbrev pub ItemsSoFar : ℕ → code_argument.Argument → List ℕ → ℕ → ℕ → List ℕ → Type 0
 ItemsSoFar budget count b held left rest = (levels : ℕ) (x : Item × List ℕ)
     → body_read (item_head.array (argument_view count)) b levels ≡ Ok x
@@ -227,7 +227,7 @@ items_found found budget count b held left rest after so_far ends finds levels i
 
 -- ---- the pairs of a map
 
--- After so many pairs of a map this is left of the budget, and these bytes.
+-- After the first `held` pairs of a map this is left of the budget, and these bytes.
 abbrev pub PairsSoFar : ℕ → code_argument.Argument → List ℕ → ℕ → ℕ → List ℕ → Type 0
 PairsSoFar budget count b held left rest = (levels : ℕ) (x : Item × List ℕ)
     → body_read (item_head.map (argument_view count)) b levels ≡ Ok x

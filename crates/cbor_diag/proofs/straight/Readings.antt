@@ -41,7 +41,8 @@ fails_is refusal.Memory d read same is = tt
 fails_is {X = X} e d read same is = let P : Error → Result X Error = λ x. Err x in is ∙ ap P (sym same)
 
 -- an error of a step is one of all
-pub fails_bind : {A B : Type 0} (e : Error) (r : Result A Error) (f : A → Result B Error) → Fails e r → Fails e (r >>= f)
+pub fails_bind : {A B : Type 0} (e : Error) (r : Result A Error) (f : A → Result B Error) → Fails e r
+    → Fails e (r >>= f)
 fails_bind refusal.Memory r f h = tt
 fails_bind e r f h = ap (λ x. x >>= f) h
 
@@ -68,7 +69,8 @@ pub head_reads : (c : NotationContext) (b : List ℕ) (h : ItemHead) (rest : Lis
     → read_head b ≡ Ok (h, rest) → read_there c b ≡ read_after c h rest
 unfolding counted_item
 head_reads c b h rest le e = ap (λ n. read_item n b) (one_more c.level le)
-    ∙ ok_then (1, read_head b) (h, rest) (λ x. read_body (counted_item (levels_left (c.level + 1))) (opened x.0) x.0 x.1)
+    ∙ ok_then (1, read_head b) (h, rest)
+    (λ x. read_body (counted_item (levels_left (c.level + 1))) (opened x.0) x.0 x.1)
     e
 
 -- what holds of what reading gives after a head holds of what it gives before
@@ -142,7 +144,8 @@ pub pair_read : (left : ℕ) (ps : Pairs) (len : code_argument.Argument) (held :
     → after_members (left_of len held) b ≡ None → read_item left b ≡ Ok (k, mid) → read_item left mid ≡ Ok (v, rest)
     → parts_read left (pairs_in ps (left_of len held)) b
     ≡ parts_read left (pairs_in (joined_pairs ps (pair k v no_pairs)) (left_of len (held + 1))) rest
-pair_read left ps len held b mid rest k v none key value = part_read left (pairs_in ps (left_of len held)) b mid k none key
+pair_read left ps len held b mid rest k v none key value =
+    part_read left (pairs_in ps (left_of len held)) b mid k none key
     ∙ part_read left (value_of ps k (one_less (left_of len held))) mid rest v refl value
     ∙ ap (λ a. parts_read left (pairs_in (joined_pairs ps (pair k v no_pairs)) a) rest) (sym (left_less len held))
 

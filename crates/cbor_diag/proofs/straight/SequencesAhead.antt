@@ -9,7 +9,7 @@ use Rattle.cbor_diag.specs.Reading.{Read, read_item}
 use Rattle.cbor_diag.specs.mirror.Ahead.{Estimates, front_read}
 use Rattle.cbor_diag.proofs.bytes.Shorter.{item_shorter}
 
--- After so many items this is left of the budget, and these bytes.
+-- After the items so far this is left of the budget, and these bytes.
 abbrev pub SequenceSoFar : ℕ → ℕ → List ℕ → ℕ → List ℕ → Type 0
 SequenceSoFar budget levels b left rest = (n : ℕ) × (length rest ≤ n)
     × (left - estimated_items (sequence_of (read_item levels) n rest).0

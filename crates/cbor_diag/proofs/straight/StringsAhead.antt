@@ -101,7 +101,7 @@ next_read kind (suc n) b y e =
     let t = then_ok (1, read_chunk kind b) (λ c. more_chunks (read_chunks n kind) c.0 c.1) y e in
     (n, t.0, sym (by_length kind b) ∙ t.1, t.2)
 
--- After so many chunks this is left of the budget, and these bytes.
+-- After the chunks so far this is left of the budget, and these bytes.
 abbrev pub ChunksSoFar : ℕ → StringKind → List ℕ → ℕ → List ℕ → Type 0
 ChunksSoFar budget kind b left rest = (x : List Chunk × List ℕ) → (read_chunks (length b) kind b).1 ≡ Ok x
     → (n : ℕ) × (y : List Chunk × List ℕ) × ((read_chunks n kind rest).1 ≡ Ok y) × (y.1 ≡ x.1)

@@ -225,6 +225,7 @@ chunks_printed l c kind cs held old out new level same count p q =
 pub string_printed : (c : NotationContext) (w : IntegerWidth) (s : StringContent) (old new : List ℕ) → c.level ≤ 128
     → new ≡ old ++ string_there c s → new ≡ old ++ item_text c (atom (string (kind_of s) (borrowed_chunk w s)))
 string_printed c w (content.Bytes b) old new level h =
-    opened_again c.level (context_view c) (atom (string bytes_kind (borrowed_chunk w (content.Bytes b)))) old new level h
+    opened_again c.level (context_view c) (atom (string bytes_kind (borrowed_chunk w (content.Bytes b))))
+    old new level h
 string_printed c w (content.Text t) old new level h =
     opened_again c.level (context_view c) (atom (string text_kind (borrowed_chunk w (content.Text t)))) old new level h

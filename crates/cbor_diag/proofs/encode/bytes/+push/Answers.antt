@@ -58,8 +58,8 @@ pub push_pairs-push_item-requires-in-pairs : goal.push_pairs-push_item-requires-
 push_pairs-push_item-requires-in-pairs t c = (
   search (rules, the_lemmas),
   let here = drop_here c.deref-key-items.result.now _ _ c.pairs-test.true c.pairs-item.is in
-      let well = subst (λ ps. WellFormedPairs c.pairs.invariant.1 (pairs_view ps)) here c.pairs.invariant.2 in
-      (c.pairs.invariant.1, well.1),
+      let well = subst (λ ps. WellFormedPairs c.pairs.invariant.level (pairs_view ps)) here c.pairs.invariant.well in
+      (c.pairs.invariant.level, well.1),
 )
 
 pub push_tagged-returns : goal.push_tagged-returns
@@ -70,7 +70,7 @@ push_tagged-returns t c =
 pub push_pairs-returns-in_err-push_item-2 : goal.push_pairs-returns-in_err-push_item-2
 push_pairs-returns-in_err-push_item-2 t c =
     let out = c.args.out.now.items in
-    let key = begins_still out c.pairs.out.items _ c.push_item.new.out.items c.pairs.invariant.3
+    let key = begins_still out c.pairs.out.items _ c.push_item.new.out.items c.pairs.invariant.begins
     c.in_ok-push_item.ensures in
     let begun = begins_through out c.push_item.new.out.items c.push_item-in-pairs.new.out.items
     c.in_err-push_item-2.ensures key in
@@ -80,26 +80,26 @@ pub push_items-push_item-requires : goal.push_items-push_item-requires
 push_items-push_item-requires t c = (
   search (rules, the_lemmas),
   let here = drop_here c.deref-item-items.result.now _ _ c.items-test.true c.item-item.is in
-      let well = subst (λ vs. WellFormedItems c.items.invariant.1 (items_view vs)) here c.items.invariant.2 in
-      (c.items.invariant.1, well.0),
+      let well = subst (λ vs. WellFormedItems c.items.invariant.level (items_view vs)) here c.items.invariant.well in
+      (c.items.invariant.level, well.0),
 )
 
 pub push_items-returns-in_err-push_item : goal.push_items-returns-in_err-push_item
 push_items-returns-in_err-push_item t c =
     let begun = begins_through c.args.out.now.items c.items.out.items c.push_item.new.out.items
-    c.in_err-push_item.ensures c.items.invariant.3 in
+    c.in_err-push_item.ensures c.items.invariant.begins in
     search (rules, begun)
 
 pub push_pairs-push_item-requires : goal.push_pairs-push_item-requires
 push_pairs-push_item-requires t c = (
   search (rules, the_lemmas),
   let here = drop_here c.deref-key-items.result.now _ _ c.pairs-test.true c.pairs-item.is in
-      let well = subst (λ ps. WellFormedPairs c.pairs.invariant.1 (pairs_view ps)) here c.pairs.invariant.2 in
-      (c.pairs.invariant.1, well.0),
+      let well = subst (λ ps. WellFormedPairs c.pairs.invariant.level (pairs_view ps)) here c.pairs.invariant.well in
+      (c.pairs.invariant.level, well.0),
 )
 
 pub push_pairs-returns-in_err-push_item : goal.push_pairs-returns-in_err-push_item
 push_pairs-returns-in_err-push_item t c =
     let begun = begins_through c.args.out.now.items c.pairs.out.items c.push_item.new.out.items
-    c.in_err-push_item.ensures c.pairs.invariant.3 in
+    c.in_err-push_item.ensures c.pairs.invariant.begins in
     search (rules, begun)

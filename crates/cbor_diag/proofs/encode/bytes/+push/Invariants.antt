@@ -9,13 +9,19 @@ use Rattle.cbor_diag.proofs.encode.bytes.+push.Given as goal
 abbrev pub invariant-push_items-items : goal.invariant-push_items-items
 invariant-push_items-items l =
     let rest = items_view (drop l.item-index l.item-items) in
-    (l.out.items ++ encoded_items rest ≡ l.fn.out.items ++ encoded_items (items_view l.item-items)) × (level : ℕ)
-    × WellFormedItems level rest
-    × StartsWith l.out.items l.fn.out.items
+    record {
+      written : l.out.items ++ encoded_items rest ≡ l.fn.out.items ++ encoded_items (items_view l.item-items);
+      level : ℕ;
+      well : WellFormedItems level rest;
+      begins : StartsWith l.out.items l.fn.out.items;
+    }
 
 abbrev pub invariant-push_pairs-pairs : goal.invariant-push_pairs-pairs
 invariant-push_pairs-pairs l =
     let rest = pairs_view (drop l.key-index l.key-items) in
-    (l.out.items ++ encoded_pairs rest ≡ l.fn.out.items ++ encoded_pairs (pairs_view l.key-items)) × (level : ℕ)
-    × WellFormedPairs level rest
-    × StartsWith l.out.items l.fn.out.items
+    record {
+      written : l.out.items ++ encoded_pairs rest ≡ l.fn.out.items ++ encoded_pairs (pairs_view l.key-items);
+      level : ℕ;
+      well : WellFormedPairs level rest;
+      begins : StartsWith l.out.items l.fn.out.items;
+    }

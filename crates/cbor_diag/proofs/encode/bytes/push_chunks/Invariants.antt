@@ -12,6 +12,9 @@ abbrev pub invariant-chunks : goal.invariant-chunks
 invariant-chunks g l =
     let kind = g.S.DefiniteString.kind in
     let rest = map g.S.DefiniteString.chunk (drop l.chunk-index l.chunks) in
-    (l.out.items ++ (flat_map (encoded_chunk (major_of kind)) rest ++ break_byte ∷ []) ≡ l.fn.out.items
-    ++ encoded_chunks (major_of kind) (map g.S.DefiniteString.chunk l.chunks)) × AllByRecursion (IsChunk kind) rest
-    × StartsWith l.out.items l.fn.out.items
+    record {
+      written : l.out.items ++ (flat_map (encoded_chunk (major_of kind)) rest ++ break_byte ∷ []) ≡ l.fn.out.items
+          ++ encoded_chunks (major_of kind) (map g.S.DefiniteString.chunk l.chunks);
+      well : AllByRecursion (IsChunk kind) rest;
+      begins : StartsWith l.out.items l.fn.out.items;
+    }

@@ -29,21 +29,26 @@ decreases-push_items l = (129 - l.context.now.level) * 3 + 2
 abbrev pub decreases-push_pairs : goal.decreases-push_pairs
 decreases-push_pairs l = (129 - l.context.now.level) * 3 + 2
 
--- what is written and the members that are left are the whole
 abbrev pub invariant-push_items-items : goal.invariant-push_items-items
 invariant-push_items-items l =
     let rest = items_view (drop l.item-index l.item-items) in
     let texts = item_texts (item_text l.inner) in
     let style = style_view l.style in
-    (string_bytes l.out ++ members_left style l.first (texts rest)
-    ≡ string_bytes l.fn.out ++ members_left style true (texts (items_view l.item-items)))
-    × WellFormedItems l.inner.level rest × StartsWith (string_bytes l.out) (string_bytes l.fn.out)
+    record {
+      written : string_bytes l.out ++ members_left style l.first (texts rest)
+          ≡ string_bytes l.fn.out ++ members_left style true (texts (items_view l.item-items));
+      well : WellFormedItems l.inner.level rest;
+      begins : StartsWith (string_bytes l.out) (string_bytes l.fn.out);
+    }
 
 abbrev pub invariant-push_pairs-pairs : goal.invariant-push_pairs-pairs
 invariant-push_pairs-pairs l =
     let rest = pairs_view (drop l.key-index l.key-items) in
     let style = style_view l.style in
     let texts = pair_texts (item_text l.inner) (colon style) in
-    (string_bytes l.out ++ members_left style l.first (texts rest)
-    ≡ string_bytes l.fn.out ++ members_left style true (texts (pairs_view l.key-items)))
-    × WellFormedPairs l.inner.level rest × StartsWith (string_bytes l.out) (string_bytes l.fn.out)
+    record {
+      written : string_bytes l.out ++ members_left style l.first (texts rest)
+          ≡ string_bytes l.fn.out ++ members_left style true (texts (pairs_view l.key-items));
+      well : WellFormedPairs l.inner.level rest;
+      begins : StartsWith (string_bytes l.out) (string_bytes l.fn.out);
+    }

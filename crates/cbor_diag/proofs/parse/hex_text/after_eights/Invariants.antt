@@ -4,7 +4,10 @@ use Rattle.cbor_notes.specs.Columns.{unspaced}
 use Rattle.cbor_diag.proofs.parse.hex_text.after_eights.Given as goal
 
 abbrev pub invariant-eights : goal.invariant-eights
-invariant-eights l = (unspaced l.rest ≡ unspaced l.line) × (length l.rest ≤ length l.line)
+invariant-eights l = record {
+  same : unspaced l.rest ≡ unspaced l.line;
+  longer : length l.rest ≤ length l.line;
+}
 
 abbrev pub decreases-eights : goal.decreases-eights
 decreases-eights l = length l.rest

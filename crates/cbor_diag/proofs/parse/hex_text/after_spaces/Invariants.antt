@@ -4,7 +4,10 @@ use Rattle.cbor_notes.specs.Columns.{unspaced}
 use Rattle.cbor_diag.proofs.parse.hex_text.after_spaces.Given as goal
 
 abbrev pub invariant-spaces : goal.invariant-spaces
-invariant-spaces l = (l.at ≤ length l.near) × (unspaced (drop l.at l.near) ≡ unspaced l.line)
+invariant-spaces l = record {
+  within : l.at ≤ length l.near;
+  same : unspaced (drop l.at l.near) ≡ unspaced l.line;
+}
 
 abbrev pub decreases-spaces : goal.decreases-spaces
 decreases-spaces l = length l.near - l.at

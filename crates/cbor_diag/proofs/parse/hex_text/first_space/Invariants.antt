@@ -3,7 +3,10 @@ use Rattle.std.proofs.Common.{◌≢◌, ℕ, ◌<◌, ◌≤◌, ◌-◌, lengt
 use Rattle.cbor_diag.proofs.parse.hex_text.first_space.Given as goal
 
 abbrev pub invariant-digits : goal.invariant-digits
-invariant-digits l = (l.end ≤ length l.line) × ((k : ℕ) → k < l.end → get_or l.line k 0 ≢ 32)
+invariant-digits l = record {
+  within : l.end ≤ length l.line;
+  no_space : (k : ℕ) → k < l.end → get_or l.line k 0 ≢ 32;
+}
 
 abbrev pub decreases-digits : goal.decreases-digits
 decreases-digits l = length l.line - l.end

@@ -4,8 +4,10 @@ use Rattle.cbor_notes.specs.Columns.{unspaced}
 use Rattle.cbor_diag.proofs.parse.hex_text.push_unspaced.Given as goal
 
 abbrev pub invariant-runs : goal.invariant-runs
-invariant-runs l = (l.out.items ++ unspaced l.rest ≡ l.fn.out.items ++ unspaced l.line)
-    × (0 < length l.rest → slice_index l.rest 0 ≢ 32)
+invariant-runs l = record {
+  written : l.out.items ++ unspaced l.rest ≡ l.fn.out.items ++ unspaced l.line;
+  no_space : 0 < length l.rest → slice_index l.rest 0 ≢ 32;
+}
 
 abbrev pub decreases-runs : goal.decreases-runs
 decreases-runs l = length l.rest

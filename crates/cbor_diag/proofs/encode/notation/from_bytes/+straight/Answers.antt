@@ -105,23 +105,28 @@ push_front-push_float-requires t c =
 pub push_front-returns-in_ok-push_number-in-Integer-clause-printed
     : goal.push_front-returns-in_ok-push_number-in-Integer-clause-printed
 push_front-returns-in_ok-push_number-in-Integer-clause-printed t c =
-    atom_printed c.args.context.now c.args.bytes.now (item_head.integer c.in-Integer.value c.in-Integer.width) c.in_ok-head.rest.now
-    (atom (integer c.in-Integer.value c.in-Integer.width)) (string_bytes c.args.out.now) (string_bytes c.push_number.new.out)
+    atom_printed c.args.context.now c.args.bytes.now (item_head.integer c.in-Integer.value c.in-Integer.width)
+    c.in_ok-head.rest.now
+    (atom (integer c.in-Integer.value c.in-Integer.width)) (string_bytes c.args.out.now)
+    (string_bytes c.push_number.new.out)
     (omega (arith, c.if-context-gt-DEEPEST.false)) (rw c.in-Integer.is at c.in_ok-head.ensures.gives) refl
     c.in_ok-push_number-in-Integer.ensures
 
 pub push_front-returns-in_ok-push_negative-in-Negative-clause-printed
     : goal.push_front-returns-in_ok-push_negative-in-Negative-clause-printed
 push_front-returns-in_ok-push_negative-in-Negative-clause-printed t c =
-    atom_printed c.args.context.now c.args.bytes.now (item_head.negative c.in-Negative.value c.in-Negative.width) c.in_ok-head.rest.now
-    (atom (negative c.in-Negative.value c.in-Negative.width)) (string_bytes c.args.out.now) (string_bytes c.push_negative.new.out)
+    atom_printed c.args.context.now c.args.bytes.now (item_head.negative c.in-Negative.value c.in-Negative.width)
+    c.in_ok-head.rest.now
+    (atom (negative c.in-Negative.value c.in-Negative.width)) (string_bytes c.args.out.now)
+    (string_bytes c.push_negative.new.out)
     (omega (arith, c.if-context-gt-DEEPEST.false)) (rw c.in-Negative.is at c.in_ok-head.ensures.gives) refl
     c.in_ok-push_negative-in-Negative.ensures
 
 pub push_front-returns-in_ok-push_float-in-Float-clause-printed
     : goal.push_front-returns-in_ok-push_float-in-Float-clause-printed
 push_front-returns-in_ok-push_float-in-Float-clause-printed t c =
-    atom_printed c.args.context.now c.args.bytes.now (item_head.float c.in-Float.bits c.in-Float.width) c.in_ok-head.rest.now
+    atom_printed c.args.context.now c.args.bytes.now (item_head.float c.in-Float.bits c.in-Float.width)
+    c.in_ok-head.rest.now
     (atom (float c.in-Float.bits c.in-Float.width)) (string_bytes c.args.out.now) (string_bytes c.push_float.new.out)
     (omega (arith, c.if-context-gt-DEEPEST.false)) (rw c.in-Float.is at c.in_ok-head.ensures.gives) refl
     c.in_ok-push_float-in-Float.ensures
@@ -167,7 +172,8 @@ push_array_front-returns-in-Some-clause-printed t c =
       read,
       array_printed l context c.inside-inner.result c.requires.level c.inside-inner.ensures.level inside_it i.found w
           (string_bytes c.args.out.now) _ (string_bytes c.items.out) (string_bytes c.push_closing.new.out)
-          (c.array_style_ahead-style.ensures.style (levels_left (context.level + 1)) i.found w c.in-Some.after.now read) refl
+          (c.array_style_ahead-style.ensures.style (levels_left (context.level + 1)) i.found w c.in-Some.after.now read)
+          refl
           i.text c.in_ok-push_closing.ensures,
     )
 
@@ -201,7 +207,8 @@ push_array_front-items-preserved t c =
           (sym c.in_default.ensures) read) ∙ i.so_far;
       count = omega (arith, count_more i.found p.0, i.count);
       text = item_more (style_view c.array_style_ahead-style.result) (item_text c.inside-inner.result) i.found p.0
-          c.items.held _ (string_bytes c.items.out) (string_bytes c.push_start.new.out) (string_bytes c.push_front.new.out)
+          c.items.held _ (string_bytes c.items.out) (string_bytes c.push_start.new.out)
+          (string_bytes c.push_front.new.out)
           (string_bytes c.push_end.new.out) i.count i.text c.in_ok-push_start.ensures p.2 c.in_ok-push_end.ensures;
       room = omega (arith, i.room, shorter);
     }
@@ -239,7 +246,8 @@ push_map_front-returns-in-Some-clause-printed t c =
       read,
       map_printed l context c.inside-inner.result c.requires.level c.inside-inner.ensures.level inside_it i.found w
           (string_bytes c.args.out.now) _ (string_bytes c.pairs.out) (string_bytes c.push_closing.new.out)
-          (c.map_style_ahead-style.ensures.style (levels_left (context.level + 1)) i.found w c.in-Some.after.now read) refl
+          (c.map_style_ahead-style.ensures.style (levels_left (context.level + 1)) i.found w c.in-Some.after.now read)
+          refl
           i.text c.in_ok-push_closing.ensures,
     )
 
@@ -297,7 +305,8 @@ push_map_front-pairs-preserved t c =
           c.in_ok-rest.rest.now k.0 v.0 (sym c.in_default.ensures) key value) ∙ i.so_far;
       count = omega (arith, pair_count_more i.found k.0 v.0, i.count);
       text = pair_more (style_view c.map_style_ahead-style.result) (item_text c.inside-inner.result) i.found k.0 v.0
-          c.pairs.held _ (string_bytes c.pairs.out) (string_bytes c.push_start.new.out) (string_bytes c.push_front.new.out)
+          c.pairs.held _ (string_bytes c.pairs.out) (string_bytes c.push_start.new.out)
+          (string_bytes c.push_front.new.out)
           (string_bytes c.push_colon.new.out) (string_bytes c.push_front-in-pairs.new.out)
           (string_bytes c.push_end.new.out) i.count i.text c.in_ok-push_start.ensures k.2 c.in_ok-push_colon.ensures v.2
           c.in_ok-push_end.ensures;
@@ -380,7 +389,8 @@ push_sequence-items-preserved t c =
       so_far = sequence_more left i.found p.0 c.items.rest.now after _ read i.so_far;
       count = omega (arith, count_more i.found p.0, i.count);
       text = item_more (style_view c.sequence_style_ahead-style.result) (item_text c.inside-inner.result) i.found p.0
-          c.items.held _ (string_bytes c.items.out) (string_bytes c.push_start.new.out) (string_bytes c.push_front.new.out)
+          c.items.held _ (string_bytes c.items.out) (string_bytes c.push_start.new.out)
+          (string_bytes c.push_front.new.out)
           (string_bytes c.push_end.new.out) i.count i.text c.in_ok-push_start.ensures p.2
           c.in_ok-push_end-in-Ok.ensures;
       room = omega (arith, i.room, shorter);

@@ -51,7 +51,8 @@ returns-in_default-clause-printed c =
       atom (chunked_string kind i.chunks),
       read,
       chunks_printed (style_view c.chunks_style_ahead-style.result) c.args.context.now kind i.chunks
-          c.chunks.held (string_bytes c.args.out.now) (string_bytes c.chunks.out) (string_bytes c.push_chunks_end.new.out) c.requires.level
+          c.chunks.held (string_bytes c.args.out.now) (string_bytes c.chunks.out)
+          (string_bytes c.push_chunks_end.new.out) c.requires.level
           (c.chunks_style_ahead-style.ensures.style 0 i.chunks after read) i.count i.text
           c.in_ok-push_chunks_end.ensures,
     )
@@ -77,7 +78,8 @@ chunks-preserved c =
       so_far = next.2;
       count = omega (arith, length-append i.chunks (chunk ∷ []), i.count);
       text = chunk_more (style_view c.chunks_style_ahead-style.result) kind encoding i.chunks chunk
-          c.chunks.held (string_bytes c.args.out.now) (string_bytes c.chunks.out) started (string_bytes c.push_string.new.out) (string_bytes c.push_end.new.out)
+          c.chunks.held (string_bytes c.args.out.now) (string_bytes c.chunks.out) started
+          (string_bytes c.push_string.new.out) (string_bytes c.push_end.new.out)
           i.count i.text c.in_ok-push_chunk_start.ensures written c.in_ok-push_end.ensures;
       room = omega (arith, i.room, c.in_ok-chunk.ensures.shorter);
     }

@@ -28,15 +28,14 @@ chunks-preserved g c =
     ∙ ap (λ b. begun_at ++ string_text kind encoding b) c.content.ensures.bytes in
     let begun = begins_after_member (string_bytes c.args.out.now) (string_bytes c.chunks.out)
     (string_bytes c.push_start.new.out)
-    (string_bytes c.push_string.new.out) (string_bytes c.push_end.new.out) _ _ _ c.chunks.invariant.1
-    c.in_ok-push_start.ensures c.in_ok-push_string.ensures c.in_ok-push_end.ensures in (
-      member_more (style_view c.chunks_style-style.result) c.chunks.first _ _ (string_bytes c.chunks.out)
-          (string_bytes c.push_start.new.out)
-          (string_bytes c.push_string.new.out) (string_bytes c.push_end.new.out) _ c.in_ok-push_start.ensures written
-          c.in_ok-push_end.ensures
-          (rw here at c.chunks.invariant.0),
-      begun,
-    )
+    (string_bytes c.push_string.new.out) (string_bytes c.push_end.new.out) _ _ _ c.chunks.invariant.begins
+    c.in_ok-push_start.ensures c.in_ok-push_string.ensures c.in_ok-push_end.ensures in
+    record {
+      written = member_more (style_view c.chunks_style-style.result) c.chunks.first _ _ (string_bytes c.chunks.out)
+          (string_bytes c.push_start.new.out) (string_bytes c.push_string.new.out) (string_bytes c.push_end.new.out) _
+          c.in_ok-push_start.ensures written c.in_ok-push_end.ensures (rw here at c.chunks.invariant.written);
+      begins = begun;
+    }
 
 pub returns : goal.returns
 returns g c =
@@ -47,10 +46,10 @@ returns g c =
     let l = style_view c.chunks_style-style.result in
     let none : drop c.chunks.chunk-index all ≡ [] = drop_all c.chunks.chunk-index all c.chunks-test.false in
     let f : Chunk → List ℕ = λ s. string_text kind (encoding_view c.args.context.now.encoding) s.bytes in
-    let whole = members_end l c.chunks.first (string_bytes c.chunks.out) _ _ (rw none at c.chunks.invariant.0) in
+    let whole = members_end l c.chunks.first (string_bytes c.chunks.out) _ _ (rw none at c.chunks.invariant.written) in
     let some : eqb (length cs) 0 ≡ false = rw length-map (sym c.is_empty.ensures ∙ c.if-is_empty.false) in
     appends_last c.push_closing.result out (string_bytes c.chunks.out) (string_bytes c.push_closing.new.out) _ _
-    c.chunks.invariant.1
+    c.chunks.invariant.begins
     (λ e. bracketed_written l _ _ _ out (string_bytes c.push_opening.new.out) (string_bytes c.chunks.out)
     (string_bytes c.push_closing.new.out)
     c.in_ok-push_opening.ensures whole e ∙ ap (λ t. out ++ t) (sym (chunks_written l (no_chunks kind) f cs some))

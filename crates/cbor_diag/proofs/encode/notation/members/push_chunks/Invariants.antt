@@ -8,12 +8,13 @@ use Rattle.cbor_diag.specs.NotationText.{string_text}
 use Rattle.cbor_diag.proofs.text.Scalars.{members_left}
 use Rattle.cbor_diag.proofs.encode.notation.members.push_chunks.Given as goal
 
--- what is written and the chunks that are left are the whole
 abbrev pub invariant-chunks : goal.invariant-chunks
 invariant-chunks g l =
     let chunk = g.S.DefiniteString.chunk in
     let texts = map (λ s. string_text g.S.DefiniteString.kind (encoding_view l.context.encoding) s.bytes) in
     let style = style_view l.style in
-    (string_bytes l.out ++ members_left style l.first (texts (map chunk (drop l.chunk-index l.chunks)))
-    ≡ string_bytes l.initial.out ++ members_left style true (texts (map chunk l.chunks)))
-    × StartsWith (string_bytes l.out) (string_bytes l.fn.out)
+    record {
+      written : string_bytes l.out ++ members_left style l.first (texts (map chunk (drop l.chunk-index l.chunks)))
+          ≡ string_bytes l.initial.out ++ members_left style true (texts (map chunk l.chunks));
+      begins : StartsWith (string_bytes l.out) (string_bytes l.fn.out);
+    }
