@@ -1,19 +1,12 @@
 // `Scanner`: the examples of `extent`, and the same inputs, cut into pieces at every place. After
 // each piece the answer has to be that of `extent` for all bytes so far.
 
-use crate::calls::bytes_of;
-use crate::extent::{CHANGES, CUTS, FAULTS, ITEMS, front};
-use crate::samples::SAMPLES;
+use crate::inputs::{CHANGES, CUTS, FAULTS, ITEMS, SAMPLES, behind, changed, front};
 use cbor_diag::{Error, Extent, Scanner, extent};
 use std::alloc::Global;
 use std::mem::size_of;
 use std::process::Abort;
 use std::test::Fail;
-
-/// The bytes from a place on, or none if there are fewer.
-fn behind(bytes: &[u8], place: usize) -> &[u8] {
-    bytes.get(place..).unwrap_or(&[])
-}
 
 /// All bytes, in pieces of that length.
 fn check_pieces_of(rt: &impl Abort, bytes: &[u8], len: usize) {
@@ -29,32 +22,14 @@ fn check_pieces_of(rt: &impl Abort, bytes: &[u8], len: usize) {
     }
 }
 
-/// All bytes, in two pieces at each place.
+/// All bytes, in two pieces at each place, and bytes that come later, which change nothing of an
+/// item and of a fault.
 fn check_two_pieces(rt: &impl Abort, bytes: &[u8]) {
+    let answer = extent(bytes);
     for place in 0..bytes.len() {
         let mut scanner = Scanner::new();
         let before = front(bytes, place);
         assert_eq!(rt; scanner.feed(before), extent(before), "{place} {bytes:?}");
-        assert_eq!(rt;
-            scanner.feed(behind(bytes, place)),
-            extent(bytes),
-            "{place} {bytes:?}"
-        );
-    }
-}
-
-fn check_pieces(rt: &impl Abort, bytes: &[u8]) {
-    check_two_pieces(rt, bytes);
-    for len in [1, 2, 3, 5, 8] {
-        check_pieces_of(rt, bytes, len);
-    }
-}
-
-/// The answer for all bytes in two pieces at each place, and after bytes that come later.
-fn check_answer(rt: &impl Abort, bytes: &[u8], answer: Extent) {
-    for place in 0..bytes.len() {
-        let mut scanner = Scanner::new();
-        scanner.feed(front(bytes, place));
         assert_eq!(rt;
             scanner.feed(behind(bytes, place)),
             answer,
@@ -66,21 +41,15 @@ fn check_answer(rt: &impl Abort, bytes: &[u8], answer: Extent) {
     }
 }
 
-#[test]
-fn examples_in_two_pieces(rt: HostRuntime) {
-    for (bytes, error, end) in FAULTS {
-        check_answer(&rt, bytes, Extent::Fault { error, end });
-    }
-    for (bytes, count) in ITEMS {
-        check_answer(&rt, bytes, Extent::Item(count));
-    }
-    for bytes in CUTS {
-        check_answer(&rt, bytes, Extent::Cut);
+fn check_pieces(rt: &impl Abort, bytes: &[u8]) {
+    check_two_pieces(rt, bytes);
+    for len in [1, 2, 3, 5, 8] {
+        check_pieces_of(rt, bytes, len);
     }
 }
 
 #[test]
-fn examples_in_short_pieces(rt: HostRuntime) {
+fn examples_in_pieces(rt: HostRuntime) {
     for (bytes, _, _) in FAULTS {
         check_pieces(&rt, bytes);
     }
@@ -133,11 +102,7 @@ fn all_inputs_of_two_bytes(rt: HostRuntime) {
 fn check_changed(rt: &impl Abort, alloc: Global, bytes: &[u8]) -> Result<(), Error> {
     for place in 0..bytes.len() {
         for byte in CHANGES {
-            let mut changed = Vec::from_slice(alloc, bytes)?;
-            if let Some(here) = changed.get_mut(place) {
-                *here = byte;
-            }
-            check_pieces_of(rt, &changed, 1);
+            check_pieces_of(rt, &changed(alloc, bytes, place, byte)?, 1);
         }
     }
     Ok(())
@@ -149,10 +114,9 @@ fn samples_with_a_byte_changed(rt: HostRuntime) -> Result<(), Fail> {
     for (bytes, _) in ITEMS {
         check_changed(&rt, alloc, bytes)?;
     }
-    for sample in &SAMPLES {
-        let bytes = bytes_of(alloc, sample.digits)?;
-        check_two_pieces(&rt, &bytes);
-        check_changed(&rt, alloc, front(&bytes, 24))?;
+    for bytes in SAMPLES {
+        check_two_pieces(&rt, bytes);
+        check_changed(&rt, alloc, front(bytes, 24))?;
     }
     Ok(())
 }
@@ -182,10 +146,7 @@ fn long_texts(rt: HostRuntime) -> Result<(), Fail> {
         assert_eq!(rt; answer, Extent::Item(7503), "{len}");
     }
     for place in [3, 4, 5, 1000, 4099, 7501, 7502] {
-        let mut bad = Vec::from_slice(alloc, &text)?;
-        if let Some(here) = bad.get_mut(place) {
-            *here = 0xff;
-        }
+        let bad = changed(alloc, &text, place, 0xff)?;
         let mut scanner = Scanner::new();
         assert_eq!(rt; scanner.feed(front(&bad, 4097)), Extent::Cut, "{place}");
         assert_eq!(rt;
