@@ -69,7 +69,8 @@ fn begins_string(first: u8) -> bool
 }
 
 /// The bytes after a head that has a number and is not that of a string, by its first byte. The
-/// number is not read: with [`after_read_head`] alone, a map with integer keys takes a quarter more.
+/// number is not read: with [`after_read_head`] alone, a map with integer keys takes a quarter
+/// more.
 fn after_number(first: u8, bytes: &[u8]) -> Option<&[u8]>
     ensures strict { ¬ (LongSimple (first ∷ bytes.now))
         → IfSome result (λ after. StrictHeads after.now → StrictHeads (first ∷ bytes.now)) }

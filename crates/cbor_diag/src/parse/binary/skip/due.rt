@@ -24,11 +24,11 @@ use crate::syntax::strings::StringKind;
 pub(super) enum Due {
     /// A part of the innermost container, or its end.
     Part,
-    /// So many bytes of a string's content, which may be a chunk.
+    /// A number of bytes of a string's content, and whether it is that of a chunk.
     Content(StringKind, u64, bool),
     /// A chunk, or the break.
     Chunk(StringKind),
-    /// So many bytes of a text that is not UTF-8, and its last byte.
+    /// A number of bytes of a text that is not UTF-8, and its last byte.
     BadText(u64),
 }
 
