@@ -18,14 +18,14 @@ use Rattle.cbor_diag.specs.Item.{Chunk, integer, negative, string, chunked_strin
 use Rattle.cbor_diag.specs.Item.{array, tagged, Items, no_items, item, Pairs, no_pairs, pair, item_count, pair_count}
 use Rattle.cbor_diag.specs.ItemHead as item_head
 use Rattle.cbor_diag.specs.ItemHead.{ItemHead}
-use Rattle.cbor_diag.specs.StringKind.{StringKind, major_of}
+use Rattle.cbor_diag.specs.StringKind.{StringKind, bytes_kind, text_kind, major_of}
 use Rattle.cbor_diag.specs.Bytes.{any, strict, ChunkThen, SpellsChunks, MembersThen, Spells, SpellsItems, SpellsPairs}
 use Rattle.cbor_diag.specs.Facts.{IsItem, IsStrictItem, BeginsWithItem}
 use Rattle.cbor_diag.specs.Reading as reading
 use Rattle.cbor_diag.specs.Reading.{read_wide, read_argument, read_head, head_of}
 use Rattle.cbor_diag.specs.Written.{encoded}
 use Rattle.cbor_diag.specs.mirror.StrictHeads.{LongSimple, NoLongSimple, IsShort, after_content, StrictHeads}
-use Rattle.cbor_diag.specs.mirror.StrictHeads.{no_head, a_break, IsNumberLen}
+use Rattle.cbor_diag.specs.mirror.StrictHeads.{no_head, a_break, IsNumberLen, BeginsString, IsBodyLen}
 use Rattle.cbor_diag.specs.mirror.StrictHeads.{a_head}
 use Rattle.cbor_diag.proofs.bytes.Heads.{IsBytes, refused, ok_is, cons_is, byte_of, head_append, head_again}
 use Rattle.cbor_diag.proofs.bytes.Heads.{info_way, in_byte, in_bytes, no_number, no_meaning, at_majors}
@@ -305,7 +305,7 @@ byte_before first b byte fits zero = byte
 byte_before first b byte fits (suc i) = fits i
 
 -- strict heads after the bytes of such a number are strict heads with it
-pub with_number : (first k : ℕ) (b after : List ℕ) → first < 256 → IsBytes b → ¬ (LongSimple (first ∷ b))
+with_number : (first k : ℕ) (b after : List ℕ) → first < 256 → IsBytes b → ¬ (LongSimple (first ∷ b))
     → first / 32 ≢ 2 → first / 32 ≢ 3 → IsNumberLen (first % 32) k → k ≤ length b → after ≡ drop k b
     → StrictHeads after → StrictHeads (first ∷ b)
 unfolding read_head
@@ -315,6 +315,41 @@ with_number first k b after byte bytes plain no_bytes no_text len long is s =
     let head = plain_head number.0 number.1 (first / 32) (omega (arith, byte)) no_bytes no_text in
     with_head (first ∷ b) (drop k b) after head.h fits plain (rw (number.2, head.is) refl)
     (is ∙ sym (head.alone (drop k b))) s
+
+-- ---- a first byte that says what follows it
+
+-- no other byte than 0xf8 begins such a value
+not_long : (first : ℕ) (b : List ℕ) → first ≢ 0xf8 → ¬ (LongSimple (first ∷ b))
+not_long first [] other long = absurd long
+not_long first (n ∷ b) other long = other long.0
+
+string_kind : (first : ℕ) → BeginsString first → (kind : StringKind) × (first / 32 ≡ major_of kind)
+string_kind first (inl is) = (bytes_kind, is)
+string_kind first (inr is) = (text_kind, is)
+
+-- the head of a short string takes one byte
+short_string : (kind : StringKind) (first : ℕ) (b : List ℕ) → first / 32 ≡ major_of kind → first % 32 < 24
+    → read_head (first ∷ b) ≡ Ok (item_head.string kind (number (first % 32) Zero), b)
+unfolding read_head
+short_string kind first b major short =
+    elim (info_way (first % 32) b) [
+      | in_byte lt reads ↦ rw (reads, major, string_head kind (number (first % 32) Zero)) refl
+      | in_bytes j w width way reads ↦ absurd (omega (arith, short, way.is))
+      | no_number other reads ↦ absurd (omega (arith, short, other))
+      | no_meaning least other reads ↦ absurd (omega (arith, short, least))
+    ]
+
+-- strict heads after such bytes are strict heads with them
+pub with_body : (first k : ℕ) (b after : List ℕ) → first < 256 → IsBytes b → IsBodyLen first k → k ≤ length b
+    → after ≡ drop k b → StrictHeads after → StrictHeads (first ∷ b)
+with_body first k b after byte bytes (other, inl is) long rest s =
+    with_number first k b after byte bytes (not_long first b other) (λ e. is.0 (inl e)) (λ e. is.0 (inr e)) is.1 long
+    rest s
+with_body first k b after byte bytes (other, inr is) long rest s =
+    let kind = string_kind first is.0 in
+    with_head (first ∷ b) b after (item_head.string kind.0 (number (first % 32) Zero))
+    (byte_before first b byte bytes) (not_long first b other) (short_string kind.0 first b kind.1 is.1)
+    (rest ∙ ap (λ (n : ℕ). drop n b) is.2) s
 
 pub with_none : (b : List ℕ) → length b ≡ 0 → StrictHeads b
 with_none [] e = no_head

@@ -1,8 +1,7 @@
 -- From what reading gives to the clauses of the calls that print from bytes.
-use Rattle.std.proofs.Common.{◌≡◌, ◌≢◌, ℕ, ◌-◌, ◌<◌, List, [], ◌++◌, length, Some, Result}
+use Rattle.std.proofs.Common.{◌≡◌, ◌≢◌, ℕ, ◌-◌, List, ◌++◌, length, Some, Result}
 use Rattle.std.proofs.Common.{Ok, Err, IfOk, refl, sym, subst, ◌∙◌, arith, inl, inr}
 use Rattle.std.specs.Prelude.{MatchResult}
-use Rattle.std.proofs.lemmas.List.{append-nil}
 use Rattle.cbor_diag.specs.declared.error.Error.{Error}
 use Rattle.cbor_diag.specs.declared.error.Error.TheVariants as refusal
 use Rattle.cbor_diag.specs.Item.{Item}
@@ -14,25 +13,12 @@ use Rattle.cbor_diag.specs.Facts.{BeginsWithItem}
 use Rattle.cbor_diag.specs.Reading.{Fails, read_item}
 use Rattle.cbor_diag.proofs.bytes.Heads.{IsBytes}
 use Rattle.cbor_diag.proofs.bytes.CutShort.{cut_takes}
-use Rattle.cbor_diag.proofs.bytes.Found.{item_takes}
-use Rattle.cbor_diag.proofs.bytes.Outcomes.{found_outcome, refusal_outcome, front_refusal}
-use Rattle.cbor_diag.proofs.bytes.PublicReaders.{whole_outcome, no_refused_item, one_refusal, refused_of, memory_or}
+use Rattle.cbor_diag.proofs.bytes.Outcomes.{found_outcome, refusal_outcome}
+use Rattle.cbor_diag.proofs.bytes.PublicReaders.{whole_outcome, no_refused_item, one_refusal, memory_or}
 use Rattle.cbor_diag.proofs.bytes.PublicReaders.{fault_of, same}
 use Rattle.cbor_diag.proofs.bytes.Shorter.{item_shorter}
 
 -- ---- what reading says of the bytes
-
-pub whole_item : (b : List ℕ) (i : Item) → IsBytes b → read_item 128 b ≡ Ok (i, []) → Spells any 1 b i
-whole_item b i fits e =
-    let t = item_takes 1 128 b i [] refl fits e in
-    subst (λ x. Spells any 1 x i) (sym (t.parts ∙ append-nil t.front)) t.spells
-
-pub item_remains : (b : List ℕ) (i : Item) (rest : List ℕ) → IsBytes b → 0 < length rest
-    → read_item 128 b ≡ Ok (i, rest) → IsRefused 1 b refusal.Remaining
-item_remains b i rest fits some e =
-    let o = found_outcome 1 128 b i rest refl fits e in
-    let shorter = item_shorter 128 b i rest e in
-    (i, length b - length rest, omega arith, o.1)
 
 pub begins_so : (b : List ℕ) (i : Item) (rest : List ℕ) → IsBytes b → read_item 128 b ≡ Ok (i, rest)
     → BeginsWithItem b i (length b - length rest)
@@ -47,16 +33,6 @@ front_fault b e fits no_cut h no_memory = fault_of b e (refusal_outcome 1 128 b 
 
 pub front_cut_so : (b : List ℕ) → IsBytes b → Fails refusal.CutShort (read_item 128 b) → Cut 1 b
 front_cut_so b fits h = cut_takes 1 128 b refl fits h
-
-other_refused : (b : List ℕ) (e : Error) → IsBytes b → e ≢ refusal.CutShort → Fails e (read_item 128 b)
-    → e ≢ refusal.Memory → IsRefused 1 b e
-other_refused b e fits no_cut h no_memory =
-    refused_of 1 b e (front_refusal 1 b e (refusal_outcome 1 128 b e refl fits no_cut h)) no_memory
-
-pub front_refused : (b : List ℕ) (e : Error) → IsBytes b → Fails e (read_item 128 b) → e ≢ refusal.Memory
-    → IsRefused 1 b e
-front_refused b refusal.CutShort fits h no_memory = front_cut_so b fits h
-front_refused b e fits h no_memory = other_refused b e fits (λ x. absurd cc) h no_memory
 
 -- ---- the one text and the one error
 

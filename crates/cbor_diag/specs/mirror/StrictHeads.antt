@@ -1,5 +1,5 @@
 -- Heads one after the other, none of them of a simple value that takes a byte too many.
-use Rattle.std.specs.Prelude.{◌≡◌, ℕ, ◌-◌, ◌^◌, ◌≤◌, ◌<◌, ◌⊎◌, List, [], ◌∷◌, drop, Ok}
+use Rattle.std.specs.Prelude.{◌≡◌, ◌≢◌, ℕ, ◌-◌, ◌/◌, ◌%◌, ◌^◌, ◌≤◌, ◌<◌, ◌⊎◌, List, [], ◌∷◌, drop, Ok}
 use Rattle.cbor_diag.specs.Argument.{number}
 use Rattle.cbor_diag.specs.Head.{break_byte}
 use Rattle.cbor_diag.specs.ItemHead as item_head
@@ -23,6 +23,16 @@ IsShort h b = Unit {0}
 -- how many bytes of a number follow such info
 abbrev pub IsNumberLen : ℕ → ℕ → Type 0
 IsNumberLen info k = ((info < 24) × (k ≡ 0)) ⊎ ((24 ≤ info) × (info < 28) × (k ≡ 2 ^ (info - 24)))
+
+-- a string begins with that byte
+abbrev pub BeginsString : ℕ → Type 0
+BeginsString first = (first / 32 ≡ 2) ⊎ (first / 32 ≡ 3)
+
+-- how many bytes come between such a first byte and the next head, known from that byte alone
+abbrev pub IsBodyLen : ℕ → ℕ → Type 0
+IsBodyLen first k =
+    (first ≢ 0xf8) × ((¬ (BeginsString first) × IsNumberLen (first % 32) k)
+    ⊎ (BeginsString first × (first % 32 < 24) × (k ≡ first % 32)))
 
 -- the bytes after a head, and after the content of a string of definite length
 abbrev pub after_content : ItemHead → List ℕ → List ℕ

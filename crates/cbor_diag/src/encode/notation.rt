@@ -194,12 +194,7 @@ fn push_pairs(
 }
 
 /// Writes an item at the outermost level. After an error the text is what it was.
-fn push_outermost(
-    out: &mut String,
-    alloc: Global,
-    item: &DataItem,
-    layout: Layout,
-) -> Result<(), AllocError>
+fn push_outermost(out: &mut String, item: &DataItem, layout: Layout) -> Result<(), AllocError>
     requires well_formed { IsWellFormed (view item.now) }
     requires indent { indent_of (layout_view layout) ≤ 4 }
     ensures text { OnOk result (string_bytes out.new ≡ string_bytes out.old
@@ -207,7 +202,7 @@ fn push_outermost(
     ensures unchanged { OnErr result (string_bytes out.new ≡ string_bytes out.old) }
 {
     let start = out.len();
-    match push_item(out, item, &NotationContext::new(alloc, layout)) {
+    match push_item(out, item, &NotationContext::new(layout)) {
         Ok(()) => Ok(()),
         Err(error) => {
             out.truncate(start);
@@ -262,7 +257,7 @@ impl DataItem {
         ensures unchanged { OnErr result (string_bytes out.new ≡ string_bytes out.old) }
         ensures refused { IfErr result (λ e. e ≡ Error.Memory) }
     {
-        push_outermost(out, alloc, self, Layout::Compact)?;
+        push_outermost(out, self, Layout::Compact)?;
         Ok(())
     }
 
@@ -323,7 +318,7 @@ impl DataItem {
         ensures unchanged { OnErr result (string_bytes out.new ≡ string_bytes out.old) }
         ensures refused { IfErr result (λ e. e ≡ Error.Memory) }
     {
-        push_outermost(out, alloc, self, Layout::Pretty { indent: 0 })?;
+        push_outermost(out, self, Layout::Pretty { indent: 0 })?;
         Ok(())
     }
 }

@@ -8,7 +8,6 @@ ghost use Rattle.cbor_diag.specs.NotationText.{style_indent};
 
 use crate::encode::encoding::Encoding;
 use crate::syntax::Tag;
-use std::alloc::Global;
 
 /// What the bytes of a byte string are shown as, where they can be.
 #[derive(Clone, Copy)]
@@ -64,11 +63,9 @@ impl ContainerStyle {
     }
 }
 
-/// Where in a text an item is, and what memory is taken from.
+/// Where in a text an item is.
 #[derive(Clone, Copy)]
 pub(crate) struct NotationContext {
-    /// What memory is taken from.
-    pub(crate) alloc: Global,
     /// The level of the item; the outermost is at level 1.
     pub(crate) level: u8,
     /// How containers are laid out.
@@ -81,12 +78,11 @@ pub(crate) struct NotationContext {
 
 impl NotationContext {
     /// The beginning of a text: bytes are hex digits.
-    pub(crate) fn new(alloc: Global, layout: Layout) -> NotationContext
+    pub(crate) fn new(layout: Layout) -> NotationContext
         ensures level { result.level ≡ 1 }
         ensures context { context_view result ≡ in_encoding (layout_view layout) Base16 }
     {
         NotationContext {
-            alloc,
             level: 1,
             layout,
             encoding: Encoding::Base16,
@@ -113,7 +109,6 @@ impl NotationContext {
             _ => Content::Bytes,
         };
         NotationContext {
-            alloc: self.alloc,
             level: self.level + 1,
             layout: self.layout,
             encoding,
@@ -128,7 +123,6 @@ impl NotationContext {
         ensures context { context_view result ≡ inside (layout_view layout) (context_view self) }
     {
         NotationContext {
-            alloc: self.alloc,
             level: self.level + 1,
             layout,
             encoding: self.encoding,

@@ -27,7 +27,6 @@ use std::alloc::Global;
 /// was.
 fn push_outermost_front<'a>(
     out: &mut String,
-    alloc: Global,
     bytes: &'a [u8],
     layout: Layout,
 ) -> crate::Result<&'a [u8]>
@@ -38,7 +37,7 @@ fn push_outermost_front<'a>(
     ensures unchanged { OnErr result (string_bytes out.new ≡ string_bytes out.old) }
 {
     let start = out.len();
-    match push_front(out, bytes, &NotationContext::new(alloc, layout)) {
+    match push_front(out, bytes, &NotationContext::new(layout)) {
         Ok(rest) => Ok(rest),
         Err(error) => {
             out.truncate(start);
@@ -48,7 +47,7 @@ fn push_outermost_front<'a>(
 }
 
 /// Writes the one item that the bytes are, all of them. After an error the text is what it was.
-fn push_only(out: &mut String, alloc: Global, bytes: &[u8], layout: Layout) -> crate::Result<()>
+fn push_only(out: &mut String, bytes: &[u8], layout: Layout) -> crate::Result<()>
     requires { indent_of (layout_view layout) ≤ 4 }
     ensures ok { OnOk result ((i : Item) × IsItem bytes.now i
         × (string_bytes out.new ≡ string_bytes out.old ++ text_in layout i)) }
@@ -56,7 +55,7 @@ fn push_only(out: &mut String, alloc: Global, bytes: &[u8], layout: Layout) -> c
     ensures unchanged { OnErr result (string_bytes out.new ≡ string_bytes out.old) }
 {
     let start = out.len();
-    let rest = push_outermost_front(out, alloc, bytes, layout)?;
+    let rest = push_outermost_front(out, bytes, layout)?;
     if rest.is_empty() {
         return Ok(());
     }
@@ -65,12 +64,7 @@ fn push_only(out: &mut String, alloc: Global, bytes: &[u8], layout: Layout) -> c
 }
 
 /// The same. It is the one item, and the errors are those that the bytes have.
-pub(super) fn push_whole(
-    out: &mut String,
-    alloc: Global,
-    bytes: &[u8],
-    layout: Layout,
-) -> crate::Result<()>
+pub(super) fn push_whole(out: &mut String, bytes: &[u8], layout: Layout) -> crate::Result<()>
     requires { indent_of (layout_view layout) ≤ 4 }
     ensures ok { OnOk result ((i : Item) × IsItem bytes.now i
         × (string_bytes out.new ≡ string_bytes out.old ++ text_in layout i)) }
@@ -81,13 +75,12 @@ pub(super) fn push_whole(
     ensures every_refusal { (e : Error) → IsNoItem bytes.now e → GaveRefusal result e }
     ensures unchanged { OnErr result (string_bytes out.new ≡ string_bytes out.old) }
 {
-    push_only(out, alloc, bytes, layout)
+    push_only(out, bytes, layout)
 }
 
 /// Writes the item at the front, and returns how many bytes it takes, or `None` where it is cut.
 pub(super) fn push_part(
     out: &mut String,
-    alloc: Global,
     bytes: &[u8],
     layout: Layout,
 ) -> crate::Result<Option<usize>>
@@ -102,7 +95,7 @@ pub(super) fn push_part(
     ensures cut_unchanged { result ≡ Ok None → string_bytes out.new ≡ string_bytes out.old }
     ensures unchanged { OnErr result (string_bytes out.new ≡ string_bytes out.old) }
 {
-    match push_outermost_front(out, alloc, bytes, layout) {
+    match push_outermost_front(out, bytes, layout) {
         Ok(rest) => Ok(Some(bytes.len() - rest.len())),
         Err(error) => match error {
             Error::CutShort => Ok(None),
@@ -124,7 +117,7 @@ pub(super) fn whole_text(alloc: Global, bytes: &[u8], layout: Layout) -> crate::
         × IsNotation (string_bytes s) (normal_of i)) }
 {
     let mut out = String::new(alloc);
-    push_whole(&mut out, alloc, bytes, layout)?;
+    push_whole(&mut out, bytes, layout)?;
     Ok(out)
 }
 

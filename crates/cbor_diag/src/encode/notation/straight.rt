@@ -76,7 +76,7 @@ pub fn push_bytes_to_diag(alloc: Global, bytes: &[u8], out: &mut String) -> crat
     ensures every_refusal { (e : Error) → IsNoItem bytes.now e → GaveRefusal result e }
     ensures unchanged { OnErr result (string_bytes out.new ≡ string_bytes out.old) }
 {
-    push_whole(out, alloc, bytes, Layout::Compact)
+    push_whole(out, bytes, Layout::Compact)
 }
 
 /// Appends the text of the item at the front of the bytes to `out`, and returns the number of bytes
@@ -119,7 +119,7 @@ pub fn push_bytes_to_diag_partial(
     ensures cut_unchanged { result ≡ Ok None → string_bytes out.new ≡ string_bytes out.old }
     ensures unchanged { OnErr result (string_bytes out.new ≡ string_bytes out.old) }
 {
-    push_part(out, alloc, bytes, Layout::Compact)
+    push_part(out, bytes, Layout::Compact)
 }
 
 /// Returns the item of hex with comments in diagnostic notation (RFC 7049 section 6) on one line,
@@ -215,7 +215,7 @@ pub fn push_bytes_to_diag_pretty(alloc: Global, bytes: &[u8], out: &mut String) 
     ensures every_refusal { (e : Error) → IsNoItem bytes.now e → GaveRefusal result e }
     ensures unchanged { OnErr result (string_bytes out.new ≡ string_bytes out.old) }
 {
-    push_whole(out, alloc, bytes, PRETTY)
+    push_whole(out, bytes, PRETTY)
 }
 
 /// Appends the text of the item at the front of the bytes to `out`, and returns the number of bytes
@@ -258,7 +258,7 @@ pub fn push_bytes_to_diag_pretty_partial(
     ensures cut_unchanged { result ≡ Ok None → string_bytes out.new ≡ string_bytes out.old }
     ensures unchanged { OnErr result (string_bytes out.new ≡ string_bytes out.old) }
 {
-    push_part(out, alloc, bytes, PRETTY)
+    push_part(out, bytes, PRETTY)
 }
 
 /// Returns the item of hex with comments in diagnostic notation (RFC 7049 section 6) with blanks,

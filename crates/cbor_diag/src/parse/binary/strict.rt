@@ -5,6 +5,7 @@ ghost use Rattle.std.specs.Prelude.{IsTrue, IfSome};
 ghost use Rattle.cbor_diag.specs.mirror.HeadView.{head_view};
 ghost use Rattle.cbor_diag.specs.mirror.StrictHeads.{LongSimple, NoLongSimple, StrictHeads};
 ghost use Rattle.cbor_diag.specs.mirror.StrictHeads.{after_content, IsNumberLen};
+ghost use Rattle.cbor_diag.specs.mirror.StrictHeads.{BeginsString, IsBodyLen};
 
 use super::argument::{Argument, after_break};
 use super::head::{ItemHead, read_head};
@@ -63,22 +64,37 @@ fn number_len(info: u8) -> Option<usize>
 
 /// Whether a string begins with this byte.
 fn begins_string(first: u8) -> bool
-    ensures { ¬ (IsTrue result) → (first / 32 ≢ 2) × (first / 32 ≢ 3) }
+    ensures { IsTrue result ↔ BeginsString first }
 {
     first / 32 == 2 || first / 32 == 3
 }
 
-/// The bytes after a head that has a number and is not that of a string, by its first byte. The
-/// number is not read: with [`after_read_head`] alone, a map with integer keys takes a quarter more.
-fn after_number(first: u8, bytes: &[u8]) -> Option<&[u8]>
-    ensures strict { ¬ (LongSimple (first ∷ bytes.now))
-        → IfSome result (λ after. StrictHeads after.now → StrictHeads (first ∷ bytes.now)) }
-    ensures shorter { IfSome result (λ after. length after.now ≤ length bytes.now) }
+/// How many bytes follow a first byte before the next head, where it says that alone: those of a
+/// number that is not read, or of a short string. A simple value in two bytes is looked at.
+fn body_len(first: u8) -> Option<usize>
+    ensures { IfSome result (λ k. IsBodyLen first k) }
 {
-    if begins_string(first) {
+    let info = first % 32;
+    if first == 0xf8 {
         return None;
     }
-    let count = number_len(first % 32)?;
+    if !begins_string(first) {
+        return number_len(info);
+    }
+    if info < 24 {
+        return Some(usize::from(info));
+    }
+    None
+}
+
+/// The bytes after a head and its content, where its first byte says alone how many these are. With
+/// [`after_other`] alone, a map with integer keys takes a quarter more.
+fn after_body(first: u8, bytes: &[u8]) -> Option<&[u8]>
+    ensures strict { IfSome result (λ after. StrictHeads after.now
+        → StrictHeads (first ∷ bytes.now)) }
+    ensures shorter { IfSome result (λ after. length after.now ≤ length bytes.now) }
+{
+    let count = body_len(first)?;
     if count > bytes.len() {
         return None;
     }
@@ -103,23 +119,8 @@ fn after_read_head(bytes: &[u8]) -> Option<&[u8]>
     Some(after)
 }
 
-/// The same, by the shorter way where it is there.
-fn after_head(bytes: &[u8]) -> Option<&[u8]>
-    ensures strict { ¬ (LongSimple bytes.now)
-        → IfSome result (λ after. StrictHeads after.now → StrictHeads bytes.now) }
-    ensures shorter { IfSome result (λ after. length after.now < length bytes.now) }
-{
-    let [first, rest @ ..] = bytes else {
-        return None;
-    };
-    match after_number(*first, rest) {
-        Some(after) => Some(after),
-        None => after_read_head(bytes),
-    }
-}
-
 /// The bytes after the break or the head at the front, unless it takes a byte too many.
-fn after_strict(bytes: &[u8]) -> Option<&[u8]>
+fn after_other(bytes: &[u8]) -> Option<&[u8]>
     ensures strict { IfSome result (λ after. StrictHeads after.now → StrictHeads bytes.now) }
     ensures shorter { IfSome result (λ after. length after.now < length bytes.now) }
 {
@@ -129,7 +130,21 @@ fn after_strict(bytes: &[u8]) -> Option<&[u8]>
     if is_long_simple(bytes) {
         return None;
     }
-    after_head(bytes)
+    after_read_head(bytes)
+}
+
+/// The same, by the shorter way where it is there.
+fn after_strict(bytes: &[u8]) -> Option<&[u8]>
+    ensures strict { IfSome result (λ after. StrictHeads after.now → StrictHeads bytes.now) }
+    ensures shorter { IfSome result (λ after. length after.now < length bytes.now) }
+{
+    let [first, rest @ ..] = bytes else {
+        return None;
+    };
+    match after_body(*first, rest) {
+        Some(after) => Some(after),
+        None => after_other(bytes),
+    }
 }
 
 /// Whether the bytes are heads, with the content of strings, none of which takes a byte too many.
