@@ -104,6 +104,15 @@ pub(super) fn push_part(
     }
 }
 
+/// For how many bytes of an input memory is taken before its text is written, at most.
+const MOST: usize = 1 << 19;
+
+/// How much memory a text of that many bytes begins with: it is mostly up to twice as long. From C, a
+/// message of 98 bytes takes a quarter less than where its text is made longer again and again.
+fn first_capacity(len: usize) -> usize {
+    2 * len.min(MOST) + 32
+}
+
 /// Returns the text of the one item that the bytes are.
 pub(super) fn whole_text(alloc: Global, bytes: &[u8], layout: Layout) -> crate::Result<String>
     requires { indent_of (layout_view layout) ≤ 4 }
@@ -116,7 +125,7 @@ pub(super) fn whole_text(alloc: Global, bytes: &[u8], layout: Layout) -> crate::
     ensures read_back { IfOk result (λ s. (i : Item) × IsItem bytes.now i
         × IsNotation (string_bytes s) (normal_of i)) }
 {
-    let mut out = String::new(alloc);
+    let mut out = String::with_capacity(alloc, first_capacity(bytes.len()))?;
     push_whole(&mut out, bytes, layout)?;
     Ok(out)
 }

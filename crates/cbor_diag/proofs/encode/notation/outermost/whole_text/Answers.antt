@@ -13,7 +13,7 @@ pub returns-clause-read_back : goal.returns-clause-read_back
 returns-clause-read_back c =
     let ok = c.in_ok-push_whole.ensures.ok in
     let i = ok.0 in
-    let written = ok.2 ∙ ap (λ x. x ++ text_in c.args.layout i) c.new-out.ensures.bytes in (
+    let written = ok.2 ∙ ap (λ x. x ++ text_in c.args.layout i) c.in_ok-out.ensures.bytes in (
       i,
       ok.1,
       subst (λ x. Reads 128 x (normal_at 128 None i)) (sym written)
