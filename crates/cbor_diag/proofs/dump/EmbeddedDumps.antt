@@ -1,119 +1,24 @@
--- The dump of an embedded item as lines of a note, and the dumps of a sequence one after the other.
-use Rattle.std.proofs.Common.{◌≡◌, ℕ, zero, suc, ◌+◌, ◌==◌, ◌<◌, ◌≤◌, List, [], ◌∷◌, ◌++◌, map, length, take, drop}
-use Rattle.std.proofs.Common.{get_or, codes, Ok, Err, refl, sym, ap, subst, ◌∙◌, append_assoc, arith}
-use Rattle.std.specs.List.{AllByRecursion, flat_map, before_first, after_first, position_or_len}
-use Rattle.std.specs.Str.{IsUtf8}
-use Rattle.std.proofs.Math.Seq.{drop-append-add, get_or-append_seam}
-use Rattle.std.proofs.lemmas.List.{length-append, take_at}
-use Rattle.std.proofs.lemmas.Str.{IsCharBoundary-after_ascii, IsUtf8-drop}
-use Rattle.cbor_notes.specs.Columns.{IsPlain}
-use Rattle.cbor_notes.specs.Layout.{DumpLine, line_text, row}
-use Rattle.cbor_notes.proofs.columns.OneColumn.{first_at, before, after}
-use Rattle.cbor_notes.proofs.columns.OneLine.{lacks_of}
+-- The note of an embedded item, and the dumps of a sequence one after the other.
+use Rattle.std.proofs.Common.{◌≡◌, ℕ, zero, suc, ◌+◌, ◌<◌, ◌≤◌, List, [], ◌∷◌, ◌++◌, length}
+use Rattle.std.proofs.Common.{codes, Ok, Err, refl, ap, subst, ◌∙◌, arith}
+use Rattle.std.specs.List.{flat_map}
+use Rattle.cbor_notes.specs.Layout.{DumpLine}
 use Rattle.cbor_diag.specs.declared.error.Error.{Error}
 use Rattle.cbor_diag.specs.declared.error.Error.TheVariants as refusal
 use Rattle.cbor_diag.specs.declared.encode.dump.writer.Writer.{Writer}
 use Rattle.cbor_diag.specs.Item.{Item}
 use Rattle.cbor_diag.specs.Embedded.{and_then, sequence_of, before as item_before}
-use Rattle.cbor_diag.specs.WellFormed.{levels_left, WellFormed}
+use Rattle.cbor_diag.specs.WellFormed.{levels_left}
 use Rattle.cbor_diag.specs.Notes.{Note}
-use Rattle.cbor_diag.specs.Dump.{note_line, note_lines, sequence_notes, failed_note, embedded_note, lines_at}
+use Rattle.cbor_diag.specs.Dump.{note_lines, sequence_notes, failed_note, embedded_note, lines_at}
 use Rattle.cbor_diag.specs.Dump.{lines_at_level, top, whole_note}
 use Rattle.cbor_diag.specs.Reading.{Read, read_item}
-use Rattle.cbor_diag.specs.mirror.AtLevel.{read_at}
 use Rattle.cbor_diag.specs.mirror.Dumped.{Wrote}
-use Rattle.cbor_diag.proofs.dump.NotesFit.{row_line}
 use Rattle.cbor_diag.proofs.bytes.Found.{item_takes}
-use Rattle.cbor_diag.proofs.bytes.Heads.{IsBytes, IsBytes-take}
+use Rattle.cbor_diag.proofs.bytes.Heads.{IsBytes}
 use Rattle.cbor_diag.proofs.bytes.Refusals.{item_nothing}
-use Rattle.cbor_diag.proofs.bytes.Resolved.{spells_well}
 use Rattle.cbor_diag.proofs.bytes.Shorter.{item_shorter}
 use Rattle.cbor_diag.proofs.dump.Walks.{Left, left_less, left_none}
-
--- an item that was read is well formed
-pub well_read : (level : ℕ) (b rest : List ℕ) (i : Item) → level ≤ 129 → IsBytes b → read_at level b ≡ Ok (i, rest)
-    → WellFormed level i
-well_read level b rest i le fits e =
-    let s = item_takes level (levels_left level) b i rest (omega arith) fits e in
-    let front = ap (take (length s.front)) s.parts ∙ take_at s.front rest (length s.front) refl in
-    spells_well level s.front i (subst IsBytes front (IsBytes-take (length s.front) b fits)) s.spells
-
--- ---- the rows of a dump
-
--- Some lines of a dump are left as text, and the others are written.
-pub record RowsLeft (depth width : ℕ) (old now : Writer) (rest : List ℕ) (all : List DumpLine) : Type 0 where
-  pub lines : List DumpLine
-  pub plain : AllByRecursion IsPlain lines
-  pub text : rest ≡ flat_map (line_text width) lines
-  pub left : Left old now (map (note_line depth) (map (row width) lines)) all
-
--- the first line is what comes before the first line feed
-module _ (width : ℕ) (line : DumpLine) (more : List DumpLine) (rest : List ℕ) (plain : IsPlain line)
-    (text : rest ≡ flat_map (line_text width) (line ∷ more)) where
-  split : rest ≡ row width line ++ 10 ∷ flat_map (line_text width) more
-  split = text ∙ append_assoc (row width line) (10 ∷ []) (flat_map (line_text width) more)
-
-  found : position_or_len (λ b. b == 10) rest ≡ length (row width line)
-  found = ap (position_or_len (λ b. b == 10)) split
-      ∙ first_at 10 (row width line) (flat_map (line_text width) more)
-      (lacks_of 10 (row width line) (row_line width line plain))
-
-  inside : position_or_len (λ b. b == 10) rest < length rest
-  inside = omega (arith, found, ap length split, length-append (row width line) (10 ∷ flat_map (line_text width) more))
-
-  front : before_first (λ b. b == 10) rest ≡ row width line
-  front = ap (before_first (λ b. b == 10)) split
-      ∙ before 10 (row width line) (flat_map (line_text width) more)
-      (lacks_of 10 (row width line) (row_line width line plain))
-
-  back : after_first (λ b. b == 10) rest ≡ flat_map (line_text width) more
-  back = ap (after_first (λ b. b == 10)) split
-      ∙ after 10 (row width line) (flat_map (line_text width) more)
-      (lacks_of 10 (row width line) (row_line width line plain))
-
-module _ (depth width : ℕ) (old now : Writer) (rest : List ℕ) (all : List DumpLine) where
-  rows_none : (lines : List DumpLine) → AllByRecursion IsPlain lines → rest ≡ flat_map (line_text width) lines
-      → Left old now (map (note_line depth) (map (row width) lines)) all
-      → position_or_len (λ b. b == 10) rest ≡ length rest → Wrote old now all
-  rows_none [] plain text left end = left_none old now all left
-  rows_none (line ∷ more) plain text left end = absurd (omega (arith, end, inside width line more rest plain.0 text))
-
-  pub rows_end : RowsLeft depth width old now rest all → position_or_len (λ b. b == 10) rest ≡ length rest
-      → Wrote old now all
-  rows_end r end = rows_none r.lines r.plain r.text r.left end
-
-  rows_some : (lines : List DumpLine) → AllByRecursion IsPlain lines → rest ≡ flat_map (line_text width) lines
-      → Left old now (map (note_line depth) (map (row width) lines)) all
-      → position_or_len (λ b. b == 10) rest < length rest → (here there : List ℕ) (next : Writer)
-      → here ≡ before_first (λ b. b == 10) rest → there ≡ after_first (λ b. b == 10) rest
-      → Wrote now next (note_line depth here ∷ []) → RowsLeft depth width old next there all
-  rows_some [] plain text left found here there next is_here is_there wrote =
-      absurd (omega (arith, found, ap length text))
-  rows_some (line ∷ more) plain text left found here there next is_here is_there wrote =
-      let same = is_here ∙ front width line more rest plain.0 text in
-      let others = map (note_line depth) (map (row width) more) in
-      record {
-        lines = more;
-        plain = plain.1;
-        text = is_there ∙ back width line more rest plain.0 text;
-        left = left_less (note_line depth (row width line) ∷ others) (note_line depth here ∷ []) others
-            (ap (λ r. note_line depth r ∷ others) (sym same)) old now next all wrote left;
-      }
-
-  pub rows_more : RowsLeft depth width old now rest all → position_or_len (λ b. b == 10) rest < length rest
-      → (here there : List ℕ) (next : Writer) → here ≡ before_first (λ b. b == 10) rest
-      → there ≡ after_first (λ b. b == 10) rest → Wrote now next (note_line depth here ∷ [])
-      → RowsLeft depth width old next there all
-  rows_more r found here there next is_here is_there wrote =
-      rows_some r.lines r.plain r.text r.left found here there next is_here is_there wrote
-
--- what follows a line feed in a text is a text
-pub utf8_after : (bs xs ys : List ℕ) → IsUtf8 bs → bs ≡ xs ++ (10 ∷ ys) → IsUtf8 ys
-utf8_after bs xs ys utf8 e =
-    let at : get_or bs (length xs) 0 ≡ 10 = ap (λ l. get_or l (length xs) 0) e ∙ get_or-append_seam xs 10 ys 0 in
-    let inside : length xs < length bs = omega (arith, ap length e, length-append xs (10 ∷ ys)) in
-    subst IsUtf8 (ap (drop (length xs + 1)) e ∙ drop-append-add xs (10 ∷ ys) 1)
-    (IsUtf8-drop bs (length xs + 1) utf8 (IsCharBoundary-after_ascii bs (length xs) utf8 inside (omega (arith, at))))
 
 -- ---- a sequence
 
@@ -203,15 +108,6 @@ module _ (level depth : ℕ) (le : level ≤ 129) (old now : Writer) (rest : Lis
 module _ (dump : Item → List DumpLine) where
   pub whole_dumped : (read : Read Item) (i : Item) → read ≡ Ok (i, []) → whole_note dump read ≡ embedded_note (dump i)
   whole_dumped read i e = ap (whole_note dump) e
-
-  rest_failed : (i : Item) (r : List ℕ) → 0 < length r
-      → whole_note dump (Ok (i, r)) ≡ failed_note (codes "failed to parse encoded cbor data item") refusal.Remaining
-  rest_failed i [] some = absurd (omega arith)
-  rest_failed i (x ∷ r) some = refl
-
-  pub more_failed : (read : Read Item) (i : Item) (rest : List ℕ) → read ≡ Ok (i, rest) → 0 < length rest
-      → whole_note dump read ≡ failed_note (codes "failed to parse encoded cbor data item") refusal.Remaining
-  more_failed read i rest e some = ap (whole_note dump) e ∙ rest_failed i rest some
 
   pub whole_failed : (read : Read Item) (e : Error) → read ≡ Err e
       → whole_note dump read ≡ failed_note (codes "failed to parse encoded cbor data item") e

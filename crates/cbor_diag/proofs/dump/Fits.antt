@@ -10,7 +10,7 @@ use Rattle.std.proofs.lemmas.Str.{IsAscii-append}
 use Rattle.std.proofs.lemmas.List.{length-take}
 use Rattle.hex.specs.Hex.{encode_lower, lower_digits}
 use Rattle.cbor_notes.specs.Element.{element_size, element_text}
-use Rattle.cbor_notes.specs.Layout.{DumpLine, reach}
+use Rattle.cbor_notes.specs.Layout.{DumpLine}
 use Rattle.cbor_notes.specs.Columns.{IsPlain, Lacks}
 use Rattle.cbor_notes.specs.LineTree.{IsFit}
 use Rattle.cbor_notes.proofs.columns.CommentTexts.{element_line}
@@ -37,9 +37,6 @@ use Rattle.cbor_diag.specs.Dump.{string_word, string_content_lines, chunks_lines
 use Rattle.cbor_diag.specs.Dump.{sized_lines, tagged_lines}
 use Rattle.cbor_diag.specs.Dump.{count_if_definite, break_line, atom_lines, container_line, close_lines, inside, below}
 use Rattle.cbor_diag.proofs.dump.Elements.{Small, element_small, element_cut}
-use Rattle.cbor_diag.specs.declared.encode.dump.hex_style.HexStyle.{HexStyle}
-use Rattle.cbor_diag.specs.declared.encode.dump.hex_style.HexStyle.TheVariants.{Head, Content}
-use Rattle.cbor_diag.specs.mirror.ShownLines.{style_hex}
 use Rattle.cbor_diag.proofs.dump.Digits.{length-hex, length-head_short, length-head_long}
 use Rattle.cbor_diag.proofs.dump.Pieces.{byte_cut, text_short, text_long}
 
@@ -64,19 +61,6 @@ head_fits bytes few =
       | inl long ↦ let digits = length-head_long bytes long in omega arith
       | inr short ↦ let digits = length-head_short bytes short in omega arith
     ]
-
--- the digits of a line
-pub style_ascii : (style : HexStyle) (bytes : List ℕ) → IsAscii (style_hex style bytes)
-style_ascii Head bytes = ascii_head bytes
-style_ascii Content bytes = IsAscii-encode_lower bytes
-
-pub style_short : (style : HexStyle) (bytes : List ℕ) → length bytes ≤ 24 → length (style_hex style bytes) ≤ 64
-style_short Head bytes few = head_fits bytes few
-style_short Content bytes few = let digits = length-hex bytes in omega arith
-
-pub reach_low : (depth : ℕ) (hex : List ℕ) → depth < 140 → length hex ≤ 64
-    → reach (record { depth = depth; hex = hex; comment = [] }) ≤ 484
-reach_low depth hex low short = cond_both (length hex == 0) _ _ (λ n. n ≤ 484) (λ _. omega arith) (λ _. omega arith)
 
 -- a head at a depth that isn't too deep
 pub fit_head : (depth : ℕ) (bytes comment : List ℕ) → depth < 140 → length bytes ≤ 9 → Free 10 comment

@@ -1,5 +1,5 @@
 -- What the walk over bytes has dumped, by what its parts have.
-use Rattle.std.proofs.Common.{◌≡◌, ◌≢◌, ℕ, ◌+◌, ◌≤◌, List, [], ◌∷◌, ◌++◌, length, drop, codes, Option, Some, None}
+use Rattle.std.proofs.Common.{◌≡◌, ◌≢◌, ℕ, ◌+◌, ◌*◌, ◌≤◌, map, List, [], ◌∷◌, ◌++◌, length, drop, codes, Option, Some, None}
 use Rattle.std.proofs.Common.{Result, Ok, Err, IfOk, OnOk}
 use Rattle.std.proofs.Common.{refl, sym}
 use Rattle.std.proofs.Common.{ap, subst, ◌∙◌, append_assoc, arith}
@@ -9,7 +9,7 @@ use Rattle.std.specs.String.{string_bytes}
 use Rattle.std.proofs.lemmas.Grind.{flat_map-append}
 use Rattle.std.proofs.lemmas.List.{append-nil}
 use Rattle.std.proofs.lemmas.Result.{IfOk-weaker}
-use Rattle.cbor_notes.specs.Layout.{DumpLine, line_text, width_of}
+use Rattle.cbor_notes.specs.Layout.{DumpLine, gap, line_text, row, width_of}
 use Rattle.cbor_diag.specs.declared.error.Error.{Error}
 use Rattle.cbor_diag.specs.declared.error.Error.TheVariants as refusal
 use Rattle.cbor_diag.specs.declared.syntax.IntegerWidth.{IntegerWidth}
@@ -29,7 +29,7 @@ use Rattle.cbor_diag.specs.Dump.{below, inside, break_line, close_lines, items_l
 use Rattle.cbor_diag.specs.Dump.{shared_from, shared_in, shared_in_items, shared_in_pairs, string_content_lines}
 use Rattle.cbor_diag.specs.Dump.{string_lines}
 use Rattle.cbor_diag.specs.Dump.{bytes_in, note_line, note_lines, encoded_item_note, encoded_sequence_notes}
-use Rattle.cbor_diag.specs.Dump.{parts_lines, top}
+use Rattle.cbor_diag.specs.Dump.{parts_lines, embedded_note, top}
 use Rattle.cbor_diag.specs.Head.{head}
 use Rattle.cbor_diag.specs.Item as spec
 use Rattle.cbor_diag.specs.Item.{Chunk, Item, atom, integer, negative, float, simple, string, chunked_string, array}
@@ -46,7 +46,7 @@ use Rattle.cbor_diag.specs.mirror.AtLevel.{read_at, read_behind}
 use Rattle.cbor_diag.specs.mirror.Dumped.{context_view, item_lines, items_there, pairs_there, notes_there, line_of_head}
 use Rattle.cbor_diag.specs.mirror.Dumped.{value_note_there, whole_note_there, sequence_notes_there, embedded_lines}
 use Rattle.cbor_diag.specs.mirror.Dumped.{dump_at}
-use Rattle.cbor_diag.specs.mirror.Dumped.{Wrote, Dumped, DumpedBehind}
+use Rattle.cbor_diag.specs.mirror.Dumped.{Wrote, Dumped, DumpedBehind, line_after, own_line}
 use Rattle.cbor_diag.specs.mirror.HeadView.{argument_view, head_view}
 use Rattle.cbor_diag.specs.mirror.Stack.{left_of}
 use Rattle.cbor_diag.specs.mirror.StringView.{kind_view, kind_of, bytes_of, borrowed_chunk}
@@ -58,7 +58,7 @@ use Rattle.cbor_diag.proofs.straight.Levels.{head_reads, level_read}
 use Rattle.cbor_diag.proofs.straight.Readings.{parts_read, parts_ended, tag_read, content_read, ok_then}
 use Rattle.cbor_diag.proofs.dump.Members.{written_in, untagged, below_opens, tag_shared, Announced, count_line}
 use Rattle.cbor_diag.proofs.dump.Members.{width_held}
-use Rattle.cbor_diag.proofs.dump.Walks.{wrote_none, wrote_then}
+use Rattle.cbor_diag.proofs.dump.Walks.{rows_are, wrote_none, wrote_then}
 
 -- ---- a head and what is behind it
 
@@ -363,18 +363,52 @@ pub real_error : (e : Error) (read : Read Item) → e ≢ refusal.Memory → Fai
 real_error refusal.Memory read real h = absurd (real refl)
 real_error e read real h = h
 
+-- the lines of a whole dump
+pub whole_lines : (c : DumpContext) (level known : ℕ) (i : Item) → c.level ≡ level → context_view c ≡ top
+    → level ≤ 128 → known ≡ 0 → item_lines c known i ≡ lines_at_level level top 0 i
+whole_lines c level known i deep here le none =
+    ap (λ n. parts_lines (lines_at_level (n + 1)) (context_view c) known i) deep
+    ∙ ap (λ p. parts_lines (lines_at_level (level + 1)) p known i) here
+    ∙ ap (λ n. parts_lines (lines_at_level (level + 1)) top n i) none ∙ sym (untagged level top 0 i le refl)
+
 -- a whole dump, in a column as wide as its lines reach
 pub whole_dump : (c : DumpContext) (level : ℕ) (i : Item) (old new : Walk) → c.level ≡ level → context_view c ≡ top
-    → level ≤ 128 → old.shared ≡ 0 → string_bytes old.writer.out ≡ []
+    → level ≤ 128 → old.shared ≡ 0 → string_bytes old.writer.out ≡ [] → string_bytes old.writer.prefix ≡ []
     → old.writer.width ≡ width_of (lines_at_level level top 0 i)
     → Wrote old.writer new.writer (item_lines c old.shared i) → string_bytes new.writer.out ≡ dump_at level i
-whole_dump c level i old new deep here le none empty wide w =
-    let same = ap (λ n. parts_lines (lines_at_level (n + 1)) (context_view c) old.shared i) deep
-    ∙ ap (λ p. parts_lines (lines_at_level (level + 1)) p old.shared i) here
-    ∙ ap (λ n. parts_lines (lines_at_level (level + 1)) top n i) none ∙ sym (untagged level top 0 i le refl) in
-    w.text ∙ ap (λ t. t ++ flat_map (line_text old.writer.width) (item_lines c old.shared i)) empty
-    ∙ ap (λ n. flat_map (line_text n) (item_lines c old.shared i)) wide
-    ∙ ap (flat_map (line_text (width_of (lines_at_level level top 0 i)))) same
+whole_dump c level i old new deep here le none empty bare wide w =
+    w.text ∙ ap (λ t. t ++ flat_map (own_line old.writer) (item_lines c old.shared i)) empty
+    ∙ ap (λ p. flat_map (line_after p old.writer.width) (item_lines c old.shared i)) bare
+    ∙ ap (λ n. flat_map (line_after [] n) (item_lines c old.shared i)) wide
+    ∙ ap (flat_map (line_text (width_of (lines_at_level level top 0 i)))) (whole_lines c level old.shared i deep here
+    le none)
+
+-- an embedded dump, as lines of a note
+pub embedded_dump : (c : DumpContext) (level depth : ℕ) (i : Item) (begun inner done old new : Writer) (known : ℕ)
+    → c.level ≡ level → context_view c ≡ top → level ≤ 128 → known ≡ 0
+    → string_bytes inner.out ≡ string_bytes begun.out
+    → string_bytes inner.prefix ≡ string_bytes begun.prefix ++ gap begun.width (2 * (depth + 1))
+    → inner.width ≡ width_of (lines_at_level level top 0 i) → Wrote inner done (item_lines c known i)
+    → Wrote old begun (note_line depth (codes "encoded cbor data item") ∷ [])
+    → string_bytes new.out ≡ string_bytes done.out → new.width ≡ begun.width
+    → string_bytes new.prefix ≡ string_bytes begun.prefix
+    → Wrote old new (note_lines depth (embedded_note (lines_at_level level top 0 i)))
+embedded_dump c level depth i begun inner done old new known deep here le none out prefix wide wrote note back width
+    same =
+    let lines = lines_at_level level top 0 i in
+    let before = string_bytes begun.prefix in
+    let rows : string_bytes done.out
+    ≡ string_bytes begun.out
+    ++ flat_map (own_line begun) (map (note_line (depth + 1)) (map (row (width_of lines)) lines)) =
+    wrote.text ∙ ap (λ t. t ++ flat_map (own_line inner) (item_lines c known i)) out
+    ∙ ap (λ ls. string_bytes begun.out ++ flat_map (own_line inner) ls) (whole_lines c level known i deep here le none)
+    ∙ ap (λ p. string_bytes begun.out ++ flat_map (line_after p inner.width) lines) prefix
+    ∙ ap (λ n. string_bytes begun.out ++ flat_map (line_after (before ++ gap begun.width (2 * (depth + 1))) n) lines)
+    wide
+    ∙ ap (λ t. string_bytes begun.out ++ t) (rows_are before begun.width (depth + 1) (width_of lines) lines) in
+    wrote_then old begun new (note_line depth (codes "encoded cbor data item") ∷ [])
+    (map (note_line (depth + 1)) (map (row (width_of lines)) lines)) note
+    (record { text = back ∙ rows; width = width; prefix = same })
 
 -- the item that was read before is read again
 pub same_item : (level : ℕ) (b rest : List ℕ) (i j : Item) (used : ℕ) → level ≤ 129 → read_at level b ≡ Ok (i, rest)

@@ -1,14 +1,12 @@
--- The lines of a whole dump keep to themselves, and can be laid out.
+-- The lines of a whole dump keep to themselves.
 use Rattle.std.proofs.Common.{ℕ, ◌≤◌, List, arith}
 use Rattle.std.specs.List.{AllByRecursion}
 use Rattle.cbor_notes.specs.Columns.{IsPlain}
-use Rattle.cbor_notes.specs.Layout.{DumpLine, width_of}
-use Rattle.cbor_notes.proofs.columns.Trees.{fit_width}
+use Rattle.cbor_notes.specs.Layout.{DumpLine}
 use Rattle.cbor_diag.specs.Item.{Item}
 use Rattle.cbor_diag.specs.Dump.{lines_at_level, top}
-use Rattle.cbor_diag.specs.mirror.ShownLines.{most_width}
 use Rattle.cbor_diag.specs.WellFormed.{levels_left, WellFormed}
-use Rattle.cbor_diag.proofs.dump.Fits.{IsGood, fits_of, plain_of}
+use Rattle.cbor_diag.proofs.dump.Fits.{IsGood, plain_of}
 use Rattle.cbor_diag.proofs.dump.ItemsFit.{item_fits}
 use Rattle.cbor_diag.proofs.text.Parts.{well_level}
 
@@ -21,6 +19,3 @@ module _ (level : ℕ) (i : Item) (some : 1 ≤ level) (well : WellFormed level 
 
   pub plain : AllByRecursion IsPlain all
   plain = plain_of all good
-
-  pub narrow : width_of all ≤ most_width
-  narrow = fit_width all (fits_of all good)

@@ -111,10 +111,18 @@ IsHead h b = b ≡ head_bytes h
 
 -- ---- what is written
 
+-- a line after what stands before each line
+abbrev pub line_after : List ℕ → ℕ → DumpLine → List ℕ
+line_after prefix width line = prefix ++ line_text width line
+
+abbrev pub own_line : Writer → DumpLine → List ℕ
+own_line w = line_after (string_bytes w.prefix) w.width
+
 -- these lines are written after the old text
 pub record Wrote (old new : Writer) (lines : List DumpLine) : Type 0 where
-  pub text : string_bytes new.out ≡ string_bytes old.out ++ flat_map (line_text old.width) lines
+  pub text : string_bytes new.out ≡ string_bytes old.out ++ flat_map (own_line old) lines
   pub width : new.width ≡ old.width
+  pub prefix : string_bytes new.prefix ≡ string_bytes old.prefix
 
 -- Reading gives an item before the rest. Its lines are written, and what it shares is counted.
 pub record Dumped (c : DumpContext) (read : Read Item) (rest : List ℕ) (old new : Walk) : Type 0 where

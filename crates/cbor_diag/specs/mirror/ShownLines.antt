@@ -1,9 +1,8 @@
 -- The lines that the code writes. No public clause names them.
-use Rattle.std.specs.Prelude.{ℕ, ◌+◌, ◌*◌, List, [], Some, codes, unwrap_or}
+use Rattle.std.specs.Prelude.{ℕ, List, [], Some, codes, unwrap_or}
 use Rattle.hex.specs.Hex.{encode_lower}
 use Rattle.cbor_notes.specs.Element.{element_text}
 use Rattle.cbor_notes.specs.Layout.{DumpLine}
-use Rattle.cbor_notes.specs.LineTree.{most_hex, most_levels}
 use Rattle.cbor_diag.specs.declared.syntax.major.Major.{Major}
 use Rattle.cbor_diag.specs.declared.syntax.major.Major.TheVariants as major
 use Rattle.cbor_diag.specs.declared.encode.dump.comment.Comment.{Comment}
@@ -50,7 +49,3 @@ style_hex Content bytes = encode_lower bytes
 
 abbrev pub shown_line : ℕ → HexStyle → List ℕ → Comment → DumpLine
 shown_line depth style bytes said = record { depth = depth; hex = style_hex style bytes; comment = comment_text said }
-
--- the digits of lines that fit reach no farther
-abbrev pub most_width : ℕ
-most_width = 3 * most_levels + most_hex

@@ -1,7 +1,8 @@
 //! The lines of heads and of strings.
-ghost use Rattle.std.specs.Prelude.{◌≡◌, ◌<◌, ◌≤◌, ◌+◌, ◌∷◌, [], length, OnOk};
+ghost use Rattle.std.specs.Prelude.{◌≡◌, ◌<◌, ◌≤◌, ◌+◌, ◌*◌, ◌==◌, ◌++◌, ◌∷◌, [], length, OnOk};
+ghost use Rattle.std.specs.Prelude.{if◌then◌else◌, replicate};
 ghost use Rattle.std.specs.Str.{IsCharBoundary};
-ghost use Rattle.cbor_notes.specs.Layout.{reach};
+ghost use Rattle.std.specs.String.{string_bytes};
 ghost use Rattle.cbor_diag.specs.Comments.{simple_comment, text_comment};
 ghost use Rattle.cbor_diag.specs.Dump as spec;
 ghost use Rattle.cbor_diag.specs.Pieces.{text_pieces, text_cut as cut_of};
@@ -24,7 +25,7 @@ use crate::encode::encoding::Encoding;
 use crate::parse::{Argument, ItemHead};
 use crate::syntax::strings::StringContent;
 use crate::syntax::{IntegerWidth, Tag};
-use cbor_notes::{element_size, put_line};
+use cbor_notes::{element_size, push_blanks, push_gap};
 use std::alloc::AllocError;
 
 /// The elements of a typed array (RFC 8746).
@@ -36,20 +37,28 @@ pub(crate) struct Elements {
     pub(crate) size: usize,
 }
 
-/// Where digits end that begin at a depth, or 0 if there are none.
-fn reach(depth: usize, hex: &str) -> usize
-    requires depth { depth < 140 }
-    requires short { length hex.now ≤ 64 }
-    ensures { result ≡ reach (record { depth = depth; hex = hex.now; comment = [] }) }
+/// Where the digits of a line begin at a depth, of which there are so many; without any it is 0.
+fn indent(depth: usize, digits: usize) -> usize
+    requires { depth < 140 }
+    ensures { result ≡ (if digits == 0 then 0 else 3 * depth) }
 {
-    if hex.is_empty() {
-        0
-    } else {
-        3 * depth + hex.len()
-    }
+    if digits == 0 { 0 } else { 3 * depth }
 }
 
 impl Writer {
+    /// Writes what stands before each line, and blanks.
+    fn begin_line(&mut self, blanks: usize) -> Result<(), AllocError>
+        ensures out { OnOk result (string_bytes self.new.out
+            ≡ (string_bytes self.old.out ++ string_bytes self.old.prefix) ++ replicate blanks 32) }
+        ensures width { self.new.width ≡ self.old.width }
+        ensures prefix { string_bytes self.new.prefix ≡ string_bytes self.old.prefix }
+    {
+        if !self.prefix.is_empty() {
+            self.out.push_str(&self.prefix)?;
+        }
+        push_blanks(&mut self.out, blanks)
+    }
+
     /// Writes a line at a depth: bytes, the style of their digits, and a comment. Digits that reach
     /// past the left column stay whole. The only error is out of memory.
     pub(super) fn line(
@@ -64,12 +73,15 @@ impl Writer {
         ensures { OnOk result
             (Wrote self.old self.new (shown_line depth style bytes.now comment.now ∷ [])) }
     {
-        self.hex.clear();
-        style.push(&mut self.hex, bytes)?;
-        self.comment.clear();
-        comment.push(&mut self.comment)?;
-        let width = self.width.max(reach(depth, &self.hex));
-        put_line(&mut self.out, width, depth, &self.hex, &self.comment)
+        let digits = style.count(bytes);
+        let start = indent(depth, digits);
+        self.begin_line(start)?;
+        style.push(&mut self.out, bytes)?;
+        let blanks = self.width.saturating_sub(start + digits);
+        push_gap(&mut self.out, blanks, 2 * depth)?;
+        comment.push(&mut self.out)?;
+        self.out.push('\n')?;
+        Ok(())
     }
 
     /// The line of a head, whose bytes these are.

@@ -1,8 +1,5 @@
 //! Notes, which are lines without digits.
-ghost use Rattle.std.specs.Prelude.{◌≡◌, ◌<◌, ◌∷◌, ℕ, List, [], map, flat_map, OnOk};
-ghost use Rattle.std.specs.List.{AllByRecursion};
-ghost use Rattle.cbor_notes.specs.Columns.{IsPlain};
-ghost use Rattle.cbor_notes.specs.Layout.{DumpLine, layout, line_text, row};
+ghost use Rattle.std.specs.Prelude.{◌<◌, ◌∷◌, [], OnOk};
 ghost use Rattle.cbor_diag.specs.Dump as spec;
 ghost use Rattle.cbor_diag.specs.mirror.NotesView.{note_view};
 ghost use Rattle.cbor_diag.specs.mirror.Dumped.{Wrote};
@@ -51,31 +48,5 @@ impl Writer {
     {
         self.note_line(depth, what)?;
         self.note_line(depth + 1, error.text())
-    }
-
-    /// The lines of a dump as lines of a note.
-    fn rows(&mut self, depth: usize, text: &str) -> Result<(), AllocError>
-        requires { depth < 140 }
-        ensures { OnOk result ((width : ℕ) (lines : List DumpLine) → AllByRecursion IsPlain lines
-            → text.now ≡ flat_map (line_text width) lines → Wrote self.old self.new
-            (map (spec.note_line depth) (map (row width) lines))) }
-    {
-        let mut rest = text;
-        'rows: while let Some((row, after)) = rest.split_once('\n') {
-            self.note_line(depth, row)?;
-            rest = after;
-        }
-        Ok(())
-    }
-
-    /// The note of an embedded item, by its dump.
-    pub(super) fn embedded_note(&mut self, depth: usize, text: &str) -> Result<(), AllocError>
-        requires { depth < 139 }
-        ensures { OnOk result ((lines : List DumpLine) → AllByRecursion IsPlain lines
-            → text.now ≡ layout lines → Wrote self.old self.new
-            (spec.note_lines depth (spec.embedded_note lines))) }
-    {
-        self.note_line(depth, "encoded cbor data item")?;
-        self.rows(depth + 1, text)
     }
 }

@@ -5,6 +5,7 @@
 ghost use Rattle.std.specs.Prelude.{◌≡◌, ◌≤◌, ◌+◌, ℕ, List, Ok, IfOk, IfErr, OnOk, option_copied};
 ghost use Rattle.std.specs.Prelude.{IsTrue, IsSome};
 ghost use Rattle.std.specs.String.{string_bytes};
+ghost use Rattle.cbor_notes.specs.Layout.{width_of};
 ghost use Rattle.cbor_diag.specs.declared.syntax.IntegerWidth.{IntegerWidth};
 ghost use Rattle.cbor_diag.specs.Argument.{indefinite};
 ghost use Rattle.cbor_diag.specs.Dump as spec;
@@ -16,7 +17,7 @@ ghost use Rattle.cbor_diag.specs.View.{view};
 ghost use Rattle.cbor_diag.specs.WellFormed.{deepest};
 ghost use Rattle.cbor_diag.specs.mirror.AtLevel.{read_at, read_behind};
 ghost use Rattle.cbor_diag.specs.mirror.Dumped.{IsContext, Wrote, Dumped, DumpedBehind, dump_at};
-ghost use Rattle.cbor_diag.specs.mirror.Dumped.{notes_there, value_note_there};
+ghost use Rattle.cbor_diag.specs.mirror.Dumped.{embedded_lines, notes_there, value_note_there};
 ghost use Rattle.cbor_diag.specs.mirror.Dumped.{whole_note_there, sequence_notes_there};
 ghost use Rattle.cbor_diag.specs.mirror.Dumped.{IsContainer};
 ghost use Rattle.cbor_diag.specs.mirror.HeadView.{argument_view, head_view};
@@ -33,6 +34,8 @@ use crate::parse::{
 use crate::syntax::strings::StringKind;
 use crate::syntax::{DEEPEST, DataItem, Simple, Tag};
 use std::alloc::{AllocError, Global};
+
+const EMBEDDED_ITEM: &str = "encoded cbor data item";
 
 const INVALID_ITEM: &str = "invalid type for encoded cbor data item";
 
@@ -54,7 +57,6 @@ pub(crate) struct Walk {
 }
 
 /// The dump of the item at the front, which is at `level`, and the bytes after it.
-#[cycle(walk)]
 pub(super) fn dump(alloc: Global, bytes: &[u8], level: u8) -> crate::Result<(String, &[u8])>
     requires from { 1 ≤ level }
     requires to { level ≤ deepest + 1 }
@@ -381,10 +383,10 @@ fn embedded_item(walk: &mut Walk, context: &DumpContext, bytes: &[u8]) -> Result
         (whole_note_there context.now bytes.now)) }
     ensures shared { OnOk result (walk.new.shared ≡ walk.old.shared) }
 {
-    match dump(walk.alloc, bytes, context.level + 1) {
-        Ok((text, rest)) => {
+    match dump_width(bytes, context.level + 1) {
+        Ok((width, rest)) => {
             if rest.is_empty() {
-                walk.writer.embedded_note(context.depth, &text)
+                embedded_note(walk, context, bytes, width)
             } else {
                 let error = Error::Remaining;
                 walk.writer.failed_note(context.depth, FAILED_ITEM, error)
@@ -409,9 +411,9 @@ fn embedded_sequence(walk: &mut Walk, context: &DumpContext, bytes: &[u8]) -> Re
 {
     let mut rest = bytes;
     'items: while !rest.is_empty() {
-        match dump(walk.alloc, rest, context.level + 1) {
-            Ok((text, after)) => {
-                walk.writer.embedded_note(context.depth, &text)?;
+        match dump_width(rest, context.level + 1) {
+            Ok((width, after)) => {
+                embedded_note(walk, context, rest, width)?;
                 rest = after;
             }
             Err(error) => match error {
@@ -420,5 +422,38 @@ fn embedded_sequence(walk: &mut Walk, context: &DumpContext, bytes: &[u8]) -> Re
             },
         }
     }
+    Ok(())
+}
+
+/// The note of an embedded item, which is at the front of the bytes: its dump, whose left column has
+/// that width. The item was read before, so the only error is out of memory.
+#[cycle(walk)]
+fn embedded_note(
+    walk: &mut Walk,
+    context: &DumpContext,
+    bytes: &[u8],
+    width: usize,
+) -> Result<(), AllocError>
+    requires context { IsContext context.now }
+    requires level { context.now.level ≤ deepest }
+    ensures wrote { (i : Item) (rest : List ℕ)
+        → read_at (context.now.level + 1) bytes.now ≡ Ok (i, rest)
+        → width ≡ width_of (embedded_lines context.now i)
+        → OnOk result (Wrote walk.old.writer walk.new.writer (spec.note_lines context.now.depth
+        (spec.embedded_note (embedded_lines context.now i)))) }
+    ensures shared { OnOk result (walk.new.shared ≡ walk.old.shared) }
+{
+    walk.writer.note_line(context.depth, EMBEDDED_ITEM)?;
+    let writer = walk.writer.embedded(walk.alloc, context.depth + 1, width)?;
+    let mut inner = Walk {
+        writer,
+        shared: 0,
+        alloc: walk.alloc,
+    };
+    let top = DumpContext::top(context.level + 1);
+    let Ok(_) = dump_front(&mut inner, &top, bytes) else {
+        return Err(AllocError);
+    };
+    walk.writer.out = inner.writer.out;
     Ok(())
 }

@@ -1,10 +1,11 @@
 use Rattle.std.proofs.Common.{◌≡◌, ◌+◌, ◌≤◌, ℕ, List, Ok, OnOk, length, option_copied, refl, ap, sym, subst, ◌∙◌}
 use Rattle.std.proofs.Common.{arith, rules}
-use Rattle.std.proofs.lemmas.Bool.{eqb-true, eqb-false}
+use Rattle.std.proofs.lemmas.Bool.{eqb-true}
 use Rattle.std.proofs.lemmas.List.{nil_from_length}
 use Rattle.std.proofs.lemmas.Result.{err_from_is_err_and, IfErr-weaker, on_ok_weaker}
 use Rattle.cbor_notes.specs.Layout.{width_of}
-use Rattle.cbor_diag.specs.Dump.{Context, lines_at_level, note_lines, top}
+use Rattle.cbor_diag.specs.declared.encode.dump.writer.Writer.{Writer}
+use Rattle.cbor_diag.specs.Dump.{Context, embedded_note, note_lines}
 use Rattle.cbor_diag.specs.Item.{Item, no_items, item, no_pairs, pair}
 use Rattle.cbor_diag.specs.Reading.{Fails, items_in, pairs_in, tag_of, joined, joined_pairs, read_head, no_level_left}
 use Rattle.cbor_diag.specs.WellFormed.{levels_left}
@@ -15,9 +16,9 @@ use Rattle.cbor_diag.specs.mirror.Stack.{left_of}
 use Rattle.cbor_diag.proofs.bytes.Frames.{count_more, pair_count_more}
 use Rattle.cbor_diag.proofs.bytes.Heads.{ok_is}
 use Rattle.cbor_diag.proofs.bytes.Shorter.{item_shorter}
-use Rattle.cbor_diag.proofs.dump.EmbeddedDumps.{well_read, sequence_more, sequence_empty, sequence_failed}
-use Rattle.cbor_diag.proofs.dump.EmbeddedDumps.{whole_dumped, more_failed, whole_failed}
-use Rattle.cbor_diag.proofs.dump.Fronts.{dumped_front, whole_dump, real_error, item_note, no_item_note, sequence_note}
+use Rattle.cbor_diag.proofs.dump.EmbeddedDumps.{sequence_more, sequence_empty, sequence_failed}
+use Rattle.cbor_diag.proofs.dump.EmbeddedDumps.{whole_dumped, whole_failed}
+use Rattle.cbor_diag.proofs.dump.Fronts.{dumped_front, embedded_dump, real_error, item_note, no_item_note, sequence_note}
 use Rattle.cbor_diag.proofs.dump.Fronts.{no_sequence_note}
 use Rattle.cbor_diag.proofs.dump.Fronts.{front_ok, alone_dumped, items_dumped, pairs_dumped, tag_dumped}
 use Rattle.cbor_diag.proofs.dump.HeadLines.{head_shown}
@@ -25,7 +26,6 @@ use Rattle.cbor_diag.proofs.dump.Members.{none_announced, more_announced, item_d
 use Rattle.cbor_diag.proofs.dump.Members.{pair_shares}
 use Rattle.cbor_diag.proofs.dump.Pieces.{none_left, some_left}
 use Rattle.cbor_diag.proofs.dump.Walks.{wrote_none}
-use Rattle.cbor_diag.proofs.dump.WholeDumps.{narrow, plain}
 use Rattle.cbor_diag.proofs.straight.Levels.{behind_fails, head_fails, too_deep, level_read, same_read, same_fails}
 use Rattle.cbor_diag.proofs.straight.Readings.{fails_is, parts_read, part_fails, none_held, member_read, pair_read}
 use Rattle.cbor_diag.proofs.straight.Readings.{value_fails}
@@ -271,33 +271,6 @@ dump_pairs-pairs-preserved t c =
       room = omega (arith, i.room, first, second);
     }
 
--- ---- a whole dump
-
-pub dump-new-requires : goal.dump-new-requires
-dump-new-requires t c =
-    let m = c.in_ok-width.ensures.width in
-    let well = well_read c.args.level c.args.bytes.now c.in_ok-width.field-0-1.now m.0 c.requires.to
-    (λ i. omega (arith, c.type_inv.bytes i)) m.1 in
-    omega (arith, m.2, narrow c.args.level m.0 c.requires.from well)
-
-pub dump-returns-clause-dumped : goal.dump-returns-clause-dumped
-dump-returns-clause-dumped t c =
-    let level = c.args.level in
-    let b = c.args.bytes.now in
-    let m = c.in_ok-width.ensures.width in
-    let d = c.in_ok-rest.ensures.dumped in
-    let rest = c.in_ok-rest.rest.now in
-    let read = same_read c.top.result.level level b rest d.item c.top.ensures.level d.reads in
-    let both = ok_is (m.0, c.in_ok-width.field-0-1.now) (d.item, rest) (sym m.1 ∙ read) in
-    let same : m.0 ≡ d.item = ap (λ (x : Item × List ℕ). x.0) both in
-    let whole : c.in_ok-width.width ≡ width_of (lines_at_level level top 0 m.0) = omega (arith, m.2) in
-    let wide = c.new.ensures.width ∙ whole ∙ ap (λ j. width_of (lines_at_level level top 0 j)) same in (
-      d.item,
-      read,
-      whole_dump c.top.result level d.item _ c.dump_front.new.walk c.top.ensures.level c.top.ensures.context
-          (level_read level b rest d.item read) refl c.new.ensures.out wide d.wrote,
-    )
-
 -- ---- a tag
 
 pub dump_tagged-returns-in_err-rest-clause-refused : goal.dump_tagged-returns-in_err-rest-clause-refused
@@ -371,37 +344,20 @@ dump_notes-returns-in-None-2-clause-wrote t c = λ i rest e.
 pub embedded_item-returns-then-is_empty-clause-wrote : goal.embedded_item-returns-then-is_empty-clause-wrote
 embedded_item-returns-then-is_empty-clause-wrote t c =
     let context = c.args.context.now in
-    let level = context.level + 1 in
-    let d = c.in-Ok.ensures.dumped in
+    let m = c.in-Ok.ensures.width in
     let rest = c.in-Ok.rest.now in
     let none = nil_from_length rest (eqb-true (length rest) 0 (sym c.is_empty.ensures ∙ c.if-is_empty.true)) in
-    let read = d.1 ∙ ap (λ (r : List ℕ). Ok (d.0, r)) none in
-    let well = well_read level c.args.bytes.now rest d.0 (omega (arith, c.requires.level))
-    (λ i. omega (arith, c.type_inv.bytes i)) d.1 in
+    let read = m.1 ∙ ap (λ (r : List ℕ). Ok (m.0, r)) none in
     let whole = ap (note_lines context.depth)
-    (sym (whole_dumped (embedded_lines context) (read_at level c.args.bytes.now) d.0 read)) in
-    on_ok_weaker c.embedded_note.result
-    (λ wrote. subst (Wrote c.args.walk.now.writer c.embedded_note.new.self) whole
-    (wrote (lines_at_level level top 0 d.0) (plain level d.0 (omega arith) well) (c.deref.ensures ∙ d.2)))
-    c.embedded_note.ensures
+    (sym (whole_dumped (embedded_lines context) (read_at (context.level + 1) c.args.bytes.now) m.0 read)) in
+    let wide : c.in-Ok.width ≡ width_of (embedded_lines context m.0) = omega (arith, m.2) in
+    subst (λ ls. OnOk c.embedded_note.result (Wrote c.args.walk.now.writer c.embedded_note.new.walk.writer ls)) whole
+    (c.embedded_note.ensures.wrote m.0 rest m.1 wide)
 
-pub embedded_item-returns-in-Ok-clause-wrote : goal.embedded_item-returns-in-Ok-clause-wrote
-embedded_item-returns-in-Ok-clause-wrote t c =
+pub embedded_item-returns-in_default : goal.embedded_item-returns-in_default
+embedded_item-returns-in_default t c =
     let context = c.args.context.now in
-    let level = context.level + 1 in
-    let d = c.in-Ok.ensures.dumped in
-    let rest = c.in-Ok.rest.now in
-    let some = eqb-false (length rest) 0 (sym c.is_empty.ensures ∙ c.if-is_empty.false) in
-    let failed = more_failed (embedded_lines context) (read_at level c.args.bytes.now) d.0 rest d.1 (omega
-    (arith, some)) in
-    subst (λ n. OnOk c.failed_note.result (Wrote c.args.walk.now.writer c.failed_note.new.self
-    (note_lines context.depth n))) (sym failed) c.failed_note.ensures
-
-pub embedded_item-returns : goal.embedded_item-returns
-embedded_item-returns t c =
-    let context = c.args.context.now in
-    let level = context.level + 1 in
-    let read = read_at level c.args.bytes.now in
+    let read = read_at (context.level + 1) c.args.bytes.now in
     let e = c.in-Err.error in
     let failed = whole_failed (embedded_lines context) read e
     (real_error e read c.in_default.not-Memory c.in-Err.ensures.refused) in
@@ -414,26 +370,24 @@ embedded_item-returns t c =
 
 pub embedded_sequence-items-smaller : goal.embedded_sequence-items-smaller
 embedded_sequence-items-smaller t c =
-    let d = c.in-Ok.ensures.dumped in
-    item_shorter (levels_left (c.args.context.now.level + 1)) c.items.rest.now d.0 c.in-Ok.after.now d.1
+    let m = c.in-Ok.ensures.width in
+    item_shorter (levels_left (c.args.context.now.level + 1)) c.items.rest.now m.0 c.in-Ok.after.now m.1
 
 pub embedded_sequence-items-preserved : goal.embedded_sequence-items-preserved
 embedded_sequence-items-preserved t c =
     let context = c.args.context.now in
     let level = context.level + 1 in
-    let d = c.in-Ok.ensures.dumped in
+    let m = c.in-Ok.ensures.width in
     let i = c.items.invariant in
     let rest = c.items.rest.now in
     let after = c.in-Ok.after.now in
     let le : level ≤ 129 = omega (arith, c.requires.level) in
-    let well = well_read level rest after d.0 le i.left.bytes d.1 in
-    let wrote = c.in_ok-embedded_note-in-Ok.ensures (lines_at_level level top 0 d.0) (plain level d.0
-    (omega arith) well)
-    (c.deref.ensures ∙ d.2) in
+    let wide : c.in-Ok.width ≡ width_of (embedded_lines context m.0) = omega (arith, m.2) in
+    let wrote = c.in_ok-embedded_note-in-Ok.ensures.wrote m.0 after m.1 wide in
     record {
-      left = (sequence_more level context.depth le c.args.walk.now.writer c.items.walk.writer rest _ i.left d.0 after
-          c.embedded_note.new.self d.1 wrote).0;
-      shared = i.shared;
+      left = (sequence_more level context.depth le c.args.walk.now.writer c.items.walk.writer rest _ i.left m.0 after
+          c.embedded_note.new.walk.writer m.1 wrote).0;
+      shared = c.in_ok-embedded_note-in-Ok.ensures.shared ∙ i.shared;
     }
 
 pub embedded_sequence-returns-in_default : goal.embedded_sequence-returns-in_default
@@ -460,3 +414,28 @@ embedded_sequence-returns-clause-wrote t c =
     let rest = c.items.rest.now in
     sequence_empty (context.level + 1) context.depth (omega (arith, c.requires.level)) c.args.walk.now.writer
     c.items.walk.writer rest _ i.left (nil_from_length rest (none_left (length rest) c.items-test.ensures))
+
+pub embedded_note-returns-clause-wrote : goal.embedded_note-returns-clause-wrote
+embedded_note-returns-clause-wrote t c = λ i rest e wide.
+    let context = c.args.context.now in
+    let level = context.level + 1 in
+    let bytes = c.args.bytes.now in
+    let top = c.top-top.ensures in
+    let d = c.in-Ok.ensures.dumped in
+    let after = c.in-Ok.field-0.now in
+    let read = same_read c.top-top.result.level level bytes after d.item top.level d.reads in
+    let both = ok_is (i, rest) (d.item, after) (sym e ∙ read) in
+    let same : i ≡ d.item = ap (λ (x : Item × List ℕ). x.0) both in
+    let inner = c.in_ok-writer.ensures in
+    let width = inner.width ∙ wide ∙ ap (λ j. width_of (embedded_lines context j)) same in
+    let written : Writer = record {
+      out = c.dump_front.new.walk.writer.out;
+      width = c.embedded.new.self.width;
+      prefix = c.embedded.new.self.prefix;
+    } in
+    subst (λ j. Wrote c.args.walk.now.writer written (note_lines context.depth (embedded_note (embedded_lines context j))))
+    (sym same)
+    (embedded_dump c.top-top.result level context.depth d.item c.note_line.new.self c.in_ok-writer.writer
+    c.dump_front.new.walk.writer c.args.walk.now.writer written 0 top.level top.context
+    (level_read level bytes after d.item read) refl inner.out inner.prefix width d.wrote c.in_ok-note_line.ensures refl
+    inner.same_width inner.same_prefix)

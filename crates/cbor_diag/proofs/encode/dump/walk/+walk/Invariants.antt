@@ -12,9 +12,6 @@ use Rattle.cbor_diag.proofs.straight.Readings.{parts_read}
 use Rattle.cbor_diag.proofs.encode.dump.walk.+walk.Given as goal
 
 -- Each level is deeper than the one before, and an embedded item is deeper than the value that embeds it.
-abbrev pub decreases-dump : goal.decreases-dump
-decreases-dump l = (130 - l.level) * 8 + 4
-
 abbrev pub decreases-dump_front : goal.decreases-dump_front
 decreases-dump_front l = (130 - l.context.now.level) * 8 + 2
 
@@ -32,6 +29,9 @@ decreases-dump_notes l = (129 - l.context.now.level) * 8 + 7
 
 abbrev pub decreases-embedded_item : goal.decreases-embedded_item
 decreases-embedded_item l = (129 - l.context.now.level) * 8 + 5
+
+abbrev pub decreases-embedded_note : goal.decreases-embedded_note
+decreases-embedded_note l = (129 - l.context.now.level) * 8 + 3
 
 abbrev pub decreases-embedded_sequence : goal.decreases-embedded_sequence
 decreases-embedded_sequence l = (129 - l.context.now.level) * 8 + 5
