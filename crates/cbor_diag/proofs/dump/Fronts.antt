@@ -1,5 +1,5 @@
 -- What the walk over bytes has dumped, by what its parts have.
-use Rattle.std.proofs.Common.{◌≡◌, ◌≢◌, ℕ, ◌+◌, ◌≤◌, List, [], ◌∷◌, ◌++◌, length, drop, codes, Option, Some, None}
+use Rattle.std.proofs.Common.{◌≡◌, ◌≢◌, ℕ, ◌+◌, ◌≤◌, List, [], ◌∷◌, ◌++◌, length, codes, Option, Some, None}
 use Rattle.std.proofs.Common.{Result, Ok, Err, IfOk, OnOk}
 use Rattle.std.proofs.Common.{refl, sym}
 use Rattle.std.proofs.Common.{ap, subst, ◌∙◌, append_assoc, arith}
@@ -23,7 +23,6 @@ use Rattle.cbor_diag.specs.declared.parse.binary.head.ItemHead as code_head
 use Rattle.cbor_diag.specs.declared.parse.binary.head.ItemHead.TheVariants as code
 use Rattle.cbor_diag.specs.declared.syntax.strings.StringKind as code_kind
 use Rattle.cbor_diag.specs.declared.syntax.strings.StringKind.TheVariants as code_kinds
-use Rattle.cbor_diag.specs.Answer.{spelled, IsOutcome}
 use Rattle.cbor_diag.specs.Argument.{number, indefinite}
 use Rattle.cbor_diag.specs.Dump.{below, inside, break_line, close_lines, items_lines, pairs_lines, lines_at_level}
 use Rattle.cbor_diag.specs.Dump.{shared_from, shared_in, shared_in_items, shared_in_pairs, string_content_lines}
@@ -51,7 +50,6 @@ use Rattle.cbor_diag.specs.mirror.HeadView.{argument_view, head_view}
 use Rattle.cbor_diag.specs.mirror.Stack.{left_of}
 use Rattle.cbor_diag.specs.mirror.StringView.{kind_view, kind_of, bytes_of, borrowed_chunk}
 use Rattle.cbor_diag.proofs.bytes.Chunks.{content_takes}
-use Rattle.cbor_diag.proofs.bytes.ExactlyOne.{outcome_reads}
 use Rattle.cbor_diag.proofs.bytes.Found.{item_takes}
 use Rattle.cbor_diag.proofs.bytes.Heads.{IsBytes, head_again, ok_is}
 use Rattle.cbor_diag.proofs.straight.Levels.{head_reads, level_read}
@@ -375,10 +373,3 @@ whole_dump c level i old new deep here le none empty wide w =
     w.text ∙ ap (λ t. t ++ flat_map (line_text old.writer.width) (item_lines c old.shared i)) empty
     ∙ ap (λ n. flat_map (line_text n) (item_lines c old.shared i)) wide
     ∙ ap (flat_map (line_text (width_of (lines_at_level level top 0 i)))) same
-
--- the item that was read before is read again
-pub same_item : (level : ℕ) (b rest : List ℕ) (i j : Item) (used : ℕ) → level ≤ 129 → read_at level b ≡ Ok (i, rest)
-    → IsOutcome level b (spelled j used) → i ≡ j
-same_item level b rest i j used le e o =
-    let again = outcome_reads level (levels_left level) b (spelled j used) (omega arith) o in
-    ap (λ (x : Item × List ℕ). x.0) (ok_is (i, rest) (j, drop used b) (sym e ∙ again))

@@ -15,7 +15,7 @@ use Rattle.cbor_diag.specs.Dump.{Context, head_line, string_word, lines_at_level
 use Rattle.cbor_diag.specs.Dump.{notes, note_lines, top, whole_note, sequence_notes, shared_in}
 use Rattle.cbor_diag.specs.Embedded.{sequence}
 use Rattle.cbor_diag.specs.Head.{opening}
-use Rattle.cbor_diag.specs.Item.{Item, Items, Pairs, atom}
+use Rattle.cbor_diag.specs.Item.{Item, Items, Pairs}
 use Rattle.cbor_diag.specs.ItemHead as item_head
 use Rattle.cbor_diag.specs.ItemHead.{ItemHead}
 use Rattle.cbor_diag.specs.Reading.{Read, read_item}
@@ -135,8 +135,3 @@ pub record DumpedBehind (c : DumpContext) (h : ItemHead) (b rest : List ℕ) (ol
 -- the dump of an item at this level
 abbrev pub dump_at : ℕ → Item → List ℕ
 dump_at level i = layout (lines_at_level level top 0 i)
-
--- an array, a map or a tag
-abbrev pub IsContainer : Item → Type 0
-IsContainer (atom a) = ⊥
-IsContainer i = Unit {0}

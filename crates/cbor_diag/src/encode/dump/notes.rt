@@ -1,24 +1,26 @@
 //! The notes of a dump: what is said of the value of a tag, by the value alone.
-ghost use Rattle.std.specs.Prelude.{◌≡◌, ◌≢◌, ◌<◌, ℕ, false, option_map, Some, None, IfOk};
+ghost use Rattle.std.specs.Prelude.{◌≡◌, ◌<◌, ℕ, false, option_map, Some, None, IfOk};
 ghost use Rattle.std.specs.String.{string_bytes};
 ghost use Rattle.cbor_diag.specs.Comments as comments;
 ghost use Rattle.cbor_diag.specs.Item.{Item};
-ghost use Rattle.cbor_diag.specs.View.{view};
 ghost use Rattle.cbor_diag.specs.Notes as spec;
-ghost use Rattle.cbor_diag.specs.mirror.NotesView.{note_view};
+ghost use Rattle.cbor_diag.specs.mirror.NotesView.{note_view, value_view};
 
 mod addresses;
 mod dates;
 mod encoded;
 mod shared;
+mod value;
 
-use crate::syntax::{DataItem, Tag};
+use crate::syntax::Tag;
 use addresses::{Family, network_note};
 use cbor_notes::element_size;
 use dates::{date_note, datetime_note, epoch_date_note, epoch_datetime_note};
 use encoded::{base64_note, url_note, uuid_note};
 use shared::{reference_note, shareable_note};
 use std::alloc::{AllocError, Global};
+use value::Atom;
+pub(super) use value::Value;
 
 /// A note on a value.
 #[derive(Drop)]
@@ -71,17 +73,6 @@ pub(super) fn may_have_note(tag: Tag) -> bool
     }
 }
 
-/// Whether the note on a value right below this tag says more of an array than that it is none of
-/// the values that may be there: whether addresses are.
-pub(super) fn may_have_members(tag: Tag) -> bool
-    ensures { result ≡ false → (tag.0 ≢ 52) × (tag.0 ≢ 54) }
-{
-    match tag {
-        Tag::IPV4 | Tag::IPV6 => true,
-        _ => false,
-    }
-}
-
 /// The note on a value right below a tag, where `known` values were shared before the tag, if there
 /// is one. Tags 24 and 63 have theirs in the walk.
 #[tactic(auto, unfolding(crate::specs::Notes::value_note))]
@@ -89,10 +80,10 @@ pub(super) fn value_note(
     alloc: Global,
     known: u64,
     tag: Tag,
-    value: &DataItem,
+    value: Value<'_>,
 ) -> Result<Option<Note>, AllocError>
     ensures { IfOk result (λ note. option_map note_view note ≡ spec.value_note known tag.0
-        (view value.now)) }
+        (value_view value.entry)) }
 {
     let note = match tag {
         Tag::DATETIME => Note::plain(alloc, datetime_note(alloc, value)?),
@@ -136,15 +127,15 @@ fn in_brackets(alloc: Global, word: &str, text: &str) -> Result<String, AllocErr
 fn typed_array_note(
     alloc: Global,
     size: usize,
-    value: &DataItem,
+    value: Value<'_>,
 ) -> Result<Option<Note>, AllocError>
     requires { 0 < size }
     ensures { IfOk result (λ note. option_map note_view note
-        ≡ spec.typed_array_note (Some size) (view value.now)) }
+        ≡ spec.typed_array_note (Some size) (value_view value.entry)) }
 {
     match value {
-        DataItem::ByteString(bytes) if bytes.content.len() % size == 0 => Ok(None),
-        DataItem::ByteString(_) => Ok(Some(Note::words(
+        Value::Atom(Atom::Bytes(bytes)) if bytes.len() % size == 0 => Ok(None),
+        Value::Atom(Atom::Bytes(_)) => Ok(Some(Note::words(
             alloc,
             "invalid data length for typed array",
         )?)),

@@ -1,37 +1,31 @@
 //! Writes the lines of an item straight from its bytes: what the bytes are, each part as soon as it
-//! is read, and the notes on the values of tags. No item is built but for a value with a note.
+//! is read, and the notes on the values of tags. No item is built.
 //!
 //! Each function takes the remaining bytes and returns those after what it wrote.
 ghost use Rattle.std.specs.Prelude.{◌≡◌, ◌≤◌, ◌+◌, ℕ, List, Ok, IfOk, IfErr, OnOk, option_copied};
-ghost use Rattle.std.specs.Prelude.{IsTrue, IsSome};
 ghost use Rattle.std.specs.String.{string_bytes};
 ghost use Rattle.cbor_diag.specs.declared.syntax.IntegerWidth.{IntegerWidth};
 ghost use Rattle.cbor_diag.specs.Argument.{indefinite};
 ghost use Rattle.cbor_diag.specs.Dump as spec;
 ghost use Rattle.cbor_diag.specs.Item.{Item};
 ghost use Rattle.cbor_diag.specs.ItemHead as item_head;
-ghost use Rattle.cbor_diag.specs.Notes.{value_note};
-ghost use Rattle.cbor_diag.specs.Reading.{Fails, opened};
-ghost use Rattle.cbor_diag.specs.View.{view};
+ghost use Rattle.cbor_diag.specs.Reading.{Fails};
 ghost use Rattle.cbor_diag.specs.WellFormed.{deepest};
 ghost use Rattle.cbor_diag.specs.mirror.AtLevel.{read_at, read_behind};
 ghost use Rattle.cbor_diag.specs.mirror.Dumped.{IsContext, Wrote, Dumped, DumpedBehind, dump_at};
 ghost use Rattle.cbor_diag.specs.mirror.Dumped.{notes_there, value_note_there};
 ghost use Rattle.cbor_diag.specs.mirror.Dumped.{whole_note_there, sequence_notes_there};
-ghost use Rattle.cbor_diag.specs.mirror.Dumped.{IsContainer};
-ghost use Rattle.cbor_diag.specs.mirror.HeadView.{argument_view, head_view};
+ghost use Rattle.cbor_diag.specs.mirror.HeadView.{argument_view};
 ghost use Rattle.cbor_diag.specs.mirror.StringView.{kind_view};
 
 use super::context::DumpContext;
-use super::notes::{may_have_members, may_have_note, value_note};
+use super::notes::{Value, may_have_note, value_note};
 use super::width::dump_width;
 use super::writer::Writer;
 use crate::error::Error;
-use crate::parse::{
-    Argument, ItemHead, next_chunk, no_level_left, read_borrowed, read_front, read_head,
-};
+use crate::parse::{Argument, ItemHead, next_chunk, no_level_left, read_borrowed, read_head};
 use crate::syntax::strings::StringKind;
-use crate::syntax::{DEEPEST, DataItem, Simple, Tag};
+use crate::syntax::{DEEPEST, Tag};
 use std::alloc::{AllocError, Global};
 
 const INVALID_ITEM: &str = "invalid type for encoded cbor data item";
@@ -282,7 +276,7 @@ fn dump_notes(
     }
 }
 
-/// Dumps the note of the other tags, for which the value is read as an item where there may be one.
+/// Dumps the note of the other tags, for which the value is read where there may be one.
 fn dump_value_note(
     walk: &mut Walk,
     context: &DumpContext,
@@ -299,51 +293,9 @@ fn dump_value_note(
     if !may_have_note(tag) {
         return Ok(());
     }
-    let value = noted_value(walk.alloc, tag, bytes, context.level)?;
-    match value_note(walk.alloc, context.shared, tag, &value)? {
+    match value_note(walk.alloc, context.shared, tag, Value::read(bytes))? {
         Some(note) => walk.writer.note(context.depth, &note),
         None => Ok(()),
-    }
-}
-
-/// The value at the front, as far as its note depends on it, or another that has the same note. It
-/// was read before, so the only error is out of memory.
-///
-/// Of a container a note says only that it is one, but for addresses. So what is in it is not read
-/// once more at each tag around it, and takes no memory.
-fn noted_value(alloc: Global, tag: Tag, bytes: &[u8], level: u8) -> Result<DataItem, AllocError>
-    requires from { 1 ≤ level }
-    requires to { level ≤ deepest }
-    ensures { (known : ℕ) (i : Item) (rest : List ℕ) → read_at level bytes.now ≡ Ok (i, rest)
-        → IfOk result (λ v. value_note known tag.0 (view v) ≡ value_note known tag.0 i) }
-{
-    if begins_container(bytes) && !may_have_members(tag) {
-        return Ok(DataItem::Simple(Simple::NULL));
-    }
-    match read_front(alloc, bytes, level) {
-        Ok(Some((value, _))) => Ok(value),
-        _ => Err(AllocError),
-    }
-}
-
-/// Whether an array, a map or a tag is at the front.
-fn begins_container(bytes: &[u8]) -> bool
-    ensures { IsTrue result → (level : ℕ) (i : Item) (rest : List ℕ)
-        → read_at level bytes.now ≡ Ok (i, rest) → IsContainer i }
-{
-    let Ok((head, _)) = read_head(bytes) else {
-        return false;
-    };
-    opens_container(head)
-}
-
-/// Whether this head opens an array, a map or a tag.
-fn opens_container(head: ItemHead) -> bool
-    ensures { IsTrue result → IsSome (opened (head_view head)) }
-{
-    match head {
-        ItemHead::Array(_) | ItemHead::Map(_) | ItemHead::Tag(..) => true,
-        _ => false,
     }
 }
 

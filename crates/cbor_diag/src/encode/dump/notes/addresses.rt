@@ -2,12 +2,14 @@
 ghost use Rattle.std.specs.Prelude.{ℕ, ◌≡◌, ◌≢◌, ◌++◌, List, codes, decimal, length, IfOk, OnOk};
 ghost use Rattle.std.specs.Prelude.{IfSome, IfNone};
 ghost use Rattle.std.specs.String.{string_bytes};
+ghost use Rattle.cbor_diag.specs.Item.{no_items};
 ghost use Rattle.cbor_diag.specs.Notes as spec;
 ghost use Rattle.cbor_diag.specs.mirror.NotesView.{family_view, zone_view};
-ghost use Rattle.cbor_diag.specs.View.{view, items_view};
+ghost use Rattle.cbor_diag.specs.mirror.NotesView.{members_view, then_view, value_view};
 
 use super::in_brackets;
-use crate::syntax::{DataItem, Simple};
+use super::value::{Atom, Members, Value};
+use crate::syntax::Simple;
 use cbor_notes::{escaped_text, ipv4_text, ipv6_text, mac_text};
 use std::alloc::{AllocError, Global};
 
@@ -33,13 +35,13 @@ pub(crate) enum Zone {
 
 impl Family {
     /// What is said of the value of the family's tag.
-    pub(super) fn note(self, alloc: Global, value: &DataItem) -> Result<String, AllocError>
+    pub(super) fn note(self, alloc: Global, value: Value<'_>) -> Result<String, AllocError>
         ensures { IfOk result (λ note. string_bytes note ≡ spec.address_note (family_view self)
-            (view value.now)) }
+            (value_view value.entry)) }
     {
         match value {
-            DataItem::ByteString(bytes) => self.plain_address(alloc, &bytes.content),
-            DataItem::Array { content, .. } => self.members_note(alloc, content),
+            Value::Atom(Atom::Bytes(bytes)) => self.plain_address(alloc, bytes),
+            Value::Array(members) => self.members_note(alloc, members),
             _ => invalid_address(alloc),
         }
     }
@@ -118,22 +120,18 @@ impl Family {
 
     /// What is said of members: a prefix by its length and its bytes, or an address by its bytes
     /// and what follows them.
-    fn members_note(self, alloc: Global, members: &[DataItem]) -> Result<String, AllocError>
+    fn members_note(self, alloc: Global, members: Members<'_>) -> Result<String, AllocError>
         ensures { IfOk result (λ note. string_bytes note ≡ spec.members_note (family_view self)
-            (items_view members.now)) }
+            (members_view members.entry)) }
     {
-        match members {
-            [
-                DataItem::Integer { value, .. },
-                DataItem::ByteString(prefix),
-                ..
-            ] => { self.prefix_note(alloc, *value, &prefix.content) }
-            [DataItem::ByteString(bytes), rest @ ..] => {
-                match self.address_text(alloc, &bytes.content)? {
-                    Some(address) => self.interface_note(alloc, address, rest),
-                    None => self.invalid_length(alloc),
-                }
+        match (members.first, members.second) {
+            (Some(Atom::Integer(len)), Some(Atom::Bytes(prefix))) => {
+                self.prefix_note(alloc, len, prefix)
             }
+            (Some(Atom::Bytes(bytes)), _) => match self.address_text(alloc, bytes)? {
+                Some(address) => self.interface_note(alloc, address, members),
+                None => self.invalid_length(alloc),
+            },
             _ => invalid_address(alloc),
         }
     }
@@ -161,24 +159,22 @@ impl Family {
         }
     }
 
-    /// What is said of an address, given as text, and of what follows it: the length of its prefix
-    /// or null, and perhaps a zone.
+    /// What is said of the address that is the first member, given as text, and of what follows it:
+    /// the length of its prefix or null, and perhaps a zone.
     fn interface_note(
         self,
         alloc: Global,
         address: String,
-        rest: &[DataItem],
+        members: Members<'_>,
     ) -> Result<String, AllocError>
         ensures { (bytes : List ℕ)
             → string_bytes address ≡ spec.address_text (family_view self) bytes
             → IfOk result (λ note. string_bytes note ≡ spec.interface_note (family_view self) bytes
-            (items_view rest.now)) }
+            (then_view members.entry.second (then_view members.entry.third no_items))) }
     {
-        match rest {
-            [DataItem::Integer { value, .. }, zones @ ..] => {
-                self.with_length(alloc, address, *value, zones)
-            }
-            [DataItem::Simple(Simple::NULL), zones @ ..] => self.with_zone(alloc, address, zones),
+        match members.second {
+            Some(Atom::Integer(len)) => self.with_length(alloc, address, len, members.third),
+            Some(Atom::Simple(Simple::NULL)) => self.with_zone(alloc, address, members.third),
             _ => invalid_address(alloc),
         }
     }
@@ -188,14 +184,15 @@ impl Family {
         self,
         alloc: Global,
         address: String,
-        zones: &[DataItem],
+        zone: Option<Atom<'_>>,
     ) -> Result<String, AllocError>
         ensures { (bytes : List ℕ)
             → string_bytes address ≡ spec.address_text (family_view self) bytes
             → IfOk result (λ note. string_bytes note
-            ≡ spec.with_zone (family_view self) bytes (spec.zone_at (items_view zones.now))) }
+            ≡ spec.with_zone (family_view self) bytes
+            (spec.zone_at (then_view zone.entry no_items))) }
     {
-        let Zone::Text(zone) = zone_at(alloc, zones)? else {
+        let Zone::Text(zone) = zone_at(alloc, zone)? else {
             return invalid_address(alloc);
         };
         let mut text = address;
@@ -209,15 +206,16 @@ impl Family {
         alloc: Global,
         address: String,
         len: u64,
-        zones: &[DataItem],
+        zone: Option<Atom<'_>>,
     ) -> Result<String, AllocError>
         ensures { (bytes : List ℕ)
             → string_bytes address ≡ spec.address_text (family_view self) bytes
             → IfOk result (λ note. string_bytes note
-            ≡ spec.with_length (family_view self) bytes len (spec.zone_at (items_view zones.now))) }
+            ≡ spec.with_length (family_view self) bytes len
+            (spec.zone_at (then_view zone.entry no_items))) }
     {
         let mut text = address;
-        match zone_at(alloc, zones)? {
+        match zone_at(alloc, zone)? {
             Zone::Absent => {
                 push_length(&mut text, len)?;
                 self.shown(alloc, "address-and-prefix", &text)
@@ -256,24 +254,25 @@ fn push_zone(text: &mut String, zone: &str) -> Result<(), AllocError>
     text.push_str(zone)
 }
 
-/// The zone at the front, by its number or name.
-fn zone_at(alloc: Global, zones: &[DataItem]) -> Result<Zone, AllocError>
-    ensures { IfOk result (λ zone. zone_view zone ≡ spec.zone_at (items_view zones.now)) }
+/// What is in the place of a zone, which has a number or a name.
+fn zone_at(alloc: Global, zone: Option<Atom<'_>>) -> Result<Zone, AllocError>
+    ensures { IfOk result (λ found. zone_view found
+        ≡ spec.zone_at (then_view zone.entry no_items)) }
 {
-    match zones {
-        [] => Ok(Zone::Absent),
-        [DataItem::Integer { value, .. }, ..] => Ok(Zone::Text(value.to_string(alloc)?)),
-        [DataItem::TextString(name), ..] => Ok(Zone::Text(escaped_text(alloc, &name.content)?)),
-        _ => Ok(Zone::Invalid),
+    match zone {
+        None => Ok(Zone::Absent),
+        Some(Atom::Integer(number)) => Ok(Zone::Text(number.to_string(alloc)?)),
+        Some(Atom::Text(name)) => Ok(Zone::Text(escaped_text(alloc, name)?)),
+        Some(_) => Ok(Zone::Invalid),
     }
 }
 
 /// What is said of the value of tag 260: an address; its length says of which kind.
-pub(super) fn network_note(alloc: Global, value: &DataItem) -> Result<String, AllocError>
-    ensures { IfOk result (λ note. string_bytes note ≡ spec.network_note (view value.now)) }
+pub(super) fn network_note(alloc: Global, value: Value<'_>) -> Result<String, AllocError>
+    ensures { IfOk result (λ note. string_bytes note ≡ spec.network_note (value_view value.entry)) }
 {
     match value {
-        DataItem::ByteString(bytes) => network_address(alloc, &bytes.content),
+        Value::Atom(Atom::Bytes(bytes)) => network_address(alloc, bytes),
         _ => invalid_address(alloc),
     }
 }

@@ -2,33 +2,35 @@
 ghost use Rattle.std.specs.Prelude.{◌≡◌, codes, option_map, IfOk};
 ghost use Rattle.std.specs.String.{string_bytes};
 ghost use Rattle.cbor_notes.specs.Date as dates;
-ghost use Rattle.cbor_diag.specs.View.{view};
 ghost use Rattle.cbor_diag.specs.Notes as spec;
+ghost use Rattle.cbor_diag.specs.mirror.NotesView.{value_view};
 
 use super::in_brackets;
-use crate::syntax::DataItem;
+use super::value::{Atom, Value};
 use cbor_notes::{date_of_epoch, datetime_of_epoch, epoch_of_date, epoch_of_datetime};
 use std::alloc::{AllocError, Global};
 
 /// What is said of a date and time as text: the number of seconds from 1970 to it.
-pub(super) fn datetime_note(alloc: Global, value: &DataItem) -> Result<String, AllocError>
-    ensures { IfOk result (λ note. string_bytes note ≡ spec.datetime_note (view value.now)) }
+pub(super) fn datetime_note(alloc: Global, value: Value<'_>) -> Result<String, AllocError>
+    ensures { IfOk result (λ note. string_bytes note
+        ≡ spec.datetime_note (value_view value.entry)) }
 {
-    let DataItem::TextString(text) = value else {
+    let Value::Atom(Atom::Text(text)) = value else {
         return String::from_str(alloc, "invalid type for datetime");
     };
-    let seconds = epoch_of_datetime(alloc, &text.content)?;
+    let seconds = epoch_of_datetime(alloc, text)?;
     word_or(alloc, "epoch", "error parsing datetime", seconds)
 }
 
 /// What is said of seconds since 1970: their date and time.
-pub(super) fn epoch_datetime_note(alloc: Global, value: &DataItem) -> Result<String, AllocError>
-    ensures { IfOk result (λ note. string_bytes note ≡ spec.epoch_datetime_note (view value.now)) }
+pub(super) fn epoch_datetime_note(alloc: Global, value: Value<'_>) -> Result<String, AllocError>
+    ensures { IfOk result (λ note. string_bytes note
+        ≡ spec.epoch_datetime_note (value_view value.entry)) }
 {
     match value {
-        DataItem::Integer { value, .. } => moment_note(alloc, i128::from(*value)),
-        DataItem::Negative { value, .. } => moment_note(alloc, -1 - i128::from(*value)),
-        DataItem::Float { .. } => {
+        Value::Atom(Atom::Integer(value)) => moment_note(alloc, i128::from(value)),
+        Value::Atom(Atom::Negative(value)) => moment_note(alloc, -1 - i128::from(value)),
+        Value::Atom(Atom::Float) => {
             String::from_str(alloc, "epoch datetime of a float is not computed")
         }
         _ => String::from_str(alloc, "invalid type for epoch datetime"),
@@ -36,24 +38,25 @@ pub(super) fn epoch_datetime_note(alloc: Global, value: &DataItem) -> Result<Str
 }
 
 /// What is said of days since 1970-01-01: their date.
-pub(super) fn epoch_date_note(alloc: Global, value: &DataItem) -> Result<String, AllocError>
-    ensures { IfOk result (λ note. string_bytes note ≡ spec.epoch_date_note (view value.now)) }
+pub(super) fn epoch_date_note(alloc: Global, value: Value<'_>) -> Result<String, AllocError>
+    ensures { IfOk result (λ note. string_bytes note
+        ≡ spec.epoch_date_note (value_view value.entry)) }
 {
     match value {
-        DataItem::Integer { value, .. } => day_note(alloc, i128::from(*value)),
-        DataItem::Negative { value, .. } => day_note(alloc, -1 - i128::from(*value)),
+        Value::Atom(Atom::Integer(value)) => day_note(alloc, i128::from(value)),
+        Value::Atom(Atom::Negative(value)) => day_note(alloc, -1 - i128::from(value)),
         _ => String::from_str(alloc, "invalid type for epoch date"),
     }
 }
 
 /// What is said of a date as text: the number of days from 1970-01-01 to it.
-pub(super) fn date_note(alloc: Global, value: &DataItem) -> Result<String, AllocError>
-    ensures { IfOk result (λ note. string_bytes note ≡ spec.date_note (view value.now)) }
+pub(super) fn date_note(alloc: Global, value: Value<'_>) -> Result<String, AllocError>
+    ensures { IfOk result (λ note. string_bytes note ≡ spec.date_note (value_view value.entry)) }
 {
-    let DataItem::TextString(text) = value else {
+    let Value::Atom(Atom::Text(text)) = value else {
         return String::from_str(alloc, "invalid type for date");
     };
-    let days = epoch_of_date(alloc, &text.content)?;
+    let days = epoch_of_date(alloc, text)?;
     word_or(alloc, "epoch", "error parsing date", days)
 }
 

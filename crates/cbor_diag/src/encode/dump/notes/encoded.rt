@@ -1,23 +1,22 @@
 //! Texts and bytes that encode something: URLs, base 64 and UUIDs.
 ghost use Rattle.std.specs.Prelude.{◌≡◌, ◌++◌, IfOk};
 ghost use Rattle.std.specs.String.{string_bytes};
-ghost use Rattle.cbor_diag.specs.View.{view};
 ghost use Rattle.cbor_diag.specs.Notes as spec;
-ghost use Rattle.cbor_diag.specs.mirror.NotesView.{note_view};
+ghost use Rattle.cbor_diag.specs.mirror.NotesView.{note_view, value_view};
 
 use super::Note;
-use crate::syntax::DataItem;
+use super::value::{Atom, Value};
 use cbor_notes::{base64_lines, url_verdict, uuid_lines};
 use std::alloc::{AllocError, Global};
 
 /// What is said of a URI: whether it is a URL.
-pub(super) fn url_note(alloc: Global, value: &DataItem) -> Result<String, AllocError>
-    ensures { IfOk result (λ note. string_bytes note ≡ spec.url_note (view value.now)) }
+pub(super) fn url_note(alloc: Global, value: Value<'_>) -> Result<String, AllocError>
+    ensures { IfOk result (λ note. string_bytes note ≡ spec.url_note (value_view value.entry)) }
 {
-    let DataItem::TextString(text) = value else {
+    let Value::Atom(Atom::Text(text)) = value else {
         return String::from_str(alloc, "invalid type for uri");
     };
-    let verdict = if url_verdict(alloc, &text.content)? {
+    let verdict = if url_verdict(alloc, text)? {
         "valid"
     } else {
         "invalid"
@@ -29,15 +28,15 @@ pub(super) fn url_note(alloc: Global, value: &DataItem) -> Result<String, AllocE
 
 /// What is said of a text in base 64, in the alphabet that is safe in URLs if `url` is set: what it
 /// encodes.
-pub(super) fn base64_note(alloc: Global, url: bool, value: &DataItem) -> Result<Note, AllocError>
-    ensures { IfOk result (λ note. note_view note ≡ spec.base64_note url (view value.now)) }
+pub(super) fn base64_note(alloc: Global, url: bool, value: Value<'_>) -> Result<Note, AllocError>
+    ensures { IfOk result (λ note. note_view note ≡ spec.base64_note url (value_view value.entry)) }
 {
     let name = base64_name(url);
-    let DataItem::TextString(text) = value else {
+    let Value::Atom(Atom::Text(text)) = value else {
         let text = joined(alloc, "invalid type for ", name)?;
         return Ok(Note::plain(alloc, text));
     };
-    match base64_lines(alloc, &text.content, url)? {
+    match base64_lines(alloc, text, url)? {
         Some(lines) => Ok(Note {
             text: joined(alloc, name, " decoded")?,
             below: lines,
@@ -61,13 +60,13 @@ fn joined(alloc: Global, front: &str, back: &str) -> Result<String, AllocError>
 }
 
 /// What is said of a UUID: its fields, and below them its bytes in other bases.
-pub(super) fn uuid_note(alloc: Global, value: &DataItem) -> Result<Note, AllocError>
-    ensures { IfOk result (λ note. note_view note ≡ spec.uuid_note (view value.now)) }
+pub(super) fn uuid_note(alloc: Global, value: Value<'_>) -> Result<Note, AllocError>
+    ensures { IfOk result (λ note. note_view note ≡ spec.uuid_note (value_view value.entry)) }
 {
-    let DataItem::ByteString(bytes) = value else {
+    let Value::Atom(Atom::Bytes(bytes)) = value else {
         return Note::words(alloc, "invalid type for uuid");
     };
-    match bytes.content.as_array() {
+    match bytes.as_array() {
         Some(octets) => {
             let mut below = uuid_lines(alloc, octets)?;
             let text = below.remove(0);

@@ -1,11 +1,11 @@
 //! Values that are shared, and references to them (the IANA registry of CBOR tags).
 ghost use Rattle.std.specs.Prelude.{◌≡◌, IfOk};
 ghost use Rattle.std.specs.String.{string_bytes};
-ghost use Rattle.cbor_diag.specs.View.{view};
 ghost use Rattle.cbor_diag.specs.Notes as spec;
+ghost use Rattle.cbor_diag.specs.mirror.NotesView.{value_view};
 
 use super::in_brackets;
-use crate::syntax::DataItem;
+use super::value::{Atom, Value};
 use cbor_notes::grouped;
 use std::alloc::{AllocError, Global};
 
@@ -21,16 +21,17 @@ pub(super) fn shareable_note(alloc: Global, number: u64) -> Result<String, Alloc
 pub(super) fn reference_note(
     alloc: Global,
     known: u64,
-    value: &DataItem,
+    value: Value<'_>,
 ) -> Result<String, AllocError>
-    ensures { IfOk result (λ note. string_bytes note ≡ spec.reference_note known (view value.now)) }
+    ensures { IfOk result (λ note. string_bytes note
+        ≡ spec.reference_note known (value_view value.entry)) }
 {
-    let DataItem::Integer { value: number, .. } = value else {
+    let Value::Atom(Atom::Integer(number)) = value else {
         return String::from_str(alloc, "invalid type for shared ref");
     };
-    let digits = grouped(alloc, u128::from(*number), false)?;
+    let digits = grouped(alloc, u128::from(number), false)?;
     let mut note = in_brackets(alloc, "reference-to", &digits)?;
-    let unknown = if *number < known {
+    let unknown = if number < known {
         ""
     } else {
         ", not previously shared"

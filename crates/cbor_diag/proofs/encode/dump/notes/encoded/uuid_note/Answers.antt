@@ -1,8 +1,7 @@
-use Rattle.std.proofs.Common.{ap, sym, ◌∙◌, arith}
+use Rattle.std.proofs.Common.{refl, ap, sym, ◌∙◌, arith}
 use Rattle.std.specs.String.{string_bytes}
-use Rattle.cbor_diag.specs.View.{view, byte_chunk}
+use Rattle.cbor_diag.specs.mirror.NotesView.{atom_view, unstated, value_view}
 use Rattle.cbor_diag.proofs.dump.NoteTexts.{fields_are, first_some, uuid_is}
-use Rattle.cbor_diag.proofs.shared.Views.{view-ByteString}
 use Rattle.cbor_diag.proofs.encode.dump.notes.encoded.uuid_note.Goals as goal
 
 pub remove-text-requires : goal.remove-text-requires
@@ -13,9 +12,10 @@ remove-text-requires c =
 
 pub returns-in_ok-below-in-Some : goal.returns-in_ok-below-in-Some
 returns-in_ok-below-in-Some c =
-    let seen = ap view c.in-ByteString.is ∙ view-ByteString c.in-ByteString.bytes in
-    let uuid = uuid_is (view c.args.value.now) (byte_chunk c.in-ByteString.bytes) c.deref.result.now
-    c.in-Some.octets.now seen c.deref.ensures.value c.in-Some.ensures.cases in
+    let bytes = c.in-Atom-Bytes.bytes.now in
+    let seen = ap value_view c.in-Atom-Bytes.is ∙ ap atom_view (rw c.in-Atom-Bytes.is at c.in-Atom-Bytes.field-0-is) in
+    let uuid = uuid_is (value_view c.args.value) (unstated bytes) bytes c.in-Some.octets.now seen refl
+    c.in-Some.ensures.cases in
     fields_are string_bytes c.in_ok-below-in-Some.below.items c.in-Some.octets.now c.remove-text.result
     c.remove-text.new.self.items c.in_ok-below-in-Some.ensures.texts c.remove-text.ensures.value
     c.remove-text.ensures.items
