@@ -1,14 +1,13 @@
 -- Reading as in `specs/Reading.antt` over a stack of open containers, as the code of `parse/binary.rt` goes: what is
 -- open is what is left to do with the next item. No public clause names it.
-use Rattle.std.specs.Prelude.{◌≡◌, ℕ, zero, suc, ◌-◌, ◌≤◌, List, [], ◌∷◌, ◌++◌, length, Option, Some, None, Result}
-use Rattle.std.specs.Prelude.{Ok, Err}
+use Rattle.std.specs.Prelude.{◌≡◌, ℕ, zero, suc, ◌-◌, ◌≤◌, List, [], ◌∷◌, length, Option, Some, None, Result, Ok, Err}
 use Rattle.cbor_diag.specs.declared.error.Error.{Error}
 use Rattle.cbor_diag.specs.declared.error.Error.TheVariants as refusal
 use Rattle.cbor_diag.specs.Item.{Item}
 use Rattle.cbor_diag.specs.ItemHead as item_head
 use Rattle.cbor_diag.specs.ItemHead.{ItemHead}
-use Rattle.cbor_diag.specs.Reading.{Read, Counted, later, ◌>>-◌, Frame, put, read_head, read_parts, no_level_left}
-use Rattle.cbor_diag.specs.Reading.{counted_item}
+use Rattle.cbor_diag.specs.Reading.{Read, Counted, later, ◌>>-◌, Frame, put, after_end, closed, read_head, read_parts}
+use Rattle.cbor_diag.specs.Reading.{no_level_left, counted_item}
 
 -- Counted reading stops with this error after this number of turns. Where memory ran out, these are at most the
 -- turns that it takes in all.
@@ -35,36 +34,36 @@ abbrev pub read_item_head : ℕ → List ℕ → Read ItemHead
 read_item_head zero b = Err (no_level_left b)
 read_item_head (suc left) b = read_head b
 
--- The containers that are open, the outermost first, given what the item in the innermost is; the levels are
--- those that are left for the parts of the outermost.
-unfoldable pub closing : ℕ → List Frame → Counted Item → Counted Item
-closing left [] c = c
-closing left (f ∷ fs) c = closing (left - 1) fs c >>- λ i. read_parts (counted_item left) (put f i.0) i.1
+-- ---- the containers that are open, the innermost first
 
--- ---- a stack of open containers
+-- the bytes after the innermost, if it ends here
+abbrev pub after_innermost : List Frame → List ℕ → Option (List ℕ)
+after_innermost [] b = None
+after_innermost (f ∷ fs) b = after_end f b
 
--- the containers round the one that is opened next
-abbrev pub pushed : List Frame → Option Frame → List Frame
-pushed outer None = outer
-pushed outer (Some f) = outer ++ f ∷ []
+-- the item that the innermost is where it ends
+abbrev pub closed_innermost : List Frame → Option Item
+closed_innermost [] = None
+closed_innermost (f ∷ fs) = closed f
 
--- how many containers are open, of which none is left out
-abbrev pub depth_of : List Frame → Option Frame → ℕ
-depth_of outer None = 0
-depth_of outer (Some f) = suc (length outer)
+-- what becomes of a whole item: a part of the innermost, or, where none is open, the outermost item
+abbrev pub put_innermost : List Frame → Item → List Frame × Option Item
+put_innermost [] i = ([], Some i)
+put_innermost (f ∷ fs) i = (put f i ∷ fs, None)
 
-abbrev pub IsStack : List Frame → Option Frame → Type 0
-IsStack outer None = outer ≡ []
-IsStack outer (Some f) = Unit {0}
+-- What the outermost item is, where this is the next part of the innermost container, or, where none is open, the
+-- outermost item; the levels are those that are left for the outermost item.
+unfoldable pub deliver : ℕ → List Frame → Counted Item → Counted Item
+deliver left [] c = c
+deliver left (f ∷ fs) c =
+    deliver left fs (c >>- λ i. read_parts (counted_item (left - length (f ∷ fs))) (put f i.0) i.1)
 
--- what the outermost item is, where these containers are open and these bytes are left; the levels are
--- those that are left for the outermost item
-abbrev pub resume : ℕ → List Frame → Option Frame → List ℕ → Counted Item
-resume left outer None b = counted_item left b
-resume left outer (Some f) b = closing (left - 1) outer (read_parts (counted_item (left - 1 - length outer)) f b)
+-- the same, where these bytes are left
+abbrev pub resume : ℕ → List Frame → List ℕ → Counted Item
+resume left [] b = counted_item left b
+resume left (f ∷ fs) b = deliver left fs (read_parts (counted_item (left - length (f ∷ fs))) f b)
 
--- the same, where the next part of the innermost, or the outermost item, is this
-abbrev pub deliver : ℕ → List Frame → Option Frame → Counted Item → Counted Item
-deliver left outer None c = c
-deliver left outer (Some f) c =
-    closing (left - 1) outer (c >>- λ i. read_parts (counted_item (left - 1 - length outer)) (put f i.0) i.1)
+-- the same, where this item is whole before those bytes, if one is
+abbrev pub resume_with : ℕ → List Frame → Option Item → List ℕ → Counted Item
+resume_with left fs None b = resume left fs b
+resume_with left fs (Some i) b = deliver left fs (0, Ok (i, b))

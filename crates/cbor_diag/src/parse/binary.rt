@@ -26,10 +26,10 @@ ghost use Rattle.cbor_diag.specs.Turns.{item_turns, cut_spent, fault_spent};
 ghost use Rattle.cbor_diag.specs.Facts.{IsItem, IsStrictItem, BeginsWithItem, IsCut, HasFault};
 ghost use Rattle.cbor_diag.specs.Facts.{IsNoItem, BeginsSo, BeginsInOneWay, IsWellFormed};
 ghost use Rattle.cbor_diag.specs.Reading.{Gives, later, no_level_left, read_atom, counted_item};
-ghost use Rattle.cbor_diag.specs.mirror.Counting.{HoldsContent, Runs, Stops, IsStack};
-ghost use Rattle.cbor_diag.specs.mirror.Counting.{read_item_head};
+ghost use Rattle.cbor_diag.specs.mirror.Counting.{HoldsContent, Runs, Stops, read_item_head};
+ghost use Rattle.cbor_diag.specs.mirror.Counting.{resume, resume_with};
 ghost use Rattle.cbor_diag.specs.mirror.HeadView.{head_view};
-ghost use Rattle.cbor_diag.specs.mirror.Stack.{outer_of, top_of, depth, resumed, resumed_with};
+ghost use Rattle.cbor_diag.specs.mirror.Stack.{frames};
 
 use crate::error::{Error, Result};
 use crate::parse::turns::Turns;
@@ -126,24 +126,22 @@ fn turn<'a>(
     level: u8,
     turns: &mut Turns,
 ) -> Result<(Option<DataItem>, &'a [u8])>
-    requires level { level + depth stack.old ≤ deepest + 1 }
-    requires bottom { IsStack (outer_of stack.old) (top_of stack.old) }
+    requires level { level + length stack.old ≤ deepest + 1 }
     requires bounded { turns.old + 2 * length bytes.now < 2 ^ 126 }
     ensures gives { IfOk result (λ x.
-        later turns.old (resumed (levels_left level) stack.old bytes.now) ≡ later turns.new
-        (resumed_with (levels_left level) stack.new (option_map view x.0) x.1.now)) }
+        later turns.old (resume (levels_left level) (frames stack.old) bytes.now) ≡ later turns.new
+        (resume_with (levels_left level) (frames stack.new) (option_map view x.0) x.1.now)) }
     ensures stops { IfErr result (λ e. Stops e turns.new
-        (later turns.old (resumed (levels_left level) stack.old bytes.now))) }
-    ensures level { IfOk result (λ x. level + depth stack.new ≤ deepest + 1) }
-    ensures bottom { IfOk result (λ x. IsStack (outer_of stack.new) (top_of stack.new)) }
-    ensures falls { IfOk result (λ x. turns.new + 2 * length x.1.now + depth stack.new
-        ≤ turns.old + 2 * length bytes.now + depth stack.old) }
+        (later turns.old (resume (levels_left level) (frames stack.old) bytes.now))) }
+    ensures level { IfOk result (λ x. level + length stack.new ≤ deepest + 1) }
+    ensures falls { IfOk result (λ x. turns.new + 2 * length x.1.now + length stack.new
+        ≤ turns.old + 2 * length bytes.now + length stack.old) }
     ensures few { turns.new ≤ turns.old + 2 * length bytes.now + 1 }
     ensures rises { turns.old < turns.new }
-    ensures memory { result ≡ Err Error.Memory → depth stack.old ≡ 0 → MayWantMemory bytes.now }
+    ensures memory { result ≡ Err Error.Memory → length stack.old ≡ 0 → MayWantMemory bytes.now }
     ensures opens { IfOk result
-        (λ x. 0 < depth stack.new → depth stack.old ≡ 0 → MayWantMemory bytes.now) }
-    ensures held { IfOk result (λ x. x.0 ≡ None → 0 < depth stack.new) }
+        (λ x. 0 < length stack.new → length stack.old ≡ 0 → MayWantMemory bytes.now) }
+    ensures held { IfOk result (λ x. x.0 ≡ None → 0 < length stack.new) }
 {
     turns.rise();
     if let Some(rest) = stack.after_end(bytes) {
