@@ -14,7 +14,6 @@ pub mod AtLevel
 pub mod Dumped
 pub mod Widths
 pub mod ShownLines
-pub mod HeadErrors
 pub mod HeadView
 pub mod EncodingView
 pub mod LayoutView

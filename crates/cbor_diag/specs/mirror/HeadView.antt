@@ -1,5 +1,6 @@
--- What the code's own types of heads are.
-use Rattle.std.specs.Prelude.{ℕ, Option, Some, None}
+-- What the code's own types of heads are, and what its functions find.
+use Rattle.std.specs.Prelude.{◌≡◌, ℕ, Option, Some, None, Result, Ok, Err}
+use Rattle.cbor_diag.specs.declared.error.Error.{Error}
 use Rattle.cbor_diag.specs.declared.parse.binary.argument.Argument as code_argument
 use Rattle.cbor_diag.specs.declared.parse.binary.argument.Argument.TheVariants.{Number, Indefinite}
 use Rattle.cbor_diag.specs.declared.parse.binary.head.ItemHead as code_head
@@ -26,3 +27,8 @@ head_view (code.Map a) = map (argument_view a)
 head_view (code.Tag n w) = tag n w
 head_view (code.Float bits w) = float bits w
 head_view (code.Simple n) = simple n
+
+-- What a function that takes no memory returned, seen by view, is what reading gives.
+abbrev pub Finds : {X Y : Type 0} → (X → Y) → Result X Error → Result Y Error → Type 0
+Finds view (Ok x) read = read ≡ Ok (view x)
+Finds view (Err e) read = read ≡ Err e

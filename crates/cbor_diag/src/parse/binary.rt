@@ -71,7 +71,7 @@ fn read_item_head(bytes: &[u8], level: usize) -> Result<(ItemHead, &[u8])>
     if level > usize::from(DEEPEST) {
         return Err(no_level_left(bytes));
     }
-    Ok(read_head(bytes)?)
+    read_head(bytes)
 }
 
 /// The item without parts after its head. The heads of containers are handled by `Frame::new`

@@ -1,40 +1,17 @@
 //! Heads (RFC 7049 section 2): the first byte of an item, and the number that goes with it.
-ghost use Rattle.std.specs.Prelude.{◌≡◌, ◌<◌, ◌≤◌, length, IfOk};
+ghost use Rattle.std.specs.Prelude.{◌≡◌, ◌≢◌, ◌<◌, ◌≤◌, length, IfOk, IfErr};
 ghost use Rattle.std.specs.Int.{w8, w16, w32, w64};
 ghost use Rattle.cbor_diag.specs.Head.{FitsStated};
 ghost use Rattle.cbor_diag.specs.mirror.MajorNumber.{major_number};
-ghost use Rattle.cbor_diag.specs.mirror.HeadErrors.{Finds, head_error};
-ghost use Rattle.cbor_diag.specs.mirror.HeadView.{argument_view, head_view};
+ghost use Rattle.cbor_diag.specs.mirror.HeadView.{argument_view, head_view, Finds};
 ghost use Rattle.cbor_diag.specs.Reading.{FitsArgument, read_number, read_argument};
 ghost use Rattle.cbor_diag.specs.Reading.{simple_or_float, head_of, read_head};
 
 use super::argument::Argument;
-use crate::error::Error;
+use crate::error::{Error, Result};
 use crate::syntax::major::Major;
 use crate::syntax::strings::StringKind;
 use crate::syntax::{FloatWidth, IntegerWidth};
-
-/// Why a head is not read.
-#[derive(Clone, Copy)]
-pub(crate) enum HeadError {
-    /// The bytes end before the head does.
-    CutShort,
-    /// No item has this head.
-    Head,
-}
-
-type Result<T> = std::result::Result<T, HeadError>;
-
-impl From<HeadError> for Error {
-    ghost from_gives = { λ why e. e ≡ head_error why };
-
-    fn from(why: HeadError) -> Error {
-        match why {
-            HeadError::CutShort => Error::CutShort,
-            HeadError::Head => Error::Head,
-        }
-    }
-}
 
 /// What a head opens.
 #[derive(Clone, Copy)]
@@ -54,18 +31,20 @@ pub(crate) enum ItemHead {
 
 fn read_u8(bytes: &[u8]) -> Result<(u8, &[u8])>
     ensures gives { Finds (λ x. (x.0, x.1.now)) result (read_number w8 bytes.now) }
+    ensures refused { IfErr result (λ e. e ≢ Error.Memory) }
 {
     match bytes {
-        [] => Err(HeadError::CutShort),
+        [] => Err(Error::CutShort),
         [byte, rest @ ..] => Ok((*byte, rest)),
     }
 }
 
 fn read_u16(bytes: &[u8]) -> Result<(u16, &[u8])>
     ensures gives { Finds (λ x. (x.0, x.1.now)) result (read_number w16 bytes.now) }
+    ensures refused { IfErr result (λ e. e ≢ Error.Memory) }
 {
     if bytes.len() < 2 {
-        return Err(HeadError::CutShort);
+        return Err(Error::CutShort);
     }
     let (front, rest) = bytes.split_at(2);
     Ok((u16::from_be_bytes([front[0], front[1]]), rest))
@@ -73,9 +52,10 @@ fn read_u16(bytes: &[u8]) -> Result<(u16, &[u8])>
 
 fn read_u32(bytes: &[u8]) -> Result<(u32, &[u8])>
     ensures gives { Finds (λ x. (x.0, x.1.now)) result (read_number w32 bytes.now) }
+    ensures refused { IfErr result (λ e. e ≢ Error.Memory) }
 {
     if bytes.len() < 4 {
-        return Err(HeadError::CutShort);
+        return Err(Error::CutShort);
     }
     let (front, rest) = bytes.split_at(4);
     let number = u32::from_be_bytes([front[0], front[1], front[2], front[3]]);
@@ -84,9 +64,10 @@ fn read_u32(bytes: &[u8]) -> Result<(u32, &[u8])>
 
 fn read_u64(bytes: &[u8]) -> Result<(u64, &[u8])>
     ensures gives { Finds (λ x. (x.0, x.1.now)) result (read_number w64 bytes.now) }
+    ensures refused { IfErr result (λ e. e ≢ Error.Memory) }
 {
     if bytes.len() < 8 {
-        return Err(HeadError::CutShort);
+        return Err(Error::CutShort);
     }
     let (front, rest) = bytes.split_at(8);
     let number = u64::from_be_bytes([
@@ -101,6 +82,7 @@ pub(super) fn read_argument(info: u8, bytes: &[u8]) -> Result<(Argument, &[u8])>
     requires { info < 32 }
     ensures gives { Finds (λ x. (argument_view x.0, x.1.now)) result
         (read_argument info bytes.now) }
+    ensures refused { IfErr result (λ e. e ≢ Error.Memory) }
     ensures fits { IfOk result (λ x. FitsArgument (argument_view x.0)) }
     ensures shorter { IfOk result (λ x. length x.1.now ≤ length bytes.now) }
 {
@@ -122,7 +104,7 @@ pub(super) fn read_argument(info: u8, bytes: &[u8]) -> Result<(Argument, &[u8])>
             let (number, rest) = read_u64(bytes)?;
             (number, IntegerWidth::SixtyFour, rest)
         }
-        28..=30 => return Err(HeadError::Head),
+        28..=30 => return Err(Error::Head),
         31 => return Ok((Argument::Indefinite, bytes)),
         _ => unreachable!(),
     };
@@ -149,7 +131,9 @@ impl ItemHead {
     #[tactic(auto, unfolding(crate::specs::Reading::head_of))]
     fn new(major: Major, argument: Argument) -> Result<ItemHead>
         requires { FitsArgument (argument_view argument) }
-        ensures { Finds head_view result (head_of (major_number major) (argument_view argument)) }
+        ensures gives { Finds head_view result
+            (head_of (major_number major) (argument_view argument)) }
+        ensures refused { IfErr result (λ e. e ≢ Error.Memory) }
     {
         let head = match (major, argument) {
             (Major::Bytes, length) => ItemHead::String(StringKind::Bytes, length),
@@ -162,7 +146,7 @@ impl ItemHead {
             (Major::Special, Argument::Number(number, width)) => {
                 ItemHead::simple_or_float(number, width)
             }
-            (_, Argument::Indefinite) => return Err(HeadError::Head),
+            (_, Argument::Indefinite) => return Err(Error::Head),
         };
         Ok(head)
     }
@@ -173,10 +157,11 @@ impl ItemHead {
 #[tactic(auto, unfolding(crate::specs::Reading::read_head))]
 pub(crate) fn read_head(bytes: &[u8]) -> Result<(ItemHead, &[u8])>
     ensures gives { Finds (λ x. (head_view x.0, x.1.now)) result (read_head bytes.now) }
+    ensures refused { IfErr result (λ e. e ≢ Error.Memory) }
     ensures shorter { IfOk result (λ x. length x.1.now < length bytes.now) }
 {
     match bytes {
-        [] => Err(HeadError::CutShort),
+        [] => Err(Error::CutShort),
         [first, rest @ ..] => {
             let (argument, rest) = read_argument(*first % 32, rest)?;
             Ok((ItemHead::new(Major::of(*first), argument)?, rest))

@@ -21,7 +21,6 @@ ghost use Rattle.cbor_diag.specs.Item.{Item};
 ghost use Rattle.cbor_diag.specs.WellFormed.{deepest, levels_left};
 ghost use Rattle.cbor_diag.specs.Facts.{BeginsWithItem, IsCut, HasFault};
 ghost use Rattle.cbor_diag.specs.Extent.{IfItem, IfFault, FaultEnds, IsExtent};
-ghost use Rattle.cbor_diag.specs.mirror.HeadErrors.{head_error};
 ghost use Rattle.cbor_diag.specs.Reading.{opened, read_item};
 ghost use Rattle.cbor_diag.specs.ItemHead.{string};
 ghost use Rattle.cbor_diag.specs.mirror.HeadView.{argument_view, head_view};
@@ -32,7 +31,7 @@ ghost use Rattle.cbor_diag.specs.mirror.Skipping.{after_chunk_length};
 ghost use Rattle.cbor_diag.specs.mirror.Skipping.{skip_item, skip_body, begun};
 
 use super::argument::Argument;
-use super::head::{HeadError, ItemHead, read_argument, read_head};
+use super::head::{ItemHead, read_argument, read_head};
 use crate::error::Error;
 use crate::syntax::DEEPEST;
 use crate::syntax::strings::StringKind;
@@ -52,15 +51,12 @@ enum Stop {
 
 impl Stop {
     /// The reason for this error, with `after` bytes after those that have it.
-    fn new(why: HeadError, after: usize) -> Stop
-        ensures { result ≡ stop_of (head_error why) after }
+    fn new(error: Error, after: usize) -> Stop
+        ensures { result ≡ stop_of error after }
     {
-        match why {
-            HeadError::CutShort => Stop::Cut,
-            HeadError::Head => {
-                let error = Error::Head;
-                Stop::Fault { error, after }
-            }
+        match error {
+            Error::CutShort => Stop::Cut,
+            _ => Stop::Fault { error, after },
         }
     }
 }

@@ -2,7 +2,6 @@ use Rattle.std.proofs.Common.{refl, ap, arith}
 use Rattle.cbor_diag.specs.Estimate.{digit_count}
 use Rattle.cbor_diag.specs.Item.{atom, integer, negative, float, simple}
 use Rattle.cbor_diag.specs.ItemHead as item_head
-use Rattle.cbor_diag.specs.mirror.HeadErrors.{head_error}
 use Rattle.cbor_diag.specs.mirror.HeadView.{argument_view}
 use Rattle.cbor_diag.specs.mirror.StringView.{kind_view}
 use Rattle.cbor_diag.proofs.straight.Ahead.{no_item, headed, atom_found, container_found, tag_found}
@@ -14,7 +13,7 @@ use Rattle.cbor_diag.proofs.encode.notation.ahead.+ahead.Goals as goal
 
 pub item_ahead-returns-in_default-clause-leaves : goal.item_ahead-returns-in_default-clause-leaves
 item_ahead-returns-in_default-clause-leaves t c levels i rest e =
-    absurd (no_item levels c.args.bytes.now (head_error c.in_default.field-0) (i, rest) c.in_default.ensures.gives e)
+    absurd (no_item levels c.args.bytes.now c.in_default.field-0 (i, rest) c.in_default.ensures.gives e)
 
 pub item_ahead-returns-in-Integer-clause-leaves : goal.item_ahead-returns-in-Integer-clause-leaves
 item_ahead-returns-in-Integer-clause-leaves t c =

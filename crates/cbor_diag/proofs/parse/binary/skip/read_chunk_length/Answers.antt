@@ -6,7 +6,6 @@ use Rattle.cbor_diag.specs.Argument.{number}
 use Rattle.cbor_diag.specs.Head.{break_byte}
 use Rattle.cbor_diag.specs.StringKind.{StringKind, major_of}
 use Rattle.cbor_diag.specs.Reading.{◌>>=◌, read_argument}
-use Rattle.cbor_diag.specs.mirror.HeadErrors.{head_error}
 use Rattle.cbor_diag.specs.mirror.Skipping.{here, Goes, Shows, StopsSo, stop_of, skip_content, skip_chunks}
 use Rattle.cbor_diag.specs.mirror.StringView.{kind_view}
 use Rattle.cbor_diag.proofs.bytes.Heads.{IsBytes, IsBytes-rest}
@@ -81,7 +80,7 @@ returns-in-Err-clause-stops c =
     let kind = kind_view c.args.kind in
     let no_break : get_or b 0 0 ≢ break_byte = λ is. omega arith in
     let major : get_or b 0 0 / 32 ≡ major_of kind = omega arith in
-    let error = head_error c.in-Err.error in
+    let error = c.in-Err.error in
     rw c.new.ensures (at_first (λ (x : List ℕ). StopsSo (skip_chunks kind) x (stop_of error (length (behind_first b))))
     b c.in-len1-up.len_at_least (info_stops kind (get_or b 0 0) (behind_first b) error no_break major
     c.in-Err.ensures.gives))
@@ -89,7 +88,7 @@ returns-in-Err-clause-stops c =
 pub returns-in-Err-clause-few : goal.returns-in-Err-clause-few
 returns-in-Err-clause-few c = λ cut.
     let b = c.args.bytes.now in
-    let error = head_error c.in-Err.error in
+    let error = c.in-Err.error in
     let is = stop_few error (length (behind_first b)) (sym c.new.ensures ∙ cut) in
     let short = argument_few (get_or b 0 0 % 32) (behind_first b) (omega arith)
     (c.in-Err.ensures.gives ∙ ap (λ e. Err e) is) in

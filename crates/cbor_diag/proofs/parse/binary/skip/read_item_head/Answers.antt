@@ -1,7 +1,6 @@
 use Rattle.std.proofs.Common.{◌-◌, ℕ, List, get_or, length, Err, ap, sym, ◌∙◌, arith}
 use Rattle.cbor_diag.specs.declared.error.Error.TheVariants.{TooDeep}
 use Rattle.cbor_diag.specs.Reading.{read_head}
-use Rattle.cbor_diag.specs.mirror.HeadErrors.{head_error}
 use Rattle.cbor_diag.specs.mirror.HeadView.{head_view}
 use Rattle.cbor_diag.specs.mirror.Skipping.{Goes, Shows, StopsSo, stop_of, skip_item, skip_body}
 use Rattle.cbor_diag.proofs.skipping.Skips.{head_goes, head_stops, deep_shows, no_item, behind_first}
@@ -34,7 +33,7 @@ returns-in-Err-clause-stops c =
     let b = c.args.bytes.now in
     let some = c.in-len1-up.len_at_least in
     let fits = fits_first b some (λ i. omega (arith, c.type_inv.bytes i)) in
-    let error = head_error c.in-Err.error in
+    let error = c.in-Err.error in
     let is = ap read_head (sym (first_is b some)) ∙ c.in-Err.ensures.gives in
     rw c.new.ensures (at_first (λ (x : List ℕ). StopsSo (skip_item c.args.levels) x
     (stop_of error (length (behind_first b)))) b some
@@ -43,6 +42,6 @@ returns-in-Err-clause-stops c =
 pub returns-in-Err-clause-few : goal.returns-in-Err-clause-few
 returns-in-Err-clause-few c = λ cut.
     let b = c.args.bytes.now in
-    let error = head_error c.in-Err.error in
+    let error = c.in-Err.error in
     let is = stop_few error (length (behind_first b)) (sym c.new.ensures ∙ cut) in
     head_few b (λ i. omega (arith, c.type_inv.bytes i)) (c.in-Err.ensures.gives ∙ ap (λ e. Err e) is)
