@@ -7,6 +7,7 @@ pub mod Scanning
 pub mod Scanned
 pub mod NotationReading
 pub mod DeadEnds
+pub mod OpenTokens
 pub mod Appends
 pub mod Straight
 pub mod Ahead

@@ -35,9 +35,10 @@ use Rattle.cbor_diag.proofs.notation.GrownItems.{piece_closed, members_grown, fi
 use Rattle.cbor_diag.proofs.notation.sound.Steps.{a_test, after_byte_is}
 use Rattle.cbor_diag.proofs.notation.ItemsFound.{notation_again}
 use Rattle.cbor_diag.specs.WellFormed.{deepest}
-use Rattle.cbor_diag.specs.Notation.{Reads}
-use Rattle.cbor_diag.specs.DeadEnd.{IsDeadEnd, IsDiagFault}
-use Rattle.cbor_diag.specs.NotationRefused.{IsNoNotation}
+use Rattle.cbor_diag.specs.Notation.{IsNotation, Reads}
+use Rattle.cbor_diag.specs.DeadEnd.{IsCut, IsDeadEnd, IsDiagFault}
+use Rattle.cbor_diag.specs.NotationRefused.{IsAnswered, IsNoNotation}
+use Rattle.cbor_diag.proofs.notation.sound.Items.{notation_sound}
 
 -- no list ends here
 abbrev pub Open : ℕ → List ℕ → Type 0
@@ -50,12 +51,11 @@ member_grows (member.Chunk kind) left =
     chunk_grows (read_item left) (item_grows left) (item_begins left) (kind_view kind)
 
 module _ {X : Type 0} (read : List ℕ → Read X) (close : ℕ) where
-  pub list_begun : (text rest : List ℕ) → rest ≡ skip_blank text → is_firm rest ≡ true → Open close rest
+  pub list_begun : (text rest : List ℕ) → rest ≡ skip_blank text → ends_blank rest ≡ true → Open close rest
       → NeverMembers read close rest → NeverReads (read_members read close) text
   unfolding read_members
-  list_begun text rest is firm open_here never more =
-      let ends : ends_blank (skip_blank text) ≡ true = subst (λ (t : List ℕ). ends_blank t ≡ true) (passed_twice text)
-      (subst (λ (t : List ℕ). ends_blank (skip_blank t) ≡ true) is (firm_blank rest firm)) in
+  list_begun text rest is begun open_here never more =
+      let ends : ends_blank (skip_blank text) ≡ true = subst (λ (t : List ℕ). ends_blank t ≡ true) is begun in
       let blank : skip_blank (text ++ more) ≡ rest ++ more =
       blank_grown text more ends
       ∙ ap (λ (t : List ℕ). t ++ more) (sym is) in
@@ -169,7 +169,7 @@ module _ (left : ℕ) where
       (never (suc (length (b ∷ (text ++ more)))) more))
 
   pub string_content_dead : (kind : StringKind) (text content rest : List ℕ)
-      → read_content (read_item left) kind text ≡ Ok (content, rest) → is_firm rest ≡ true
+      → read_content (read_item left) kind text ≡ Ok (content, rest) → ends_blank (skip_blank rest) ≡ true
       → NotRead (checked kind content) → NeverReads (read_string (read_item left) kind) text
   unfolding read_string
   string_content_dead kind text content rest found firm not more =
@@ -335,7 +335,7 @@ pub pair_found : (left : ℕ) (text after next rest : List ℕ) (x y : Item) →
     → (z : Item × Item) × (read_pair (read_item left) text ≡ Ok (z, rest))
 pair_found left text after next rest x y key colon value = ((x, y), rw (key, colon, value) refl)
 
-content_found : (kind : StringKind) (content : List ℕ) → IsContent kind content
+pub content_found : (kind : StringKind) (content : List ℕ) → IsContent kind content
     → checked kind content ≡ Ok (record { bytes = content; width = Unknown })
 content_found bytes_kind content is = refl
 content_found text_kind content is = rw (utf8_passes content is) refl
@@ -368,5 +368,14 @@ fault_is text refusal.BadHex end is within dead = (is, within, dead)
 fault_is text refusal.Notation end is within dead = (is, within, dead)
 fault_is text refusal.PastWidth end is within dead = (is, within, dead)
 
-pub cut_is : (text : List ℕ) (e : Error) → IsNoNotation text e → IsDiagFault text refusal.CutShort (length text)
-cut_is text e is = (refl, is.none)
+pub cut_is : (text : List ℕ) (e : Error) → IsNoNotation text e → IsCut IsNotation text
+    → IsDiagFault text refusal.CutShort (length text)
+cut_is text e is cut = (refl, is.none, cut)
+
+-- what is no notation the reader refuses
+pub refused_by : (text : List ℕ) → ((i : Item) → ¬ (IsNotation text i)) → NotRead (notation_of deepest text)
+refused_by text none = by (notation_of deepest text) (notation_sound deepest text)
+  where
+    by : (r : Result Item Error) → IsAnswered deepest text r → NotRead r
+    by (Ok i) answered = none i answered
+    by (Err e) answered = tt

@@ -30,7 +30,7 @@ in_front : (front rest : List ℕ) → take (length (front ++ rest) - length res
 in_front front rest = take_at front rest (length (front ++ rest) - length rest)
     (omega (arith, length-append front rest))
 
-simple_digits : (ds rest : List ℕ) (n : ℕ) → AreDigits 10 ds n → n < 256
+pub simple_digits : (ds rest : List ℕ) (n : ℕ) → AreDigits 10 ds n → n < 256
     → read_simple (ds ++ 41 ∷ rest) ≡ Ok (atom (simple n), rest)
 simple_digits ds rest n are small =
     let tail : List ℕ = 41 ∷ rest in

@@ -26,12 +26,12 @@ use Rattle.cbor_diag.proofs.notation.sound.Words.{integer_sound, negative_sound,
 use Rattle.cbor_diag.proofs.notation.sound.Strings.{list_of-items_of}
 use Rattle.cbor_diag.proofs.notation.sound.Pieces.{StartIs, start_is, Trailed, string_sound, chunk_sound, blanked_more}
 
-pairs_list-pairs_of : (ps : List (Item × Item)) → pairs_list (pairs_of ps) ≡ ps
+pub pairs_list-pairs_of : (ps : List (Item × Item)) → pairs_list (pairs_of ps) ≡ ps
 pairs_list-pairs_of [] = refl
 pairs_list-pairs_of (p ∷ ps) = ap (λ (qs : List (Item × Item)). p ∷ qs) (pairs_list-pairs_of ps)
 
 -- a blank before members
-members_blank : {X : Type 0} (Member : List ℕ → X → Type 0) (close blank text : List ℕ) (xs : List X)
+pub members_blank : {X : Type 0} (Member : List ℕ → X → Type 0) (close blank text : List ℕ) (xs : List X)
     → ((before text : List ℕ) (x : X) → IsBlank before → Member text x → Member (before ++ text) x) → IsBlank blank
     → Members Member close text xs → Members Member close (blank ++ text) xs
 members_blank Member close blank text [] more is h = (
@@ -57,7 +57,7 @@ quote_closes : (end z : List ℕ) → Closes (41 ∷ []) end → end ≡ 34 ∷ 
 quote_closes end z (inl here) e = omega (arith, head_is 41 34 [] z (sym here ∙ e))
 quote_closes end z (inr last) e = omega (arith, head_is 44 34 (last.0 ++ 41 ∷ []) z (sym last.1 ∙ e))
 
-quote_blank : {blank : List ℕ} → Blank true blank → (end z : List ℕ) → Closes (41 ∷ []) end → blank ++ end ≡ 34 ∷ z → ⊥
+pub quote_blank : {blank : List ℕ} → Blank true blank → (end z : List ℕ) → Closes (41 ∷ []) end → blank ++ end ≡ 34 ∷ z → ⊥
 quote_blank nothing end z closes e = quote_closes end z closes e
 quote_blank (whitespace {byte = byte} {rest = rest} white more) end z closes e =
     at_whitespace (λ b. b ≡ 34 → ⊥) (λ is. omega arith) (λ is. omega arith) (λ is. omega arith) (λ is. omega arith) byte
@@ -102,7 +102,7 @@ module _ (left : ℕ) (R : List ℕ → Item → Type 0) (read : List ℕ → Re
   array_sound : (text : List ℕ) → Sound left (λ g i. Core R (91 ∷ g) i) text (read_array read text)
   array_sound text = array_made left text (after_byte 95 text) refl
 
-  pair_sound : (text : List ℕ) → Sound left (PairOf R) text (read_pair read text)
+  pub pair_sound : (text : List ℕ) → Sound left (PairOf R) text (read_pair read text)
   pair_sound text =
       sound_then left R (PairOf R) text (read text)
       (λ k. or_refused (after_byte 58 k.1) >>= λ rest. read rest >>= λ v. Ok ((k.0, v.0), v.1)) (sound text)
@@ -115,7 +115,7 @@ module _ (left : ℕ) (R : List ℕ → Item → Type 0) (read : List ℕ → Re
       (sound_map left R (λ g p. PairOf R (front ++ 58 ∷ g) p) inner (read inner) (λ v. (k, v)) (sound inner)
       (λ g v value. (front, g, refl, key, value)))))
 
-  pair_blank : (before text : List ℕ) (p : Item × Item) → IsBlank before → PairOf R text p → PairOf R (before ++ text) p
+  pub pair_blank : (before text : List ℕ) (p : Item × Item) → IsBlank before → PairOf R text p → PairOf R (before ++ text) p
   pair_blank before text p is h = (
     before ++ h.0,
     h.1,

@@ -72,13 +72,13 @@ FromFirst Member close text [] = ⊥
 FromFirst Member close text (x ∷ xs) = (first rest : List ℕ) × (text ≡ first ++ rest) × Member first x
     × Further Member close rest xs
 
-behind_comma : {X : Type 0} (Member : List ℕ → X → Type 0) (close rest : List ℕ) (xs : List X)
+pub behind_comma : {X : Type 0} (Member : List ℕ → X → Type 0) (close rest : List ℕ) (xs : List X)
     → FromFirst Member close rest xs → Further Member close (44 ∷ rest) xs
 behind_comma Member close rest [] h = absurd h
 behind_comma Member close rest (x ∷ xs) h = (h.0, h.1, ap (λ (z : List ℕ). 44 ∷ z) h.2, h.3, h.4)
 
 -- where a blank may be before a member, it may before the first
-blank_first : {X : Type 0} (Member : List ℕ → X → Type 0) (close blank rest : List ℕ) (xs : List X) → IsBlank blank
+pub blank_first : {X : Type 0} (Member : List ℕ → X → Type 0) (close blank rest : List ℕ) (xs : List X) → IsBlank blank
     → ((before text : List ℕ) (x : X) → IsBlank before → Member text x → Member (before ++ text) x)
     → FromFirst Member close rest xs → Members Member close (blank ++ rest) xs
 blank_first Member close blank rest [] is more h = absurd h

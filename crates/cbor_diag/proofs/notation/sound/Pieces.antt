@@ -72,7 +72,7 @@ module _ (left : ℕ) (R : List ℕ → Item → Type 0) (read : List ℕ → Re
     → Sound left R text (read text)) (blank_more : (before text : List ℕ) (i : Item) → IsBlank before → R text i
     → R (before ++ text) i) where
   -- after the first `<`
-  embedded_sound : (text : List ℕ) → Sound left (λ g bytes. Notation R (60 ∷ g) bytes) text (read_embedded read text)
+  pub embedded_sound : (text : List ℕ) → Sound left (λ g bytes. Notation R (60 ∷ g) bytes) text (read_embedded read text)
   embedded_sound text =
       sound_option left (λ g bytes. Notation R (60 ∷ g) bytes) text (after_byte 60 text)
       (λ first. read_members read 62 first >>= λ is. or_refused (after_byte 62 is.1)
@@ -98,7 +98,7 @@ module _ (left : ℕ) (R : List ℕ → Item → Type 0) (read : List ℕ → Re
       )))))
 
   -- a piece, which begins with the byte of its kind
-  abbrev PieceFrom : StringKind → ℕ → List ℕ → List ℕ → Type 0
+  abbrev pub PieceFrom : StringKind → ℕ → List ℕ → List ℕ → Type 0
   PieceFrom kind b g bytes = PieceOf kind R g bytes × (tail : List ℕ) × (g ≡ b ∷ tail)
 
   in_kind : (kind : StringKind) (g bytes : List ℕ) → Notation R g bytes → PieceOf kind R g bytes
@@ -110,7 +110,7 @@ module _ (left : ℕ) (R : List ℕ → Item → Type 0) (read : List ℕ → Re
   quoted_piece bytes_kind g bytes texts h = absurd cc
   quoted_piece text_kind g bytes texts h = inl h
 
-  piece_sound : (kind : StringKind) (b : ℕ) (text : List ℕ) (s : Start) → StartIs s b
+  pub piece_sound : (kind : StringKind) (b : ℕ) (text : List ℕ) (s : Start) → StartIs s b
       → begins_piece kind s ≡ true
       → Sound (suc left) (PieceFrom kind b) (b ∷ text) (piece_of read s text)
   piece_sound kind b text start.Quote is begins =

@@ -134,14 +134,14 @@ module _ {A B : Type 0} (size : ℕ → Option ℕ → Result A Error) (f : A �
 
 -- ---- integers and tags
 
-sized_ok : (n : ℕ) (indicator : Option ℕ) (x : ℕ × IntegerWidth) → with_width n indicator ≡ Ok x
+pub sized_ok : (n : ℕ) (indicator : Option ℕ) (x : ℕ × IntegerWidth) → with_width n indicator ≡ Ok x
     → (x.0 ≡ n) × HasWidth n indicator x.1
 sized_ok n indicator x e = subst (SizedSo n indicator) e (sized_is n indicator)
 
 sized_odd : (n : ℕ) (indicator : Option ℕ) (d : Error) → with_width n indicator ≡ Err d → OddNumber indicator d
 sized_odd n indicator d e = subst (SizedSo n indicator) e (sized_is n indicator)
 
-number_here : (front : List ℕ) (n : ℕ) (indicator : Option ℕ) (x : ℕ × IntegerWidth) → IsNumber front n indicator
+pub number_here : (front : List ℕ) (n : ℕ) (indicator : Option ℕ) (x : ℕ × IntegerWidth) → IsNumber front n indicator
     → (x.0 ≡ n) × HasWidth n indicator x.1 → NumberOf front x.0 x.1
 number_here front n indicator x number h = rw h.0 (indicator, number, h.1)
 

@@ -52,6 +52,7 @@ fn with_width(number: u128, indicator: Option<u8>) -> Result<(u64, IntegerWidth)
 pub(super) fn read_unsigned_number(text: &[u8]) -> Result<((u64, IntegerWidth), &[u8])>
     ensures gives { Gives (λ x. ((x.0.0, x.0.1), x.1.now)) result
         (read_unsigned_number text.now) }
+    ensures memory { result ≢ Err Error.Memory }
     ensures fits { IfOk result (λ x. FitsWidth x.0.1 x.0.0) }
     ensures shorter { IfOk result (λ x. length x.1.now < length text.now) }
 {
@@ -63,6 +64,7 @@ pub(super) fn read_unsigned_number(text: &[u8]) -> Result<((u64, IntegerWidth), 
 pub(super) fn read_negative_number(text: &[u8]) -> Result<((u64, IntegerWidth), &[u8])>
     ensures gives { Gives (λ x. ((x.0.0, x.0.1), x.1.now)) result
         (read_negative_number text.now) }
+    ensures memory { result ≢ Err Error.Memory }
     ensures fits { IfOk result (λ x. FitsWidth x.0.1 x.0.0) }
     ensures shorter { IfOk result (λ x. length x.1.now < length text.now) }
 {

@@ -14,7 +14,7 @@ use crate::error::{Error, Result};
 use crate::syntax::{DataItem, FloatWidth, Simple};
 
 /// Whether all of them are decimal digits.
-fn are_decimal(digits: &[u8]) -> bool
+pub(super) fn are_decimal(digits: &[u8]) -> bool
     ensures { result ≡ list_all (λ c. nat_lt (digit_value c) 10) digits.now }
 {
     digits.iter().all(|digit| char::from(*digit).is_digit(10))
