@@ -36,7 +36,7 @@ MANUALS = $(PROGRAMS:%=$(DIST)/share/man/man1/%.1)
 COMPLETIONS = $(PROGRAMS:%=$(DIST)/share/bash-completion/completions/%)
 
 sources = $(shell find $(wildcard $(1:%=crates/%/src) $(1:%=crates/%/specs) $(1:%=crates/%/proofs)) -type f) crates.txt
-BELOW = cbor_notes cbor_diag cbor_convert cbor_inspect
+BELOW = cbor_notes cbor_grammar cbor_bytes cbor_notation cbor_dump cbor_diag cbor_convert cbor_inspect
 
 .PHONY: all program library install demo try quick test planted check-cat check-docs check-bindings check-packages tarball \
     deb wheel release compare bench clean
@@ -112,7 +112,7 @@ quick:
 	done
 
 # The gate: all proofs, tests and must-fail edits. One check for each processor runs at a time, and no more than there
-# are 4 GB of free memory for; without the number rt counts on more memory, and runs those of cbor_diag one by one.
+# are 4 GB of free memory for; without the number rt counts on more memory for a large crate, and runs fewer at a time.
 JOBS = $(shell awk -v most="$$(nproc)" '/^MemAvailable/ { n = int($$2 / 4000000); print n < 1 ? 1 : n < most ? n : most }' \
     /proc/meminfo)
 test:

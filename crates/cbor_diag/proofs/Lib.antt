@@ -1,10 +1,5 @@
 pub mod notation
 pub mod bytes
-pub mod dump
-pub mod skipping
-pub mod hex
-pub mod normal
 pub mod shared
-pub mod straight
 pub mod text
 pub mod turns

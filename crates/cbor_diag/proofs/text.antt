@@ -1,4 +1,1 @@
-pub mod DigitCounts
-pub mod Parts
-pub mod Scalars
-pub mod Forms
+pub mod MemberParts

@@ -1,27 +1,12 @@
 -- The item that a `DataItem` is.
-use Rattle.std.specs.Prelude.{List, [], ◌∷◌, map, string_bytes}
-use Rattle.cbor_diag.specs.Item as spec
-use Rattle.cbor_diag.specs.Item.{Chunk, Item, Items, Pairs, no_items, item, no_pairs, pair}
-use Rattle.cbor_diag.specs.StringKind.{bytes_kind, text_kind}
-use Rattle.cbor_diag.specs.declared.syntax.ByteString.{ByteString}
-use Rattle.cbor_diag.specs.declared.syntax.TextString.{TextString}
+use Rattle.std.specs.Prelude.{List, map}
+use Rattle.cbor_grammar.specs.Item as spec
+use Rattle.cbor_grammar.specs.Item.{Item, Items, Pairs}
+use Rattle.cbor_grammar.specs.StringKind.{bytes_kind, text_kind}
 use Rattle.cbor_diag.specs.declared.syntax.DataItem.{DataItem, fold-DataItem}
 use Rattle.cbor_diag.specs.declared.syntax.DataItem.TheOpen.{DataItem-F}
-
--- a byte string, and a text string by its bytes
-abbrev pub byte_chunk : ByteString → Chunk
-byte_chunk s = record { bytes = s.content.items; width = s.bitwidth }
-
-abbrev pub text_chunk : TextString → Chunk
-text_chunk s = record { bytes = string_bytes s.content; width = s.bitwidth }
-
-abbrev pub items_of : List Item → Items
-items_of [] = no_items
-items_of (i ∷ is) = item i (items_of is)
-
-abbrev pub pairs_of : List (Item × Item) → Pairs
-pairs_of [] = no_pairs
-pairs_of (p ∷ ps) = pair p.0 p.1 (pairs_of ps)
+use Rattle.cbor_grammar.specs.Item.{items_of, pairs_of}
+use Rattle.cbor_grammar.specs.Strings.{byte_chunk, text_chunk}
 
 -- one level, with each item inside already seen
 abbrev pub view_step : DataItem-F Item → Item

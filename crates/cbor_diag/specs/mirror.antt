@@ -1,26 +1,4 @@
 -- Definitions that mirror the code. Only the checker reads them: no contract of a public call needs them.
-pub mod Counting
 pub mod Stack
-pub mod Skipping
-pub mod OpenStack
-pub mod Scanning
-pub mod Scanned
-pub mod NotationReading
 pub mod DeadEnds
-pub mod Appends
-pub mod Straight
-pub mod Ahead
-pub mod AtLevel
-pub mod Dumped
-pub mod Widths
-pub mod ShownLines
-pub mod HeadErrors
-pub mod HeadView
-pub mod EncodingView
-pub mod LayoutView
-pub mod MajorNumber
-pub mod StringView
-pub mod NotesView
-pub mod StrictHeads
-pub mod HexPlaces
-pub mod SameDecides
+pub mod ChunkList

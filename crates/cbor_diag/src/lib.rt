@@ -21,22 +21,21 @@
 #![tactic(auto)]
 
 mod encode;
-mod error;
-mod examples;
-mod laws;
 mod parse;
 mod rewrite;
 mod syntax;
 
-pub use encode::{
-    bytes_to_diag, bytes_to_diag_pretty, bytes_to_hex, hex_to_diag, hex_to_diag_pretty, hex_to_hex,
-    push_bytes_to_diag, push_bytes_to_diag_partial, push_bytes_to_diag_pretty,
-    push_bytes_to_diag_pretty_partial, push_bytes_to_hex, push_bytes_to_hex_partial,
+pub use cbor_bytes::{Extent, Scanner, Turns, extent, hex_bytes, hex_fault, hex_place};
+pub use cbor_dump::{bytes_to_hex, hex_to_hex, push_bytes_to_hex, push_bytes_to_hex_partial};
+pub use cbor_grammar::{
+    ByteString, Error, FloatWidth, IntegerWidth, Result, Simple, Tag, TextString,
 };
-pub use error::{Error, Result};
+pub use cbor_notation::{
+    bytes_to_diag, bytes_to_diag_pretty, hex_to_diag, hex_to_diag_pretty, push_bytes_to_diag,
+    push_bytes_to_diag_partial, push_bytes_to_diag_pretty, push_bytes_to_diag_pretty_partial,
+};
 pub use parse::{
-    Extent, Scanner, Turns, diag_fault, extent, hex_bytes, hex_fault, hex_place, parse_bytes,
-    parse_bytes_counted, parse_bytes_partial, parse_diag, parse_hex,
+    diag_fault, parse_bytes, parse_bytes_counted, parse_bytes_partial, parse_diag, parse_hex,
 };
 pub use rewrite::{bytes_to_bytes, hex_to_bytes};
-pub use syntax::{ByteString, DataItem, FloatWidth, IntegerWidth, Simple, Tag, TextString};
+pub use syntax::DataItem;

@@ -1,14 +1,17 @@
 //! Encodes items anew, from their bytes: the bytes themselves, but where a simple value below 24
 //! takes two of them.
 ghost use Rattle.std.specs.Prelude.{◌≡◌, ◌<◌, ℕ, slice_index, IfOk, IfErr, IsTrue, MatchResult};
-ghost use Rattle.cbor_diag.specs.Item.{Item};
-ghost use Rattle.cbor_diag.specs.Answer.{GaveRefusal, RefusedSo};
-ghost use Rattle.cbor_diag.specs.Facts.{IsItem, IsNoItem};
-ghost use Rattle.cbor_diag.specs.HexText.{IsHexOf, IsHexRefused};
-ghost use Rattle.cbor_diag.specs.Written.{encoded};
+ghost use Rattle.cbor_grammar.specs.Item.{Item};
+ghost use Rattle.cbor_grammar.specs.Answer.{GaveRefusal, RefusedSo};
+ghost use Rattle.cbor_grammar.specs.Facts.{IsItem, IsNoItem};
+ghost use Rattle.cbor_grammar.specs.HexText.{IsHexOf, IsHexRefused};
+ghost use Rattle.cbor_grammar.specs.Written.{encoded};
 
-use crate::error::{Error, Result};
-use crate::parse::{Extent, decode, extent, is_strict, parse_bytes, uncommented};
+use crate::parse::parse_bytes;
+use cbor_bytes::hex_text::{decode, uncommented};
+use cbor_bytes::strict::is_strict;
+use cbor_bytes::{Extent, extent};
+use cbor_grammar::{Error, Result};
 use std::alloc::Global;
 
 /// Whether the bytes, which are to be one item, are known to be its encoding. The errors are those

@@ -4,14 +4,14 @@ use Rattle.std.proofs.Common.{◌∙◌, append_assoc, arith}
 use Rattle.std.proofs.lemmas.List.{take-take, take-append-drop}
 use Rattle.hex.specs.Hex.{decode_of}
 use Rattle.cbor_notes.specs.Columns.{uncommented}
-use Rattle.cbor_diag.specs.declared.error.Error.{Error}
-use Rattle.cbor_diag.specs.declared.error.Error.TheVariants as refusal
+use Rattle.cbor_grammar.specs.declared.error.Error.{Error}
+use Rattle.cbor_grammar.specs.declared.error.Error.TheVariants as refusal
 use Rattle.cbor_diag.specs.DeadEnd.{IsDeadEnd, IsDiagFault}
 use Rattle.cbor_diag.specs.Notation.{IsNotation}
 use Rattle.cbor_diag.specs.Facts.{HasFault, IsCut, IsNoItem}
 use Rattle.cbor_diag.specs.Extent.{FaultEnds}
 use Rattle.cbor_diag.specs.HexText.{IsHexRefused}
-use Rattle.cbor_diag.proofs.bytes.Outcomes.{fault_refusal}
+use Rattle.cbor_grammar.proofs.bytes.Outcomes.{fault_refusal}
 use Rattle.cbor_diag_c.specs.Places.{IsDiagPlace}
 
 pub refused : (b : List ℕ) (e : Error) → HasFault b e → IsNoItem b e

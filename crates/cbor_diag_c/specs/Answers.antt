@@ -1,6 +1,6 @@
 -- What an export returns, a length or minus the number of an error, and what its buffer holds then.
 use Rattle.std.specs.Prelude.{◌≡◌, ◌⊎◌, ⊤, ℕ, ◌+◌, ◌<◌, ℤ, pos, negsuc, List, ◌++◌, length, take, drop, Ok, Err, codes}
-use Rattle.cbor_diag.specs.declared.error.Error.{Error}
+use Rattle.cbor_grammar.specs.declared.error.Error.{Error}
 use Rattle.cbor_diag.specs.Refusals.{text_of, number_of}
 use Rattle.cbor_diag_c.specs.Forms.{IsNoForm, IsConversion}
 

@@ -1,9 +1,9 @@
 -- What is returned for how bytes begin.
 use Rattle.std.specs.Prelude.{◌≡◌, ◌⊎◌, ℕ, ℤ, List, length}
-use Rattle.cbor_diag.specs.declared.error.Error.{Error}
-use Rattle.cbor_diag.specs.declared.error.Error.TheVariants.{CutShort}
-use Rattle.cbor_diag.specs.declared.parse.binary.skip.answer.Extent.{Extent}
-use Rattle.cbor_diag.specs.declared.parse.binary.skip.answer.Extent.TheVariants.{Item, Cut, Fault}
+use Rattle.cbor_grammar.specs.declared.error.Error.{Error}
+use Rattle.cbor_grammar.specs.declared.error.Error.TheVariants.{CutShort}
+use Rattle.cbor_bytes.specs.declared.skip.answer.Extent.{Extent}
+use Rattle.cbor_bytes.specs.declared.skip.answer.Extent.TheVariants.{Item, Cut, Fault}
 use Rattle.cbor_diag.specs.Extent.{IsExtent}
 use Rattle.cbor_diag.specs.Refusals.{number_of}
 use Rattle.cbor_diag_c.specs.Answers.{IsLength, IsMinus}
@@ -18,7 +18,7 @@ IsCutOrFault input n end =
     ((n ≡ number_of CutShort) × IsExtent input Cut × (end ≡ length input))
     ⊎ ((e : Error) × (n ≡ number_of e) × IsExtent input (Fault e end))
 
--- what is returned for this beginning of so many bytes
+-- what is returned for a beginning of this many bytes
 abbrev pub IsReturned : Extent → ℕ → ℤ → ℕ → Type 0
 IsReturned (Item n) len result end = IsLength n result × (end ≡ n)
 IsReturned Cut len result end = IsMinus (number_of CutShort) result × (end ≡ len)

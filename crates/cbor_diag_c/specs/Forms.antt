@@ -1,6 +1,6 @@
 -- The numbers of the forms, and the conversions between them.
 use Rattle.std.specs.Prelude.{◌≡◌, ℕ, ◌<◌, List, Result}
-use Rattle.cbor_diag.specs.declared.error.Error.{Error}
+use Rattle.cbor_grammar.specs.declared.error.Error.{Error}
 use Rattle.cbor_convert.specs.declared.form.Source.{Source}
 use Rattle.cbor_convert.specs.declared.form.Source.TheVariants as source
 use Rattle.cbor_convert.specs.declared.form.To.{To}

@@ -3,8 +3,8 @@ use Rattle.std.specs.Prelude.{◌≡◌, ◌⊎◌, ℕ, ◌+◌, ◌-◌, ◌*�
 use Rattle.std.specs.Str.{IsValidUpTo}
 use Rattle.hex.specs.Hex.{decode_of}
 use Rattle.cbor_notes.specs.Columns.{uncommented}
-use Rattle.cbor_diag.specs.declared.error.Error.{Error}
-use Rattle.cbor_diag.specs.declared.error.Error.TheVariants as refusal
+use Rattle.cbor_grammar.specs.declared.error.Error.{Error}
+use Rattle.cbor_grammar.specs.declared.error.Error.TheVariants as refusal
 use Rattle.cbor_diag.specs.Item.{Item}
 use Rattle.cbor_diag.specs.Facts.{BeginsWithItem, IsCut}
 use Rattle.cbor_diag.specs.DeadEnd.{IsDeadEnd}

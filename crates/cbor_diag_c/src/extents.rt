@@ -1,7 +1,7 @@
 //! The call that reports how bytes begin.
 ghost use Rattle.std.specs.Prelude.{◌≡◌, ◌<◌, ◌^◌, ℕ, List, length};
 ghost use Rattle.cbor_diag.specs.Extent.{IfItem, IsExtent};
-ghost use Rattle.cbor_diag.specs.declared.parse.binary.skip.answer.Extent.{Extent as Beginning};
+ghost use Rattle.cbor_bytes.specs.declared.skip.answer.Extent.{Extent as Beginning};
 ghost use Rattle.cbor_diag_c.specs.Beginnings.{IsItemOf, IsCutOrFault, IsReturned};
 ghost use Rattle.cbor_diag_c.specs.Answers.{IfLength, IfError};
 

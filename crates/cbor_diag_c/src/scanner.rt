@@ -5,7 +5,7 @@
 ghost use Rattle.std.specs.Prelude.{◌≡◌, ◌≢◌, ◌<◌, ◌^◌, List, ℕ, [], length};
 ghost use Rattle.std.specs.Borrow.{full_share, sem};
 ghost use Rattle.std.specs.Ptr.{lies_at, room_at};
-ghost use Rattle.cbor_diag.specs.declared.parse.binary.skip.answer.Extent.{Extent as Beginning};
+ghost use Rattle.cbor_bytes.specs.declared.skip.answer.Extent.{Extent as Beginning};
 ghost use Rattle.cbor_diag.specs.Extent.{IsExtent};
 ghost use Rattle.cbor_diag_c.specs.declared.scanner.CountedScanner.{CountedScanner as Scanning};
 ghost use Rattle.cbor_diag_c.specs.contracts.scanner.CountedScanner.{the_row as scanner_row};

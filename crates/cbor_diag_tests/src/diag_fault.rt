@@ -30,11 +30,20 @@ const FAULTS: &[(&str, Option<(Error, usize)>)] = &[
     ("(_ 1)", Some((Error::Notation, 4))),
     ("(_ h'01', \"a\")", Some((Error::Notation, 11))),
     ("[(1)]", Some((Error::Notation, 3))),
+    ("[o", Some((Error::Notation, 2))),
+    ("{x", Some((Error::Notation, 2))),
+    ("[b", Some((Error::CutShort, 2))),
+    ("[true_", Some((Error::CutShort, 6))),
+    ("[true_]", Some((Error::Notation, 7))),
     // numbers
     ("300_0, ", Some((Error::PastWidth, 6))),
     ("[300_0]", Some((Error::PastWidth, 7))),
     ("-0 ", Some((Error::Notation, 3))),
     ("-x", Some((Error::Notation, 2))),
+    ("[-0x", Some((Error::CutShort, 4))),
+    ("[18446744073709551616", Some((Error::Notation, 21))),
+    ("[300_0", Some((Error::CutShort, 6))),
+    ("[65536_1", Some((Error::PastWidth, 8))),
     // strings
     ("[\"a\\n\"]", Some((Error::Notation, 5))),
     ("\"abc", Some((Error::CutShort, 4))),
@@ -42,6 +51,9 @@ const FAULTS: &[(&str, Option<(Error, usize)>)] = &[
     ("[h'0g', 1]", Some((Error::Notation, 6))),
     ("[b64'!', 1]", Some((Error::Notation, 7))),
     ("[\"\" h'ff', 1]", Some((Error::Utf8, 10))),
+    ("[\"\" h'ff' ", Some((Error::CutShort, 10))),
+    ("[1, \"\\u", Some((Error::Notation, 7))),
+    ("[h'0g", Some((Error::CutShort, 5))),
     ("\"\" h'e2'", Some((Error::CutShort, 8))),
     ("[<<1, x>>]", Some((Error::Notation, 7))),
     ("[<1>]", Some((Error::Notation, 3))),
@@ -49,7 +61,7 @@ const FAULTS: &[(&str, Option<(Error, usize)>)] = &[
     // words
     ("[tru]", Some((Error::Notation, 5))),
     ("tru", Some((Error::CutShort, 3))),
-    ("simple(256)", Some((Error::Notation, 11))),
+    ("simple(256)", Some((Error::Notation, 10))),
     ("float'3c0' ", Some((Error::Notation, 10))),
 ];
 

@@ -179,6 +179,7 @@ fn of_places_in_hex(rt: &impl Abort) {
 fn of_places_in_notation(rt: &impl Abort, alloc: Global) -> Result<(), Fail> {
     // After `1` the text cannot go on with `.`.
     assert_eq!(rt; diag_fault(alloc, "[1.5]")?, Some((Error::Notation, 3)));
+    assert_eq!(rt; diag_fault(alloc, "[300_0]")?, Some((Error::PastWidth, 7)));
     assert_eq!(rt; diag_fault(alloc, "[1, 2")?, Some((Error::CutShort, 5)));
     assert_eq!(rt; diag_fault(alloc, "[1, 2]")?, None);
     Ok(())

@@ -3,6 +3,7 @@
 
 use crate::calls::{View, check, check_same, of_bytes, of_diag, of_hex};
 use crate::ends::check_ends;
+use crate::samples::SAMPLES;
 use cbor_diag::Result;
 use std::alloc::Global;
 use std::process::Abort;
@@ -86,22 +87,15 @@ const ONE_TEXT: &[(&str, &str, &str)] = &[
     // bytes below tags 21, 22 and 23
     ("d546000fff000fff", "21(b64'AA__AA__')", "d546000fff000fff"),
     ("d540", "21(b64'')", "d540"),
-    ("d643ffffff", "22(b64'////')", "d643ffffff"),
     ("d65803ffffff", "22(b64'////')", "d643ffffff"),
     ("d741ff", "23(h'ff')", "d741ff"),
     // embedded items
     ("d81840", "24_0(<<>>)", "d81840"),
     ("d8185800", "24_0(<<>>)", "d81840"),
-    ("d8184101", "24_0(<<1>>)", "d8184101"),
     ("d81801", "24_0(1)", "d81801"),
     ("d818428101", "24_0(<<[1]>>)", "d818428101"),
     ("d81843980101", "24_0(<<[1]>>)", "d818428101"),
     ("d9001843980101", "24_1(<<[1]>>)", "d90018428101"),
-    (
-        "d81846d8185802f814",
-        "24_0(<<24_0(<<false>>)>>)",
-        "d81844d81841f4",
-    ),
     ("d83f40", "63_0(<<>>)", "d83f40"),
     ("d83f4101", "63_0(<<1>>)", "d83f4101"),
     // bytes that are shown as bytes stay as they are
@@ -119,27 +113,17 @@ const ONE_TEXT: &[(&str, &str, &str)] = &[
     ("d80101", "1_0(1)", "d80101"),
     ("d9ffff00", "65535_1(0)", "d9ffff00"),
     (
-        "d8207368747470733a2f2f6578616d706c652e636f6d",
-        "32_0(\"https://example.com\")",
-        "d8207368747470733a2f2f6578616d706c652e636f6d",
-    ),
-    ("c11a514b67b0", "1(1363896240_2)", "c11a514b67b0"),
-    (
         "c13b000007948ed49700",
         "1(-8334632851201_3)",
         "c13b000007948ed49700",
     ),
     ("c1f93c00", "1(float'3c00')", "c1f93c00"),
     ("c1f9819d", "1(float'819d')", "c1f9819d"),
-    ("d864190f9a", "100_0(3994_1)", "d864190f9a"),
     (
         "d8643b00000018daea1d7f",
         "100_0(-106751991168_3)",
         "d8643b00000018daea1d7f",
     ),
-    ("d81c81d81d00", "28_0([29_0(0)])", "d81c81d81d00"),
-    ("d8226461476b3d", "34_0(\"aGk=\")", "d8226461476b3d"),
-    ("d8454401000010", "69_0(h'01000010')", "d8454401000010"),
     ("d84842ff01", "72_0(h'ff01')", "d84842ff01"),
     ("d85442003c", "84_0(h'003c')", "d85442003c"),
 ];
@@ -276,12 +260,6 @@ const TWO_TEXTS: &[(&str, &str, &str, &str)] = &[
     ),
     // other tags
     (
-        "d8348344c0000201f663610a62",
-        "52_0([h'c0000201',null,\"a\nb\"])",
-        "52_0([h'c0000201', null, \"a\nb\"])",
-        "d8348344c0000201f663610a62",
-    ),
-    (
         "d83482181843c00002",
         "52_0([24_0,h'c00002'])",
         "52_0([24_0, h'c00002'])",
@@ -352,5 +330,9 @@ fn items_have_texts_that_are_their_normal_form(rt: HostRuntime) {
     }
     for (digits, one, other, normal) in TWO_TEXTS {
         check_forms(&rt, rt.alloc(), digits, [*one, *other], normal);
+    }
+    for sample in &SAMPLES {
+        let texts = [sample.diag, sample.pretty];
+        check_forms(&rt, rt.alloc(), sample.digits, texts, sample.normal);
     }
 }

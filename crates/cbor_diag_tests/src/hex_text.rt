@@ -1,16 +1,13 @@
 // Items read from hex with comments.
 
 use crate::calls::{Input, View, check_table};
+use crate::samples::URI_DUMP;
 use cbor_diag::{Error, hex_fault, hex_place};
 
 /// Hex with comments, and the fields of the item that it is, or the name of the error.
 const TEXTS: &[(&str, &str)] = &[
     (
-        r#"d8 20                                        # uri, tag(32)
-   73                                        #   text(19)
-      68747470733a2f2f6578616d706c652e636f6d #     "https://example.com"
-                                             #   valid URL (checked against URL Standard, not RFC 3986)
-"#,
+        URI_DUMP,
         "Tag { tag: Tag(32), bitwidth: Eight, \
          value: TextString(TextString { content: \"https://example.com\", bitwidth: Zero }) }",
     ),

@@ -13,8 +13,6 @@ mod doc_examples;
 #[cfg(test)]
 mod ends;
 #[cfg(test)]
-mod extent;
-#[cfg(test)]
 mod forms;
 #[cfg(test)]
 mod hex_text;
@@ -40,8 +38,6 @@ mod refusals;
 mod refused_memory;
 #[cfg(test)]
 mod samples;
-#[cfg(test)]
-mod scanner;
 #[cfg(test)]
 mod standard;
 #[cfg(test)]

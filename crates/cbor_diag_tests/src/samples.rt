@@ -15,14 +15,17 @@ pub(crate) struct Sample<'a> {
     pub(crate) normal: &'a str,
 }
 
-pub(crate) const SAMPLES: [Sample<'static>; 11] = [
-    Sample {
-        digits: "d8207368747470733a2f2f6578616d706c652e636f6d",
-        dump: r#"d8 20                                        # uri, tag(32)
+/// The dump of a tag with a URI.
+pub(crate) const URI_DUMP: &str = r#"d8 20                                        # uri, tag(32)
    73                                        #   text(19)
       68747470733a2f2f6578616d706c652e636f6d #     "https://example.com"
                                              #   valid URL (checked against URL Standard, not RFC 3986)
-"#,
+"#;
+
+pub(crate) const SAMPLES: [Sample<'static>; 11] = [
+    Sample {
+        digits: "d8207368747470733a2f2f6578616d706c652e636f6d",
+        dump: URI_DUMP,
         diag: r#"32_0("https://example.com")"#,
         pretty: r#"32_0("https://example.com")"#,
         normal: "d8207368747470733a2f2f6578616d706c652e636f6d",

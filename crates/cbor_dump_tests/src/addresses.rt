@@ -8,18 +8,6 @@ use std::alloc::Global;
 /// Items in hex, and their dumps.
 const DUMPS: &[(&str, &str)] = &[
     (
-        "d8 34 83 44 c0 00 02 01 f6 63 61 0a 62",
-        r#"d8 34             # ipv4 address and/or prefix, tag(52)
-   83             #   array(3)
-      44          #     bytes(4)
-         c0000201 #       h'c0000201'
-      f6          #     null, simple(22)
-      63          #     text(3)
-         610a62   #       "a\nb"
-                  #   IPv4 address-and-zone(192.0.2.1%a\nb)
-"#,
-    ),
-    (
         "d8 34 82 18 18 43 c0 00 02",
         r#"d8 34           # ipv4 address and/or prefix, tag(52)
    82           #   array(2)

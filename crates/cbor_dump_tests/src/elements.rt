@@ -7,14 +7,6 @@ use crate::dumped::{check_dumps, check_ends, check_lines, notes_in};
 /// Items in hex, and their dumps.
 const DUMPS: &[(&str, &str)] = &[
     (
-        "d8 45 44 01 00 00 10",
-        r#"d8 45      # typed array of u16, little endian, tag(69)
-   44      #   bytes(4)
-      0100 #     unsigned(1)
-      0010 #     unsigned(4,096)
-"#,
-    ),
-    (
         "d8 48 42 ff 01",
         r#"d8 48    # typed array of i8, tag(72)
    42    #   bytes(2)

@@ -10,29 +10,6 @@ use std::process::Abort;
 
 /// Items in hex, and their dumps.
 const DUMPS: &[(&str, &str)] = &[
-    (
-        "d8 18 41 01",
-        r#"d8 18    # encoded cbor data item, tag(24)
-   41    #   bytes(1)
-      01 #     "\x01"
-         #   encoded cbor data item
-         #     01 # unsigned(1)
-"#,
-    ),
-    // an item in an item, with a head and a simple value that are longer than they need to be
-    (
-        "d8 18 46 d8 18 58 02 f8 14",
-        r#"d8 18              # encoded cbor data item, tag(24)
-   46              #   bytes(6)
-      d8185802f814 #     "\xd8\x18X\x02\xf8\x14"
-                   #   encoded cbor data item
-                   #     d8 18      # encoded cbor data item, tag(24)
-                   #        58 02   #   bytes(2)
-                   #           f814 #     "\xf8\x14"
-                   #                #   encoded cbor data item
-                   #                #     f4 # false, simple(20)
-"#,
-    ),
     // why bytes are not an item
     (
         "d8 18 41 ff",

@@ -1,5 +1,5 @@
 //! Tests of the dumps of `cbor_diag`: examples of the standards and of docs/DUMP.md. `rt test` runs
-//! them.
+//! them. The dumps that `samples.rt` of `cbor_diag_tests` has are compared there.
 #![tactic(auto)]
 
 #[cfg(test)]

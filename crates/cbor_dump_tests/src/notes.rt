@@ -5,41 +5,10 @@ use crate::dumped::{check_dumps, check_notes};
 /// Items in hex, and their dumps.
 const DUMPS: &[(&str, &str)] = &[
     (
-        "d8 20 73 68 74 74 70 73 3a 2f 2f 65 78 61 6d 70 6c 65 2e 63 6f 6d",
-        r#"d8 20                                        # uri, tag(32)
-   73                                        #   text(19)
-      68747470733a2f2f6578616d706c652e636f6d #     "https://example.com"
-                                             #   valid URL (checked against URL Standard, not RFC 3986)
-"#,
-    ),
-    (
-        "c1 1a 51 4b 67 b0",
-        r#"c1             # epoch datetime value, tag(1)
-   1a 514b67b0 #   unsigned(1,363,896,240)
-               #   datetime(2013-03-21T20:04:00Z)
-"#,
-    ),
-    (
-        "d8 64 19 0f 9a",
-        r#"d8 64      # epoch date value, tag(100)
-   19 0f9a #   unsigned(3,994)
-           #   date(1980-12-08)
-"#,
-    ),
-    (
         "d8 64 3b 00 00 00 18 da ea 1d 7f",
         r#"d8 64                  # epoch date value, tag(100)
    3b 00000018daea1d7f #   negative(-106,751,991,168)
                        #   date offset is too large for this tool
-"#,
-    ),
-    (
-        "d8 22 64 61 47 6b 3d",
-        r#"d8 22          # base64 encoded text, tag(34)
-   64          #   text(4)
-      61476b3d #     "aGk="
-               #   base64 decoded
-               #     6869 # "hi"
 "#,
     ),
     (

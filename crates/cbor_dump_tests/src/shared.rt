@@ -9,16 +9,6 @@ use std::alloc::Global;
 /// Items in hex, and their dumps.
 const DUMPS: &[(&str, &str)] = &[
     (
-        "d8 1c 81 d8 1d 00",
-        r#"d8 1c       # shareable value, tag(28)
-   81       #   array(1)
-      d8 1d #     reference to shared value, tag(29)
-         00 #       unsigned(0)
-            #       reference-to(0)
-            #   reference(0)
-"#,
-    ),
-    (
         "a1 d8 1c 01 d8 1c d8 1d 00",
         r#"a1          # map(1)
    d8 1c    #   shareable value, tag(28)

@@ -44,14 +44,8 @@ const ITEMS: &[(&str, &str)] = &[
         "78 18 e282ace282ace282ace282ace282ace282ace282ace282ac",
         "78 18                                               # text(24)\n   e282ace282ace282ace282ace282ace282ace282ace282ac #   \"€€€€€€€€\"\n",
     ),
-    // elements are shorter than pieces
-    (
-        "d8 48 42 ff01",
-        "d8 48    # typed array of i8, tag(72)\n   42    #   bytes(2)\n      ff #     signed(-1)\n      01 #     signed(1)\n",
-    ),
     // a simple value in a byte too many is shown in one
     ("f8 14", "f4 # false, simple(20)\n"),
-    ("f8 20", "f8 20 # reserved, simple(32)\n"),
 ];
 
 /// Hex, and its error.
@@ -84,7 +78,7 @@ fn hex_is_dumped(rt: HostRuntime) {
     }
 }
 
-/// So many arrays, one in the other, round an integer, in hex.
+/// `count` arrays, one in the other, round an integer, in hex.
 fn nested(alloc: Global, count: usize) -> Result<String> {
     let mut hex = String::new(alloc);
     for _ in 0..count {

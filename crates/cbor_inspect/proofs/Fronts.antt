@@ -2,13 +2,13 @@
 use Rattle.std.proofs.Common.{◌≡◌, ℕ, ◌+◌, ◌≤◌, List, [], ◌∷◌, ◌++◌, length, take, drop, Option, Some, None, inl, inr}
 use Rattle.std.proofs.Common.{◌<◌, refl, sym, ap, ◌∙◌, subst, arith, length-append}
 use Rattle.std.proofs.lemmas.List.{drop-drop, length-drop}
-use Rattle.cbor_diag.specs.declared.parse.binary.skip.answer.Extent.{Extent}
-use Rattle.cbor_diag.specs.declared.parse.binary.skip.answer.Extent.TheVariants as extent
-use Rattle.cbor_diag.specs.declared.syntax.IntegerWidth.{IntegerWidth}
-use Rattle.cbor_diag.specs.declared.syntax.IntegerWidth.TheVariants.{Unknown, Zero, Eight, Sixteen, ThirtyTwo}
-use Rattle.cbor_diag.specs.declared.syntax.IntegerWidth.TheVariants.{SixtyFour}
-use Rattle.cbor_diag.specs.declared.syntax.FloatWidth.{FloatWidth}
-use Rattle.cbor_diag.specs.declared.syntax.FloatWidth.TheVariants as float_width
+use Rattle.cbor_bytes.specs.declared.skip.answer.Extent.{Extent}
+use Rattle.cbor_bytes.specs.declared.skip.answer.Extent.TheVariants as extent
+use Rattle.cbor_grammar.specs.declared.width.IntegerWidth.{IntegerWidth}
+use Rattle.cbor_grammar.specs.declared.width.IntegerWidth.TheVariants.{Unknown, Zero, Eight, Sixteen, ThirtyTwo}
+use Rattle.cbor_grammar.specs.declared.width.IntegerWidth.TheVariants.{SixtyFour}
+use Rattle.cbor_grammar.specs.declared.width.FloatWidth.{FloatWidth}
+use Rattle.cbor_grammar.specs.declared.width.FloatWidth.TheVariants as float_width
 use Rattle.cbor_diag.specs.Item as spec
 use Rattle.cbor_diag.specs.Item.{Atom, integer, negative, string, chunked_string, float, simple, Item, atom, array}
 use Rattle.cbor_diag.specs.Item.{tagged}

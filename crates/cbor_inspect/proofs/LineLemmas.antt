@@ -7,9 +7,9 @@ use Rattle.cbor_diag.specs.Layout.{Layout, Compact, Pretty}
 use Rattle.cbor_diag.specs.Normal.{normal_at}
 use Rattle.cbor_diag.specs.Notation.{Reads}
 use Rattle.cbor_diag.specs.NotationText.{in_encoding, text_at_level}
-use Rattle.cbor_diag.proofs.bytes.Heads.{IsBytes, IsBytes-take}
-use Rattle.cbor_diag.proofs.bytes.Resolved.{spells_well}
-use Rattle.cbor_diag.proofs.normal.ReadBack.{reads_back}
+use Rattle.cbor_grammar.proofs.bytes.Heads.{IsBytes, IsBytes-take}
+use Rattle.cbor_grammar.proofs.bytes.Resolved.{spells_well}
+use Rattle.cbor_notation.proofs.normal.ReadBack.{reads_back}
 use Rattle.cbor_inspect.specs.declared.form.Form.TheVariants as form
 use Rattle.cbor_inspect.specs.Forms.{IsForm, IsTextOf}
 use Rattle.cbor_inspect.specs.declared.breaks.Within.TheVariants as within

@@ -2,18 +2,18 @@
 use Rattle.std.proofs.Common.{◌≡◌, ◌↔◌, ℕ, Bool, IsTrue, List, [], ◌∷◌, Some, inl, inr, refl, sym, ap, ◌∙◌}
 use Rattle.std.proofs.Common.{subst, ◌<◌, ◌≤◌, length, map, get_or, Option, None, IfSome, MatchOption}
 use Rattle.std.proofs.Common.{Result, Ok, Err, IfOk}
-use Rattle.cbor_diag.specs.declared.error.Error.{Error}
+use Rattle.cbor_grammar.specs.declared.error.Error.{Error}
 use Rattle.std.specs.Option.{option_map, IfNone}
 use Rattle.std.specs.List.{slice_get, HoldsAt}
 use Rattle.std.proofs.lemmas.Option.{slice_get-map, slice_get_past, slice_get_read}
 use Rattle.cbor_diag.specs.declared.syntax.DataItem.{DataItem}
-use Rattle.cbor_diag.specs.declared.syntax.IntegerWidth.{IntegerWidth}
+use Rattle.cbor_grammar.specs.declared.width.IntegerWidth.{IntegerWidth}
 use Rattle.cbor_diag.specs.View.{view, pairs_view}
 use Rattle.cbor_inspect.specs.declared.path.Step.TheVariants as step
 use Rattle.cbor_diag.specs.Item as spec
 use Rattle.cbor_diag.specs.Item.{Atom, integer, negative, string, chunked_string, float, simple, Item, atom, array}
 use Rattle.cbor_diag.specs.Item.{tagged}
-use Rattle.cbor_diag.specs.View.{items_of, pairs_of}
+use Rattle.cbor_diag.specs.Item.{items_of, pairs_of}
 use Rattle.cbor_diag.specs.Notation.{list_of, pairs_list}
 use Rattle.cbor_inspect.specs.declared.form.Form.{Form}
 use Rattle.cbor_inspect.specs.declared.path.Part.{Part}

@@ -4,9 +4,9 @@ use Rattle.std.proofs.Common.{subst, arith}
 use Rattle.std.proofs.Common.{Result, Ok, Err, OnOk, if◌then◌else◌, length-append}
 use Rattle.std.proofs.lemmas.List.{take-append-le}
 use Rattle.std.specs.declared.alloc.AllocError.{AllocError}
-use Rattle.cbor_diag.specs.declared.parse.binary.skip.scanner.Scanner.{Scanner}
-use Rattle.cbor_diag.specs.declared.parse.binary.skip.answer.Extent.{Extent}
-use Rattle.cbor_diag.specs.declared.parse.binary.skip.answer.Extent.TheVariants as extent
+use Rattle.cbor_bytes.specs.declared.skip.scanner.Scanner.{Scanner}
+use Rattle.cbor_bytes.specs.declared.skip.answer.Extent.{Extent}
+use Rattle.cbor_bytes.specs.declared.skip.answer.Extent.TheVariants as extent
 use Rattle.cbor_diag.specs.Extent.{IsExtent}
 use Rattle.cbor_diag.specs.Item.{Item}
 use Rattle.cbor_diag.specs.Scanning.{HasScanned}

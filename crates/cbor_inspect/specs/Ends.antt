@@ -1,6 +1,6 @@
 -- What is written of an item, or of its part, and why no further item is written.
 use Rattle.std.specs.Prelude.{◌≡◌, ◌≢◌, ℕ, ◌<◌, List, [], take}
-use Rattle.cbor_diag.specs.declared.error.Error.{Error}
+use Rattle.cbor_grammar.specs.declared.error.Error.{Error}
 use Rattle.cbor_diag.specs.Item.{Item}
 use Rattle.cbor_diag.specs.Facts.{IsCut, BeginsWithItem}
 use Rattle.cbor_diag.specs.Extent.{FaultEnds}

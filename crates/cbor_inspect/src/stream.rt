@@ -1,7 +1,7 @@
 //! Items one after the other that come in pieces.
 ghost use Rattle.std.specs.Prelude.{◌≡◌, ◌↔◌, ℕ, ◌≤◌, ◌++◌, List, length, drop, false};
 ghost use Rattle.std.specs.Prelude.{IfErr, OnOk, OnErr};
-ghost use Rattle.cbor_diag.specs.declared.parse.binary.skip.answer.Extent.{Extent};
+ghost use Rattle.cbor_bytes.specs.declared.skip.answer.Extent.{Extent};
 ghost use Rattle.cbor_diag.specs.Item.{Item};
 ghost use Rattle.cbor_diag.specs.Extent.{IsExtent};
 ghost use Rattle.cbor_inspect.specs.declared.items.Show.{Show};

@@ -3,3 +3,4 @@ pub mod Fronts
 pub mod HexLemmas
 pub mod AddressLemmas
 pub mod ElementLemmas
+pub mod Unescaped

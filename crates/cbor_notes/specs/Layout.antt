@@ -27,6 +27,10 @@ left_column width line =
     if length line.hex == 0 then blanks width
     else blanks (3 * line.depth) ++ line.hex ++ blanks (width - reach line)
 
+-- what stands between the digits and the comment of a line: ` # ` between blanks
+abbrev pub gap : ℕ → ℕ → List ℕ
+gap before after = blanks before ++ codes " # " ++ blanks after
+
 -- a line without its line feed: its left column, ` # `, two blanks for each depth, and the comment
 abbrev pub row : ℕ → DumpLine → List ℕ
 row width line = left_column width line ++ codes " # " ++ blanks (2 * line.depth) ++ line.comment

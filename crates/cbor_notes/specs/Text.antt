@@ -1,6 +1,6 @@
 -- How bytes, text and numbers are written in a comment.
 use Rattle.std.specs.Prelude.{◌≡◌, ◌<◌, ◌≤◌, ℕ, ◌%◌, ◌==◌, ◌&&◌, ◌||◌, nat_lt, nat_le, Bool, List, [], ◌∷◌, ◌++◌}
-use Rattle.std.specs.Prelude.{length, if◌then◌else◌, codes, decimal, false, flat_map, encode_utf8}
+use Rattle.std.specs.Prelude.{length, take, drop, if◌then◌else◌, codes, decimal, false, flat_map, encode_utf8}
 use Rattle.std.specs.List.{AllByRecursion, concat}
 use Rattle.std.specs.Fmt.{digits}
 use Rattle.std.specs.Str.{chars}
@@ -27,6 +27,12 @@ escaped_byte b = white_or b
 -- bytes between quotes, each of them escaped
 abbrev pub quoted_bytes : List ℕ → List ℕ
 quoted_bytes bytes = codes "\"" ++ flat_map escaped_byte bytes ++ codes "\""
+
+-- the hex digits of bytes, with a blank after those of the first if others follow
+abbrev pub spaced_hex : List ℕ → List ℕ
+spaced_hex bytes =
+    if nat_le (length bytes) 1 then encode_lower bytes
+    else encode_lower (take 1 bytes) ++ codes " " ++ encode_lower (drop 1 bytes)
 
 -- the control characters of Unicode (category Cc): U+0000 to U+001F and U+007F to U+009F
 abbrev pub is_control : ℕ → Bool

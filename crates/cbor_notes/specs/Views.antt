@@ -1,4 +1,6 @@
--- Which alphabet, kind of elements and base the code's own enums are.
+-- Which alphabet, kind of elements and base the code's own enums are, and the bytes that it looks for.
+use Rattle.std.specs.Prelude.{ℕ, Bool, ◌==◌, ◌||◌, nat_lt}
+use Rattle.cbor_notes.specs.Ascii.{quote, backslash}
 use Rattle.cbor_notes.specs.declared.base32.Alphabet.TheVariants as own_alphabet
 use Rattle.cbor_notes.specs.declared.element.Kind.TheVariants as own_kind
 use Rattle.cbor_notes.specs.declared.token.number.Base.TheVariants as own_base
@@ -23,3 +25,7 @@ base_view own_base.Decimal = decimal_base
 base_view own_base.Hexadecimal = hexadecimal_base
 base_view own_base.Octal = octal_base
 base_view own_base.Binary = binary_base
+
+-- A character that is escaped in a text begins with such a byte: 194 begins U+0080 to U+00BF.
+abbrev pub begins_escape : ℕ → Bool
+begins_escape b = nat_lt b 32 || (b == quote) || (b == backslash) || (b == 127) || (b == 194)

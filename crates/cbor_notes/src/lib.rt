@@ -16,6 +16,7 @@
 #![tactic(auto)]
 
 mod address;
+mod ascii_buffer;
 mod base32;
 mod base58_text;
 mod base64_text;
@@ -39,11 +40,11 @@ pub use date::{date_of_epoch, epoch_of_date};
 pub use datetime::{datetime_of_epoch, epoch_of_datetime};
 pub use element::{element_size, element_text, push_element_text};
 pub use identifier::uuid_lines;
-pub use line::{Line, merge, put_line};
+pub use line::{Line, merge, push_blanks, push_gap, put_line};
 pub use tags::tag_name;
 pub use text::{
     escaped_text, grouped, push_escaped_text, push_grouped, push_hex, push_quoted_bytes,
-    quoted_bytes,
+    push_spaced_hex, quoted_bytes,
 };
 pub use token::{blank_end, digits_at, number_at, quoted_at};
 pub use url_text::url_verdict;

@@ -6,7 +6,7 @@ ghost use Rattle.std.specs.List.{AllByRecursion, flat_map};
 ghost use Rattle.std.specs.String.{string_bytes, string_len, string_capacity};
 ghost use Rattle.std.specs.Str.{IsAscii};
 ghost use Rattle.cbor_notes.specs.Columns.{IsColumn, IsPlain, digits_of, uncommented};
-ghost use Rattle.cbor_notes.specs.Layout.{left_column, line_text, layout, reach, width_of};
+ghost use Rattle.cbor_notes.specs.Layout.{gap, line_text, layout, reach, width_of};
 ghost use Rattle.cbor_notes.specs.LineTree.{Fits, IsFit, first_line, forest_lines, most_hex};
 ghost use Rattle.cbor_notes.specs.LineTree.{most_levels, tree_lines};
 ghost use Rattle.cbor_notes.specs.declared.line.Line.{out-Line};
@@ -20,6 +20,10 @@ const MOST_LEVELS: usize = 140;
 const MOST_HEX: usize = 64;
 
 const BLANKS: &str = "                                                                ";
+
+/// A gap with 44 blanks before its ` # ` and after it.
+const GAP: &str =
+    "                                             #                                             ";
 
 /// A line of a dump, with the lines below it.
 #[derive(Drop)]
@@ -206,8 +210,17 @@ fn blanks(count: usize) -> &'static str
     &BLANKS[..count]
 }
 
-/// Appends `count` blanks.
-fn push_blanks(out: &mut String, count: usize) -> Result<(), AllocError>
+/// Appends `count` blanks. The only error is out of memory, and after it `out` may have some of
+/// them.
+///
+/// ```rust
+/// use cbor_notes::push_blanks;
+///
+/// let mut dump = String::new(alloc);
+/// push_blanks(&mut dump, 3)?;
+/// assert_eq!(rt; dump.as_str(), "   ");
+/// ```
+pub fn push_blanks(out: &mut String, count: usize) -> Result<(), AllocError>
     ensures bytes { OnOk result (string_bytes out.new ≡ string_bytes out.old
         ++ replicate count 32) }
     ensures len { OnOk result (string_len out.new ≡ string_len out.old + count) }
@@ -222,25 +235,52 @@ fn push_blanks(out: &mut String, count: usize) -> Result<(), AllocError>
     out.push_str(blanks(left))
 }
 
-/// Appends the left column of a line: its hex after three blanks for each depth, and blanks up to a
-/// width.
-fn push_left(out: &mut String, width: usize, depth: usize, hex: &str) -> Result<(), AllocError>
-    requires depth { depth ≤ most_levels }
-    requires short { length hex.now ≤ most_hex }
-    requires reach { 0 < length hex.now → 3 * depth + length hex.now ≤ width }
-    ensures bytes { OnOk result (string_bytes out.new ≡ string_bytes out.old
-        ++ left_column width (record { depth = depth; hex = hex.now; comment = [] })) }
-    ensures len { OnOk result (string_len out.new ≡ string_len out.old + width) }
-    ensures capacity { string_capacity out.old ≤ string_capacity out.new }
-    ensures full { OnErr result (string_capacity out.old < string_len out.old + width) }
+/// The blanks and the `#` of a gap, all at once.
+fn short_gap(before: usize, after: usize) -> &'static str
+    requires before { before ≤ 44 }
+    requires after { after ≤ 44 }
+    ensures value { result.now ≡ gap before after }
+    ensures len { length result.now ≡ before + 3 + after }
 {
-    if hex.is_empty() {
-        return push_blanks(out, width);
+    &GAP[44 - before..47 + after]
+}
+
+/// Appends what stands in a line between its digits and its comment: `before` blanks, ` # `, and
+/// `after` blanks. The only error is out of memory, and after it `out` may have a part of this.
+///
+/// ```rust
+/// use cbor_notes::push_gap;
+///
+/// let mut dump = String::from_str(alloc, "0a")?;
+/// push_gap(&mut dump, 1, 2)?;
+/// assert_eq!(rt; dump.as_str(), "0a  #   ");
+/// ```
+pub fn push_gap(out: &mut String, before: usize, after: usize) -> Result<(), AllocError>
+    ensures bytes { OnOk result (string_bytes out.new ≡ string_bytes out.old ++ gap before after) }
+    ensures len { OnOk result (string_len out.new ≡ string_len out.old + before + 3 + after) }
+    ensures capacity { string_capacity out.old ≤ string_capacity out.new }
+    ensures full { OnErr result
+        (string_capacity out.old < string_len out.old + before + 3 + after) }
+{
+    if before <= 44 && after <= 44 {
+        out.push_str(short_gap(before, after))
+    } else {
+        push_long_gap(out, before, after)
     }
-    let indent = 3 * depth;
-    push_blanks(out, indent)?;
-    out.push_str(hex)?;
-    push_blanks(out, width - indent - hex.len())
+}
+
+/// The same, part by part.
+#[inline(never)]
+fn push_long_gap(out: &mut String, before: usize, after: usize) -> Result<(), AllocError>
+    ensures bytes { OnOk result (string_bytes out.new ≡ string_bytes out.old ++ gap before after) }
+    ensures len { OnOk result (string_len out.new ≡ string_len out.old + before + 3 + after) }
+    ensures capacity { string_capacity out.old ≤ string_capacity out.new }
+    ensures full { OnErr result
+        (string_capacity out.old < string_len out.old + before + 3 + after) }
+{
+    push_blanks(out, before)?;
+    out.push_str(" # ")?;
+    push_blanks(out, after)
 }
 
 /// Appends one line of a dump to `out`: three blanks for each `depth`, `hex`, and blanks up to
@@ -275,9 +315,10 @@ pub fn put_line(
     ensures unchanged { OnErr result (string_bytes out.new ≡ string_bytes out.old) }
 {
     out.reserve(comment.len() + (width + 2 * depth + 4))?;
-    push_left(out, width, depth, hex)?;
-    out.push_str(" # ")?;
-    push_blanks(out, 2 * depth)?;
+    let indent = if hex.is_empty() { 0 } else { 3 * depth };
+    push_blanks(out, indent)?;
+    out.push_str(hex)?;
+    push_gap(out, width - indent - hex.len(), 2 * depth)?;
     out.push_str(comment)?;
     out.push('\n')
 }

@@ -1,7 +1,8 @@
 //! Bytes, text and numbers as a comment writes them.
 
 ghost use Rattle.std.specs.Prelude.{◌≡◌, ◌≤◌, ◌<◌, ◌+◌, ◌*◌, [], ◌∷◌, ◌++◌, length, take, IfOk};
-ghost use Rattle.std.specs.Prelude.{OnOk, OnErr};
+ghost use Rattle.std.specs.Prelude.{OnOk, OnErr, flat_map};
+ghost use Rattle.std.specs.List.{list_any};
 ghost use Rattle.std.specs.Io.{StartsWith};
 ghost use Rattle.std.specs.String.{string_bytes, string_capacity, string_len};
 ghost use Rattle.std.specs.String.Boundary.{IsSplitPoint};
@@ -10,7 +11,9 @@ ghost use Rattle.std.specs.Prelude.{codes, false};
 ghost use Rattle.std.specs.Fmt.{digit_glyph, digits};
 ghost use Rattle.hex.specs.Hex.{encode_lower};
 ghost use Rattle.cbor_notes.specs.Text as spec;
+ghost use Rattle.cbor_notes.specs.Views.{begins_escape};
 
+use crate::ascii_buffer::AsciiBuffer;
 use std::alloc::{AllocError, Global};
 
 /// Returns `bytes` between quotes, as in `"\x00A\n"`.
@@ -80,31 +83,59 @@ fn write_quoted_bytes(text: &mut String, bytes: &[u8]) -> Result<(), AllocError>
     ensures front { OnErr result (StartsWith (string_bytes text.new) (string_bytes text.old)) }
 {
     text.push('"')?;
-    for byte in bytes {
-        push_escaped_byte(text, *byte)?;
+    let mut rest = bytes;
+    'pieces: while !rest.is_empty() {
+        let (piece, after) = rest.split_at(rest.len().min(FEW));
+        push_escaped_bytes(text, piece)?;
+        rest = after;
     }
     text.push('"')
 }
 
-fn push_escaped_byte(text: &mut String, byte: u8) -> Result<(), AllocError>
+/// How many bytes are escaped at once.
+const FEW: usize = 16;
+
+/// Appends a few bytes, each of them escaped, all at once.
+fn push_escaped_bytes(text: &mut String, piece: &[u8]) -> Result<(), AllocError>
+    requires { length piece.now ≤ FEW }
     ensures text { OnOk result
-        (string_bytes text.new ≡ string_bytes text.old ++ spec.escaped_byte byte) }
-    ensures front { OnErr result (StartsWith (string_bytes text.new) (string_bytes text.old)) }
+        (string_bytes text.new ≡ string_bytes text.old ++ flat_map spec.escaped_byte piece.now) }
+    ensures unchanged { OnErr result (string_bytes text.new ≡ string_bytes text.old) }
+{
+    let mut escaped = AsciiBuffer::new();
+    for byte in piece {
+        put_escaped_byte(&mut escaped, *byte);
+    }
+    text.push_str(escaped.as_str())
+}
+
+fn put_escaped_byte(out: &mut AsciiBuffer, byte: u8)
+    requires { length out.old + 4 ≤ 96 }
+    ensures text { out.new ≡ out.old ++ spec.escaped_byte byte }
+    ensures len { length out.new ≤ length out.old + 4 }
 {
     match byte {
-        b'\t' => text.push_str("\\t"),
-        b'\r' => text.push_str("\\r"),
-        b'\n' => text.push_str("\\n"),
-        b'\'' | b'"' | b'\\' => {
-            text.push('\\')?;
-            text.push(char::from(byte))
-        }
-        b' '..=b'~' => text.push(char::from(byte)),
+        b'\t' => put_pair(out, b'\\', b't'),
+        b'\r' => put_pair(out, b'\\', b'r'),
+        b'\n' => put_pair(out, b'\\', b'n'),
+        b'\'' | b'"' | b'\\' => put_pair(out, b'\\', byte),
+        b' '..=b'~' => out.push(byte),
         _ => {
-            text.push_str("\\x")?;
-            push_hex_byte(text, byte)
+            put_pair(out, b'\\', b'x');
+            out.push_hex(byte);
         }
     }
+}
+
+/// Appends two characters.
+fn put_pair(out: &mut AsciiBuffer, first: u8, second: u8)
+    requires room { length out.old + 2 ≤ 96 }
+    requires first { first < 128 }
+    requires second { second < 128 }
+    ensures { out.new ≡ out.old ++ first ∷ second ∷ [] }
+{
+    out.push(first);
+    out.push(second);
 }
 
 /// Appends the hex digits of `bytes` to `text`: two for each byte, in lower case. The only error is
@@ -122,6 +153,9 @@ pub fn push_hex(text: &mut String, bytes: &[u8]) -> Result<(), AllocError>
         ++ encode_lower bytes.now) }
     ensures unchanged { OnErr result (string_bytes text.new ≡ string_bytes text.old) }
 {
+    if bytes.len() <= PIECE {
+        return push_hex_piece(text, bytes);
+    }
     // Reserved for all of them at once, so that no later append can fail.
     text.reserve(2 * bytes.len())?;
     let mut rest = bytes;
@@ -145,12 +179,50 @@ fn push_hex_piece(text: &mut String, piece: &[u8]) -> Result<(), AllocError>
     ensures capacity { string_capacity text.old ≤ string_capacity text.new }
     ensures full { OnErr result (string_capacity text.old < string_len text.old + 2 * length
         piece.now) }
+    ensures unchanged { OnErr result (string_bytes text.new ≡ string_bytes text.old) }
 {
     let mut buffer = [0; 2 * PIECE];
     let digits = &mut buffer[..2 * piece.len()];
     hex::encode_to_slice(piece, digits).unwrap();
     // Hex digits are ASCII, so they need no test of UTF-8.
     text.push_str(unsafe { str::from_utf8_unchecked(digits) })
+}
+
+/// Appends the hex digits of at most 32 bytes to `text` as [`push_hex`] does, with a blank after
+/// those of the first byte if more follow. The only error is out of memory, and after it `text` is
+/// unchanged.
+///
+/// ```rust
+/// use cbor_notes::push_spaced_hex;
+///
+/// let mut text = String::new(alloc);
+/// push_spaced_hex(&mut text, b"\x19\x01\xf4")?;
+/// assert_eq!(rt; text.as_str(), "19 01f4");
+/// ```
+pub fn push_spaced_hex(text: &mut String, bytes: &[u8]) -> Result<(), AllocError>
+    requires { length bytes.now ≤ 32 }
+    ensures text { OnOk result (string_bytes text.new ≡ string_bytes text.old
+        ++ spec.spaced_hex bytes.now) }
+    ensures unchanged { OnErr result (string_bytes text.new ≡ string_bytes text.old) }
+{
+    if bytes.len() <= 1 {
+        return push_hex(text, bytes);
+    }
+    let mut digits = AsciiBuffer::new();
+    put_hex(&mut digits, &bytes[..1]);
+    digits.push(b' ');
+    put_hex(&mut digits, &bytes[1..]);
+    text.push_str(digits.as_str())
+}
+
+fn put_hex(out: &mut AsciiBuffer, bytes: &[u8])
+    requires { length out.old + 2 * length bytes.now ≤ 96 }
+    ensures digits { out.new ≡ out.old ++ encode_lower bytes.now }
+    ensures len { length out.new ≡ length out.old + 2 * length bytes.now }
+{
+    for byte in bytes {
+        out.push_hex(*byte);
+    }
 }
 
 /// Appends the two hex digits of `byte` to `text`, in lower case.
@@ -195,14 +267,37 @@ pub fn escaped_text(alloc: Global, text: &str) -> Result<String, AllocError>
 /// push_escaped_text(&mut text, "\\temp")?;
 /// assert_eq!(rt; text.as_str(), "C:\\\\temp");
 /// ```
+#[tactic(auto, using(crate::proofs::texts::Unescaped::unescaped_text))]
 pub fn push_escaped_text(escaped: &mut String, text: &str) -> Result<(), AllocError>
     ensures text { OnOk result
         (string_bytes escaped.new ≡ string_bytes escaped.old ++ spec.escaped_text text.now) }
     ensures unchanged { OnErr result (string_bytes escaped.new ≡ string_bytes escaped.old) }
 {
+    if !may_have_escapes(text) {
+        return escaped.push_str(text);
+    }
     let len = escaped.len();
     let answer = write_escaped_text(escaped, text);
     cut_after_error(escaped, len, answer)
+}
+
+/// Whether the text may have a character that is escaped. It is looked at to its end, so that the
+/// compiler takes many bytes at once.
+fn may_have_escapes(text: &str) -> bool
+    ensures { result ≡ list_any begins_escape text.now }
+{
+    let mut found = 0;
+    'bytes: for byte in text.as_bytes() {
+        found = u8::from(may_begin_escape(*byte)).max(found);
+    }
+    found > 0
+}
+
+/// Whether a character that begins with this byte may be escaped: `0xc2` begins U+0080 to U+00BF.
+fn may_begin_escape(byte: u8) -> bool
+    ensures { result ≡ begins_escape byte }
+{
+    byte < b' ' || byte == b'"' || byte == b'\\' || byte == 0x7f || byte == 0xc2
 }
 
 /// The same as `push_escaped_text`, but after an error `escaped` may end with a part of what was to
@@ -300,37 +395,25 @@ pub fn push_grouped(text: &mut String, number: u128, negative: bool) -> Result<(
         (string_bytes text.new ≡ string_bytes text.old ++ spec.grouped number negative) }
     ensures unchanged { OnErr result (string_bytes text.new ≡ string_bytes text.old) }
 {
-    let len = text.len();
-    let answer = write_grouped(text, number, negative);
-    cut_after_error(text, len, answer)
-}
-
-/// The same as `push_grouped`, but after an error `text` may end with a part of what was to be
-/// appended.
-fn write_grouped(text: &mut String, number: u128, negative: bool) -> Result<(), AllocError>
-    ensures text { OnOk result
-        (string_bytes text.new ≡ string_bytes text.old ++ spec.grouped number negative) }
-    ensures front { OnErr result (StartsWith (string_bytes text.new) (string_bytes text.old)) }
-{
+    let mut grouped = AsciiBuffer::new();
     if negative {
-        text.push('-')?;
+        grouped.push(b'-');
     }
     let mut digits = itoa::Buffer::new();
-    push_in_groups(text, digits.format(number).as_bytes())
+    put_in_groups(&mut grouped, digits.format(number).as_bytes());
+    text.push_str(grouped.as_str())
 }
 
-fn push_in_groups(text: &mut String, digits: &[u8]) -> Result<(), AllocError>
-    requires { IsAscii digits.now }
-    ensures text { OnOk result
-        (string_bytes text.new ≡ string_bytes text.old ++ spec.in_groups digits.now) }
-    ensures front { OnErr result (StartsWith (string_bytes text.new) (string_bytes text.old)) }
+fn put_in_groups(out: &mut AsciiBuffer, digits: &[u8])
+    requires ascii { IsAscii digits.now }
+    requires room { length out.old + 2 * length digits.now ≤ 96 }
+    ensures { out.new ≡ out.old ++ spec.in_groups digits.now }
 {
     for (place, digit) in digits.iter().enumerate() {
-        text.push(char::from(*digit))?;
+        out.push(*digit);
         let after = digits.len() - place - 1;
         if after > 0 && after % 3 == 0 {
-            text.push(',')?;
+            out.push(b',');
         }
     }
-    Ok(())
 }

@@ -5,8 +5,9 @@ use cbor_notes::{
     Line, base32_decode, base32hex_decode, base58, base64_any_decode, base64_lines, blank_end,
     date_of_epoch, datetime_of_epoch, digits_at, element_size, element_text, epoch_of_date,
     epoch_of_datetime, escaped_text, grouped, ipv4_text, ipv6_text, mac_text, merge, number_at,
-    push_element_text, push_escaped_text, push_grouped, push_hex, push_quoted_bytes, put_line,
-    quoted_at, quoted_bytes, tag_name, url_verdict, uuid_lines,
+    push_blanks, push_element_text, push_escaped_text, push_gap, push_grouped, push_hex,
+    push_quoted_bytes, push_spaced_hex, put_line, quoted_at, quoted_bytes, tag_name, url_verdict,
+    uuid_lines,
 };
 use std::alloc::Global;
 use std::process::Abort;
@@ -97,6 +98,10 @@ fn of_appends(rt: &impl Abort, alloc: Global) -> Result<(), Fail> {
     push_hex(&mut text, b"foo")?;
     assert_eq!(rt; text.as_str(), "h'666f6f");
 
+    let mut text = String::new(alloc);
+    push_spaced_hex(&mut text, b"\x19\x01\xf4")?;
+    assert_eq!(rt; text.as_str(), "19 01f4");
+
     let mut text = String::from_str(alloc, "is ")?;
     push_quoted_bytes(&mut text, b"it's")?;
     assert_eq!(rt; text.as_str(), "is \"it\\'s\"");
@@ -141,6 +146,14 @@ fn of_a_line(rt: &impl Abort, alloc: Global) -> Result<(), Fail> {
     let mut dump = String::new(alloc);
     put_line(&mut dump, 5, 1, "0a", "unsigned(10)")?;
     assert_eq!(rt; dump.as_str(), "   0a #   unsigned(10)\n");
+
+    let mut dump = String::new(alloc);
+    push_blanks(&mut dump, 3)?;
+    assert_eq!(rt; dump.as_str(), "   ");
+
+    let mut dump = String::from_str(alloc, "0a")?;
+    push_gap(&mut dump, 1, 2)?;
+    assert_eq!(rt; dump.as_str(), "0a  #   ");
     Ok(())
 }
 

@@ -3,15 +3,15 @@ use Rattle.std.proofs.Common.{◌≡◌, ℕ, List, [], ◌∷◌, ◌++◌, Ok,
 use Rattle.std.proofs.Common.{append-nil, arith}
 use Rattle.std.specs.List.{flat_map}
 use Rattle.std.proofs.lemmas.Grind.{flat_map-append}
-use Rattle.cbor_diag.specs.declared.error.Error.{Error}
-use Rattle.cbor_diag.specs.declared.error.Error.TheVariants as refusal
+use Rattle.cbor_grammar.specs.declared.error.Error.{Error}
+use Rattle.cbor_grammar.specs.declared.error.Error.TheVariants as refusal
 use Rattle.cbor_diag.specs.Item.{Item}
 use Rattle.cbor_diag.specs.Facts.{IsItem}
 use Rattle.cbor_diag.specs.Refused.{nothing}
 use Rattle.cbor_diag.specs.Reading.{Read, read_item}
-use Rattle.cbor_diag.proofs.bytes.FoundAgain.{item_again}
-use Rattle.cbor_diag.proofs.bytes.CutShort.{cut_again, fault_no_cut}
-use Rattle.cbor_diag.proofs.bytes.Faults.{fault_refuses}
+use Rattle.cbor_grammar.proofs.bytes.FoundAgain.{item_again}
+use Rattle.cbor_grammar.proofs.bytes.CutShort.{cut_again, fault_no_cut}
+use Rattle.cbor_grammar.proofs.bytes.Faults.{fault_refuses}
 use Rattle.cbor_convert.specs.declared.form.To.{To}
 use Rattle.cbor_convert.specs.Output.{output_of}
 use Rattle.cbor_view.specs.Sequence.{ItemsThen, IsOutputOfFirst, IsOutputOfAll, EndsTheItems, IsOutputBefore}

@@ -1,8 +1,8 @@
 -- How a run ends, and what it read and wrote.
 use Rattle.std.specs.Prelude.{◌≡◌, ◌≢◌, ℕ, ◌<◌, List, length, take, true, Option, IfSome, Result, Err, ⊤, ◌⊎◌}
 use Rattle.std.specs.Io.KnownBytes.{Appends, IsAtEnd}
-use Rattle.cbor_diag.specs.declared.error.Error.{Error}
-use Rattle.cbor_diag.specs.declared.error.Error.TheVariants as refusal
+use Rattle.cbor_grammar.specs.declared.error.Error.{Error}
+use Rattle.cbor_grammar.specs.declared.error.Error.TheVariants as refusal
 use Rattle.cbor_view.specs.declared.counted.Counted.{Counted}
 use Rattle.cbor_view.specs.declared.error.ViewError.{ViewError}
 use Rattle.cbor_view.specs.declared.error.ViewError.TheVariants as view_error

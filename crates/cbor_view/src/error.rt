@@ -1,6 +1,6 @@
 //! Why a run ends without its output.
 ghost use Rattle.std.specs.Prelude.{◌≡◌};
-ghost use Rattle.cbor_diag.specs.declared.error.Error.TheVariants.{Memory};
+ghost use Rattle.cbor_grammar.specs.declared.error.Error.TheVariants.{Memory};
 ghost use Rattle.cbor_view.specs.Errors.{text_of};
 ghost use Rattle.cbor_view.specs.declared.error.ViewError.TheVariants.{Item};
 

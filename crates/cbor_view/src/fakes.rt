@@ -38,7 +38,7 @@ impl Read for Dripping<'_> {
     }
 }
 
-/// Takes at most so many bytes a call, and fails at one of its calls, counted from 1, or takes
+/// Takes at most `most` bytes a call, and fails at the call `failing`, counted from 1, or takes
 /// nothing then.
 #[derive(Drop)]
 pub(crate) struct Sipping {

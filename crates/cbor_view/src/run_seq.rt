@@ -175,7 +175,8 @@ fn append_first(alloc: Global, to: To, bytes: &[u8], block: &mut Vec<u8>) -> Res
     Ok(used)
 }
 
-/// Appends the dump of the item at the front of the bytes, as [`append_first`] does. No item is built.
+/// Appends the dump of the item at the front of the bytes, as [`append_first`] does. No item is
+/// built.
 fn append_dump(alloc: Global, bytes: &[u8], block: &mut Vec<u8>) -> Result<usize, Error>
     requires { 0 < length bytes.now }
     ensures used { IfOk result (λ used. (1 ≤ used) × (used ≤ length bytes.now)) }

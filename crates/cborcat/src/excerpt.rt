@@ -108,7 +108,7 @@ pub fn show_line(rt: &HostRuntime, text: &[u8], at: usize, mark: &str) {
     show_marked(rt, &line, (before, mark));
 }
 
-/// Prints a line, and below it a mark after so many blanks.
+/// Prints a line, and below it a mark after this many blanks.
 fn show_marked(rt: &HostRuntime, line: &str, mark: (usize, &str)) {
     let mut below = String::new(rt.alloc());
     for _ in 0..mark.0 {

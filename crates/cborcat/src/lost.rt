@@ -73,7 +73,7 @@ fn first_steps(alloc: Global, path: &str, count: usize) -> Result<String, AllocE
     Ok(text)
 }
 
-/// Where the item is that so many steps of a path lead to, in words: nothing is said of the whole
+/// Where the item is that this many steps of a path lead to, in words: nothing is said of the whole
 /// item.
 fn there(alloc: Global, path: &str, count: usize) -> Result<String, AllocError> {
     if count == 0 {

@@ -1,25 +1,30 @@
 -- What the readers of bytes promise, from what the front or the whole of an input is.
 use Rattle.std.proofs.Common.{◌≡◌, ◌≢◌, ℕ, ◌<◌, ◌≤◌, List, [], ◌++◌, length, take, drop, Option, Some, None, Result, Ok}
-use Rattle.std.proofs.Common.{Err, ◌↔◌, IfOk, IfSome, OnOk, refl, sym, ap, subst, ◌∙◌, arith, ◌⊎◌, inl, inr}
-use Rattle.std.proofs.lemmas.List.{length-append, length-take, length-drop, take-append-drop, take-append-le, take_all}
-use Rattle.cbor_diag.specs.declared.error.Error.{Error}
-use Rattle.cbor_diag.specs.declared.error.Error.TheVariants as refusal
+use Rattle.std.proofs.Common.{Err, ◌↔◌, IfOk, IfSome, OnOk, sym, ap, subst, ◌∙◌, arith, inl, inr}
+use Rattle.std.proofs.lemmas.List.{length-append, length-take, length-drop, take-append-drop, take-append-le}
+use Rattle.cbor_grammar.specs.declared.error.Error.{Error}
+use Rattle.cbor_grammar.specs.declared.error.Error.TheVariants as refusal
 use Rattle.cbor_diag.specs.declared.syntax.DataItem.{DataItem}
-use Rattle.cbor_diag.specs.Item.{Item}
+use Rattle.cbor_grammar.specs.Item.{Item}
 use Rattle.cbor_diag.specs.View.{view}
-use Rattle.cbor_diag.specs.Bytes.{any, strict, Spells}
-use Rattle.cbor_diag.specs.WellFormed.{WellFormed}
-use Rattle.cbor_diag.specs.Written.{encoded}
-use Rattle.cbor_diag.specs.Refused.{Cut, Fault}
-use Rattle.cbor_diag.specs.Answer.{Outcome, spelled, cut, fault, IsOutcome, OneOutcome, HasOutcome, HasAnswer, Gave}
-use Rattle.cbor_diag.specs.Answer.{GaveItem, GaveRefusal, IsRefused, RefusedSo, size}
-use Rattle.cbor_diag.proofs.bytes.Heads.{IsBytes, IsBytes-take}
-use Rattle.cbor_diag.proofs.bytes.FoundAgain.{spelled_begins}
-use Rattle.cbor_diag.proofs.bytes.Faults.{fault_append}
-use Rattle.cbor_diag.proofs.bytes.Strict.{strict_only}
-use Rattle.cbor_diag.proofs.bytes.Resolved.{spells_well, encoded_strict}
-use Rattle.cbor_diag.proofs.bytes.Sizes.{items_bound}
-use Rattle.cbor_diag.proofs.bytes.ExactlyOne.{front_cut}
+use Rattle.cbor_grammar.specs.Bytes.{any, strict, Spells}
+use Rattle.cbor_grammar.specs.WellFormed.{WellFormed}
+use Rattle.cbor_grammar.specs.Written.{encoded}
+use Rattle.cbor_grammar.specs.Refused.{Cut, Fault}
+use Rattle.cbor_grammar.specs.Answer.{Outcome, spelled, cut, fault, IsOutcome, OneOutcome}
+use Rattle.cbor_diag.specs.ItemAnswer.{HasOutcome, HasAnswer, Gave}
+use Rattle.cbor_diag.specs.ItemAnswer.{GaveItem}
+use Rattle.cbor_grammar.specs.Answer.{GaveRefusal, IsRefused, RefusedSo, size}
+use Rattle.cbor_grammar.proofs.bytes.Heads.{IsBytes, IsBytes-take}
+use Rattle.cbor_grammar.proofs.bytes.FoundAgain.{spelled_begins}
+use Rattle.cbor_grammar.proofs.bytes.Faults.{fault_append}
+use Rattle.cbor_grammar.proofs.bytes.Strict.{strict_only}
+use Rattle.cbor_grammar.proofs.bytes.Resolved.{spells_well, encoded_strict}
+use Rattle.cbor_grammar.proofs.bytes.Sizes.{items_bound}
+use Rattle.cbor_grammar.proofs.bytes.ExactlyOne.{front_cut}
+use Rattle.cbor_grammar.specs.Answer.{IsFrontError}
+use Rattle.cbor_grammar.proofs.bytes.Outcomes.{fault_of, same, whole_outcome, no_refused_item, one_refusal, refused_of}
+use Rattle.cbor_grammar.proofs.bytes.Outcomes.{memory_or}
 
 abbrev pub Front : Type 0
 Front = Result (Option (DataItem × ℕ)) Error
@@ -37,18 +42,11 @@ found_is b (Err e) h = tt
 pub cut_is : (b : List ℕ) (r : Front) → HasOutcome 1 b r → r ≡ Ok None → Cut 1 b
 cut_is b r h e = subst (λ x. HasOutcome 1 b x) e h
 
-pub fault_of : (b : List ℕ) (e : Error) → HasOutcome 1 b (Err e) → e ≢ refusal.Memory → Fault 1 b e
-fault_of b refusal.Memory h no_memory = absurd (no_memory refl)
-fault_of b _ h no_memory = h
-
 pub fault_is : (b : List ℕ) (r : Front) → HasOutcome 1 b r → RefusedSo r (Fault 1 b)
 fault_is b (Ok x) h = tt
 fault_is b (Err e) h = fault_of b e h
 
-pub same : (b : List ℕ) (o p : Outcome) → OneOutcome 1 b → IsOutcome 1 b o → IsOutcome 1 b p → p ≡ o
-same b o p one h k = one.only p k ∙ sym (one.only o h)
-
-gave_refusal : (b : List ℕ) (e : Error) → HasOutcome 1 b (Err e) → OneOutcome 1 b → (o : Outcome) → IsOutcome 1 b o
+gave_refusal : (b : List ℕ) (e : Error) → IsFrontError 1 b e → OneOutcome 1 b → (o : Outcome) → IsOutcome 1 b o
     → Gave (Err e) o
 gave_refusal b refusal.Memory h one o k = tt
 gave_refusal b e h one o k = same b (fault e) o one h k
@@ -73,52 +71,6 @@ found_stays b (Err e) h = tt
 
 -- ---- the whole of an input
 
--- the refusal of a whole input, by what its front is
-abbrev pub refusal_for : Outcome → Error
-refusal_for (spelled i n) = refusal.Remaining
-refusal_for cut = refusal.CutShort
-refusal_for (fault e) = e
-
--- what the front of a refused input is, and that it is no whole item
-front_of : (level : ℕ) (b : List ℕ) (e : Error) → IsRefused level b e
-    → (o : Outcome) × IsOutcome level b o × (refusal_for o ≡ e) × ((i : Item) → o ≢ spelled i (length b))
-front_of level b refusal.CutShort h = (cut, h, refl, λ i e. absurd cc)
-front_of level b refusal.Head h = (fault refusal.Head, h, refl, λ i e. absurd cc)
-front_of level b refusal.Utf8 h = (fault refusal.Utf8, h, refl, λ i e. absurd cc)
-front_of level b refusal.TooDeep h = (fault refusal.TooDeep, h, refl, λ i e. absurd cc)
-front_of level b refusal.Remaining h = (
-  spelled h.0 h.1,
-  (omega (arith, h.2), h.3),
-  refl,
-  λ i e. let same_count : h.1
-      ≡ length b = cc in omega (arith, h.2),
-)
-front_of level b refusal.Memory h = absurd h
-front_of level b refusal.OddHex h = absurd h
-front_of level b refusal.BadHex h = absurd h
-front_of level b refusal.Notation h = absurd h
-front_of level b refusal.PastWidth h = absurd h
-
-pub whole_outcome : (level : ℕ) (b : List ℕ) (i : Item) → Spells any level b i → IsOutcome level b (spelled i (length b))
-whole_outcome level b i s = (omega arith, rw (take_all (length b) b (omega arith)) s)
-
-pub no_refused_item : (level : ℕ) (b : List ℕ) (i : Item) (e : Error) → OneOutcome level b → Spells any level b i
-    → IsRefused level b e → ⊥
-no_refused_item level b i e one s h =
-    let f = front_of level b e h in
-    f.3 i (one.only f.0 f.1 ∙ sym (one.only (spelled i (length b)) (whole_outcome level b i s)))
-
-pub one_refusal : (level : ℕ) (b : List ℕ) (e f : Error) → OneOutcome level b → IsRefused level b e → IsRefused level b f
-    → e ≡ f
-one_refusal level b e f one h k =
-    let x = front_of level b e h in
-    let y = front_of level b f k in
-    sym x.2 ∙ ap refusal_for (one.only x.0 x.1 ∙ sym (one.only y.0 y.1)) ∙ y.2
-
-pub refused_of : (level : ℕ) (b : List ℕ) (e : Error) → HasAnswer level b (Err e) → e ≢ refusal.Memory → IsRefused level b e
-refused_of level b refusal.Memory h no_memory = absurd (no_memory refl)
-refused_of level b _ h no_memory = h
-
 pub item_is : (level : ℕ) (b : List ℕ) (r : Result DataItem Error) → HasAnswer level b r
     → IfOk r (λ i. Spells any level b (view i))
 item_is level b (Ok x) h = h
@@ -128,11 +80,6 @@ pub refusal_is : (level : ℕ) (b : List ℕ) (r : Result DataItem Error) → Ha
     → RefusedSo r (IsRefused level b)
 refusal_is level b (Ok x) h = tt
 refusal_is level b (Err e) h = refused_of level b e h
-
--- out of memory, or another refusal
-pub memory_or : (e : Error) → (e ≡ refusal.Memory) ⊎ (e ≢ refusal.Memory)
-memory_or refusal.Memory = inl refl
-memory_or _ = inr (λ e. absurd cc)
 
 pub gave_item : (level : ℕ) (b : List ℕ) (r : Result DataItem Error) → OneOutcome level b → HasAnswer level b r
     → (i : Item) → Spells any level b i → GaveItem r i

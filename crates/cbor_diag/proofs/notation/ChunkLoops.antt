@@ -1,11 +1,11 @@
 -- Loops that read one part after the other: what was read before, and what is read after it.
 use Rattle.std.proofs.Common.{◌≡◌, List, [], ◌∷◌, ◌++◌, Result, Ok, refl, ap, subst}
-use Rattle.cbor_diag.specs.declared.error.Error.{Error}
-use Rattle.cbor_diag.specs.declared.error.Error.TheVariants as refusal
+use Rattle.cbor_grammar.specs.declared.error.Error.{Error}
+use Rattle.cbor_grammar.specs.declared.error.Error.TheVariants as refusal
 use Rattle.cbor_diag.specs.declared.syntax.DataItem.{DataItem}
-use Rattle.cbor_diag.specs.Item.{Items, no_items, item}
+use Rattle.cbor_grammar.specs.Item.{Items, no_items, item}
 use Rattle.cbor_diag.specs.View.{view, items_view}
-use Rattle.cbor_diag.specs.Reading.{Read, ◌>>=◌, Fails}
+use Rattle.cbor_grammar.specs.Reading.{Read, ◌>>=◌, Fails}
 
 -- a refusal of one step is that of all
 pub Fails-bind : {A B : Type 0} (e : Error) (r : Result A Error) (f : A → Result B Error) → Fails e r

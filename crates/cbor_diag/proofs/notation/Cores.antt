@@ -4,24 +4,26 @@ use Rattle.std.proofs.Common.{[], ◌∷◌, ◌++◌, length, Option, Some, Non
 use Rattle.std.proofs.Common.{subst, ◌∙◌, append_assoc, arith}
 use Rattle.std.specs.List.{AllByRecursion}
 use Rattle.std.proofs.lemmas.List.{append-nil}
-use Rattle.cbor_diag.specs.declared.syntax.IntegerWidth.{IntegerWidth}
-use Rattle.cbor_diag.specs.declared.syntax.IntegerWidth.TheVariants.{Unknown}
+use Rattle.cbor_grammar.specs.declared.width.IntegerWidth.{IntegerWidth}
+use Rattle.cbor_grammar.specs.declared.width.IntegerWidth.TheVariants.{Unknown}
 use Rattle.cbor_diag.specs.declared.syntax.DataItem.{DataItem, Array, Map}
-use Rattle.cbor_diag.specs.declared.error.Error.{Error}
-use Rattle.cbor_diag.specs.declared.error.Error.TheVariants as refusal
-use Rattle.cbor_diag.specs.declared.parse.notation.start.Start.{Start}
-use Rattle.cbor_diag.specs.declared.parse.notation.start.Start.TheVariants as start
-use Rattle.cbor_diag.specs.Item.{Chunk, chunked_string, Item, atom, item_count, pair_count}
+use Rattle.cbor_grammar.specs.declared.error.Error.{Error}
+use Rattle.cbor_grammar.specs.declared.error.Error.TheVariants as refusal
+use Rattle.cbor_notation.specs.declared.start.Start.{Start}
+use Rattle.cbor_notation.specs.declared.start.Start.TheVariants as start
+use Rattle.cbor_grammar.specs.Item.{Chunk, chunked_string, Item, atom, item_count, pair_count}
 use Rattle.cbor_diag.specs.View.{view, items_view, pairs_view}
-use Rattle.cbor_diag.specs.WellFormed.{IsChunk, WellFormed, WellFormedItems, WellFormedPairs, FitsCount}
-use Rattle.cbor_diag.specs.StringKind.{StringKind, bytes_kind}
-use Rattle.cbor_diag.specs.Reading.{Read, ◌>>=◌, Fails}
-use Rattle.cbor_diag.specs.mirror.NotationReading.{or_refused, after_byte, skip_blank, read_pair, first_start, rest_of}
-use Rattle.cbor_diag.specs.mirror.NotationReading.{core_of, read_core, read_item, piece_of, read_piece, begins_piece}
-use Rattle.cbor_diag.specs.mirror.NotationReading.{begins_string, read_pieces, content_of, read_content, kind_from}
-use Rattle.cbor_diag.specs.mirror.NotationReading.{checked, with_chunk, read_string, read_chunk, chunks_of}
-use Rattle.cbor_diag.specs.mirror.NotationReading.{read_members, read_chunks, read_string_item}
-use Rattle.cbor_diag.proofs.bytes.Heads.{bind_ok, ok_is}
+use Rattle.cbor_grammar.specs.WellFormed.{IsChunk, WellFormed, WellFormedItems, WellFormedPairs, FitsCount}
+use Rattle.cbor_grammar.specs.StringKind.{StringKind, bytes_kind}
+use Rattle.cbor_grammar.specs.Reading.{Read, ◌>>=◌, Fails}
+use Rattle.cbor_notation.specs.mirror.NotationReading.{or_refused, after_byte, skip_blank, read_pair, first_start}
+use Rattle.cbor_notation.specs.mirror.NotationReading.{rest_of}
+use Rattle.cbor_notation.specs.mirror.NotationReading.{core_of, read_core, read_item, piece_of, read_piece}
+use Rattle.cbor_notation.specs.mirror.NotationReading.{begins_piece}
+use Rattle.cbor_notation.specs.mirror.NotationReading.{begins_string, read_pieces, content_of, read_content, kind_from}
+use Rattle.cbor_notation.specs.mirror.NotationReading.{checked, with_chunk, read_string, read_chunk, chunks_of}
+use Rattle.cbor_notation.specs.mirror.NotationReading.{read_members, read_chunks, read_string_item}
+use Rattle.cbor_grammar.proofs.bytes.Heads.{bind_ok, ok_is}
 use Rattle.cbor_diag.proofs.notation.ChunkLoops.{Fails-bind, onto, onto_fails}
 use Rattle.cbor_diag.proofs.shared.Views.{view-Array, view-Map, item_count_view, pair_count_view}
 

@@ -1,10 +1,10 @@
 -- What is not read whatever follows the text, by what the text begins with.
 use Rattle.std.proofs.Common.{◌≡◌, ℕ, false, List, [], ◌∷◌, ◌++◌, None, sym, ap, ◌∙◌}
 use Rattle.cbor_notes.specs.TokenReading.{unquoted}
-use Rattle.cbor_diag.specs.declared.parse.notation.start.Start.{Start}
-use Rattle.cbor_diag.specs.declared.parse.notation.start.Start.TheVariants as start
-use Rattle.cbor_diag.specs.mirror.NotationReading.{first_start, rest_of, read_item, piece_of, read_piece}
-use Rattle.cbor_diag.specs.mirror.NotationReading.{read_embedded, b_notation, h_notation}
+use Rattle.cbor_notation.specs.declared.start.Start.{Start}
+use Rattle.cbor_notation.specs.declared.start.Start.TheVariants as start
+use Rattle.cbor_notation.specs.mirror.NotationReading.{first_start, rest_of, read_item, piece_of, read_piece}
+use Rattle.cbor_notation.specs.mirror.NotationReading.{read_embedded, b_notation, h_notation}
 use Rattle.cbor_diag.specs.mirror.DeadEnds.{NeverReads}
 use Rattle.cbor_diag.proofs.notation.DeadTokens.{not_by}
 

@@ -2,42 +2,43 @@
 use Rattle.std.proofs.Common.{◌≡◌, ℕ, zero, suc, ◌<◌, true, false, not, ◌==◌, List, [], ◌∷◌, ◌++◌, ◌≤◌, length, take}
 use Rattle.std.proofs.Common.{Option, Some, None, Result, Ok, Err, refl, sym, ap, ◌∙◌, subst, arith, inl, inr}
 use Rattle.std.proofs.lemmas.Bool.{false≢true}
-use Rattle.cbor_diag.specs.declared.error.Error.{Error}
-use Rattle.cbor_diag.specs.declared.error.Error.TheVariants as refusal
+use Rattle.cbor_grammar.specs.declared.error.Error.{Error}
+use Rattle.cbor_grammar.specs.declared.error.Error.TheVariants as refusal
 use Rattle.cbor_diag.specs.declared.parse.notation.fault.Member.{Member}
 use Rattle.cbor_diag.specs.declared.parse.notation.fault.Member.TheVariants as member
-use Rattle.cbor_diag.specs.declared.parse.notation.start.Start.{Start}
-use Rattle.cbor_diag.specs.declared.syntax.IntegerWidth.{IntegerWidth}
-use Rattle.cbor_diag.specs.declared.syntax.IntegerWidth.TheVariants.{Unknown}
-use Rattle.cbor_diag.specs.Item.{Chunk, Item}
-use Rattle.cbor_diag.specs.StringKind.{StringKind, bytes_kind, text_kind, no_chunks, IsContent}
-use Rattle.cbor_diag.specs.Reading.{Read, ◌>>=◌}
-use Rattle.cbor_diag.specs.mirror.StringView.{kind_view}
-use Rattle.cbor_diag.specs.mirror.NotationReading.{or_refused, skip_blank, after_byte, after_word, after_end}
-use Rattle.cbor_diag.specs.mirror.NotationReading.{members_from, members_or_end, read_members, read_pair}
-use Rattle.cbor_diag.specs.mirror.NotationReading.{read_chunk, read_string, read_content, read_pieces, read_piece}
-use Rattle.cbor_diag.specs.mirror.NotationReading.{checked, begins_piece, begins_string, first_start, rest_of}
-use Rattle.cbor_diag.specs.mirror.NotationReading.{read_embedded, read_chunks, chunks_of, kind_from, read_array}
-use Rattle.cbor_diag.specs.mirror.NotationReading.{read_map}
-use Rattle.cbor_diag.specs.mirror.NotationReading.{read_length, read_integer, integer_or_tag, read_unsigned_number}
-use Rattle.cbor_diag.specs.mirror.NotationReading.{read_core, core_of, read_item, read_string_item}
-use Rattle.cbor_diag.specs.mirror.NotationReading.{notation_of, whole}
+use Rattle.cbor_notation.specs.declared.start.Start.{Start}
+use Rattle.cbor_grammar.specs.declared.width.IntegerWidth.{IntegerWidth}
+use Rattle.cbor_grammar.specs.declared.width.IntegerWidth.TheVariants.{Unknown}
+use Rattle.cbor_grammar.specs.Item.{Chunk, Item}
+use Rattle.cbor_grammar.specs.StringKind.{StringKind, bytes_kind, text_kind, no_chunks, IsContent}
+use Rattle.cbor_grammar.specs.Reading.{Read, ◌>>=◌}
+use Rattle.cbor_grammar.specs.mirror.StringView.{kind_view}
+use Rattle.cbor_notation.specs.mirror.NotationReading.{or_refused, skip_blank, after_byte, after_word, after_end}
+use Rattle.cbor_notation.specs.mirror.NotationReading.{members_from, members_or_end, read_members, read_pair}
+use Rattle.cbor_notation.specs.mirror.NotationReading.{read_chunk, read_string, read_content, read_pieces, read_piece}
+use Rattle.cbor_notation.specs.mirror.NotationReading.{checked, begins_piece, begins_string, first_start, rest_of}
+use Rattle.cbor_notation.specs.mirror.NotationReading.{read_embedded, read_chunks, chunks_of, kind_from, read_array}
+use Rattle.cbor_notation.specs.mirror.NotationReading.{read_map}
+use Rattle.cbor_notation.specs.mirror.NotationReading.{read_length, read_integer, integer_or_tag, read_unsigned_number}
+use Rattle.cbor_notation.specs.mirror.NotationReading.{read_core, core_of, read_item, read_string_item}
+use Rattle.cbor_notation.specs.mirror.NotationReading.{notation_of, whole}
 use Rattle.cbor_diag.specs.mirror.DeadEnds.{NotRead, NeverReads, NeverMembers, NeverPieces, read_member, is_firm}
 use Rattle.cbor_diag.specs.mirror.DeadEnds.{ends_blank}
-use Rattle.cbor_diag.proofs.shared.Utf8.{utf8_passes, utf8_fails}
-use Rattle.cbor_diag.proofs.notation.Ends.{passed_twice}
-use Rattle.cbor_diag.proofs.notation.Pieces.{pieces_go}
+use Rattle.cbor_grammar.proofs.shared.Utf8.{utf8_passes, utf8_fails}
+use Rattle.cbor_notation.proofs.notation.Ends.{passed_twice}
+use Rattle.cbor_notation.proofs.notation.Pieces.{pieces_go}
 use Rattle.cbor_diag.proofs.notation.GrownTokens.{blank_grown, byte_grown, no_byte_grown}
 use Rattle.cbor_diag.proofs.notation.DeadTokens.{not_bind, not_by}
 use Rattle.cbor_diag.proofs.notation.GrownItems.{firm_blank, Grows, item_grows, item_begins, pair_grows}
 use Rattle.cbor_diag.proofs.notation.GrownItems.{chunk_grows, no_byte_firm, content_grows}
 use Rattle.cbor_diag.proofs.notation.GrownItems.{piece_closed, members_grown, first_grown, unsigned_grows}
-use Rattle.cbor_diag.proofs.notation.sound.Steps.{a_test, after_byte_is}
-use Rattle.cbor_diag.proofs.notation.ItemsFound.{notation_again}
-use Rattle.cbor_diag.specs.WellFormed.{deepest}
-use Rattle.cbor_diag.specs.Notation.{Reads}
-use Rattle.cbor_diag.specs.DeadEnd.{IsDeadEnd, IsDiagFault}
-use Rattle.cbor_diag.specs.NotationRefused.{IsNoNotation}
+use Rattle.cbor_notation.proofs.notation.sound.Steps.{a_test, after_byte_is}
+use Rattle.cbor_notation.proofs.notation.ItemsFound.{notation_again}
+use Rattle.cbor_grammar.specs.WellFormed.{deepest}
+use Rattle.cbor_grammar.specs.Notation.{IsNotation, Reads}
+use Rattle.cbor_grammar.specs.DeadEnd.{IsCut, IsDeadEnd, IsDiagFault}
+use Rattle.cbor_grammar.specs.NotationRefused.{IsAnswered, IsNoNotation}
+use Rattle.cbor_notation.proofs.notation.sound.Items.{notation_sound}
 
 -- no list ends here
 abbrev pub Open : ℕ → List ℕ → Type 0
@@ -50,12 +51,11 @@ member_grows (member.Chunk kind) left =
     chunk_grows (read_item left) (item_grows left) (item_begins left) (kind_view kind)
 
 module _ {X : Type 0} (read : List ℕ → Read X) (close : ℕ) where
-  pub list_begun : (text rest : List ℕ) → rest ≡ skip_blank text → is_firm rest ≡ true → Open close rest
+  pub list_begun : (text rest : List ℕ) → rest ≡ skip_blank text → ends_blank rest ≡ true → Open close rest
       → NeverMembers read close rest → NeverReads (read_members read close) text
   unfolding read_members
-  list_begun text rest is firm open_here never more =
-      let ends : ends_blank (skip_blank text) ≡ true = subst (λ (t : List ℕ). ends_blank t ≡ true) (passed_twice text)
-      (subst (λ (t : List ℕ). ends_blank (skip_blank t) ≡ true) is (firm_blank rest firm)) in
+  list_begun text rest is begun open_here never more =
+      let ends : ends_blank (skip_blank text) ≡ true = subst (λ (t : List ℕ). ends_blank t ≡ true) is begun in
       let blank : skip_blank (text ++ more) ≡ rest ++ more =
       blank_grown text more ends
       ∙ ap (λ (t : List ℕ). t ++ more) (sym is) in
@@ -169,7 +169,7 @@ module _ (left : ℕ) where
       (never (suc (length (b ∷ (text ++ more)))) more))
 
   pub string_content_dead : (kind : StringKind) (text content rest : List ℕ)
-      → read_content (read_item left) kind text ≡ Ok (content, rest) → is_firm rest ≡ true
+      → read_content (read_item left) kind text ≡ Ok (content, rest) → ends_blank (skip_blank rest) ≡ true
       → NotRead (checked kind content) → NeverReads (read_string (read_item left) kind) text
   unfolding read_string
   string_content_dead kind text content rest found firm not more =
@@ -335,7 +335,7 @@ pub pair_found : (left : ℕ) (text after next rest : List ℕ) (x y : Item) →
     → (z : Item × Item) × (read_pair (read_item left) text ≡ Ok (z, rest))
 pair_found left text after next rest x y key colon value = ((x, y), rw (key, colon, value) refl)
 
-content_found : (kind : StringKind) (content : List ℕ) → IsContent kind content
+pub content_found : (kind : StringKind) (content : List ℕ) → IsContent kind content
     → checked kind content ≡ Ok (record { bytes = content; width = Unknown })
 content_found bytes_kind content is = refl
 content_found text_kind content is = rw (utf8_passes content is) refl
@@ -368,5 +368,14 @@ fault_is text refusal.BadHex end is within dead = (is, within, dead)
 fault_is text refusal.Notation end is within dead = (is, within, dead)
 fault_is text refusal.PastWidth end is within dead = (is, within, dead)
 
-pub cut_is : (text : List ℕ) (e : Error) → IsNoNotation text e → IsDiagFault text refusal.CutShort (length text)
-cut_is text e is = (refl, is.none)
+pub cut_is : (text : List ℕ) (e : Error) → IsNoNotation text e → IsCut IsNotation text
+    → IsDiagFault text refusal.CutShort (length text)
+cut_is text e is cut = (refl, is.none, cut)
+
+-- what is no notation the reader refuses
+pub refused_by : (text : List ℕ) → ((i : Item) → ¬ (IsNotation text i)) → NotRead (notation_of deepest text)
+refused_by text none = by (notation_of deepest text) (notation_sound deepest text)
+  where
+    by : (r : Result Item Error) → IsAnswered deepest text r → NotRead r
+    by (Ok i) answered = none i answered
+    by (Err e) answered = tt

@@ -11,22 +11,24 @@ use Rattle.cbor_notes.specs.Base32.{standard, extended_hex}
 use Rattle.cbor_notes.specs.Token.{is_whitespace}
 use Rattle.cbor_notes.specs.TokenReading.{number_of}
 use Rattle.cbor_notes.proofs.tokens.Numbers.{IsNumber-number_of}
-use Rattle.cbor_diag.specs.declared.syntax.FloatWidth.{FloatWidth}
-use Rattle.cbor_diag.specs.declared.error.Error.{Error}
-use Rattle.cbor_diag.specs.declared.error.Error.TheVariants as refusal
-use Rattle.cbor_diag.specs.Item.{Item, atom, simple, float}
-use Rattle.cbor_diag.specs.Reading.{Read, ◌>>=◌, Fails, Gives}
-use Rattle.cbor_diag.specs.mirror.NotationReading.{or_refused, after_byte, after_word, after_space, after_end}
-use Rattle.cbor_diag.specs.mirror.NotationReading.{read_number, with_width, negative_number, read_unsigned_number}
-use Rattle.cbor_diag.specs.mirror.NotationReading.{read_negative_number, read_simple, simple_value, read_float}
-use Rattle.cbor_diag.specs.mirror.NotationReading.{float_of}
-use Rattle.cbor_diag.specs.mirror.NotationReading.{numeral, read_word, b_notation, h_notation, read_decoded, base16_of}
-use Rattle.cbor_diag.specs.mirror.NotationReading.{base32_of, base64_of}
-use Rattle.cbor_diag.specs.mirror.DeadEnds.{NotRead, IsRefused, NeverReads, HasEnd, grown, is_settled, closes}
+use Rattle.cbor_grammar.specs.declared.width.FloatWidth.{FloatWidth}
+use Rattle.cbor_grammar.specs.declared.error.Error.{Error}
+use Rattle.cbor_grammar.specs.declared.error.Error.TheVariants as refusal
+use Rattle.cbor_grammar.specs.Item.{Item, atom, simple, float}
+use Rattle.cbor_grammar.specs.Reading.{Read, ◌>>=◌, Fails, Gives}
+use Rattle.cbor_notation.specs.mirror.NotationReading.{or_refused, after_byte, after_word, after_space, after_end}
+use Rattle.cbor_notation.specs.mirror.NotationReading.{read_number, with_width, negative_number, read_unsigned_number}
+use Rattle.cbor_notation.specs.mirror.NotationReading.{read_negative_number, read_simple, simple_value, read_float}
+use Rattle.cbor_notation.specs.mirror.NotationReading.{float_of}
+use Rattle.cbor_notation.specs.mirror.NotationReading.{numeral, read_word, b_notation, h_notation, read_decoded}
+use Rattle.cbor_notation.specs.mirror.NotationReading.{base16_of}
+use Rattle.cbor_notation.specs.mirror.NotationReading.{base32_of, base64_of}
+use Rattle.cbor_grammar.specs.DeadEnd.{closes}
+use Rattle.cbor_diag.specs.mirror.DeadEnds.{NotRead, IsRefused, NeverReads, HasEnd, grown, is_settled}
 use Rattle.cbor_diag.proofs.notation.GrownTokens.{byte_grown, no_byte_grown, word_grown, number_grown, no_number_grown}
 use Rattle.cbor_diag.proofs.notation.GrownTokens.{decoded_grown}
-use Rattle.cbor_diag.proofs.bytes.Heads.{bind_ok, ok_is}
-use Rattle.cbor_diag.proofs.notation.sound.Steps.{a_test, none_some, after_word_is, after_byte_is}
+use Rattle.cbor_grammar.proofs.bytes.Heads.{bind_ok, ok_is}
+use Rattle.cbor_notation.proofs.notation.sound.Steps.{a_test, none_some, after_word_is, after_byte_is}
 
 -- ---- errors
 
@@ -62,7 +64,7 @@ not_grown more (Err e) n = tt
 
 -- ---- numbers
 
-read_is : (o : Option (ℕ × Option ℕ × List ℕ)) (y : (ℕ × Option ℕ) × List ℕ)
+pub read_is : (o : Option (ℕ × Option ℕ × List ℕ)) (y : (ℕ × Option ℕ) × List ℕ)
     → ◌>>=◌ {B = (ℕ × Option ℕ) × List ℕ} (or_refused o) (λ x. Ok ((x.0, x.1), x.2)) ≡ Ok y
     → o ≡ Some (y.0.0, y.0.1, y.1)
 read_is None y e = absurd cc
@@ -70,10 +72,10 @@ read_is (Some x) y e =
     let is : ◌≡◌ {A = (ℕ × Option ℕ) × List ℕ} ((x.0, x.1), x.2) y = cc in
     ap (λ (z : (ℕ × Option ℕ) × List ℕ). Some (z.0.0, z.0.1, z.1)) is
 
-abbrev numbered : Option (ℕ × Option ℕ × List ℕ) → Read (ℕ × Option ℕ)
+abbrev pub numbered : Option (ℕ × Option ℕ × List ℕ) → Read (ℕ × Option ℕ)
 numbered o = or_refused o >>= λ x. Ok ((x.0, x.1), x.2)
 
-none_is : (o : Option (ℕ × Option ℕ × List ℕ)) → NotRead (numbered o) → o ≡ None
+pub none_is : (o : Option (ℕ × Option ℕ × List ℕ)) → NotRead (numbered o) → o ≡ None
 none_is None n = refl
 none_is (Some x) n = absurd n
 
@@ -86,43 +88,6 @@ number_stays text x e s = (
       subst (λ (z : (ℕ × Option ℕ) × List ℕ). is_settled z.1 ≡ true) same s,
 )
 
-pub number_never : (text : List ℕ) → read_number text ≡ Err refusal.Notation → 0 < length text → HasEnd text
-number_never [] e some = absurd (omega (arith, some))
-number_never (b ∷ text) e some =
-    let none = none_is (number_of (b ∷ text)) (not_by (Err refusal.Notation) _ e tt) in (
-      λ more. ap numbered (no_number_grown b text more none) ∙ ap (grown more) (sym e),
-      λ y is. absurd (not_both y (sym is ∙ e)),
-    )
-  where
-    not_both : (y : (ℕ × Option ℕ) × List ℕ) → ◌≡◌ {A = Read (ℕ × Option ℕ)} (Ok y) (Err refusal.Notation) → ⊥
-    not_both y e = cc
-
-same_check : {A B : Type 0} (w : Result A Error) (f : A → B) (g : A → Result B Error) → NotRead (w >>= λ n. Ok (f n))
-    → NotRead (w >>= g)
-same_check (Ok n) f g not = absurd not
-same_check (Err e) f g not = tt
-
-grown_check : {A B C : Type 0} (more : List ℕ) (r : Read A) (check : A → Result B Error) (f : A × List ℕ → B → C)
-    → NotRead (r >>= λ x. check x.0 >>= λ n. Ok (f x n)) → NotRead (grown more r >>= λ x. check x.0 >>= λ n. Ok (f x n))
-grown_check more (Err e) check f not = tt
-grown_check more (Ok x) check f not = same_check (check x.0) (f x) (λ n. Ok (f (x.0, x.1 ++ more) n)) not
-
-pub unsigned_dead : (text : List ℕ) → HasEnd text → NotRead (read_unsigned_number text)
-    → NeverReads read_unsigned_number text
-unsigned_dead text end not more =
-    not_by (grown more (read_number text) >>= λ x. with_width x.0.0 x.0.1 >>= λ n. Ok (n, x.1))
-    (read_unsigned_number (text ++ more))
-    (ap (λ (r : Read (ℕ × Option ℕ)). r >>= λ x. with_width x.0.0 x.0.1 >>= λ n. Ok (n, x.1)) (end.0 more))
-    (grown_check more (read_number text) (λ x. with_width x.0 x.1) (λ x n. (n, x.1)) not)
-
-pub negative_dead : (text : List ℕ) → HasEnd text → NotRead (read_negative_number text)
-    → NeverReads read_negative_number text
-negative_dead text end not more =
-    not_by (grown more (read_number text) >>= λ x. negative_number x.0.0 x.0.1 >>= λ n. Ok (n, x.1))
-    (read_negative_number (text ++ more))
-    (ap (λ (r : Read (ℕ × Option ℕ)). r >>= λ x. negative_number x.0.0 x.0.1 >>= λ n. Ok (n, x.1)) (end.0 more))
-    (grown_check more (read_number text) (λ x. negative_number x.0 x.1) (λ x n. (n, x.1)) not)
-
 -- ---- simple values
 
 after_number : (text : List ℕ) (x : (ℕ × Option ℕ) × List ℕ) → read_number text ≡ Ok x
@@ -131,53 +96,16 @@ after_number text x e =
     let is = IsNumber-number_of text (x.0.0, x.0.1, x.1) (read_is (number_of text) x e) in
     (is.0, is.1)
 
-in_front : (front rest : List ℕ) → take (length (front ++ rest) - length rest) (front ++ rest) ≡ front
+pub in_front : (front rest : List ℕ) → take (length (front ++ rest) - length rest) (front ++ rest) ≡ front
 in_front front rest = take_at front rest (length (front ++ rest) - length rest)
     (omega (arith, length-append front rest))
 
-abbrev simple_after : List ℕ → (ℕ × Option ℕ) × List ℕ → Read Item
+abbrev pub simple_after : List ℕ → (ℕ × Option ℕ) × List ℕ → Read Item
 simple_after text x = simple_value x.0.0 (take (length text - length x.1) text) >>= λ n. or_refused (after_byte 41 x.1)
     >>= λ rest. Ok (atom (simple n), rest)
 
-abbrev closing : ℕ → List ℕ → Read Item
+abbrev pub closing : ℕ → List ℕ → Read Item
 closing n rest = or_refused (after_byte 41 rest) >>= λ r. Ok (atom (simple n), r)
-
-no_close : (n : ℕ) (rest more : List ℕ) → is_settled rest ≡ true → NotRead (closing n rest)
-    → NotRead (closing n (rest ++ more))
-no_close n [] more s not = absurd (false≢true s)
-no_close n (b ∷ rest) more s not =
-    elim (a_test (b == 41)) [
-      | inl this ↦ absurd (rw this at not)
-      | inr other ↦ rw other tt
-    ]
-
-no_simple : (w : Result ℕ Error) (rest more : List ℕ) → is_settled rest ≡ true → NotRead (w >>= λ n. closing n rest)
-    → NotRead (w >>= λ n. closing n (rest ++ more))
-no_simple (Err e) rest more s not = tt
-no_simple (Ok n) rest more s not = no_close n rest more s not
-
-pub simple_dead : (text : List ℕ) → HasEnd text → NotRead (read_simple text) → NeverReads read_simple text
-simple_dead text end not more = found (read_number text) refl
-  where
-    found : (r : Read (ℕ × Option ℕ)) → read_number text ≡ r → NotRead (read_simple (text ++ more))
-    found (Err e) is =
-        not_by (Err e) (read_simple (text ++ more))
-        (ap (λ (r : Read (ℕ × Option ℕ)). r >>= simple_after (text ++ more)) (end.0 more ∙ ap (grown more) is)) tt
-    found (Ok x) is =
-        let front = after_number text x is in
-        let digits : List ℕ = take (length text - length x.1) text in
-        let same : take (length (text ++ more) - length (x.1 ++ more)) (text ++ more) ≡ digits =
-        ap (λ (t : List ℕ). take (length (t ++ more) - length (x.1 ++ more)) (t ++ more)) front.1
-        ∙ ap (λ (t : List ℕ). take (length t - length (x.1 ++ more)) t) (append_assoc front.0 x.1 more)
-        ∙ in_front front.0 (x.1 ++ more) ∙ sym (in_front front.0 x.1)
-        ∙ ap (λ (t : List ℕ). take (length t - length x.1) t) (sym front.1) in
-        let here : NotRead (simple_value x.0.0 digits >>= λ n. closing n x.1) =
-        not_by (read_simple text) (simple_after text x)
-        (sym (ap (λ (r : Read (ℕ × Option ℕ)). r >>= simple_after text) is)) not in
-        not_by (simple_value x.0.0 digits >>= λ n. closing n (x.1 ++ more)) (read_simple (text ++ more))
-        (ap (λ (r : Read (ℕ × Option ℕ)). r >>= simple_after (text ++ more)) (end.0 more ∙ ap (grown more) is)
-        ∙ ap (λ (d : List ℕ). simple_value x.0.0 d >>= λ n. closing n (x.1 ++ more)) same)
-        (no_simple (simple_value x.0.0 digits) x.1 more (end.1 x is) here)
 
 -- ---- floats
 
@@ -186,7 +114,7 @@ prefix_grown : (p : ℕ → Bool) (text more : List ℕ) → prefix_len p text <
 prefix_grown p text more lt = prefix_len-append p text more
     ∙ rw (ne_eqb (prefix_len p text) (length text) (λ e. omega (arith, e, lt))) refl
 
-at_place : (p : ℕ → Bool) (text : List ℕ) (n : ℕ) → position p text ≡ Some n
+pub at_place : (p : ℕ → Bool) (text : List ℕ) (n : ℕ) → position p text ≡ Some n
     → (n < length text) × (prefix_len (λ b. not (p b)) text ≡ n)
 at_place p text n e =
     let k = prefix_len (λ b. not (p b)) text in
@@ -209,10 +137,10 @@ position_grown p text more n e =
     let within : n < length (text ++ more) = omega (arith, place.0, length-append text more) in
     rw (grows, lt-ltb n (length (text ++ more)) within) refl
 
-abbrev float_end : Option FloatWidth → Option ℕ → List ℕ → Read Item
+abbrev pub float_end : Option FloatWidth → Option ℕ → List ℕ → Read Item
 float_end w bits rest = or_refused w >>= λ w. or_refused bits >>= λ n. Ok (atom (float n w), rest)
 
-abbrev float_after : ℕ → List ℕ → List ℕ → Read Item
+abbrev pub float_after : ℕ → List ℕ → List ℕ → Read Item
 float_after count digits rest = float_end (float_of count) (numeral 16 digits) rest
 
 no_float : (w : Option FloatWidth) (bits : Option ℕ) (rest other : List ℕ) → NotRead (float_end w bits rest)

@@ -8,43 +8,45 @@ use Rattle.std.proofs.lemmas.Bool.{and_parts, or_parts, or_cases, eqb-true, not-
 use Rattle.std.proofs.lemmas.Slice.Eq.{bytes_eq-Decides}
 use Rattle.cbor_notes.specs.Token.{is_whitespace, is_digit}
 use Rattle.cbor_notes.specs.TokenReading.{digits_in, digits_of, some_digits, with_front, unquoted}
-use Rattle.cbor_diag.specs.declared.error.Error.{Error}
-use Rattle.cbor_diag.specs.declared.error.Error.TheVariants as refusal
-use Rattle.cbor_diag.specs.declared.parse.notation.start.Start.{Start}
-use Rattle.cbor_diag.specs.declared.parse.notation.start.Start.TheVariants as start
-use Rattle.cbor_diag.specs.Item.{Chunk, Item}
-use Rattle.cbor_diag.specs.StringKind.{StringKind, bytes_kind, text_kind, no_chunks}
-use Rattle.cbor_diag.specs.Notation.{Closes}
-use Rattle.cbor_diag.specs.Reading.{Read, ◌>>=◌}
-use Rattle.cbor_diag.specs.mirror.NotationReading.{or_refused, skip_blank, after_byte, after_word, after_space}
-use Rattle.cbor_diag.specs.mirror.NotationReading.{after_end}
-use Rattle.cbor_diag.specs.mirror.NotationReading.{read_number, more_members, members_from, members_or_end}
-use Rattle.cbor_diag.specs.mirror.NotationReading.{read_members}
-use Rattle.cbor_diag.specs.mirror.NotationReading.{read_pair, read_array, read_map, read_length, read_decoded}
-use Rattle.cbor_diag.specs.mirror.NotationReading.{b_notation}
-use Rattle.cbor_diag.specs.mirror.NotationReading.{h_notation, read_embedded, piece_of, read_piece, read_pieces}
-use Rattle.cbor_diag.specs.mirror.NotationReading.{begins_piece, begins_string, first_start, start_of, content_of}
-use Rattle.cbor_diag.specs.mirror.NotationReading.{read_content, checked, read_string, read_chunk, chunks_of}
-use Rattle.cbor_diag.specs.mirror.NotationReading.{read_chunks}
-use Rattle.cbor_diag.specs.mirror.NotationReading.{kind_from, string_of, read_string_item, read_word, read_integer}
-use Rattle.cbor_diag.specs.mirror.NotationReading.{read_negative, read_unsigned_number, read_negative_number, core_of}
-use Rattle.cbor_diag.specs.mirror.NotationReading.{read_core, read_item, read_simple, read_float, integer_or_tag}
-use Rattle.cbor_diag.specs.mirror.NotationReading.{or_else, named, with_width, negative_number}
-use Rattle.cbor_diag.specs.mirror.NotationReading.{either_word, base16_of, base32_of, base64_of}
+use Rattle.cbor_grammar.specs.declared.error.Error.{Error}
+use Rattle.cbor_grammar.specs.declared.error.Error.TheVariants as refusal
+use Rattle.cbor_notation.specs.declared.start.Start.{Start}
+use Rattle.cbor_notation.specs.declared.start.Start.TheVariants as start
+use Rattle.cbor_grammar.specs.Item.{Chunk, Item}
+use Rattle.cbor_grammar.specs.StringKind.{StringKind, bytes_kind, text_kind, no_chunks}
+use Rattle.cbor_grammar.specs.Notation.{Closes}
+use Rattle.cbor_grammar.specs.Reading.{Read, ◌>>=◌}
+use Rattle.cbor_notation.specs.mirror.NotationReading.{or_refused, skip_blank, after_byte, after_word, after_space}
+use Rattle.cbor_notation.specs.mirror.NotationReading.{after_end}
+use Rattle.cbor_notation.specs.mirror.NotationReading.{read_number, more_members, members_from, members_or_end}
+use Rattle.cbor_notation.specs.mirror.NotationReading.{read_members}
+use Rattle.cbor_notation.specs.mirror.NotationReading.{read_pair, read_array, read_map, read_length, read_decoded}
+use Rattle.cbor_notation.specs.mirror.NotationReading.{b_notation}
+use Rattle.cbor_notation.specs.mirror.NotationReading.{h_notation, read_embedded, piece_of, read_piece, read_pieces}
+use Rattle.cbor_notation.specs.mirror.NotationReading.{begins_piece, begins_string, first_start, start_of, content_of}
+use Rattle.cbor_notation.specs.mirror.NotationReading.{read_content, checked, read_string, read_chunk, chunks_of}
+use Rattle.cbor_notation.specs.mirror.NotationReading.{read_chunks}
+use Rattle.cbor_notation.specs.mirror.NotationReading.{kind_from, string_of, read_string_item, read_word, read_integer}
+use Rattle.cbor_notation.specs.mirror.NotationReading.{read_negative, read_unsigned_number, read_negative_number}
+use Rattle.cbor_notation.specs.mirror.NotationReading.{core_of}
+use Rattle.cbor_notation.specs.mirror.NotationReading.{read_core, read_item, read_simple, read_float, integer_or_tag}
+use Rattle.cbor_notation.specs.mirror.NotationReading.{or_else, named, with_width, negative_number}
+use Rattle.cbor_notation.specs.mirror.NotationReading.{either_word, base16_of, base32_of, base64_of}
 use Rattle.cbor_notes.specs.Base32.{standard, extended_hex}
-use Rattle.cbor_diag.specs.Written.{encoded_items}
-use Rattle.cbor_diag.specs.View.{items_of, pairs_of}
-use Rattle.cbor_diag.specs.Item as spec
-use Rattle.cbor_diag.specs.Item.{simple, array, atom, chunked_string, integer, negative, string, tagged}
-use Rattle.cbor_diag.specs.declared.syntax.IntegerWidth.{IntegerWidth}
-use Rattle.cbor_diag.specs.declared.syntax.IntegerWidth.TheVariants.{Unknown}
-use Rattle.cbor_diag.specs.mirror.DeadEnds.{ends_blank, is_settled, is_firm, closes, grown}
-use Rattle.cbor_diag.proofs.bytes.Heads.{bind_ok, ok_is}
-use Rattle.cbor_diag.proofs.notation.Ends.{holds_of, passed_twice}
-use Rattle.cbor_diag.proofs.notation.Lists.{IsClose, list_closes, end_closed}
-use Rattle.cbor_diag.proofs.notation.Pieces.{pieces_go, pieces_stop}
-use Rattle.cbor_diag.proofs.notation.sound.Lists.{end_is}
-use Rattle.cbor_diag.proofs.notation.sound.Steps.{a_test, none_some, after_byte_is}
+use Rattle.cbor_grammar.specs.Written.{encoded_items}
+use Rattle.cbor_grammar.specs.Item.{items_of, pairs_of}
+use Rattle.cbor_grammar.specs.Item as spec
+use Rattle.cbor_grammar.specs.Item.{simple, array, atom, chunked_string, integer, negative, string, tagged}
+use Rattle.cbor_grammar.specs.declared.width.IntegerWidth.{IntegerWidth}
+use Rattle.cbor_grammar.specs.declared.width.IntegerWidth.TheVariants.{Unknown}
+use Rattle.cbor_grammar.specs.DeadEnd.{closes}
+use Rattle.cbor_diag.specs.mirror.DeadEnds.{ends_blank, is_settled, is_firm, grown}
+use Rattle.cbor_grammar.proofs.bytes.Heads.{bind_ok, ok_is}
+use Rattle.cbor_notation.proofs.notation.Ends.{holds_of, passed_twice}
+use Rattle.cbor_notation.proofs.notation.Lists.{IsClose, list_closes, end_closed}
+use Rattle.cbor_notation.proofs.notation.Pieces.{pieces_go, pieces_stop}
+use Rattle.cbor_notation.proofs.notation.sound.Lists.{end_is}
+use Rattle.cbor_notation.proofs.notation.sound.Steps.{a_test, none_some, after_byte_is}
 use Rattle.cbor_diag.proofs.notation.GrownTokens.{byte_grown, no_byte_grown, blank_grown, word_grown, word_apart}
 use Rattle.cbor_diag.proofs.notation.GrownTokens.{quoted_grown, decoded_grown, other_digits}
 use Rattle.cbor_diag.proofs.notation.DeadTokens.{space_grown, number_stays, simple_closed, float_closed}
@@ -409,12 +411,12 @@ module _ (read : List ℕ → Read Item) (grows : Grows read) (begins : Begins r
 
   -- pieces that are not blank before: what stops them is there
   stopped : (n : ℕ) (kind : StringKind) (text : List ℕ) (y : List ℕ × List ℕ) → skip_blank text ≡ text
-      → read_pieces read kind n text ≡ Ok y → is_firm y.1 ≡ true → ends_blank text ≡ true
+      → read_pieces read kind n text ≡ Ok y → ends_blank (skip_blank y.1) ≡ true → ends_blank text ≡ true
   unfolding read_pieces start_of
   stopped zero kind text y passed e firm = absurd cc
   stopped (suc n) kind [] y passed e firm =
       let same : ◌≡◌ {A = List ℕ × List ℕ} ([], []) y = ok_is _ y e in
-      absurd (false≢true (subst (λ (z : List ℕ × List ℕ). is_firm z.1 ≡ true) (sym same) firm))
+      absurd (false≢true (subst (λ (z : List ℕ × List ℕ). ends_blank (skip_blank z.1) ≡ true) (sym same) firm))
   stopped (suc n) kind (b ∷ text) y passed e firm =
       elim (a_test (b == 47)) [
         | inl this ↦
@@ -423,15 +425,14 @@ module _ (read : List ℕ → Read Item) (grows : Grows read) (begins : Begins r
             pieces_stop read kind n (b ∷ text) (subst (λ (c : ℕ). begins_piece kind (start_of c) ≡ false) (sym slash)
             refl) in
             let same : ◌≡◌ {A = List ℕ × List ℕ} ([], b ∷ text) y = ok_is _ y (sym stops ∙ e) in
-            let here = subst (λ (z : List ℕ × List ℕ). is_firm z.1 ≡ true) (sym same) firm in
-            let ends = firm_blank (b ∷ text) here in
+            let ends = subst (λ (z : List ℕ × List ℕ). ends_blank (skip_blank z.1) ≡ true) (sym same) firm in
             let first : ends_blank (b ∷ text) ≡ true = subst (λ (t : List ℕ). ends_blank t ≡ true) passed ends in
             first
         | inr other ↦ rw other refl
       ]
 
   pub pieces_grown : (n m : ℕ) (kind : StringKind) (text more : List ℕ) (y : List ℕ × List ℕ) → n ≤ m
-      → read_pieces read kind n text ≡ Ok y → is_firm y.1 ≡ true
+      → read_pieces read kind n text ≡ Ok y → ends_blank (skip_blank y.1) ≡ true
       → read_pieces read kind m (text ++ more) ≡ Ok (more_behind more y)
   unfolding read_pieces
   pieces_grown zero m kind text more y le e firm = absurd cc
@@ -446,8 +447,8 @@ module _ (read : List ℕ → Read Item) (grows : Grows read) (begins : Begins r
             let others = bind_ok (read_pieces read kind n (skip_blank x.1)) (λ xs. Ok (x.0 ++ xs.0, xs.1)) y piece.2 in
             let xs = others.0 in
             let same : ◌≡◌ {A = List ℕ × List ℕ} (x.0 ++ xs.0, xs.1) y = ok_is _ y others.2 in
-            let firm_rest : is_firm xs.1 ≡ true =
-            subst (λ (z : List ℕ × List ℕ). is_firm z.1 ≡ true) (sym same) firm in
+            let firm_rest : ends_blank (skip_blank xs.1) ≡ true =
+            subst (λ (z : List ℕ × List ℕ). ends_blank (skip_blank z.1) ≡ true) (sym same) firm in
             let ends = stopped n kind (skip_blank x.1) xs (passed_twice x.1) others.1 firm_rest in
             pieces_go read kind m (text ++ more) (still text goes)
             ∙ rw (
@@ -458,9 +459,9 @@ module _ (read : List ℕ → Read Item) (grows : Grows read) (begins : Begins r
         | inr ends ↦
             let same : ◌≡◌ {A = List ℕ × List ℕ} ([], text) y =
             ok_is _ y (sym (pieces_stop read kind n text ends) ∙ e) in
-            let firm_text : is_firm text ≡ true =
-            subst (λ (z : List ℕ × List ℕ). is_firm z.1 ≡ true) (sym same) firm in
-            let some = firm_some text firm_text in
+            let firm_text : ends_blank (skip_blank text) ≡ true =
+            subst (λ (z : List ℕ × List ℕ). ends_blank (skip_blank z.1) ≡ true) (sym same) firm in
+            let some = some_here text firm_text in
             pieces_stop read kind m (text ++ more) (still_not text some.0 some.1 some.2 ends)
             ∙ ap (λ (z : List ℕ × List ℕ). Ok (more_behind more z)) same
       ]
@@ -469,6 +470,10 @@ module _ (read : List ℕ → Read Item) (grows : Grows read) (begins : Begins r
           → begins_piece kind (first_start (t ++ more)) ≡ true
       still [] goes = absurd (false≢true (no_start kind ∙ goes))
       still (b ∷ t) goes = goes
+
+      some_here : (t : List ℕ) → ends_blank (skip_blank t) ≡ true → (b : ℕ) × (rest : List ℕ) × (t ≡ b ∷ rest)
+      some_here [] e = absurd (false≢true e)
+      some_here (b ∷ rest) e = (b, rest, refl)
 
       still_not : (t : List ℕ) (b : ℕ) (rest : List ℕ) → t ≡ b ∷ rest → begins_piece kind (first_start t) ≡ false
           → begins_piece kind (first_start (t ++ more)) ≡ false
@@ -479,7 +484,8 @@ module _ (read : List ℕ → Read Item) (grows : Grows read) (begins : Begins r
   none_begins bytes_kind y e = cc
   none_begins text_kind y e = cc
 
-  pub content_grows : (kind : StringKind) → Grows (read_content read kind)
+  pub content_grows : (kind : StringKind) (text more : List ℕ) (y : List ℕ × List ℕ) → read_content read kind text ≡ Ok y
+      → ends_blank (skip_blank y.1) ≡ true → read_content read kind (text ++ more) ≡ Ok (more_behind more y)
   content_grows kind [] more y e firm = absurd (none_begins kind y e)
   content_grows kind (b ∷ text) more y e firm =
       by (begins_string kind (start_of b)) refl e
@@ -500,7 +506,7 @@ module _ (read : List ℕ → Read Item) (grows : Grows read) (begins : Begins r
       let chunk = bind_ok (checked kind x.0) (λ c. Ok (c, x.1)) y content.2 in
       let same : ◌≡◌ {A = Chunk × List ℕ} (chunk.0, x.1) y = ok_is _ y chunk.2 in
       let firm_rest : is_firm x.1 ≡ true = subst (λ (z : Chunk × List ℕ). is_firm z.1 ≡ true) (sym same) firm in
-      rw (content_grows kind text more x content.1 firm_rest, chunk.1)
+      rw (content_grows kind text more x content.1 (firm_blank x.1 firm_rest), chunk.1)
       (ap (λ (z : Chunk × List ℕ). Ok (more_behind more z)) same)
 
   no_string : (kind : StringKind) (c : ℕ) (text : List ℕ) (x : List ℕ × List ℕ) → (c ≡ 47) ⊎ (c ≡ 44)

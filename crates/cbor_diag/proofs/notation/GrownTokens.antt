@@ -16,12 +16,13 @@ use Rattle.cbor_notes.proofs.tokens.Blanks.{blank_left, length-after_blank, afte
 use Rattle.cbor_notes.proofs.tokens.NumberFronts.{decimal_number}
 use Rattle.cbor_notes.proofs.tokens.NumberPlaces.{base_of-other, base_of-short}
 use Rattle.cbor_notes.proofs.tokens.Numbers.{number_of-reaches}
-use Rattle.cbor_diag.specs.mirror.NotationReading.{skip_blank, after_byte, after_word}
-use Rattle.cbor_diag.specs.mirror.NotationReading.{or_refused, read_decoded}
-use Rattle.cbor_diag.specs.Reading.{◌>>=◌}
-use Rattle.cbor_diag.specs.mirror.DeadEnds.{ends_blank, is_settled, closes, grown}
-use Rattle.cbor_diag.proofs.notation.Ends.{passed_twice}
-use Rattle.cbor_diag.proofs.notation.sound.Steps.{a_test, none_some, after_byte_is, after_word_is}
+use Rattle.cbor_notation.specs.mirror.NotationReading.{skip_blank, after_byte, after_word}
+use Rattle.cbor_notation.specs.mirror.NotationReading.{or_refused, read_decoded}
+use Rattle.cbor_grammar.specs.Reading.{◌>>=◌}
+use Rattle.cbor_grammar.specs.DeadEnd.{closes}
+use Rattle.cbor_diag.specs.mirror.DeadEnds.{ends_blank, is_settled, grown}
+use Rattle.cbor_notation.proofs.notation.Ends.{passed_twice}
+use Rattle.cbor_notation.proofs.notation.sound.Steps.{a_test, none_some, after_byte_is, after_word_is}
 
 pub some_is : {X : Type 0} (x y : X) → Some x ≡ Some y → x ≡ y
 some_is x y e = cc
@@ -95,7 +96,7 @@ blank_grown text more ends =
 
 -- ---- numbers
 
-run_grown : (base value : ℕ) (text more : List ℕ) (c : ℕ) (rest : List ℕ) → (digit_run base value text).1 ≡ c ∷ rest
+pub run_grown : (base value : ℕ) (text more : List ℕ) (c : ℕ) (rest : List ℕ) → (digit_run base value text).1 ≡ c ∷ rest
     → digit_run base value (text ++ more) ≡ ((digit_run base value text).0, (c ∷ rest) ++ more)
 run_grown base value [] more c rest e = absurd cc
 run_grown base value (b ∷ text) more c rest e =
@@ -106,7 +107,7 @@ run_grown base value (b ∷ text) more c rest e =
           rw other (ap (λ (z : List ℕ). (value, z ++ more)) same)
     ]
 
-small_grown : (value : ℕ) (text more : List ℕ) (c : ℕ) (rest : List ℕ) → (small_run value text).1 ≡ c ∷ rest
+pub small_grown : (value : ℕ) (text more : List ℕ) (c : ℕ) (rest : List ℕ) → (small_run value text).1 ≡ c ∷ rest
     → small_run value (text ++ more) ≡ ((small_run value text).0, (c ∷ rest) ++ more)
 small_grown value [] more c rest e = absurd cc
 small_grown value (b ∷ text) more c rest e =
@@ -200,7 +201,7 @@ two_bytes a b more s =
       | inr other ↦ rw other refl
     ]
 
-long_base : (base : Base) (a b c : ℕ) (text more : List ℕ)
+pub long_base : (base : Base) (a b c : ℕ) (text more : List ℕ)
     → drop (length (prefix base)) (a ∷ b ∷ c ∷ (text ++ more))
     ≡ drop (length (prefix base)) (a ∷ b ∷ c ∷ text) ++ more
 long_base decimal_base a b c text more = refl
@@ -208,7 +209,7 @@ long_base hexadecimal_base a b c text more = refl
 long_base octal_base a b c text more = refl
 long_base binary_base a b c text more = refl
 
-short_number : (text : List ℕ) → length text ≤ 2 → number_of text ≡ number_in decimal_base text
+pub short_number : (text : List ℕ) → length text ≤ 2 → number_of text ≡ number_in decimal_base text
 short_number text le = ap (λ (base : Base). number_in base (drop (length (prefix base)) text)) (base_of-short text le)
 
 one_digit : (a : ℕ) (x : ℕ × Option ℕ × List ℕ) → number_in decimal_base (a ∷ []) ≡ Some x → is_settled x.2 ≡ true → ⊥

@@ -2,10 +2,10 @@
 use Rattle.std.proofs.Common.{◌≡◌, ℕ, zero, suc, ◌<◌, ◌≤◌, List, [], ◌∷◌, ◌++◌, length, Some, None, Ok, Err, refl, sym}
 use Rattle.std.proofs.Common.{ap, subst, ◌∙◌, append_assoc, arith}
 use Rattle.std.proofs.lemmas.List.{append-nil}
-use Rattle.cbor_diag.specs.declared.error.Error.{Error}
-use Rattle.cbor_diag.specs.Reading.{Read, ◌>>=◌, Fails}
-use Rattle.cbor_diag.specs.mirror.NotationReading.{or_refused, after_byte, after_end, skip_blank, more_members}
-use Rattle.cbor_diag.specs.mirror.NotationReading.{members_from, members_or_end, read_members}
+use Rattle.cbor_grammar.specs.declared.error.Error.{Error}
+use Rattle.cbor_grammar.specs.Reading.{Read, ◌>>=◌, Fails}
+use Rattle.cbor_notation.specs.mirror.NotationReading.{or_refused, after_byte, after_end, skip_blank, more_members}
+use Rattle.cbor_notation.specs.mirror.NotationReading.{members_from, members_or_end, read_members}
 use Rattle.cbor_diag.proofs.notation.ChunkLoops.{Fails-bind, onto, onto_fails}
 
 -- ---- the members of a list

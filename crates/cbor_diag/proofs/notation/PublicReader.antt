@@ -1,27 +1,27 @@
 -- From what the reader of notation gives to what its callers read.
 use Rattle.std.proofs.Common.{◌≡◌, ℕ, List, Result, Ok, Err, IfOk, ◌⊎◌, inl, inr, refl, sym, subst, ◌∙◌}
-use Rattle.cbor_diag.specs.declared.error.Error.{Error}
-use Rattle.cbor_diag.specs.declared.error.Error.TheVariants as refusal
+use Rattle.cbor_grammar.specs.declared.error.Error.{Error}
+use Rattle.cbor_grammar.specs.declared.error.Error.TheVariants as refusal
 use Rattle.cbor_diag.specs.declared.syntax.DataItem.{DataItem}
-use Rattle.cbor_diag.specs.Item.{Item}
+use Rattle.cbor_grammar.specs.Item.{Item}
 use Rattle.cbor_diag.specs.View.{view}
-use Rattle.cbor_diag.specs.WellFormed.{deepest}
-use Rattle.cbor_diag.specs.Answer.{GaveItem, RefusedSo}
-use Rattle.cbor_diag.specs.Reading.{Fails, Gives}
-use Rattle.cbor_diag.specs.Notation.{Reads}
-use Rattle.cbor_diag.specs.mirror.NotationReading.{notation_of}
-use Rattle.cbor_diag.specs.NotationRefused.{IsNoNotation, IsAnswered, GaveOrTooDeep}
-use Rattle.cbor_diag.proofs.notation.ItemsFound.{notation_again}
-use Rattle.cbor_diag.proofs.notation.OneReading.{one_reading, read_or_too_deep}
-use Rattle.cbor_diag.proofs.notation.sound.Items.{notation_sound}
+use Rattle.cbor_grammar.specs.WellFormed.{deepest}
+use Rattle.cbor_diag.specs.ItemAnswer.{GaveItem}
+use Rattle.cbor_grammar.specs.Answer.{RefusedSo}
+use Rattle.cbor_grammar.specs.Reading.{Fails, Gives}
+use Rattle.cbor_grammar.specs.Notation.{Reads}
+use Rattle.cbor_notation.specs.mirror.NotationReading.{notation_of}
+use Rattle.cbor_grammar.specs.NotationRefused.{IsNoNotation, IsAnswered}
+use Rattle.cbor_diag.specs.ItemAnswer.{GaveOrTooDeep}
+use Rattle.cbor_notation.proofs.notation.ItemsFound.{notation_again}
+use Rattle.cbor_notation.proofs.notation.OneReading.{one_reading, read_or_too_deep}
+use Rattle.cbor_notation.proofs.notation.sound.Items.{notation_sound}
+use Rattle.cbor_notation.proofs.notation.OneReading.{no_both}
 
 -- a refusal that was given is out of memory, or what reading answers
 failed : (e : Error) (read : Result Item Error) → Fails e read → (e ≡ refusal.Memory) ⊎ (read ≡ Err e)
 failed refusal.Memory read h = inl refl
 failed _ read h = inr h
-
-no_both : (i : Item) (e : Error) (read : Result Item Error) → read ≡ Ok i → read ≡ Err e → ⊥
-no_both i e read is other = let never : ◌≡◌ {A = Result Item Error} (Ok i) (Err e) = sym is ∙ other in cc never
 
 item_of : (i j : Item) (read : Result Item Error) → read ≡ Ok i → read ≡ Ok j → i ≡ j
 item_of i j read is other = let same : ◌≡◌ {A = Result Item Error} (Ok i) (Ok j) = sym is ∙ other in cc same
@@ -84,11 +84,3 @@ text_refused text (Err e) h =
         ];
       }
     ]
-
--- what reading gives a text is what the text is, and a text that it refuses is nothing
-pub is_read : (limit : ℕ) (text : List ℕ) (i : Item) → notation_of limit text ≡ Ok i → Reads limit text i
-is_read limit text i e = subst (IsAnswered limit text) e (notation_sound limit text)
-
-pub not_read : (limit : ℕ) (text : List ℕ) (e : Error) → notation_of limit text ≡ Err e → (i : Item)
-    → ¬ (Reads limit text i)
-not_read limit text e refused i is = no_both i e (notation_of limit text) (notation_again limit text i is) refused

@@ -1,18 +1,19 @@
 -- A data item, level by level, beside the item that it is.
 use Rattle.std.proofs.Common.{◌≡◌, ℕ, suc, map, List, [], ◌∷◌, ◌++◌, Option, Vec, Global, length, refl, ap, rules}
-use Rattle.cbor_diag.specs.declared.syntax.IntegerWidth.{IntegerWidth}
-use Rattle.cbor_diag.specs.declared.syntax.FloatWidth.{FloatWidth}
-use Rattle.cbor_diag.specs.declared.syntax.ByteString as byte_string
-use Rattle.cbor_diag.specs.declared.syntax.TextString as text_string
-use Rattle.cbor_diag.specs.declared.syntax.Simple as simple
+use Rattle.cbor_grammar.specs.declared.width.IntegerWidth.{IntegerWidth}
+use Rattle.cbor_grammar.specs.declared.width.FloatWidth.{FloatWidth}
+use Rattle.cbor_grammar.specs.declared.strings.ByteString as byte_string
+use Rattle.cbor_grammar.specs.declared.strings.TextString as text_string
+use Rattle.cbor_grammar.specs.declared.tags.Simple as simple
 use Rattle.cbor_diag.specs.declared.syntax.DataItem.{DataItem, Integer, Negative, ByteString, TextString}
 use Rattle.cbor_diag.specs.declared.syntax.DataItem.{IndefiniteByteString, IndefiniteTextString, Array, Map, Float}
 use Rattle.cbor_diag.specs.declared.syntax.DataItem.{Simple, the_lemmas}
-use Rattle.cbor_diag.specs.Item as spec
-use Rattle.cbor_diag.specs.Item.{item_count, pair_count}
-use Rattle.cbor_diag.specs.StringKind.{bytes_kind, text_kind}
-use Rattle.cbor_diag.specs.WellFormed.{WellFormed, WellFormedItems}
-use Rattle.cbor_diag.specs.View.{view, items_view, pairs_view, byte_chunk, text_chunk}
+use Rattle.cbor_grammar.specs.Item as spec
+use Rattle.cbor_grammar.specs.Item.{item_count, pair_count}
+use Rattle.cbor_grammar.specs.StringKind.{bytes_kind, text_kind}
+use Rattle.cbor_grammar.specs.WellFormed.{WellFormed, WellFormedItems}
+use Rattle.cbor_diag.specs.View.{view, items_view, pairs_view}
+use Rattle.cbor_grammar.specs.Strings.{byte_chunk, text_chunk}
 
 pub view-Array : (v : Vec DataItem Global) (w : Option IntegerWidth)
     → view (Array v w) ≡ spec.array (items_view v.items) w

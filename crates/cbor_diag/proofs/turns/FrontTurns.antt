@@ -2,22 +2,23 @@
 use Rattle.std.proofs.Common.{◌≡◌, ◌≢◌, ℕ, ◌+◌, ◌*◌, ◌≤◌, List, take, drop, Option, Some, None, Result, Ok, Err, IfOk}
 use Rattle.std.proofs.Common.{IfSome, refl, sym, ap, ◌∙◌, arith}
 use Rattle.std.proofs.lemmas.List.{length-take, take-append-drop}
-use Rattle.cbor_diag.specs.declared.error.Error.{Error}
-use Rattle.cbor_diag.specs.declared.error.Error.TheVariants as refusal
+use Rattle.cbor_grammar.specs.declared.error.Error.{Error}
+use Rattle.cbor_grammar.specs.declared.error.Error.TheVariants as refusal
 use Rattle.cbor_diag.specs.declared.syntax.DataItem.{DataItem}
-use Rattle.cbor_diag.specs.Item.{Item}
+use Rattle.cbor_grammar.specs.Item.{Item}
 use Rattle.cbor_diag.specs.View.{view}
-use Rattle.cbor_diag.specs.Bytes.{any, Spells}
-use Rattle.cbor_diag.specs.Refused.{Cut, Fault}
-use Rattle.cbor_diag.specs.Turns.{item_turns, cut_spent, fault_spent}
-use Rattle.cbor_diag.specs.Answer.{HasOutcome, HasTurns, RefusedSo}
-use Rattle.cbor_diag.specs.Reading.{Fails, Counted, later, counted_item, read_item}
-use Rattle.cbor_diag.specs.mirror.Counting.{Stops}
-use Rattle.cbor_diag.proofs.bytes.Heads.{IsBytes}
-use Rattle.cbor_diag.proofs.bytes.Found.{item_takes}
-use Rattle.cbor_diag.proofs.bytes.FoundAgain.{counted_again}
-use Rattle.cbor_diag.proofs.bytes.RefusedAgain.{cut_turns, fault_turns}
-use Rattle.cbor_diag.proofs.turns.ItemTurns.{turns_few}
+use Rattle.cbor_grammar.specs.Bytes.{any, Spells}
+use Rattle.cbor_grammar.specs.Refused.{Cut, Fault}
+use Rattle.cbor_grammar.specs.Turns.{item_turns, cut_spent, fault_spent}
+use Rattle.cbor_diag.specs.ItemAnswer.{HasOutcome, HasTurns}
+use Rattle.cbor_grammar.specs.Answer.{RefusedSo}
+use Rattle.cbor_grammar.specs.Reading.{Fails, Counted, later, counted_item, read_item}
+use Rattle.cbor_grammar.specs.mirror.Counting.{Stops}
+use Rattle.cbor_grammar.proofs.bytes.Heads.{IsBytes}
+use Rattle.cbor_grammar.proofs.bytes.Found.{item_takes}
+use Rattle.cbor_grammar.proofs.bytes.FoundAgain.{counted_again}
+use Rattle.cbor_grammar.proofs.bytes.RefusedAgain.{cut_turns, fault_turns}
+use Rattle.cbor_grammar.proofs.turns.ItemTurns.{turns_few}
 
 -- what reading gives
 pub first_ok : (left old new : ℕ) (b rest : List ℕ) (i : Item) → later old (counted_item left b) ≡ (new, Ok (i, rest))

@@ -2,16 +2,20 @@
 -- public clause names these.
 use Rattle.std.specs.Prelude.{◌≡◌, ◌≢◌, ℕ, Bool, true, false, not, ◌==◌, ◌||◌, ◌&&◌, if◌then◌else◌, List, [], ◌∷◌, ◌++◌}
 use Rattle.std.specs.Prelude.{Option, Result, Ok, Err}
-use Rattle.cbor_diag.specs.declared.error.Error.{Error}
-use Rattle.cbor_diag.specs.declared.error.Error.TheVariants as refusal
+use Rattle.cbor_notes.specs.Ascii.{quote}
+use Rattle.cbor_grammar.specs.declared.error.Error.{Error}
+use Rattle.cbor_grammar.specs.declared.error.Error.TheVariants as refusal
 use Rattle.cbor_diag.specs.declared.parse.notation.fault.Member.{Member}
 use Rattle.cbor_diag.specs.declared.parse.notation.fault.Member.TheVariants as member
-use Rattle.cbor_diag.specs.Item.{Chunk, Item}
-use Rattle.cbor_diag.specs.StringKind.{StringKind}
-use Rattle.cbor_diag.specs.Reading.{Read}
-use Rattle.cbor_diag.specs.mirror.NotationReading.{skip_blank, read_number, read_pair, read_chunk, members_from}
-use Rattle.cbor_diag.specs.mirror.NotationReading.{read_pieces}
-use Rattle.cbor_diag.specs.mirror.StringView.{kind_view}
+use Rattle.cbor_grammar.specs.Item.{Chunk, Item}
+use Rattle.cbor_grammar.specs.StringKind.{StringKind}
+use Rattle.cbor_grammar.specs.Reading.{Read}
+use Rattle.cbor_grammar.specs.Notation.{Blanked, Members, Notation, PairOf, StringOf}
+use Rattle.cbor_grammar.specs.DeadEnd.{IsCut, closes_text}
+use Rattle.cbor_notation.specs.mirror.NotationReading.{skip_blank, read_number, read_pair, read_chunk, members_from}
+use Rattle.cbor_notation.specs.mirror.NotationReading.{read_pieces, first_start}
+use Rattle.cbor_notation.specs.declared.start.Start.TheVariants as start
+use Rattle.cbor_grammar.specs.mirror.StringView.{kind_view}
 
 abbrev pub NotRead : {Y : Type 0} → Result Y Error → Type 0
 NotRead (Ok y) = ⊥
@@ -52,12 +56,6 @@ HasEnd text = ((more : List ℕ) → read_number (text ++ more) ≡ grown more (
 abbrev pub is_firm : List ℕ → Bool
 is_firm text = let rest = skip_blank text in ends_blank rest && is_settled rest
 
--- whether an apostrophe closes these digits; the second argument says whether they begin in a comment
-abbrev pub closes : Bool → Bool → List ℕ → Bool
-closes comments inside [] = false
-closes comments true (b ∷ text) = closes comments (not (b == 47)) text
-closes comments false (b ∷ text) = if b == 39 then true else closes comments (comments && (b == 47)) text
-
 -- what the members of a list are
 abbrev pub Value : Member → Type 0
 Value member.Item = Item
@@ -75,3 +73,19 @@ NeverMembers read close text = (n : ℕ) → NeverReads (members_from read close
 
 abbrev pub NeverPieces : (List ℕ → Read Item) → StringKind → List ℕ → Type 0
 NeverPieces read kind text = (n : ℕ) → NeverReads (read_pieces read kind n) text
+
+-- a chunk of an indefinite string, with the blanks round it
+abbrev pub ChunkIs : StringKind → (List ℕ → Item → Type 0) → List ℕ → Chunk → Type 0
+ChunkIs kind R text c = Blanked (λ core. StringOf kind R core c) text
+
+-- a member of a list, in the words of the grammar
+abbrev pub MemberIs : (m : Member) → (List ℕ → Item → Type 0) → List ℕ → Value m → Type 0
+MemberIs member.Item R text x = R text x
+MemberIs member.Pair R text x = PairOf R text x
+MemberIs (member.Chunk kind) R text c = ChunkIs (kind_view kind) R text c
+
+-- A piece of a string that is cut short: a text without a closing quote, or a notation of bytes.
+abbrev pub IsPieceCut : (List ℕ → Item → Type 0) → List ℕ → Type 0
+IsPieceCut R text = (first_start text ≡ start.Quote
+    → (content : List ℕ) × (text ≡ quote ∷ content) × (closes_text quote false content ≡ false))
+    × (¬ (first_start text ≡ start.Quote) → IsCut (Notation R) text)

@@ -2,28 +2,29 @@
 //!
 //! What writes strings and containers isn't inlined where the kinds of items are told apart: it
 //! keeps values over calls, and room for these would be made for each integer, too.
-#![tactic(auto, using(crate::proofs::shared::Appending::appending_steps))]
+#![tactic(auto, using(cbor_grammar::proofs::shared::Appending::appending_steps))]
 
 ghost use Rattle.std.specs.Prelude.{◌≡◌, ◌++◌, if◌then◌else◌, ℕ, List, ◌↔◌, length, map, OnOk};
 ghost use Rattle.std.specs.Prelude.{OnErr, IfOk, IfErr};
 ghost use Rattle.std.specs.List.{AllByRecursion};
-ghost use Rattle.cbor_diag.specs.Head.{FitsWidth};
-ghost use Rattle.cbor_diag.specs.mirror.MajorNumber.{major_number};
-ghost use Rattle.cbor_diag.specs.mirror.Appends.{Appends};
-ghost use Rattle.cbor_diag.specs.StringKind.{major_of};
+ghost use Rattle.cbor_grammar.specs.Head.{FitsWidth};
+ghost use Rattle.cbor_grammar.specs.mirror.MajorNumber.{major_number};
+ghost use Rattle.cbor_grammar.specs.mirror.Appends.{Appends};
+ghost use Rattle.cbor_grammar.specs.StringKind.{major_of};
 ghost use Rattle.cbor_diag.specs.View.{view, items_view, pairs_view};
-ghost use Rattle.cbor_diag.specs.WellFormed.{WellFormed, WellFormedItems, WellFormedPairs, IsChunk};
-ghost use Rattle.cbor_diag.specs.Facts.{IsItem, IsStrictItem, IsWellFormed};
-ghost use Rattle.cbor_diag.specs.Item as spec;
-ghost use Rattle.cbor_diag.specs.Item.{Item};
-ghost use Rattle.cbor_diag.specs.Written.{encoded, resolve, encoded_items, encoded_pairs};
-ghost use Rattle.cbor_diag.specs.Written.{encoded_chunk, encoded_chunks};
+ghost use Rattle.cbor_grammar.specs.WellFormed.{WellFormed, WellFormedItems, WellFormedPairs};
+ghost use Rattle.cbor_grammar.specs.WellFormed.{IsChunk};
+ghost use Rattle.cbor_grammar.specs.Facts.{IsItem, IsStrictItem, IsWellFormed};
+ghost use Rattle.cbor_grammar.specs.Item as spec;
+ghost use Rattle.cbor_grammar.specs.Item.{Item};
+ghost use Rattle.cbor_grammar.specs.Written.{encoded, resolve, encoded_items, encoded_pairs};
+ghost use Rattle.cbor_grammar.specs.Written.{encoded_chunk, encoded_chunks};
 
-use super::head::{push_close, push_float, push_head, push_open, push_simple};
-use crate::error::Error;
-use crate::syntax::major::Major;
-use crate::syntax::strings::DefiniteString;
-use crate::syntax::{DataItem, IntegerWidth, Tag};
+use crate::syntax::DataItem;
+use cbor_bytes::write::{push_close, push_float, push_head, push_open, push_simple};
+use cbor_grammar::major::Major;
+use cbor_grammar::strings::DefiniteString;
+use cbor_grammar::{Error, IntegerWidth, Tag};
 use std::alloc::{AllocError, Global};
 
 /// Writes a string of definite length: its bytes, or its UTF-8.
@@ -201,7 +202,7 @@ impl DataItem {
     /// let bytes = item.to_bytes(alloc)?;
     /// assert_eq!(rt; bytes.as_slice(), b"\xc1\x1a\x51\x4b\x67\xb0".as_slice());
     /// ```
-    pub fn to_bytes(&self, alloc: Global) -> crate::Result<Vec<u8>>
+    pub fn to_bytes(&self, alloc: Global) -> cbor_grammar::Result<Vec<u8>>
         requires { IsWellFormed (view self.now) }
         ensures bytes { IfOk result (λ v. v.items ≡ encoded (view self.now)) }
         // What is written is the one strict spelling of the item with its unstated widths resolved.
@@ -225,7 +226,7 @@ impl DataItem {
     ///
     /// The item has to be well formed, as [`DataItem::is_well_formed`] checks. The only error is
     /// `Memory`, and after it `out` is unchanged.
-    pub fn push_bytes(&self, out: &mut Vec<u8>) -> crate::Result<()>
+    pub fn push_bytes(&self, out: &mut Vec<u8>) -> cbor_grammar::Result<()>
         requires { IsWellFormed (view self.now) }
         ensures bytes { OnOk result (out.new.items ≡ out.old.items ++ encoded (view self.now)) }
         ensures unchanged { OnErr result (out.new.items ≡ out.old.items) }

@@ -10,28 +10,16 @@ ghost use Rattle.cbor_notes.specs.Ascii.{line_feed};
 ghost use Rattle.cbor_notes.specs.Columns.{IsColumn, Lacks, uncommented};
 ghost use Rattle.cbor_notes.specs.Layout.{width_of};
 ghost use Rattle.cbor_diag.specs.View.{view};
-ghost use Rattle.cbor_diag.specs.Embedded.{EmbedsExactly, RejectsExactly};
-ghost use Rattle.cbor_diag.specs.Facts.{IsWellFormed};
-ghost use Rattle.cbor_diag.specs.Written.{encoded, resolve};
-ghost use Rattle.cbor_diag.specs.HexText.{IsHexOf};
-ghost use Rattle.cbor_diag.specs.Dump as spec;
+ghost use Rattle.cbor_grammar.specs.Embedded.{EmbedsExactly, RejectsExactly};
+ghost use Rattle.cbor_grammar.specs.Facts.{IsWellFormed};
+ghost use Rattle.cbor_grammar.specs.Written.{encoded, resolve};
+ghost use Rattle.cbor_grammar.specs.HexText.{IsHexOf};
+ghost use Rattle.cbor_grammar.specs.Dump as spec;
 
-mod comment;
-mod context;
-mod hex_style;
-mod lines;
-mod note_lines;
-mod notes;
-mod straight;
-mod walk;
-mod width;
-mod writer;
-
-use crate::error::Error;
 use crate::syntax::DataItem;
+use cbor_dump::walk::dump;
+use cbor_grammar::Error;
 use std::alloc::Global;
-pub use straight::{bytes_to_hex, hex_to_hex, push_bytes_to_hex, push_bytes_to_hex_partial};
-use walk::dump;
 
 impl DataItem {
     /// Returns the item as a dump: its bytes in hex, as [`DataItem::to_bytes`] writes them, each
@@ -48,7 +36,7 @@ impl DataItem {
     /// let dump = "81       # array(1)\n   18 64 #   unsigned(100)\n";
     /// assert_eq!(rt; item.to_hex(alloc)?.as_str(), dump);
     /// ```
-    pub fn to_hex(&self, alloc: Global) -> crate::Result<String>
+    pub fn to_hex(&self, alloc: Global) -> cbor_grammar::Result<String>
         requires { IsWellFormed (view self.now) }
         ensures text { IfOk result (λ t. string_bytes t ≡ spec.dump (view self.now)) }
         // Without its comments the dump is the item's encoding in hex.

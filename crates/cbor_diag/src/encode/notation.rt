@@ -2,51 +2,43 @@
 //! one text.
 //!
 //! Compact and pretty text are written by the same functions: they differ in their `Layout` alone.
-#![tactic(auto, using(crate::proofs::shared::Appending::appending_steps))]
+#![tactic(auto, using(cbor_grammar::proofs::shared::Appending::appending_steps))]
 
-mod ahead;
-mod context;
 mod estimate;
-mod from_bytes;
-mod members;
-mod outermost;
-mod scalars;
-mod straight;
 
 ghost use Rattle.std.specs.Prelude.{◌≡◌, ◌↔◌, ◌+◌, ◌*◌, ◌<◌, ◌≤◌, ◌++◌, ℕ, OnOk, OnErr, IfOk};
 ghost use Rattle.std.specs.Prelude.{IfErr};
 ghost use Rattle.std.specs.String.{string_bytes};
-ghost use Rattle.cbor_diag.specs.mirror.Appends.{AppendsText};
+ghost use Rattle.cbor_grammar.specs.mirror.Appends.{AppendsText};
 ghost use Rattle.cbor_diag.specs.View.{view, items_view, pairs_view};
-ghost use Rattle.cbor_diag.specs.Notation.{IsNotation};
-ghost use Rattle.cbor_diag.specs.Encoding.{Encoding, Base16};
-ghost use Rattle.cbor_diag.specs.declared.syntax.IntegerWidth.{IntegerWidth};
-ghost use Rattle.cbor_diag.specs.Item as spec;
-ghost use Rattle.cbor_diag.specs.Item.{Chunk, Item, tagged};
-ghost use Rattle.cbor_diag.specs.Estimate.{estimated_length, one_line_limit};
-ghost use Rattle.cbor_diag.specs.Pretty.{pretty, in_one_line, in_lines, encoded_sequence};
-ghost use Rattle.cbor_diag.specs.Pretty.{sequence_in_one_line, sequence_in_lines};
-ghost use Rattle.cbor_diag.specs.Facts.{IsWellFormed, diag_of, pretty_of, normal_of};
-ghost use Rattle.cbor_diag.specs.WellFormed.{deepest, WellFormed, WellFormedItems, WellFormedPairs};
-ghost use Rattle.cbor_diag.specs.mirror.LayoutView.{layout_view, style_view, context_view};
-ghost use Rattle.cbor_diag.specs.mirror.LayoutView.{IsIndented, item_text, items_there};
-ghost use Rattle.cbor_diag.specs.mirror.LayoutView.{pairs_there, content_there};
-ghost use Rattle.cbor_diag.specs.NotationText.{indent_of, style_indent, in_encoding};
-ghost use Rattle.cbor_diag.specs.NotationText.{text_at_level, sequence_size};
-ghost use Rattle.cbor_diag.specs.Embedded.{sequence, EmbedsExactly};
+ghost use Rattle.cbor_grammar.specs.Notation.{IsNotation};
+ghost use Rattle.cbor_grammar.specs.Encoding.{Encoding, Base16};
+ghost use Rattle.cbor_grammar.specs.declared.width.IntegerWidth.{IntegerWidth};
+ghost use Rattle.cbor_grammar.specs.Item as spec;
+ghost use Rattle.cbor_grammar.specs.Item.{Chunk, Item, tagged};
+ghost use Rattle.cbor_grammar.specs.Estimate.{estimated_length, one_line_limit};
+ghost use Rattle.cbor_grammar.specs.Pretty.{pretty, in_one_line, in_lines, encoded_sequence};
+ghost use Rattle.cbor_grammar.specs.Pretty.{sequence_in_one_line, sequence_in_lines};
+ghost use Rattle.cbor_grammar.specs.Facts.{IsWellFormed, diag_of, pretty_of, normal_of};
+ghost use Rattle.cbor_grammar.specs.WellFormed.{deepest, WellFormed, WellFormedItems};
+ghost use Rattle.cbor_grammar.specs.WellFormed.{WellFormedPairs};
+ghost use Rattle.cbor_notation.specs.mirror.LayoutView.{layout_view, style_view, context_view};
+ghost use Rattle.cbor_notation.specs.mirror.LayoutView.{IsIndented, item_text, items_there};
+ghost use Rattle.cbor_notation.specs.mirror.LayoutView.{pairs_there, content_there};
+ghost use Rattle.cbor_grammar.specs.NotationText.{indent_of, style_indent, in_encoding};
+ghost use Rattle.cbor_grammar.specs.NotationText.{text_at_level, sequence_size};
+ghost use Rattle.cbor_grammar.specs.Embedded.{sequence, EmbedsExactly};
 
-use crate::error::Error;
-use crate::syntax::{ByteString, DataItem, IntegerWidth, Tag, TextString};
-use context::{ContainerStyle, Layout, NotationContext};
-use from_bytes::push_content;
-use members::{push_chunks, push_closing, push_colon, push_end, push_opening, push_start};
-pub(crate) use scalars::push_quoted;
-use scalars::{push_float, push_negative, push_number, push_simple, push_text};
-use std::alloc::{AllocError, Global};
-pub use straight::{
-    bytes_to_diag, bytes_to_diag_pretty, hex_to_diag, hex_to_diag_pretty, push_bytes_to_diag,
-    push_bytes_to_diag_partial, push_bytes_to_diag_pretty, push_bytes_to_diag_pretty_partial,
+use crate::syntax::DataItem;
+use cbor_grammar::{ByteString, Error, IntegerWidth, Tag, TextString};
+use cbor_notation::context::{ContainerStyle, Layout, NotationContext};
+use cbor_notation::from_bytes::push_content;
+use cbor_notation::members::{
+    push_chunks, push_closing, push_colon, push_end, push_opening, push_start,
 };
+use cbor_notation::scalars::{push_float, push_negative, push_number, push_simple, push_text};
+use estimate::{array_style, map_style};
+use std::alloc::{AllocError, Global};
 
 /// Writes an item.
 ///
@@ -92,7 +84,7 @@ fn push_array(
     ensures { AppendsText result out.old out.new
         (item_text context.now (spec.array (items_view items.now.items) width)) }
 {
-    let style = context.layout.array_style(items);
+    let style = array_style(context.layout, items);
     push_opening(out, '[', width, style)?;
     push_items(out, items, style, context)?;
     push_closing(out, style, ']')
@@ -113,7 +105,7 @@ fn push_map(
     ensures { AppendsText result out.old out.new
         (item_text context.now (spec.map (pairs_view pairs.now.items) width)) }
 {
-    let style = context.layout.map_style(pairs);
+    let style = map_style(context.layout, pairs);
     push_opening(out, '{', width, style)?;
     push_pairs(out, pairs, style, context)?;
     push_closing(out, style, '}')
@@ -194,12 +186,7 @@ fn push_pairs(
 }
 
 /// Writes an item at the outermost level. After an error the text is what it was.
-fn push_outermost(
-    out: &mut String,
-    alloc: Global,
-    item: &DataItem,
-    layout: Layout,
-) -> Result<(), AllocError>
+fn push_outermost(out: &mut String, item: &DataItem, layout: Layout) -> Result<(), AllocError>
     requires well_formed { IsWellFormed (view item.now) }
     requires indent { indent_of (layout_view layout) ≤ 4 }
     ensures text { OnOk result (string_bytes out.new ≡ string_bytes out.old
@@ -207,7 +194,7 @@ fn push_outermost(
     ensures unchanged { OnErr result (string_bytes out.new ≡ string_bytes out.old) }
 {
     let start = out.len();
-    match push_item(out, item, &NotationContext::new(alloc, layout)) {
+    match push_item(out, item, &NotationContext::new(layout)) {
         Ok(()) => Ok(()),
         Err(error) => {
             out.truncate(start);
@@ -229,7 +216,7 @@ impl DataItem {
     /// let item = parse_bytes(alloc, b"\xc1\x1a\x51\x4b\x67\xb0")?;
     /// assert_eq!(rt; item.to_diag(alloc)?.as_str(), "1(1363896240_2)");
     /// ```
-    pub fn to_diag(&self, alloc: Global) -> crate::Result<String>
+    pub fn to_diag(&self, alloc: Global) -> cbor_grammar::Result<String>
         requires { IsWellFormed (view self.now) }
         ensures text { IfOk result (λ s. string_bytes s ≡ diag_of (view self.now)) }
         // It is read back as the normal form.
@@ -255,14 +242,14 @@ impl DataItem {
     ///
     /// The item has to be well formed, as [`DataItem::is_well_formed`] checks. The only error is
     /// `Memory`, and after it `out` is unchanged.
-    pub fn push_diag(&self, alloc: Global, out: &mut String) -> crate::Result<()>
+    pub fn push_diag(&self, alloc: Global, out: &mut String) -> cbor_grammar::Result<()>
         requires { IsWellFormed (view self.now) }
         ensures text { OnOk result
             (string_bytes out.new ≡ string_bytes out.old ++ diag_of (view self.now)) }
         ensures unchanged { OnErr result (string_bytes out.new ≡ string_bytes out.old) }
         ensures refused { IfErr result (λ e. e ≡ Error.Memory) }
     {
-        push_outermost(out, alloc, self, Layout::Compact)?;
+        push_outermost(out, self, Layout::Compact)?;
         Ok(())
     }
 
@@ -278,8 +265,8 @@ impl DataItem {
     /// let item = parse_bytes(alloc, b"\x9f\x01\x82\x02\x03\xff")?;
     /// assert_eq!(rt; item.to_diag_pretty(alloc)?.as_str(), "[_ 1, [2, 3]]");
     /// ```
-    #[tactic(auto, using(crate::proofs::text::Forms::pretty_laws))]
-    pub fn to_diag_pretty(&self, alloc: Global) -> crate::Result<String>
+    #[tactic(auto, using(cbor_grammar::proofs::text::Forms::pretty_laws))]
+    pub fn to_diag_pretty(&self, alloc: Global) -> cbor_grammar::Result<String>
         requires { IsWellFormed (view self.now) }
         ensures text { IfOk result (λ s. string_bytes s ≡ pretty_of (view self.now)) }
         // It is read back as the normal form.
@@ -316,14 +303,14 @@ impl DataItem {
     ///
     /// The item has to be well formed, as [`DataItem::is_well_formed`] checks. The only error is
     /// `Memory`, and after it `out` is unchanged.
-    pub fn push_diag_pretty(&self, alloc: Global, out: &mut String) -> crate::Result<()>
+    pub fn push_diag_pretty(&self, alloc: Global, out: &mut String) -> cbor_grammar::Result<()>
         requires { IsWellFormed (view self.now) }
         ensures text { OnOk result
             (string_bytes out.new ≡ string_bytes out.old ++ pretty_of (view self.now)) }
         ensures unchanged { OnErr result (string_bytes out.new ≡ string_bytes out.old) }
         ensures refused { IfErr result (λ e. e ≡ Error.Memory) }
     {
-        push_outermost(out, alloc, self, Layout::Pretty { indent: 0 })?;
+        push_outermost(out, self, Layout::Pretty { indent: 0 })?;
         Ok(())
     }
 }

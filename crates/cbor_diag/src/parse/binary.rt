@@ -5,60 +5,39 @@
 //! the first error from the left, `CutShort` if the bytes end. No claimed length or count is
 //! trusted: memory is reserved for the bytes and members that are there, and for a few members at
 //! once.
-mod argument;
-mod borrowed;
 mod frame;
-mod head;
-mod skip;
 mod stack;
-mod strict;
-mod strings;
 
 ghost use Rattle.std.specs.Prelude.{◌≡◌, ◌≢◌, ℕ, ◌+◌, ◌-◌, ◌*◌, ◌^◌, ◌<◌, ◌≤◌, List, ◌++◌, length};
 ghost use Rattle.std.specs.Prelude.{take, ◌↔◌, IfOk, IfErr, IfSome, OnOk, option_map};
-ghost use Rattle.cbor_diag.specs.Item.{Item};
+ghost use Rattle.cbor_grammar.specs.Item.{Item};
 ghost use Rattle.cbor_diag.specs.View.{view};
-ghost use Rattle.cbor_diag.specs.WellFormed.{deepest, levels_left};
-ghost use Rattle.cbor_diag.specs.Written.{encoded};
-ghost use Rattle.cbor_diag.specs.Answer.{Outcome, spelled, HasOutcome, HasAnswer, Gave, GaveItem};
-ghost use Rattle.cbor_diag.specs.Answer.{GaveRefusal, RefusedSo, MayWantMemory, HasTurns, size};
-ghost use Rattle.cbor_diag.specs.Turns.{item_turns, cut_spent, fault_spent};
-ghost use Rattle.cbor_diag.specs.Facts.{IsItem, IsStrictItem, BeginsWithItem, IsCut, HasFault};
-ghost use Rattle.cbor_diag.specs.Facts.{IsNoItem, BeginsSo, BeginsInOneWay, IsWellFormed};
-ghost use Rattle.cbor_diag.specs.Reading.{Gives, later, no_level_left, read_atom, counted_item};
-ghost use Rattle.cbor_diag.specs.mirror.Counting.{HoldsContent, Runs, Stops, IsStack};
-ghost use Rattle.cbor_diag.specs.mirror.Counting.{read_item_head};
-ghost use Rattle.cbor_diag.specs.mirror.HeadView.{head_view};
-ghost use Rattle.cbor_diag.specs.mirror.Stack.{outer_of, top_of, depth, resumed, resumed_with};
+ghost use Rattle.cbor_grammar.specs.WellFormed.{deepest, levels_left};
+ghost use Rattle.cbor_grammar.specs.Written.{encoded};
+ghost use Rattle.cbor_grammar.specs.Answer.{Outcome, spelled};
+ghost use Rattle.cbor_diag.specs.ItemAnswer.{HasOutcome, HasAnswer, Gave, GaveItem};
+ghost use Rattle.cbor_grammar.specs.Answer.{GaveRefusal, RefusedSo, MayWantMemory, size};
+ghost use Rattle.cbor_diag.specs.ItemAnswer.{HasTurns};
+ghost use Rattle.cbor_grammar.specs.Turns.{item_turns, cut_spent, fault_spent};
+ghost use Rattle.cbor_grammar.specs.Facts.{IsItem, IsStrictItem, BeginsWithItem, IsCut, HasFault};
+ghost use Rattle.cbor_grammar.specs.Facts.{IsNoItem, BeginsSo, BeginsInOneWay, IsWellFormed};
+ghost use Rattle.cbor_grammar.specs.Reading.{Gives, later, no_level_left, read_atom, counted_item};
+ghost use Rattle.cbor_grammar.specs.mirror.Counting.{HoldsContent, Runs, Stops, read_item_head};
+ghost use Rattle.cbor_grammar.specs.mirror.Counting.{resume, resume_with};
+ghost use Rattle.cbor_bytes.specs.mirror.HeadView.{head_view};
+ghost use Rattle.cbor_diag.specs.mirror.Stack.{frames};
 
-use crate::error::{Error, Result};
-use crate::parse::turns::Turns;
-use crate::syntax::strings::StringKind;
-use crate::syntax::{ByteString, DEEPEST, DataItem, Simple, TextString};
-pub(crate) use argument::Argument;
-pub(crate) use borrowed::{next_chunk, read_borrowed};
+use crate::syntax::DataItem;
+use cbor_bytes::Turns;
+use cbor_bytes::argument::Argument;
+use cbor_bytes::head::{ItemHead, no_level_left, read_head};
+use cbor_bytes::strings::{read_chunks, read_string};
+use cbor_grammar::level::DEEPEST;
+use cbor_grammar::strings::StringKind;
+use cbor_grammar::{ByteString, Error, Result, Simple, TextString};
 use frame::Frame;
-pub(crate) use head::{ItemHead, read_head};
-pub(crate) use skip::after_front;
-pub use skip::{Extent, Scanner, extent};
 use stack::Stack;
 use std::alloc::Global;
-pub(crate) use strict::is_strict;
-use strings::{read_chunks, read_string};
-pub(crate) use strings::{read_chunk_length, split_at};
-
-/// The error below the deepest level: `TooDeep` if there are bytes for an item, otherwise
-/// `CutShort`.
-pub(crate) fn no_level_left(bytes: &[u8]) -> Error
-    ensures gives { result ≡ no_level_left bytes.now }
-    ensures memory { result ≢ Error.Memory }
-{
-    if bytes.is_empty() {
-        Error::CutShort
-    } else {
-        Error::TooDeep
-    }
-}
 
 /// The head of an item at `level`, from 1 to 129. No item is allowed at level 129.
 fn read_item_head(bytes: &[u8], level: usize) -> Result<(ItemHead, &[u8])>
@@ -71,7 +50,7 @@ fn read_item_head(bytes: &[u8], level: usize) -> Result<(ItemHead, &[u8])>
     if level > usize::from(DEEPEST) {
         return Err(no_level_left(bytes));
     }
-    Ok(read_head(bytes)?)
+    read_head(bytes)
 }
 
 /// The item without parts after its head. The heads of containers are handled by `Frame::new`
@@ -126,24 +105,22 @@ fn turn<'a>(
     level: u8,
     turns: &mut Turns,
 ) -> Result<(Option<DataItem>, &'a [u8])>
-    requires level { level + depth stack.old ≤ deepest + 1 }
-    requires bottom { IsStack (outer_of stack.old) (top_of stack.old) }
+    requires level { level + length stack.old ≤ deepest + 1 }
     requires bounded { turns.old + 2 * length bytes.now < 2 ^ 126 }
     ensures gives { IfOk result (λ x.
-        later turns.old (resumed (levels_left level) stack.old bytes.now) ≡ later turns.new
-        (resumed_with (levels_left level) stack.new (option_map view x.0) x.1.now)) }
+        later turns.old (resume (levels_left level) (frames stack.old) bytes.now) ≡ later turns.new
+        (resume_with (levels_left level) (frames stack.new) (option_map view x.0) x.1.now)) }
     ensures stops { IfErr result (λ e. Stops e turns.new
-        (later turns.old (resumed (levels_left level) stack.old bytes.now))) }
-    ensures level { IfOk result (λ x. level + depth stack.new ≤ deepest + 1) }
-    ensures bottom { IfOk result (λ x. IsStack (outer_of stack.new) (top_of stack.new)) }
-    ensures falls { IfOk result (λ x. turns.new + 2 * length x.1.now + depth stack.new
-        ≤ turns.old + 2 * length bytes.now + depth stack.old) }
+        (later turns.old (resume (levels_left level) (frames stack.old) bytes.now))) }
+    ensures level { IfOk result (λ x. level + length stack.new ≤ deepest + 1) }
+    ensures falls { IfOk result (λ x. turns.new + 2 * length x.1.now + length stack.new
+        ≤ turns.old + 2 * length bytes.now + length stack.old) }
     ensures few { turns.new ≤ turns.old + 2 * length bytes.now + 1 }
     ensures rises { turns.old < turns.new }
-    ensures memory { result ≡ Err Error.Memory → depth stack.old ≡ 0 → MayWantMemory bytes.now }
+    ensures memory { result ≡ Err Error.Memory → length stack.old ≡ 0 → MayWantMemory bytes.now }
     ensures opens { IfOk result
-        (λ x. 0 < depth stack.new → depth stack.old ≡ 0 → MayWantMemory bytes.now) }
-    ensures held { IfOk result (λ x. x.0 ≡ None → 0 < depth stack.new) }
+        (λ x. 0 < length stack.new → length stack.old ≡ 0 → MayWantMemory bytes.now) }
+    ensures held { IfOk result (λ x. x.0 ≡ None → 0 < length stack.new) }
 {
     turns.rise();
     if let Some(rest) = stack.after_end(bytes) {

@@ -1,173 +1,19 @@
 //! Reads an item from hex with comments.
-//!
-//! The text is read once, line by line: comments are skipped, and what is kept is gathered and then
-//! decoded.
-mod place;
-
-ghost use Rattle.std.specs.Prelude.{◌≡◌, ◌≢◌, ◌<◌, ◌≤◌, ◌++◌, ◌%◌, ◌⊎◌, ◌==◌, length, take, drop};
-ghost use Rattle.std.specs.Prelude.{slice_index, IfOk, IfErr, OnOk, Ok};
-ghost use Rattle.std.specs.List.{AllPass, after_first};
-ghost use Rattle.std.specs.Str.Lines.{strip_carriage_return};
-ghost use Rattle.hex.specs.Hex.{decode_of, is_hex_digit};
-ghost use Rattle.cbor_diag.specs.Item.{Item};
+ghost use Rattle.std.specs.Prelude.{◌<◌};
+ghost use Rattle.std.specs.Prelude.{IfOk};
+ghost use Rattle.cbor_grammar.specs.Item.{Item};
 ghost use Rattle.cbor_diag.specs.View.{view};
-ghost use Rattle.cbor_diag.specs.Facts.{IsWellFormed};
-ghost use Rattle.cbor_diag.specs.Answer.{GaveItem, GaveRefusal, RefusedSo};
-ghost use Rattle.cbor_notes.specs.Columns.{unspaced, uncommented};
-ghost use Rattle.cbor_diag.specs.HexText.{IsHexOf, IsHexRefused};
+ghost use Rattle.cbor_grammar.specs.Facts.{IsWellFormed};
+ghost use Rattle.cbor_diag.specs.ItemAnswer.{GaveItem};
+ghost use Rattle.cbor_grammar.specs.Answer.{GaveRefusal, RefusedSo};
+ghost use Rattle.cbor_notes.specs.Columns.{uncommented};
+ghost use Rattle.cbor_grammar.specs.HexText.{IsHexOf, IsHexRefused};
 
 use super::binary::parse_bytes;
-use crate::error::Error;
 use crate::syntax::DataItem;
-use hex::FromHexError;
-use memchr::{memchr, memchr2};
-pub use place::{hex_fault, hex_place};
-use std::alloc::{AllocError, Global};
-
-/// What the first line has before its first `#` or its end, and what follows that line.
-fn cut_line(text: &[u8]) -> (&[u8], &[u8])
-    ensures kept { uncommented text.now ≡ unspaced result.0.now ++ uncommented result.1.now }
-    ensures shorter { 0 < length text.now → length result.1.now < length text.now }
-{
-    match memchr2(b'#', b'\n', text) {
-        None => (text, &text[text.len()..]),
-        Some(end) if text[end] == b'#' => (&text[..end], after_line(&text[end..])),
-        Some(end) => (without_return(&text[..end]), &text[end + 1..]),
-    }
-}
-
-/// What follows the first line feed.
-fn after_line(text: &[u8]) -> &[u8]
-    ensures { result.now ≡ after_first (λ b. b == 10) text.now }
-{
-    match memchr(b'\n', text) {
-        Some(end) => &text[end + 1..],
-        None => &text[text.len()..],
-    }
-}
-
-/// A line that ends at a line feed, without the one carriage return before it.
-fn without_return(line: &[u8]) -> &[u8]
-    ensures { result.now ≡ strip_carriage_return line.now }
-{
-    match line.last() {
-        Some(b'\r') => &line[..line.len() - 1],
-        _ => line,
-    }
-}
-
-/// What follows the spaces at the front.
-#[tactic(auto, using(crate::proofs::hex::Lines::space_here))]
-fn after_spaces(line: &[u8]) -> &[u8]
-    ensures same { unspaced result.now ≡ unspaced line.now }
-    ensures no_space { 0 < length result.now → slice_index result.now 0 ≢ 32 }
-    ensures longer { length result.now ≤ length line.now }
-{
-    let near = after_eights(line);
-    let mut at = 0;
-    'spaces: while at < near.len() && near[at] == b' ' {
-        at += 1;
-    }
-    &near[at..]
-}
-
-/// What follows the spaces at the front, in eights: most lines of a dump have that many.
-#[tactic(auto, using(crate::proofs::hex::Lines::eight_spaces))]
-fn after_eights(line: &[u8]) -> &[u8]
-    ensures same { unspaced result.now ≡ unspaced line.now }
-    ensures longer { length result.now ≤ length line.now }
-{
-    let mut rest = line;
-    'eights: while let Some(after) = rest.strip_prefix(b"        ") {
-        rest = after;
-    }
-    rest
-}
-
-/// The place of the first space, or the end of the line. It looks at single bytes, since most
-/// digits are in short runs.
-#[tactic(auto, using(crate::proofs::hex::Lines::front_kept))]
-fn first_space(line: &[u8]) -> usize
-    ensures within { result ≤ length line.now }
-    ensures moves { 0 < length line.now → slice_index line.now 0 ≢ 32 → 0 < result }
-    ensures kept { unspaced line.now ≡ take result line.now ++ unspaced (drop result line.now) }
-{
-    let mut end = 0;
-    'digits: while end < line.len() && line[end] != b' ' {
-        end += 1;
-    }
-    end
-}
-
-/// Writes the bytes of a line that are not spaces.
-fn push_unspaced(out: &mut Vec<u8>, line: &[u8]) -> Result<(), AllocError>
-    ensures { OnOk result (out.new.items ≡ out.old.items ++ unspaced line.now) }
-{
-    let mut rest = after_spaces(line);
-    'runs: while !rest.is_empty() {
-        let end = first_space(rest);
-        out.extend_from_slice(&rest[..end])?;
-        rest = after_spaces(&rest[end..]);
-    }
-    Ok(())
-}
-
-/// What is kept of all lines. Decoding finds out whether these bytes are hex digits. Memory is
-/// reserved at first for a fourth of the text: most dumps keep less.
-pub(crate) fn uncommented(alloc: Global, text: &str) -> Result<Vec<u8>, AllocError>
-    ensures { IfOk result (λ digits. digits.items ≡ uncommented text.now) }
-{
-    let mut digits = Vec::with_capacity(alloc, text.len() / 4)?;
-    let mut rest = text.as_bytes();
-    'lines: while !rest.is_empty() {
-        let (line, after) = cut_line(rest);
-        push_unspaced(&mut digits, line)?;
-        rest = after;
-    }
-    Ok(digits)
-}
-
-/// Decodes hex digits, two of either case for each byte. Returns `OddHex` if their number is odd,
-/// and otherwise `BadHex` if a byte is not a digit.
-pub(crate) fn decode(alloc: Global, digits: Vec<u8>) -> crate::Result<Vec<u8>>
-    ensures bytes { IfOk result (λ bytes. decode_of digits.items ≡ Ok bytes.items) }
-    ensures refused { IfErr result (λ e. (e ≡ Error.Memory)
-        ⊎ (e ≡ Error.OddHex) × (length digits.items % 2 ≡ 1)
-        ⊎ (e ≡ Error.BadHex) × (length digits.items % 2 ≡ 0)
-        × ¬ (AllPass is_hex_digit digits.items)) }
-{
-    match hex::decode(alloc, digits) {
-        Ok(bytes) => Ok(bytes),
-        Err(FromHexError::OutOfMemory) => Err(Error::Memory),
-        Err(FromHexError::OddLength) => Err(Error::OddHex),
-        Err(FromHexError::InvalidHexCharacter { .. }) => Err(Error::BadHex),
-        // Only decoding into a slice of a given length has this error.
-        Err(FromHexError::InvalidStringLength) => unreachable!(),
-    }
-}
-
-/// Decodes hex with comments, by the rules of [`parse_hex`]: two digits, of either case, for each
-/// byte. The bytes may be no item, and [`extent`] reports how they begin.
-///
-/// Returns `OddHex` if the number of kept bytes is odd, and otherwise `BadHex` if one of them is
-/// not a hex digit. Returns `Memory` if an allocation fails.
-///
-/// ```rust
-/// use cbor_diag::hex_bytes;
-///
-/// let bytes = hex_bytes(alloc, "82 01 # one of two")?;
-/// assert_eq!(rt; bytes.as_slice(), b"\x82\x01".as_slice());
-/// ```
-///
-/// [`extent`]: crate::extent
-pub fn hex_bytes(alloc: Global, hex: &str) -> crate::Result<Vec<u8>>
-    ensures bytes { IfOk result (λ bytes. decode_of (uncommented hex.now) ≡ Ok bytes.items) }
-    ensures refused { RefusedSo result
-        (λ e. ((e ≡ Error.OddHex) ⊎ (e ≡ Error.BadHex)) × IsHexRefused hex.now e) }
-{
-    let digits = uncommented(alloc, hex)?;
-    decode(alloc, digits)
-}
+use cbor_bytes::hex_text::{decode, uncommented};
+use cbor_grammar::Error;
+use std::alloc::Global;
 
 /// Reads one item from hex with comments: two digits, of either case, for each byte of the item.
 ///
@@ -184,7 +30,7 @@ pub fn hex_bytes(alloc: Global, hex: &str) -> crate::Result<Vec<u8>>
 /// assert_eq!(rt; item.to_diag(alloc)?.as_str(), "[1,2,3]");
 /// assert_eq!(rt; parse_hex(alloc, "8").err(), Some(Error::OddHex));
 /// ```
-pub fn parse_hex(alloc: Global, hex: &str) -> crate::Result<DataItem>
+pub fn parse_hex(alloc: Global, hex: &str) -> cbor_grammar::Result<DataItem>
     // The item that the hex is, exactly if it is one.
     ensures ok { IfOk result (λ i. IsHexOf hex.now (view i)) }
     ensures every_item { (i : Item) → IsHexOf hex.now i → GaveItem result i }

@@ -8,33 +8,32 @@
 //! `strings` does not apply. What is between `read_core` and the list that keeps its item is
 //! inlined, and a map's loop reads key and value itself, so that an item is not moved from one to
 //! the other.
-mod content;
 mod fault;
-mod number;
-mod scan;
-mod start;
 mod strings;
 mod word;
 
 ghost use Rattle.std.specs.Prelude.{◌≡◌, ◌-◌, ◌≤◌, ℕ, length, map, IfOk};
-ghost use Rattle.cbor_diag.specs.Answer.{GaveItem, RefusedSo};
+ghost use Rattle.cbor_diag.specs.ItemAnswer.{GaveItem};
+ghost use Rattle.cbor_grammar.specs.Answer.{RefusedSo};
 ghost use Rattle.cbor_diag.specs.View.{view, items_view, pairs_view};
-ghost use Rattle.cbor_diag.specs.WellFormed.{deepest, levels_left, WellFormed, WellFormedItems};
-ghost use Rattle.cbor_diag.specs.WellFormed.{WellFormedPairs};
-ghost use Rattle.cbor_diag.specs.Facts.{IsWellFormed};
-ghost use Rattle.cbor_diag.specs.Item.{Item};
-ghost use Rattle.cbor_diag.specs.Notation.{IsNotation, ReadsUnder};
-ghost use Rattle.cbor_diag.specs.NotationRefused.{IsNoNotation, GaveOrTooDeep};
-ghost use Rattle.cbor_diag.specs.Reading.{Gives};
-ghost use Rattle.cbor_diag.specs.mirror.NotationReading.{read_core, read_integer, read_item};
-ghost use Rattle.cbor_diag.specs.mirror.NotationReading.{read_members, notation_of, read_pair};
+ghost use Rattle.cbor_grammar.specs.WellFormed.{deepest, levels_left, WellFormed, WellFormedItems};
+ghost use Rattle.cbor_grammar.specs.WellFormed.{WellFormedPairs};
+ghost use Rattle.cbor_grammar.specs.Facts.{IsWellFormed};
+ghost use Rattle.cbor_grammar.specs.Item.{Item};
+ghost use Rattle.cbor_grammar.specs.Notation.{IsNotation, ReadsUnder};
+ghost use Rattle.cbor_grammar.specs.NotationRefused.{IsNoNotation};
+ghost use Rattle.cbor_diag.specs.ItemAnswer.{GaveOrTooDeep};
+ghost use Rattle.cbor_grammar.specs.Reading.{Gives};
+ghost use Rattle.cbor_notation.specs.mirror.NotationReading.{read_core, read_integer, read_item};
+ghost use Rattle.cbor_notation.specs.mirror.NotationReading.{read_members, notation_of, read_pair};
 
-use crate::error::{Error, Result};
-use crate::syntax::{DEEPEST, DataItem, Tag};
+use crate::syntax::DataItem;
+use cbor_grammar::level::DEEPEST;
+use cbor_grammar::{Error, Result, Tag};
+use cbor_notation::number::{read_negative_number, read_unsigned_number};
+use cbor_notation::scan::{after_blank, after_byte, after_end, expect_byte, read_length};
+use cbor_notation::start::Start;
 pub use fault::diag_fault;
-use number::{read_negative_number, read_unsigned_number};
-use scan::{after_blank, after_byte, after_end, expect_byte, read_length};
-use start::Start;
 use std::alloc::Global;
 use strings::{read_byte_item, read_chunks, read_text_item};
 use word::read_word;

@@ -1,38 +1,12 @@
 //! Copies of items and strings, written out since a derived `clone` takes no allocator and says
 //! nothing of a type that holds itself.
 ghost use Rattle.std.specs.Prelude.{◌≡◌, IfErr, IfOk, map};
-ghost use Rattle.cbor_diag.specs.View.{view, items_view, pairs_view, byte_chunk, text_chunk};
+ghost use Rattle.cbor_diag.specs.View.{view, items_view, pairs_view};
 
-use super::strings::DefiniteString;
-use super::{ByteString, DataItem, TextString};
-use crate::error::{Error, Result};
+use super::DataItem;
+use cbor_grammar::strings::DefiniteString;
+use cbor_grammar::{ByteString, Error, Result, TextString};
 use std::alloc::Global;
-
-impl ByteString {
-    /// Returns a copy: the same bytes and the same width. The only error is `Memory`.
-    pub fn clone(&self, alloc: Global) -> Result<ByteString>
-        ensures equal { IfOk result (λ v. byte_chunk v ≡ byte_chunk self.now) }
-        ensures refused { IfErr result (λ e. e ≡ Error.Memory) }
-    {
-        Ok(ByteString {
-            content: Vec::from_slice(alloc, &self.content)?,
-            bitwidth: self.bitwidth,
-        })
-    }
-}
-
-impl TextString {
-    /// Returns a copy: the same text and the same width. The only error is `Memory`.
-    pub fn clone(&self, alloc: Global) -> Result<TextString>
-        ensures equal { IfOk result (λ v. text_chunk v ≡ text_chunk self.now) }
-        ensures refused { IfErr result (λ e. e ≡ Error.Memory) }
-    {
-        Ok(TextString {
-            content: String::from_str(alloc, self.content.as_str())?,
-            bitwidth: self.bitwidth,
-        })
-    }
-}
 
 /// Copies of the chunks of a string, in order.
 fn clone_chunks<S: DefiniteString>(alloc: Global, chunks: &[S]) -> Result<Vec<S>>

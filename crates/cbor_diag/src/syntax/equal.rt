@@ -1,17 +1,19 @@
 //! Whether items are equal, written out since a derived `==` says nothing of a type that holds
 //! itself.
 ghost use Rattle.std.specs.Prelude.{◌≡◌, ◌↔◌, IsTrue, map};
-ghost use Rattle.cbor_diag.specs.Item as spec;
-ghost use Rattle.cbor_diag.specs.Item.{atom, integer, negative, float};
-ghost use Rattle.cbor_diag.specs.Item.{chunked_string, array, tagged};
-ghost use Rattle.cbor_diag.specs.StringKind.{bytes_kind, text_kind};
+ghost use Rattle.cbor_grammar.specs.Item as spec;
+ghost use Rattle.cbor_grammar.specs.Item.{atom, integer, negative, float};
+ghost use Rattle.cbor_grammar.specs.Item.{chunked_string, array, tagged};
+ghost use Rattle.cbor_grammar.specs.StringKind.{bytes_kind, text_kind};
 ghost use Rattle.std.specs.Cmp.{on_equiv, partial_equiv_from_equiv};
-ghost use Rattle.cbor_diag.specs.View.{view, items_view, pairs_view, byte_chunk, text_chunk};
-ghost use Rattle.cbor_diag.specs.Same.{same_item};
-ghost use Rattle.cbor_diag.specs.mirror.SameDecides.{same_equivalence};
+ghost use Rattle.cbor_diag.specs.View.{view, items_view, pairs_view};
+ghost use Rattle.cbor_grammar.specs.Strings.{byte_chunk, text_chunk};
+ghost use Rattle.cbor_grammar.specs.Same.{same_item};
+ghost use Rattle.cbor_grammar.specs.mirror.SameDecides.{same_equivalence};
 
-use super::strings::DefiniteString;
-use super::{ByteString, DataItem, FloatWidth, IntegerWidth, Simple, Tag, TextString};
+use super::DataItem;
+use cbor_grammar::strings::DefiniteString;
+use cbor_grammar::{ByteString, FloatWidth, IntegerWidth, Simple, Tag, TextString};
 
 impl PartialEq for DataItem {
     ghost eq = { λ a b. same_item (view a) (view b) };

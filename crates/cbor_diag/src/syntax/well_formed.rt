@@ -2,12 +2,14 @@
 ghost use Rattle.std.specs.Prelude.{◌↔◌, IsTrue, map};
 ghost use Rattle.std.specs.List.{AllByRecursion};
 ghost use Rattle.cbor_diag.specs.View.{view, items_view, pairs_view};
-ghost use Rattle.cbor_diag.specs.Facts.{IsWellFormed};
-ghost use Rattle.cbor_diag.specs.WellFormed.{WellFormed, WellFormedItems, WellFormedPairs, IsChunk};
+ghost use Rattle.cbor_grammar.specs.Facts.{IsWellFormed};
+ghost use Rattle.cbor_grammar.specs.WellFormed.{WellFormed, WellFormedItems, WellFormedPairs};
+ghost use Rattle.cbor_grammar.specs.WellFormed.{IsChunk};
 
-use super::strings::DefiniteString;
-use super::width::count_fits;
-use super::{DEEPEST, DataItem};
+use super::DataItem;
+use cbor_grammar::level::DEEPEST;
+use cbor_grammar::strings::DefiniteString;
+use cbor_grammar::width::count_fits;
 
 /// Whether the length of the content fits its width.
 fn length_fits<S: DefiniteString>(string: &S) -> bool

@@ -35,7 +35,7 @@ by_count k is two four five seven eight =
       ]
     ]
 
--- digits that do not end with so much padding
+-- digits that do not end with this much padding
 pub not_padded : (digits padding : List ℕ) (k : ℕ) → length digits ≡ 8 → false ≡ ends_with nat_eq digits padding
     → length padding ≡ 8 - k → k ≤ 8 → pointwise nat_eq padding padding ≡ true → drop k digits ≡ padding → ⊥
 not_padded digits padding k eight unlike short fits itself ends =

@@ -3,7 +3,11 @@ use Rattle.std.proofs.Common.{◌≡◌, ℕ, List, ◌++◌, length, Result, Ok
 use Rattle.std.proofs.Transfers.{starts_with_length, starts_with_of_append, starts_with_trans}
 use Rattle.std.proofs.lemmas.Result.{on_err_weaker}
 use Rattle.std.proofs.lemmas.Str.{IsCharBoundary-from_take, IsUtf8-string_bytes}
+use Rattle.std.proofs.Common.{ap, ◌∙◌, append_assoc}
+use Rattle.std.proofs.lemmas.Grind.{flat_map-append}
 use Rattle.std.specs.Io.{StartsWith}
+use Rattle.std.specs.List.{flat_map}
+use Rattle.cbor_notes.specs.Text.{escaped_byte}
 use Rattle.std.specs.Prelude.{String, string_bytes}
 use Rattle.std.specs.Str.{IsUtf8}
 use Rattle.std.specs.String.{string_len}
@@ -35,3 +39,13 @@ cut_point old new result len is =
 pub on_err : {V E P : Type 0} (result : Result V E) → P → OnErr result P
 on_err (Ok value) holds = tt
 on_err (Err error) holds = holds
+
+-- a piece more is written, escaped
+pub escaped_more : (text piece after rest whole : List ℕ) → piece ++ after ≡ rest
+    → text ++ flat_map escaped_byte rest ≡ whole
+    → (text ++ flat_map escaped_byte piece) ++ flat_map escaped_byte after ≡ whole
+escaped_more text piece after rest whole parts h =
+    append_assoc text (flat_map escaped_byte piece) (flat_map escaped_byte after)
+    ∙ ap (λ x. text ++ x) (sym (flat_map-append escaped_byte piece after))
+    ∙ ap (λ x. text ++ flat_map escaped_byte x) parts
+    ∙ h

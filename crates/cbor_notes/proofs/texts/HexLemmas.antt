@@ -1,5 +1,5 @@
 -- The hex digits of bytes.
-use Rattle.std.proofs.Common.{◌≡◌, ℕ, true, ltb, eqb, eqb-true, List, [], ◌∷◌, ◌++◌, length, get_or, refl, sym, ap, ◌∙◌}
+use Rattle.std.proofs.Common.{◌≡◌, ℕ, ◌/◌, ◌%◌, slice_index, true, ltb, eqb, eqb-true, List, [], ◌∷◌, ◌++◌, length, get_or, refl, sym, ap, ◌∙◌}
 use Rattle.std.proofs.Common.{append_assoc, arith}
 use Rattle.std.proofs.lemmas.Bool.Decides.{nat_tests}
 use Rattle.std.proofs.lemmas.List.{append-nil}
@@ -25,6 +25,23 @@ pub encode_lower-byte : (b : ℕ) (digits : List ℕ) → digits ≡ encode_lowe
     → encode_lower (b ∷ []) ≡ get_or digits 0 0 ∷ get_or digits 1 0 ∷ []
 unfolding encode_with
 encode_lower-byte b digits e = rw e refl
+
+-- the two digits of a byte, one after the other
+pub two_digits : (b : ℕ) (old one two : List ℕ) (high low : ℕ) → high ≡ b / 16 → low ≡ b % 16
+    → one ≡ old ++ slice_index lower_digits high ∷ [] → two ≡ one ++ slice_index lower_digits low ∷ []
+    → two ≡ old ++ encode_lower (b ∷ [])
+unfolding encode_with
+two_digits b old one two high low high_is low_is one_is two_is =
+    rw (two_is, one_is, high_is, low_is)
+    (append_assoc old (slice_index lower_digits (b / 16) ∷ []) (slice_index lower_digits (b % 16) ∷ []))
+
+-- the digits of one more byte
+pub byte_more : (old out bs : List ℕ) (b : ℕ) → out ≡ old ++ encode_lower bs
+    → out ++ encode_lower (b ∷ []) ≡ old ++ encode_lower (bs ++ b ∷ [])
+byte_more old out bs b h =
+    ap (λ x. x ++ encode_lower (b ∷ [])) h
+    ∙ append_assoc old (encode_lower bs) (encode_lower (b ∷ []))
+    ∙ ap (λ x. old ++ x) (sym (encode_with-append lower_digits bs (b ∷ [])))
 
 -- a piece more is written
 pub hex_more : (out piece after rest whole : List ℕ) → piece ++ after ≡ rest → out ++ encode_lower rest ≡ whole

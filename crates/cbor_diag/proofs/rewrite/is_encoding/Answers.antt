@@ -1,5 +1,6 @@
-use Rattle.cbor_diag.proofs.bytes.Outcomes.{fault_refusal}
-use Rattle.cbor_diag.proofs.bytes.StrictHeads.{strict_is}
+-- Bytes without a simple value that is too long are the encoding of their item; the errors are those of the bytes.
+use Rattle.cbor_grammar.proofs.bytes.Outcomes.{fault_refusal}
+use Rattle.cbor_bytes.proofs.bytes.StrictHeads.{strict_is}
 use Rattle.cbor_diag.proofs.rewrite.is_encoding.Goals as goal
 
 pub returns-else-len-bytes-clause-known : goal.returns-else-len-bytes-clause-known

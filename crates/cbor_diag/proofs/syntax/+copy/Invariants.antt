@@ -1,6 +1,7 @@
+-- The copies so far are the items so far.
 use Rattle.std.proofs.Common.{◌≡◌, map, take}
 use Rattle.cbor_diag.specs.declared.syntax.DataItem.{DataItem}
-use Rattle.cbor_diag.specs.Item.{Item}
+use Rattle.cbor_grammar.specs.Item.{Item}
 use Rattle.cbor_diag.specs.View.{view}
 use Rattle.cbor_diag.proofs.syntax.+copy.Given as goal
 

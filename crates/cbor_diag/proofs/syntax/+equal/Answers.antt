@@ -1,7 +1,8 @@
+-- Lists of different lengths are not equal.
 use Rattle.std.proofs.Common.{◌≡◌, ◌≢◌, ◌↔◌, ℕ, false, IsTrue, sym, ap, ◌∙◌, arith}
 use Rattle.std.proofs.lemmas.Bool.{false≢true}
 use Rattle.cbor_diag.specs.View.{items_view, pairs_view}
-use Rattle.cbor_diag.specs.Item.{item_count, pair_count}
+use Rattle.cbor_grammar.specs.Item.{item_count, pair_count}
 use Rattle.cbor_diag.proofs.shared.Views.{item_count_view, pair_count_view}
 use Rattle.cbor_diag.proofs.syntax.+equal.Goals as goal
 

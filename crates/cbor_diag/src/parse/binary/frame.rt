@@ -2,16 +2,16 @@
 ghost use Rattle.std.specs.Prelude.{◌≡◌, ◌≤◌, ℕ, Some, IsSome, IfSome, IfOk, IfErr, OnOk};
 ghost use Rattle.std.specs.Prelude.{option_map};
 ghost use Rattle.cbor_diag.specs.View.{view};
-ghost use Rattle.cbor_diag.specs.declared.syntax.IntegerWidth.{IntegerWidth};
-ghost use Rattle.cbor_diag.specs.Argument.{number};
-ghost use Rattle.cbor_diag.specs.Reading.{put, after_end, closed, opened};
-ghost use Rattle.cbor_diag.specs.mirror.HeadView.{argument_view, head_view};
+ghost use Rattle.cbor_grammar.specs.declared.width.IntegerWidth.{IntegerWidth};
+ghost use Rattle.cbor_grammar.specs.Argument.{number};
+ghost use Rattle.cbor_grammar.specs.Reading.{put, after_end, closed, opened};
+ghost use Rattle.cbor_bytes.specs.mirror.HeadView.{argument_view, head_view};
 ghost use Rattle.cbor_diag.specs.mirror.Stack.{frame, ReservesFew};
 
-use super::argument::Argument;
-use super::head::ItemHead;
-use crate::error::{Error, Result};
-use crate::syntax::{DataItem, IntegerWidth, Tag};
+use crate::syntax::DataItem;
+use cbor_bytes::argument::Argument;
+use cbor_bytes::head::ItemHead;
+use cbor_grammar::{Error, IntegerWidth, Result, Tag};
 use std::alloc::Global;
 
 /// The most members that memory is reserved for before they are read.
@@ -38,21 +38,19 @@ pub(super) enum Frame {
     },
 }
 
-impl Argument {
-    /// How many members memory is reserved for: at most those claimed, those that can follow, and a
-    /// few.
-    fn reserved(self, following: usize) -> usize
-        ensures claimed { (count : ℕ) (width : IntegerWidth)
-            → argument_view self ≡ number count width → result ≤ count }
-        ensures there { result ≤ following }
-        ensures few { result ≤ MOST_RESERVED }
-    {
-        let most = MOST_RESERVED.min(following);
-        match self {
-            Argument::Number(count, _) if count < most as u64 => count as usize,
-            Argument::Number(..) => most,
-            Argument::Indefinite => 0,
-        }
+/// How many members memory is reserved for: at most those claimed, those that can follow, and a
+/// few.
+fn reserved(count: Argument, following: usize) -> usize
+    ensures claimed { (n : ℕ) (width : IntegerWidth)
+        → argument_view count ≡ number n width → result ≤ n }
+    ensures there { result ≤ following }
+    ensures few { result ≤ MOST_RESERVED }
+{
+    let most = MOST_RESERVED.min(following);
+    match count {
+        Argument::Number(n, _) if n < most as u64 => n as usize,
+        Argument::Number(..) => most,
+        Argument::Indefinite => 0,
     }
 }
 
@@ -68,11 +66,11 @@ impl Frame {
         let (key, value) = (None, None);
         let frame = match head {
             ItemHead::Array(len) => {
-                let content = Vec::with_capacity(alloc, len.reserved(following))?;
+                let content = Vec::with_capacity(alloc, reserved(len, following))?;
                 Frame::Array { content, len }
             }
             ItemHead::Map(len) => {
-                let content = Vec::with_capacity(alloc, len.reserved(following / 2))?;
+                let content = Vec::with_capacity(alloc, reserved(len, following / 2))?;
                 Frame::Map { content, key, len }
             }
             ItemHead::Tag(number, bitwidth) => {

@@ -1,15 +1,16 @@
 //! The containers that are open while an item is read.
-ghost use Rattle.std.specs.Prelude.{◌≡◌, ◌++◌, [], Some, None, IsSome, IfOk, IfErr, OnOk};
-ghost use Rattle.std.specs.Prelude.{option_map, option_and_then, option_to_list};
+ghost use Rattle.std.specs.Prelude.{◌≡◌, [], length, Some, IsSome, IfOk, IfErr, OnOk};
+ghost use Rattle.std.specs.Prelude.{◌∷◌, ◌<◌, drop, option_map};
 ghost use Rattle.cbor_diag.specs.View.{view};
-ghost use Rattle.cbor_diag.specs.Reading.{after_end, closed};
-ghost use Rattle.cbor_diag.specs.mirror.Counting.{pushed, IsStack};
-ghost use Rattle.cbor_diag.specs.mirror.Stack.{frame, outer_of, top_of, depth, IsPutIn};
+ghost use Rattle.cbor_grammar.specs.mirror.Counting.{after_innermost, closed_innermost};
+ghost use Rattle.cbor_grammar.specs.mirror.Counting.{put_innermost};
+ghost use Rattle.cbor_diag.specs.mirror.Stack.{frames};
 
 use super::frame::Frame;
-use crate::error::{Error, Result};
 use crate::syntax::DataItem;
+use cbor_grammar::{Error, Result};
 use std::alloc::Global;
+use std::marker::Model;
 
 /// The containers that are open, the outermost first.
 #[derive(Drop)]
@@ -18,11 +19,24 @@ pub(super) struct Stack {
     open: Vec<Frame>,
 }
 
+/// Contracts see the list of the containers, the innermost first.
+impl Model for Stack {
+    ghost use Rattle.std.specs.Prelude.{List, reverse};
+    ghost use Rattle.std.specs.Coded.{codes};
+    ghost use Rattle.cbor_diag.specs.declared.parse.binary.frame.Frame.{Frame};
+    ghost use Rattle.cbor_diag.specs.contracts.syntax.DataItem as item;
+
+    ghost Value = { List Frame };
+
+    ghost coded = { Prim.hlevel (codes, item.the_row.coded) };
+
+    ghost view = { λ s. reverse s.«open».items };
+}
+
 impl Stack {
     /// No container is open; that takes no memory.
     pub(super) fn new(alloc: Global) -> Stack
-        ensures outer { outer_of result ≡ [] }
-        ensures top { top_of result ≡ None }
+        ensures { result ≡ [] }
     {
         Stack {
             alloc,
@@ -37,15 +51,14 @@ impl Stack {
 
     /// How many containers are open.
     pub(super) fn depth(&self) -> usize
-        ensures { result ≡ depth self.now }
+        ensures { result ≡ length self.now }
     {
         self.open.len()
     }
 
     /// The bytes after the innermost container, if it ends here.
     pub(super) fn after_end<'a>(&self, bytes: &'a [u8]) -> Option<&'a [u8]>
-        ensures { option_map (λ x. x.now) result
-            ≡ option_and_then (λ f. after_end f bytes.now) (top_of self.now) }
+        ensures { option_map (λ x. x.now) result ≡ after_innermost (frames self.now) bytes.now }
     {
         match self.open.last() {
             None => None,
@@ -55,9 +68,7 @@ impl Stack {
 
     /// Opens a container within the innermost one.
     pub(super) fn open(&mut self, container: Frame) -> Result<()>
-        ensures outer { OnOk result
-            (outer_of self.new ≡ pushed (outer_of self.old) (top_of self.old)) }
-        ensures top { OnOk result (top_of self.new ≡ Some (frame container)) }
+        ensures opened { OnOk result (self.new ≡ container ∷ self.old) }
         ensures memory { IfErr result (λ e. e ≡ Error.Memory) }
     {
         self.open.push(container)?;
@@ -66,10 +77,9 @@ impl Stack {
 
     /// Closes the innermost container, which is complete, and returns its item.
     pub(super) fn close(&mut self) -> Result<DataItem>
-        requires { IsSome (option_and_then closed (top_of self.old)) }
-        ensures item { IfOk result (λ i. option_and_then closed (top_of self.old) ≡ Some (view i)) }
-        ensures outer { outer_of self.old ≡ outer_of self.new ++ option_to_list (top_of self.new) }
-        ensures bottom { IsStack (outer_of self.new) (top_of self.new) }
+        requires { IsSome (closed_innermost (frames self.old)) }
+        ensures item { IfOk result (λ i. closed_innermost (frames self.old) ≡ Some (view i)) }
+        ensures outer { frames self.new ≡ drop 1 (frames self.old) }
         ensures memory { IfErr result (λ e. e ≡ Error.Memory) }
     {
         match self.open.pop() {
@@ -81,9 +91,8 @@ impl Stack {
     /// Adds an item to the innermost container, or returns it if none is open.
     pub(super) fn put(&mut self, item: DataItem) -> Result<Option<DataItem>>
         ensures put { IfOk result (λ whole.
-            IsPutIn (top_of self.old) (top_of self.new) (view item) (option_map view whole)) }
-        ensures outer { outer_of self.new ≡ outer_of self.old }
-        ensures memory { IfErr result (λ e. (e ≡ Error.Memory) × IsSome (top_of self.old)) }
+            (frames self.new, option_map view whole) ≡ put_innermost (frames self.old) (view item)) }
+        ensures memory { IfErr result (λ e. (e ≡ Error.Memory) × (0 < length self.old)) }
     {
         let count = self.open.len();
         if count == 0 {

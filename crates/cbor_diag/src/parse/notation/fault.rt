@@ -5,36 +5,46 @@
 //! that it ends there, more text does not change it. So a list is a dead end where the member that
 //! is not read is one. These functions are called after an error only, and read the parts before it
 //! again, once at each level.
+mod ends;
+mod members;
 mod tokens;
 
-ghost use Rattle.std.specs.Prelude.{◌≡◌, ◌≤◌, ◌<◌, ◌⊎◌, ◌++◌, ℕ, List, length, take, not, true, Ok};
-ghost use Rattle.std.specs.Prelude.{Some, None, IfOk, IfErr, IfSome, IfNone, IsTrue};
-ghost use Rattle.cbor_diag.specs.WellFormed.{levels_left};
-ghost use Rattle.cbor_diag.specs.Item.{Item, Chunk};
-ghost use Rattle.cbor_diag.specs.Notation.{IsNotation};
-ghost use Rattle.cbor_diag.specs.DeadEnd.{IsDeadEnd, IsDiagFault};
-ghost use Rattle.cbor_diag.specs.NotationRefused.{IsNoNotation};
+ghost use Rattle.std.specs.Bool.{IsFalse};
+ghost use Rattle.std.specs.Prelude.{◌≡◌, ◌≢◌, ◌≤◌, ◌<◌, ◌⊎◌, ◌++◌, ◌∷◌, [], ℕ, List, length, take};
+ghost use Rattle.std.specs.Prelude.{true, Ok, Some, None, IfOk, IfErr, IfSome, IfNone, IsTrue, not};
+ghost use Rattle.cbor_grammar.specs.WellFormed.{deepest, levels_left};
+ghost use Rattle.cbor_grammar.specs.Item.{Item, Chunk};
+ghost use Rattle.cbor_grammar.specs.Notation.{Core, IsNotation, Members, Notation, PairOf, Reads};
+ghost use Rattle.cbor_grammar.specs.Notation.{StringOf};
+ghost use Rattle.cbor_grammar.specs.DeadEnd.{IsDeadEnd, IsDiagFault, IsCut};
+ghost use Rattle.cbor_grammar.specs.NotationRefused.{IsNoNotation};
 ghost use Rattle.cbor_diag.specs.mirror.DeadEnds.{NeverReads, NeverPieces, NotRead, Value};
-ghost use Rattle.cbor_diag.specs.mirror.DeadEnds.{read_member, is_firm};
-ghost use Rattle.cbor_diag.specs.mirror.NotationReading.{after_byte, after_end, checked, read_core};
-ghost use Rattle.cbor_diag.specs.mirror.NotationReading.{read_integer, read_item, read_members};
-ghost use Rattle.cbor_diag.specs.mirror.NotationReading.{read_pair, read_chunk, read_chunks};
-ghost use Rattle.cbor_diag.specs.mirror.NotationReading.{read_piece, read_string, read_embedded};
-ghost use Rattle.cbor_diag.specs.mirror.NotationReading.{read_string_item};
-ghost use Rattle.cbor_diag.specs.mirror.StringView.{kind_view};
+ghost use Rattle.cbor_diag.specs.mirror.DeadEnds.{read_member, MemberIs, ChunkIs, IsPieceCut};
+ghost use Rattle.cbor_notation.specs.mirror.NotationReading.{read_core, read_content, read_chunks};
+ghost use Rattle.cbor_notation.specs.mirror.NotationReading.{read_integer, read_item, read_members};
+ghost use Rattle.cbor_notation.specs.mirror.NotationReading.{read_pair, read_chunk, notation_of};
+ghost use Rattle.cbor_notation.specs.mirror.NotationReading.{read_piece, read_string};
+ghost use Rattle.cbor_notation.specs.mirror.NotationReading.{read_embedded};
+ghost use Rattle.cbor_notation.specs.mirror.NotationReading.{read_string_item, begins_string};
+ghost use Rattle.cbor_notation.specs.mirror.NotationReading.{first_start};
+ghost use Rattle.cbor_grammar.specs.mirror.StringView.{kind_view};
 
-use super::number::read_unsigned_number;
-use super::scan::{after_blank, after_byte, expect_byte, read_length};
-use super::start::Start;
 use super::strings::{read_content, read_piece};
-use super::{parse_diag, read_item, read_items};
-use crate::error::{Error, Result};
-use crate::syntax::DEEPEST;
-use crate::syntax::strings::StringKind;
+use super::{parse_diag, read_items};
+use cbor_grammar::level::DEEPEST;
+use cbor_grammar::strings::StringKind;
+use cbor_grammar::{Error, Result};
+use cbor_notation::number::read_unsigned_number;
+use cbor_notation::scan::{after_blank, after_byte, read_length};
+use cbor_notation::start::Start;
+use ends::{
+    has_no_close, is_apart_from_no_chunks, is_begun, is_dead_content, is_unclosed, is_unended,
+};
+use members::{after_item, after_member};
 use std::alloc::Global;
 use tokens::{
-    but_memory, ends_blank, has_bad_escape, is_apart, is_dead_b_notation, is_dead_h_notation,
-    is_dead_negative, is_dead_unsigned, is_dead_word, is_firm, is_open,
+    but_memory, ends_blank, has_bad_escape, is_dead_b_notation, is_dead_h_notation,
+    is_dead_negative, is_dead_unsigned, is_dead_word, is_firm,
 };
 
 /// What the members of a list are.
@@ -48,61 +58,6 @@ enum Member {
     Chunk(StringKind),
 }
 
-/// The text after the item at the front.
-fn after_item(alloc: Global, text: &[u8], level: u8) -> Result<&[u8]>
-    requires { level ≤ 129 }
-    ensures found { IfOk result (λ rest. (x : Item)
-        × (read_item (levels_left level) text.now ≡ Ok (x, rest.now))) }
-    ensures shorter { IfOk result (λ rest. length rest.now ≤ length text.now) }
-{
-    let (_, rest) = read_item(alloc, text, level)?;
-    Ok(rest)
-}
-
-/// The text after the pair at the front.
-#[tactic(auto, using(crate::proofs::notation::DeadItems::pair_found))]
-fn after_pair(alloc: Global, text: &[u8], level: u8) -> Result<&[u8]>
-    requires { level ≤ 129 }
-    ensures found { IfOk result (λ rest. (x : Item × Item)
-        × (read_pair (read_item (levels_left level)) text.now ≡ Ok (x, rest.now))) }
-    ensures shorter { IfOk result (λ rest. length rest.now ≤ length text.now) }
-{
-    let rest = after_item(alloc, text, level)?;
-    let rest = expect_byte(rest, b':')?;
-    after_item(alloc, rest, level)
-}
-
-/// The text after the chunk at the front.
-#[tactic(auto, using(crate::proofs::notation::DeadItems::chunk_found))]
-fn after_chunk(alloc: Global, kind: StringKind, text: &[u8], level: u8) -> Result<&[u8]>
-    requires { level ≤ 129 }
-    ensures found { IfOk result (λ rest. (x : Chunk)
-        × (read_chunk (read_item (levels_left level)) (kind_view kind) text.now
-        ≡ Ok (x, rest.now))) }
-    ensures shorter { IfOk result (λ rest. length rest.now ≤ length text.now) }
-{
-    let (content, rest) = read_content(alloc, kind, after_blank(text), level)?;
-    if kind.may_hold(&content) {
-        Ok(rest)
-    } else {
-        Err(Error::Utf8)
-    }
-}
-
-/// The text after the member at the front.
-fn after_member(alloc: Global, member: Member, text: &[u8], level: u8) -> Result<&[u8]>
-    requires { level ≤ 129 }
-    ensures found { IfOk result (λ rest. (x : Value member)
-        × (read_member member (read_item (levels_left level)) text.now ≡ Ok (x, rest.now))) }
-    ensures shorter { IfOk result (λ rest. length rest.now ≤ length text.now) }
-{
-    match member {
-        Member::Item => after_item(alloc, text, level),
-        Member::Pair => after_pair(alloc, text, level),
-        Member::Chunk(kind) => after_chunk(alloc, kind, text, level),
-    }
-}
-
 /// Whether no item is at the front, whatever follows the text.
 #[cycle(fault)]
 #[tactic(auto, using(crate::proofs::notation::DeadItems::item_dead, crate::proofs::notation::DeadItems::too_deep))]
@@ -110,14 +65,17 @@ fn is_dead_item(alloc: Global, text: &[u8], level: u8) -> Result<bool>
     requires { level ≤ 129 }
     ensures dead { IfOk result (λ dead. IsTrue dead
         → NeverReads (read_item (levels_left level)) text.now) }
+    ensures cut { IfOk result (λ dead. IsFalse dead
+        → NotRead (read_item (levels_left level) text.now)
+        → IsCut (Reads (levels_left level)) text.now) }
     ensures refused { IfErr result (λ e. e ≡ Error.Memory) }
 {
+    if level > DEEPEST {
+        return Ok(true);
+    }
     let core = after_blank(text);
     if !ends_blank(core) {
         return Ok(false);
-    }
-    if level > DEEPEST {
-        return Ok(true);
     }
     is_dead_core(alloc, core, level + 1)
 }
@@ -130,6 +88,9 @@ fn is_dead_core(alloc: Global, text: &[u8], inner: u8) -> Result<bool>
     requires some { 0 < length text.now }
     ensures dead { IfOk result (λ dead. IsTrue dead
         → NeverReads (read_core (read_item (levels_left inner))) text.now) }
+    ensures cut { IfOk result (λ dead. IsFalse dead
+        → NotRead (read_core (read_item (levels_left inner)) text.now)
+        → IsCut (Core (Reads (levels_left inner))) text.now) }
     ensures refused { IfErr result (λ e. e ≡ Error.Memory) }
 {
     let (start, rest) = Start::split(text);
@@ -153,24 +114,6 @@ fn is_dead_core(alloc: Global, text: &[u8], inner: u8) -> Result<bool>
     }
 }
 
-/// Whether no `)` is after the item of a tag, whatever follows the text.
-fn is_unclosed(text: &[u8]) -> bool
-    ensures firm { IsTrue result → is_firm text.now ≡ true }
-    ensures other { IsTrue result → after_byte 41 text.now ≡ None }
-{
-    is_firm(text) && is_other(text, b')')
-}
-
-/// Whether the text does not begin with this byte.
-fn is_other(text: &[u8], byte: u8) -> bool
-    ensures { IsTrue result → after_byte byte text.now ≡ None }
-{
-    match after_byte(text, byte) {
-        Some(_) => false,
-        None => true,
-    }
-}
-
 /// Whether neither an integer nor a tag is at the front, whatever follows.
 #[cycle(fault)]
 #[tactic(auto, using(crate::proofs::notation::DeadItems::number_dead, crate::proofs::notation::DeadItems::tag_item_dead, crate::proofs::notation::DeadItems::tag_close_dead))]
@@ -178,6 +121,9 @@ fn is_dead_integer(alloc: Global, text: &[u8], inner: u8) -> Result<bool>
     requires { inner ≤ 129 }
     ensures dead { IfOk result (λ dead. IsTrue dead
         → NeverReads (read_integer (read_item (levels_left inner))) text.now) }
+    ensures cut { IfOk result (λ dead. IsFalse dead
+        → NotRead (read_integer (read_item (levels_left inner)) text.now)
+        → IsCut (Core (Reads (levels_left inner))) text.now) }
     ensures refused { IfErr result (λ e. e ≡ Error.Memory) }
 {
     let Ok((_, after)) = read_unsigned_number(text) else {
@@ -199,6 +145,9 @@ fn is_dead_pair(alloc: Global, text: &[u8], level: u8) -> Result<bool>
     requires { level ≤ 129 }
     ensures dead { IfOk result (λ dead. IsTrue dead
         → NeverReads (read_pair (read_item (levels_left level))) text.now) }
+    ensures cut { IfOk result (λ dead. IsFalse dead
+        → NotRead (read_pair (read_item (levels_left level)) text.now)
+        → IsCut (PairOf (Reads (levels_left level))) text.now) }
     ensures refused { IfErr result (λ e. e ≡ Error.Memory) }
 {
     let Some(after) = but_memory(after_item(alloc, text, level))? else {
@@ -220,6 +169,9 @@ fn is_dead_chunk(alloc: Global, kind: StringKind, text: &[u8], level: u8) -> Res
     requires { level ≤ 129 }
     ensures dead { IfOk result (λ dead. IsTrue dead
         → NeverReads (read_chunk (read_item (levels_left level)) (kind_view kind)) text.now) }
+    ensures cut { IfOk result (λ dead. IsFalse dead
+        → NotRead (read_chunk (read_item (levels_left level)) (kind_view kind) text.now)
+        → IsCut (ChunkIs (kind_view kind) (Reads (levels_left level))) text.now) }
     ensures refused { IfErr result (λ e. e ≡ Error.Memory) }
 {
     let core = after_blank(text);
@@ -235,6 +187,9 @@ fn is_dead_member(alloc: Global, member: Member, text: &[u8], level: u8) -> Resu
     requires { level ≤ 129 }
     ensures dead { IfOk result (λ dead. IsTrue dead
         → NeverReads (read_member member (read_item (levels_left level))) text.now) }
+    ensures cut { IfOk result (λ dead. IsFalse dead
+        → NotRead (read_member member (read_item (levels_left level)) text.now)
+        → IsCut (MemberIs member (Reads (levels_left level))) text.now) }
     ensures refused { IfErr result (λ e. e ≡ Error.Memory) }
 {
     match member {
@@ -244,14 +199,6 @@ fn is_dead_member(alloc: Global, member: Member, text: &[u8], level: u8) -> Resu
     }
 }
 
-/// Whether an item before this text ends here and its list does not, whatever follows the text.
-fn is_unended(text: &[u8], close: u8) -> bool
-    ensures firm { IsTrue result → is_firm text.now ≡ true }
-    ensures unended { IsTrue result → (more : List ℕ) → after_end close (text.now ++ more) ≡ None }
-{
-    is_firm(text) && is_open(text, close)
-}
-
 /// Whether no list of such members ends with `close`, whatever follows. The text is what follows
 /// its opening.
 #[cycle(fault)]
@@ -259,10 +206,13 @@ fn is_dead_list(alloc: Global, member: Member, close: u8, text: &[u8], level: u8
     requires { level ≤ 129 }
     ensures dead { IfOk result (λ dead. IsTrue dead → NeverReads
         (read_members (read_member member (read_item (levels_left level))) close) text.now) }
+    ensures cut { IfOk result (λ dead. IsFalse dead
+        → NotRead (read_members (read_member member (read_item (levels_left level))) close text.now)
+        → IsCut (Members (MemberIs member (Reads (levels_left level))) (close ∷ [])) text.now) }
     ensures refused { IfErr result (λ e. e ≡ Error.Memory) }
 {
     let mut rest = after_blank(text);
-    if !is_unended(rest, close) {
+    if !is_begun(rest, close) {
         return Ok(false);
     }
     'members: loop {
@@ -286,6 +236,9 @@ fn is_dead_chunks(alloc: Global, text: &[u8], inner: u8) -> Result<bool>
     requires { inner ≤ 129 }
     ensures dead { IfOk result (λ dead. IsTrue dead
         → NeverReads (read_chunks (read_item (levels_left inner))) text.now) }
+    ensures cut { IfOk result (λ dead. IsFalse dead
+        → NotRead (read_chunks (read_item (levels_left inner)) text.now)
+        → IsCut (Core (Reads (levels_left inner))) (40 ∷ text.now)) }
     ensures refused { IfErr result (λ e. e ≡ Error.Memory) }
 {
     let Some(opened) = after_byte(text, b'_') else {
@@ -306,13 +259,16 @@ fn is_dead_embedded(alloc: Global, text: &[u8], inner: u8) -> Result<bool>
     requires { inner ≤ 129 }
     ensures dead { IfOk result (λ dead. IsTrue dead
         → NeverReads (read_embedded (read_item (levels_left inner))) text.now) }
+    ensures cut { IfOk result (λ dead. IsFalse dead
+        → NotRead (read_embedded (read_item (levels_left inner)) text.now)
+        → IsCut (Notation (Reads (levels_left inner))) (60 ∷ text.now)) }
     ensures refused { IfErr result (λ e. e ≡ Error.Memory) }
 {
     let Some(first) = after_byte(text, b'<') else {
         return Ok(!text.is_empty());
     };
     match but_memory(read_items(alloc, b'>', first, inner))? {
-        Some((_, rest)) => Ok(!rest.is_empty() && is_other(rest, b'>')),
+        Some((_, rest)) => Ok(has_no_close(rest)),
         None => is_dead_list(alloc, Member::Item, b'>', first, inner),
     }
 }
@@ -323,6 +279,9 @@ fn is_dead_piece(alloc: Global, text: &[u8], inner: u8) -> Result<bool>
     requires { inner ≤ 129 }
     ensures dead { IfOk result (λ dead. IsTrue dead
         → NeverReads (read_piece (read_item (levels_left inner))) text.now) }
+    ensures cut { IfOk result (λ dead. IsFalse dead
+        → NotRead (read_piece (read_item (levels_left inner)) text.now)
+        → IsPieceCut (Reads (levels_left inner)) text.now) }
     ensures refused { IfErr result (λ e. e ≡ Error.Memory) }
 {
     let (start, rest) = Start::split(text);
@@ -332,7 +291,7 @@ fn is_dead_piece(alloc: Global, text: &[u8], inner: u8) -> Result<bool>
         Start::Angle => is_dead_embedded(alloc, rest, inner),
         Start::LetterB => is_dead_b_notation(alloc, rest),
         Start::LetterH => is_dead_h_notation(alloc, rest),
-        _ => Ok(false),
+        _ => Ok(!text.is_empty()),
     }
 }
 
@@ -342,6 +301,10 @@ fn is_dead_pieces(alloc: Global, kind: StringKind, text: &[u8], inner: u8) -> Re
     requires { inner ≤ 129 }
     ensures dead { IfOk result (λ dead. IsTrue dead
         → NeverPieces (read_item (levels_left inner)) (kind_view kind) text.now) }
+    ensures cut { IfOk result (λ dead. IsFalse dead
+        → begins_string (kind_view kind) (first_start text.now) ≡ true
+        → NotRead (read_content (read_item (levels_left inner)) (kind_view kind) text.now)
+        → IsCut (StringOf (kind_view kind) (Reads (levels_left inner))) text.now) }
     ensures refused { IfErr result (λ e. e ≡ Error.Memory) }
 {
     let mut rest = text;
@@ -357,15 +320,6 @@ fn is_dead_pieces(alloc: Global, kind: StringKind, text: &[u8], inner: u8) -> Re
     Ok(false)
 }
 
-/// Whether a string before this text ends here, whatever follows, and may not have this content.
-#[tactic(auto, using(crate::proofs::notation::DeadItems::no_content))]
-fn is_dead_content(kind: StringKind, content: &Vec<u8>, rest: &[u8]) -> bool
-    ensures firm { IsTrue result → is_firm rest.now ≡ true }
-    ensures content { IsTrue result → NotRead (checked (kind_view kind) content.now.items) }
-{
-    is_firm(rest) && !kind.may_hold(content)
-}
-
 /// Whether no string of this kind and of definite length is at the front, whatever follows.
 #[cycle(fault)]
 #[tactic(auto, using(crate::proofs::notation::DeadItems::string_start_dead, crate::proofs::notation::DeadItems::string_pieces_dead, crate::proofs::notation::DeadItems::string_content_dead))]
@@ -373,6 +327,9 @@ fn is_dead_string(alloc: Global, kind: StringKind, text: &[u8], inner: u8) -> Re
     requires { inner ≤ 129 }
     ensures dead { IfOk result (λ dead. IsTrue dead
         → NeverReads (read_string (read_item (levels_left inner)) (kind_view kind)) text.now) }
+    ensures cut { IfOk result (λ dead. IsFalse dead
+        → NotRead (read_string (read_item (levels_left inner)) (kind_view kind) text.now)
+        → IsCut (StringOf (kind_view kind) (Reads (levels_left inner))) text.now) }
     ensures refused { IfErr result (λ e. e ≡ Error.Memory) }
 {
     if !Start::of(text).begins_string(kind) {
@@ -391,13 +348,12 @@ fn is_dead_string_item(alloc: Global, kind: StringKind, text: &[u8], inner: u8) 
     requires { inner ≤ 129 }
     ensures dead { IfOk result (λ dead. IsTrue dead → NeverReads
         (read_string_item (read_item (levels_left inner)) (kind_view kind)) text.now) }
+    ensures cut { IfOk result (λ dead. IsFalse dead
+        → NotRead (read_string_item (read_item (levels_left inner)) (kind_view kind) text.now)
+        → IsCut (Core (Reads (levels_left inner))) text.now) }
     ensures refused { IfErr result (λ e. e ≡ Error.Memory) }
 {
-    let apart = match kind {
-        StringKind::Bytes => is_apart(text, b"''_"),
-        StringKind::Text => is_apart(text, b"\"\"_"),
-    };
-    if !apart {
+    if !is_apart_from_no_chunks(kind, text) {
         return Ok(false);
     }
     is_dead_string(alloc, kind, text, inner)
@@ -407,6 +363,8 @@ fn is_dead_string_item(alloc: Global, kind: StringKind, text: &[u8], inner: u8) 
 #[tactic(auto, using(crate::proofs::notation::DeadItems::item_end_dead, crate::proofs::notation::DeadItems::rest_dead))]
 fn is_dead_end(alloc: Global, text: &[u8]) -> Result<bool>
     ensures dead { IfOk result (λ dead. IsTrue dead → IsDeadEnd text.now) }
+    ensures cut { IfOk result (λ dead. IsFalse dead → NotRead (notation_of deepest text.now)
+        → IsCut IsNotation text.now) }
     ensures refused { IfErr result (λ e. e ≡ Error.Memory) }
 {
     match but_memory(after_item(alloc, text, 1))? {
@@ -439,10 +397,13 @@ fn first_dead_end(alloc: Global, text: &[u8]) -> Result<usize>
 ///
 /// No text that begins with these bytes is notation of an item within 128 levels, and the last of
 /// them is the first that cannot stand where it stands, or is in the same word, number or string.
-/// It may be a byte inside a character.
+/// After a number it may be the byte behind it, as the `]` of `[300_0]`, because `300_03` is a
+/// number. It may be a byte inside a character.
 ///
-/// The error is `CutShort`, with the length of the text, if the text may only end too early, as in
-/// `[1, 2` or `"abc`. A fault in a string or in digits without a closing quote is reported so, too.
+/// The error is `CutShort`, with the length of the text, if more text makes it notation, as in
+/// `[1, 2` or `"abc`. Faults in three kinds of ends are reported so, too, if the text before them
+/// can go on: a string or digits without a closing quote; a last byte `_`, `b`, `o` or `x`, with
+/// which some numbers go on; a text string of several pieces that together are no UTF-8.
 ///
 /// It reads a long text again some twenty times, each time once at each open level. It allocates
 /// what it reads. Returns `Memory` if an allocation fails.
@@ -452,6 +413,7 @@ fn first_dead_end(alloc: Global, text: &[u8]) -> Result<usize>
 ///
 /// // After `1` the text cannot go on with `.`.
 /// assert_eq!(rt; diag_fault(alloc, "[1.5]")?, Some((Error::Notation, 3)));
+/// assert_eq!(rt; diag_fault(alloc, "[300_0]")?, Some((Error::PastWidth, 7)));
 /// assert_eq!(rt; diag_fault(alloc, "[1, 2")?, Some((Error::CutShort, 5)));
 /// assert_eq!(rt; diag_fault(alloc, "[1, 2]")?, None);
 /// ```
@@ -463,7 +425,8 @@ pub fn diag_fault(alloc: Global, text: &str) -> Result<Option<(Error, usize)>>
     ensures every_item { (i : Item) → IsNotation text.now i
         → IfOk result (λ found. found ≡ None) }
 
-    // Otherwise why it is none, and first bytes that are a dead end, or that it is cut short.
+    // Otherwise why it is none, and first bytes that are a dead end, or that it is cut short: with
+    // other text in place of an unfinished end, if it has one, it can go on.
     ensures fault { IfOk result (λ found. IfSome found (λ x. IsDiagFault text.now x.0 x.1)) }
     ensures refused { IfErr result (λ e. e ≡ Error.Memory) }
 {
@@ -476,7 +439,7 @@ pub fn diag_fault(alloc: Global, text: &str) -> Result<Option<(Error, usize)>>
 }
 
 /// What is wrong with a text that has this error, and where.
-#[tactic(auto, using(crate::proofs::notation::DeadItems::fault_is, crate::proofs::notation::DeadItems::cut_is))]
+#[tactic(auto, using(crate::proofs::notation::DeadItems::fault_is, crate::proofs::notation::DeadItems::cut_is, crate::proofs::notation::DeadItems::refused_by))]
 fn fault_of(alloc: Global, text: &[u8], error: Error) -> Result<(Error, usize)>
     requires { IsNoNotation text.now error }
     ensures fault { IfOk result (λ x. IsDiagFault text.now x.0 x.1) }

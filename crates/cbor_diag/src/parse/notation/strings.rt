@@ -6,33 +6,35 @@
 ghost use Rattle.std.specs.Prelude.{◌≡◌, ◌-◌, ◌++◌, ◌<◌, ◌≤◌, ℕ, List, [], Some, suc, length};
 ghost use Rattle.std.specs.Prelude.{IfOk, IfSome, Ok, OnOk, true, false};
 ghost use Rattle.std.specs.List.{AllByRecursion};
-ghost use Rattle.cbor_diag.specs.declared.syntax.IntegerWidth.TheVariants.{Unknown};
+ghost use Rattle.cbor_grammar.specs.declared.width.IntegerWidth.TheVariants.{Unknown};
 ghost use Rattle.cbor_diag.specs.View.{view, items_view};
-ghost use Rattle.cbor_diag.specs.WellFormed.{levels_left, WellFormed, WellFormedItems, IsChunk};
-ghost use Rattle.cbor_diag.specs.StringKind.{bytes_kind, text_kind};
-ghost use Rattle.cbor_diag.specs.Written.{encoded_items};
-ghost use Rattle.cbor_diag.specs.Item.{Item, atom, chunked_string};
-ghost use Rattle.cbor_diag.specs.Reading.{Gives, Read};
-ghost use Rattle.cbor_diag.specs.mirror.NotationReading.{base16_of, read_string_item, checked};
-ghost use Rattle.cbor_diag.specs.mirror.NotationReading.{read_chunk, read_chunks, read_embedded};
-ghost use Rattle.cbor_diag.specs.mirror.NotationReading.{ends_string, read_item, read_members};
-ghost use Rattle.cbor_diag.specs.mirror.NotationReading.{one_string, read_piece, read_pieces};
-ghost use Rattle.cbor_diag.specs.mirror.NotationReading.{read_string, read_content, with_chunk};
-ghost use Rattle.cbor_diag.specs.mirror.StringView.{chunk_list, kind_view, list_kind};
+ghost use Rattle.cbor_grammar.specs.WellFormed.{levels_left, WellFormed, WellFormedItems, IsChunk};
+ghost use Rattle.cbor_grammar.specs.StringKind.{bytes_kind, text_kind};
+ghost use Rattle.cbor_grammar.specs.Written.{encoded_items};
+ghost use Rattle.cbor_grammar.specs.Item.{Item, atom, chunked_string};
+ghost use Rattle.cbor_grammar.specs.Reading.{Gives, Read};
+ghost use Rattle.cbor_notation.specs.mirror.NotationReading.{base16_of, read_string_item, checked};
+ghost use Rattle.cbor_notation.specs.mirror.NotationReading.{read_chunk, read_chunks};
+ghost use Rattle.cbor_notation.specs.mirror.NotationReading.{read_embedded};
+ghost use Rattle.cbor_notation.specs.mirror.NotationReading.{ends_string, read_item, read_members};
+ghost use Rattle.cbor_notation.specs.mirror.NotationReading.{one_string, read_piece, read_pieces};
+ghost use Rattle.cbor_notation.specs.mirror.NotationReading.{read_string, read_content, with_chunk};
+ghost use Rattle.cbor_diag.specs.mirror.ChunkList.{chunk_list, list_kind};
+ghost use Rattle.cbor_grammar.specs.mirror.StringView.{kind_view};
 
-use super::content::{b_notation, base16, h_notation, read_plain, read_quoted};
 use super::read_items;
-use super::scan::{after_blank, after_byte, after_end, after_word, expect_byte};
-use super::start::Start;
 use crate::encode::push_items;
-use crate::error::Error;
-use crate::syntax::strings::{DefiniteString, StringKind};
-use crate::syntax::{ByteString, DataItem, IntegerWidth, TextString};
+use crate::syntax::DataItem;
+use cbor_grammar::strings::{DefiniteString, StringKind};
+use cbor_grammar::{ByteString, Error, IntegerWidth, TextString};
+use cbor_notation::content::{b_notation, base16, h_notation, read_plain, read_quoted};
+use cbor_notation::scan::{after_blank, after_byte, after_end, after_word, expect_byte};
+use cbor_notation::start::Start;
 use memchr::memchr;
 use std::alloc::{AllocError, Global};
 
 /// The string with this content and of unstated width. A text string has to be UTF-8.
-fn unstated<S: DefiniteString>(content: Vec<u8>) -> crate::Result<S>
+fn unstated<S: DefiniteString>(content: Vec<u8>) -> cbor_grammar::Result<S>
     ensures gives { Gives S.chunk result (checked S.kind content.items) }
     ensures well { IfOk result (λ x. IsChunk S.kind (S.chunk x)) }
 {
@@ -61,7 +63,7 @@ impl Chunks {
     }
 
     /// Adds a chunk of unstated width. In a text string its content has to be UTF-8.
-    fn push(&mut self, content: Vec<u8>) -> crate::Result<()>
+    fn push(&mut self, content: Vec<u8>) -> cbor_grammar::Result<()>
         ensures gives { Gives (λ _. chunk_list self.new) result
             (with_chunk (list_kind self.old) (chunk_list self.old) content.items) }
         ensures kind { IfOk result (λ _. list_kind self.new ≡ list_kind self.old) }
@@ -111,7 +113,7 @@ fn encoded(alloc: Global, items: &Vec<DataItem>) -> Result<Vec<u8>, AllocError>
 
 /// The items after the first `<` of `<<`, up to their `>>`, in bytes.
 #[cycle(diag)]
-fn read_embedded(alloc: Global, text: &[u8], inner: u8) -> crate::Result<(Vec<u8>, &[u8])>
+fn read_embedded(alloc: Global, text: &[u8], inner: u8) -> cbor_grammar::Result<(Vec<u8>, &[u8])>
     requires { inner ≤ 129 }
     ensures gives { Gives (λ x. (x.0.items, x.1.now)) result
         (read_embedded (read_item (levels_left inner)) text.now) }
@@ -126,7 +128,11 @@ fn read_embedded(alloc: Global, text: &[u8], inner: u8) -> crate::Result<(Vec<u8
 /// A piece of a string: a text, or a notation of bytes, whose items are at `inner`.
 #[cycle(diag)]
 #[tactic(auto, using(crate::proofs::notation::Cores::piece_by))]
-pub(super) fn read_piece(alloc: Global, text: &[u8], inner: u8) -> crate::Result<(Vec<u8>, &[u8])>
+pub(super) fn read_piece(
+    alloc: Global,
+    text: &[u8],
+    inner: u8,
+) -> cbor_grammar::Result<(Vec<u8>, &[u8])>
     requires { inner ≤ 129 }
     ensures gives { Gives (λ x. (x.0.items, x.1.now)) result
         (read_piece (read_item (levels_left inner)) text.now) }
@@ -150,7 +156,7 @@ fn read_pieces(
     kind: StringKind,
     text: &[u8],
     inner: u8,
-) -> crate::Result<(Vec<u8>, &[u8])>
+) -> cbor_grammar::Result<(Vec<u8>, &[u8])>
     requires { inner ≤ 129 }
     ensures gives { Gives (λ x. (x.0.items, x.1.now)) result
         (read_pieces (read_item (levels_left inner)) (kind_view kind)
@@ -175,7 +181,7 @@ pub(super) fn read_content(
     kind: StringKind,
     text: &[u8],
     inner: u8,
-) -> crate::Result<(Vec<u8>, &[u8])>
+) -> cbor_grammar::Result<(Vec<u8>, &[u8])>
     requires { inner ≤ 129 }
     ensures gives { Gives (λ x. (x.0.items, x.1.now)) result
         (read_content (read_item (levels_left inner)) (kind_view kind) text.now) }
@@ -215,12 +221,12 @@ fn read_plain_hex(text: &[u8]) -> Option<(&[u8], &[u8])>
 
 /// A byte string, or `''_`, an indefinite one of no chunks.
 #[cycle(diag)]
-#[tactic(auto, unfolding(crate::specs::mirror::NotationReading::read_string))]
+#[tactic(auto, unfolding(cbor_notation::specs::mirror::NotationReading::read_string))]
 pub(super) fn read_byte_item(
     alloc: Global,
     text: &[u8],
     inner: u8,
-) -> crate::Result<(DataItem, &[u8])>
+) -> cbor_grammar::Result<(DataItem, &[u8])>
     requires low { 1 ≤ inner }
     requires high { inner ≤ 129 }
     ensures gives { Gives (λ x. (view x.0, x.1.now)) result
@@ -259,12 +265,12 @@ fn read_plain_text(text: &[u8]) -> Option<(&[u8], &[u8])>
 
 /// A text string, or `""_`, an indefinite one of no chunks.
 #[cycle(diag)]
-#[tactic(auto, unfolding(crate::specs::mirror::NotationReading::read_string))]
+#[tactic(auto, unfolding(cbor_notation::specs::mirror::NotationReading::read_string))]
 pub(super) fn read_text_item(
     alloc: Global,
     text: &[u8],
     inner: u8,
-) -> crate::Result<(DataItem, &[u8])>
+) -> cbor_grammar::Result<(DataItem, &[u8])>
     requires low { 1 ≤ inner }
     requires high { inner ≤ 129 }
     ensures gives { Gives (λ x. (view x.0, x.1.now)) result
@@ -291,7 +297,7 @@ fn read_chunk_list(
     kind: StringKind,
     text: &[u8],
     inner: u8,
-) -> crate::Result<(Chunks, &[u8])>
+) -> cbor_grammar::Result<(Chunks, &[u8])>
     requires { inner ≤ 129 }
     ensures gives { Gives (λ x. (chunk_list x.0, x.1.now)) result
         (read_members (read_chunk (read_item (levels_left inner)) (kind_view kind)) 41 text.now) }
@@ -318,7 +324,11 @@ fn read_chunk_list(
 /// An indefinite string after its `(`. Its first chunk decides its kind; without chunks it is one
 /// of bytes.
 #[cycle(diag)]
-pub(super) fn read_chunks(alloc: Global, text: &[u8], inner: u8) -> crate::Result<(DataItem, &[u8])>
+pub(super) fn read_chunks(
+    alloc: Global,
+    text: &[u8],
+    inner: u8,
+) -> cbor_grammar::Result<(DataItem, &[u8])>
     requires low { 1 ≤ inner }
     requires high { inner ≤ 129 }
     ensures gives { Gives (λ x. (view x.0, x.1.now)) result

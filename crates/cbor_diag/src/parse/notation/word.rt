@@ -3,18 +3,19 @@ ghost use Rattle.std.specs.Prelude.{◌≡◌, ◌<◌, ◌≤◌, ◌^◌, ◌=
 ghost use Rattle.std.specs.List.{list_all};
 ghost use Rattle.std.specs.Char.{digit_value};
 ghost use Rattle.cbor_diag.specs.View.{view};
-ghost use Rattle.cbor_diag.specs.WellFormed.{deepest, WellFormed, FitsFloat};
-ghost use Rattle.cbor_diag.specs.Reading.{Gives};
-ghost use Rattle.cbor_diag.specs.mirror.NotationReading.{or_refused, numeral, named, read_simple};
-ghost use Rattle.cbor_diag.specs.mirror.NotationReading.{float_of, read_float, read_word};
+ghost use Rattle.cbor_grammar.specs.WellFormed.{deepest, WellFormed, FitsFloat};
+ghost use Rattle.cbor_grammar.specs.Reading.{Gives};
+ghost use Rattle.cbor_notation.specs.mirror.NotationReading.{or_refused, numeral, named};
+ghost use Rattle.cbor_notation.specs.mirror.NotationReading.{read_simple};
+ghost use Rattle.cbor_notation.specs.mirror.NotationReading.{float_of, read_float, read_word};
 
-use super::number::read_number;
-use super::scan::{after_word, expect_byte};
-use crate::error::{Error, Result};
-use crate::syntax::{DataItem, FloatWidth, Simple};
+use crate::syntax::DataItem;
+use cbor_grammar::{Error, FloatWidth, Result, Simple};
+use cbor_notation::number::read_number;
+use cbor_notation::scan::{after_word, expect_byte};
 
 /// Whether all of them are decimal digits.
-fn are_decimal(digits: &[u8]) -> bool
+pub(super) fn are_decimal(digits: &[u8]) -> bool
     ensures { result ≡ list_all (λ c. nat_lt (digit_value c) 10) digits.now }
 {
     digits.iter().all(|digit| char::from(*digit).is_digit(10))
@@ -34,19 +35,17 @@ pub(super) fn read_simple(text: &[u8]) -> Result<(DataItem, &[u8])>
     Ok((DataItem::Simple(Simple(value as u8)), rest))
 }
 
-impl FloatWidth {
-    /// The width of a float of `count` hex digits.
-    fn of_digits(count: usize) -> Result<FloatWidth>
-        ensures gives { Gives (λ w. w) result (or_refused (float_of count)) }
-        ensures fits { IfOk result (λ w. (bits : ℕ) → bits < 16 ^ count → FitsFloat w bits) }
-        ensures few { IfOk result (λ w. count ≤ 16) }
-    {
-        match count {
-            4 => Ok(FloatWidth::Sixteen),
-            8 => Ok(FloatWidth::ThirtyTwo),
-            16 => Ok(FloatWidth::SixtyFour),
-            _ => Err(Error::Notation),
-        }
+/// The width of a float of `count` hex digits.
+fn float_width(count: usize) -> Result<FloatWidth>
+    ensures gives { Gives (λ w. w) result (or_refused (float_of count)) }
+    ensures fits { IfOk result (λ w. (bits : ℕ) → bits < 16 ^ count → FitsFloat w bits) }
+    ensures few { IfOk result (λ w. count ≤ 16) }
+{
+    match count {
+        4 => Ok(FloatWidth::Sixteen),
+        8 => Ok(FloatWidth::ThirtyTwo),
+        16 => Ok(FloatWidth::SixtyFour),
+        _ => Err(Error::Notation),
     }
 }
 
@@ -87,7 +86,7 @@ pub(super) fn read_float(text: &[u8]) -> Result<(DataItem, &[u8])>
     ensures shorter { IfOk result (λ x. length x.1.now < length text.now) }
 {
     let count = find_apostrophe(text)?;
-    let bitwidth = FloatWidth::of_digits(count)?;
+    let bitwidth = float_width(count)?;
     let bits = hex_number(&text[..count])?;
     Ok((DataItem::Float { bits, bitwidth }, &text[count + 1..]))
 }

@@ -35,8 +35,8 @@ use denote.Triple.Clauses.{lasts, Lasts}
 use denote.Triple.Spec.{triple_of}
 use denote.Triple.Walked.{Stays, walk_of, stay_dropped, Goes-dropped, gave_ref, Goes-gave_ref, ends_at}
 use denote.Triple.Table.{framed}
-use Rattle.cbor_diag.specs.declared.parse.binary.skip.answer.Extent.{Extent}
-use Rattle.cbor_diag.specs.declared.parse.binary.skip.answer.Extent.TheVariants.{Cut}
+use Rattle.cbor_bytes.specs.declared.skip.answer.Extent.{Extent}
+use Rattle.cbor_bytes.specs.declared.skip.answer.Extent.TheVariants.{Cut}
 use Rattle.cbor_diag.specs.Extent.{IsExtent}
 use Rattle.cbor_diag_c.specs.Answers.{IfLength, IfError}
 use Rattle.cbor_diag_c.specs.Beginnings.{IsItemOf, IsCutOrFault, IsReturned}

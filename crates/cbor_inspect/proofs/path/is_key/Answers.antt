@@ -3,7 +3,8 @@ use Rattle.cbor_diag.specs.declared.syntax.DataItem.{the_lemmas}
 use Rattle.cbor_diag.specs.Item as spec
 use Rattle.cbor_diag.specs.Item.{Item, atom, chunked_string, array, tagged}
 use Rattle.cbor_diag.specs.StringKind.{bytes_kind, text_kind}
-use Rattle.cbor_diag.specs.View.{view, byte_chunk, text_chunk, items_view, pairs_view}
+use Rattle.cbor_diag.specs.View.{view, items_view, pairs_view}
+use Rattle.cbor_diag.specs.Strings.{byte_chunk, text_chunk}
 use Rattle.cbor_inspect.specs.Paths.{plain_key}
 use Rattle.cbor_inspect.proofs.PathLemmas.{IsOther, key_is}
 use Rattle.cbor_inspect.proofs.path.is_key.Goals as goal

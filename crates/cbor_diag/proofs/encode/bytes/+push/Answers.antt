@@ -1,14 +1,15 @@
+-- What is appended for an item, an array, a map or a tag is its encoding.
 use Rattle.std.proofs.Common.{◌≡◌, ℕ, List, ◌++◌, subst, ◌∙◌, append_assoc, arith, Option, Result, rules}
-use Rattle.cbor_diag.specs.declared.syntax.IntegerWidth.{IntegerWidth}
-use Rattle.cbor_diag.specs.mirror.Appends.{Appends}
-use Rattle.cbor_diag.specs.Item.{item_count, pair_count}
+use Rattle.cbor_grammar.specs.declared.width.IntegerWidth.{IntegerWidth}
+use Rattle.cbor_grammar.specs.mirror.Appends.{Appends}
+use Rattle.cbor_grammar.specs.Item.{item_count, pair_count}
 use Rattle.cbor_diag.specs.View.{items_view, pairs_view}
-use Rattle.cbor_diag.specs.WellFormed.{WellFormedItems, WellFormedPairs, FitsCount}
-use Rattle.cbor_diag.specs.Written.{encoded_items, encoded_pairs, encoded_open, encoded_close}
+use Rattle.cbor_grammar.specs.WellFormed.{WellFormedItems, WellFormedPairs, FitsCount}
+use Rattle.cbor_grammar.specs.Written.{encoded_items, encoded_pairs, encoded_open, encoded_close}
 use Rattle.cbor_diag.specs.declared.syntax.DataItem.{the_lemmas}
-use Rattle.cbor_diag.proofs.shared.Appending.{begins_still, begins_through, begins_two, appends_after, appends_last}
+use Rattle.cbor_grammar.proofs.shared.Appending.{begins_still, begins_through, begins_two, appends_after, appends_last}
 use Rattle.cbor_diag.proofs.shared.Views.{item_count_view, pair_count_view}
-use Rattle.cbor_diag.proofs.text.Scalars.{drop_here}
+use Rattle.cbor_notation.proofs.text.Scalars.{drop_here}
 use Rattle.cbor_diag.proofs.encode.bytes.+push.Goals as goal
 
 -- a container between its opening and its close
@@ -57,8 +58,8 @@ pub push_pairs-push_item-requires-in-pairs : goal.push_pairs-push_item-requires-
 push_pairs-push_item-requires-in-pairs t c = (
   search (rules, the_lemmas),
   let here = drop_here c.deref-key-items.result.now _ _ c.pairs-test.true c.pairs-item.is in
-      let well = subst (λ ps. WellFormedPairs c.pairs.invariant.1 (pairs_view ps)) here c.pairs.invariant.2 in
-      (c.pairs.invariant.1, well.1),
+      let well = subst (λ ps. WellFormedPairs c.pairs.invariant.level (pairs_view ps)) here c.pairs.invariant.well in
+      (c.pairs.invariant.level, well.1),
 )
 
 pub push_tagged-returns : goal.push_tagged-returns
@@ -69,7 +70,7 @@ push_tagged-returns t c =
 pub push_pairs-returns-in_err-push_item-2 : goal.push_pairs-returns-in_err-push_item-2
 push_pairs-returns-in_err-push_item-2 t c =
     let out = c.args.out.now.items in
-    let key = begins_still out c.pairs.out.items _ c.push_item.new.out.items c.pairs.invariant.3
+    let key = begins_still out c.pairs.out.items _ c.push_item.new.out.items c.pairs.invariant.begins
     c.in_ok-push_item.ensures in
     let begun = begins_through out c.push_item.new.out.items c.push_item-in-pairs.new.out.items
     c.in_err-push_item-2.ensures key in
@@ -79,26 +80,26 @@ pub push_items-push_item-requires : goal.push_items-push_item-requires
 push_items-push_item-requires t c = (
   search (rules, the_lemmas),
   let here = drop_here c.deref-item-items.result.now _ _ c.items-test.true c.item-item.is in
-      let well = subst (λ vs. WellFormedItems c.items.invariant.1 (items_view vs)) here c.items.invariant.2 in
-      (c.items.invariant.1, well.0),
+      let well = subst (λ vs. WellFormedItems c.items.invariant.level (items_view vs)) here c.items.invariant.well in
+      (c.items.invariant.level, well.0),
 )
 
 pub push_items-returns-in_err-push_item : goal.push_items-returns-in_err-push_item
 push_items-returns-in_err-push_item t c =
     let begun = begins_through c.args.out.now.items c.items.out.items c.push_item.new.out.items
-    c.in_err-push_item.ensures c.items.invariant.3 in
+    c.in_err-push_item.ensures c.items.invariant.begins in
     search (rules, begun)
 
 pub push_pairs-push_item-requires : goal.push_pairs-push_item-requires
 push_pairs-push_item-requires t c = (
   search (rules, the_lemmas),
   let here = drop_here c.deref-key-items.result.now _ _ c.pairs-test.true c.pairs-item.is in
-      let well = subst (λ ps. WellFormedPairs c.pairs.invariant.1 (pairs_view ps)) here c.pairs.invariant.2 in
-      (c.pairs.invariant.1, well.0),
+      let well = subst (λ ps. WellFormedPairs c.pairs.invariant.level (pairs_view ps)) here c.pairs.invariant.well in
+      (c.pairs.invariant.level, well.0),
 )
 
 pub push_pairs-returns-in_err-push_item : goal.push_pairs-returns-in_err-push_item
 push_pairs-returns-in_err-push_item t c =
     let begun = begins_through c.args.out.now.items c.pairs.out.items c.push_item.new.out.items
-    c.in_err-push_item.ensures c.pairs.invariant.3 in
+    c.in_err-push_item.ensures c.pairs.invariant.begins in
     search (rules, begun)

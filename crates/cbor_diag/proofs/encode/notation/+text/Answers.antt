@@ -1,24 +1,26 @@
+-- What is appended for an item, its members or a tag is its text in notation.
 use Rattle.std.proofs.Common.{◌≡◌, ◌+◌, ℕ, List, ◌++◌, map, drop, ap, sym, subst, ◌∙◌, append_assoc, arith}
 use Rattle.std.proofs.lemmas.List.{drop_all}
 use Rattle.std.specs.String.{string_bytes}
-use Rattle.cbor_diag.specs.mirror.Appends.{Appends}
-use Rattle.cbor_diag.specs.Item as spec
-use Rattle.cbor_diag.specs.Item.{Items, atom, array, integer, negative, string, chunked_string, float, simple}
-use Rattle.cbor_diag.specs.View.{view, items_view, pairs_view, byte_chunk, text_chunk}
-use Rattle.cbor_diag.specs.declared.encode.notation.context.NotationContext.{NotationContext}
-use Rattle.cbor_diag.specs.Layout.{Context}
-use Rattle.cbor_diag.specs.StringKind.{bytes_kind, text_kind}
-use Rattle.cbor_diag.specs.mirror.LayoutView.{style_view, context_view, item_text, content_there, chunks_there}
-use Rattle.cbor_diag.specs.NotationText.{text, inside, members, members_layout, colon, item_texts, pair_texts}
-use Rattle.cbor_diag.specs.NotationText.{array_text, map_text, below}
-use Rattle.cbor_diag.specs.NotationText.{text_at_level}
-use Rattle.cbor_diag.specs.WellFormed.{WellFormedItems, WellFormedPairs}
-use Rattle.cbor_diag.proofs.shared.Appending.{begins_two, begins_after_member, appends_last}
+use Rattle.cbor_grammar.specs.mirror.Appends.{Appends}
+use Rattle.cbor_grammar.specs.Item as spec
+use Rattle.cbor_grammar.specs.Item.{Items, atom, array, integer, negative, string, chunked_string, float, simple}
+use Rattle.cbor_diag.specs.View.{view, items_view, pairs_view}
+use Rattle.cbor_grammar.specs.Strings.{byte_chunk, text_chunk}
+use Rattle.cbor_notation.specs.declared.context.NotationContext.{NotationContext}
+use Rattle.cbor_grammar.specs.Layout.{Context}
+use Rattle.cbor_grammar.specs.StringKind.{bytes_kind, text_kind}
+use Rattle.cbor_notation.specs.mirror.LayoutView.{style_view, context_view, item_text, content_there, chunks_there}
+use Rattle.cbor_grammar.specs.NotationText.{text, inside, members, members_layout, colon, item_texts, pair_texts}
+use Rattle.cbor_grammar.specs.NotationText.{array_text, map_text, below}
+use Rattle.cbor_grammar.specs.NotationText.{text_at_level}
+use Rattle.cbor_grammar.specs.WellFormed.{WellFormedItems, WellFormedPairs}
+use Rattle.cbor_grammar.proofs.shared.Appending.{begins_two, begins_after_member, appends_last}
 use Rattle.cbor_diag.proofs.shared.Views.{view-Integer, view-Negative, view-ByteString, view-TextString}
 use Rattle.cbor_diag.proofs.shared.Views.{view-IndefiniteByteString, view-IndefiniteTextString, view-Float, view-Simple}
-use Rattle.cbor_diag.proofs.text.Scalars.{members_left, drop_here, member_more, members_end}
-use Rattle.cbor_diag.proofs.text.Parts.{write_below, shown, bracketed_written, opened_again, tag_shown}
-use Rattle.cbor_diag.proofs.text.Parts.{items_rest, pairs_rest}
+use Rattle.cbor_notation.proofs.text.Scalars.{members_left, drop_here, member_more, members_end}
+use Rattle.cbor_grammar.proofs.text.Parts.{write_below, shown, bracketed_written, opened_again, tag_shown}
+use Rattle.cbor_diag.proofs.text.MemberParts.{items_rest, pairs_rest}
 use Rattle.cbor_diag.proofs.encode.notation.+text.Goals as goal
 
 regroup : (out key between value : List ℕ) → ((out ++ key) ++ between) ++ value ≡ out ++ (key ++ (between ++ value))
@@ -166,19 +168,20 @@ push_items-items-preserved t c =
     let write = item_text c.inside-inner.result in
     let rest = item_texts write (items_view (drop (i + 1) all)) in
     let left = ap (λ ms. string_bytes c.items.out ++ members_left l c.items.first ms)
-    (sym (items_rest write all i v c.items-test.true c.item-item.is)) ∙ c.items.invariant.0 in
+    (sym (items_rest write all i v c.items-test.true c.item-item.is)) ∙ c.items.invariant.written in
     let well = subst (λ vs. WellFormedItems c.inside-inner.result.level (items_view vs))
-    (drop_here all i v c.items-test.true c.item-item.is) c.items.invariant.1 in
+    (drop_here all i v c.items-test.true c.item-item.is) c.items.invariant.well in
     let begun = begins_after_member (string_bytes c.args.out.now) (string_bytes c.items.out)
     (string_bytes c.push_start.new.out)
-    (string_bytes c.push_item.new.out) (string_bytes c.push_end.new.out) _ _ _ c.items.invariant.2
-    c.in_ok-push_start.ensures c.in_ok-push_item.ensures c.in_ok-push_end.ensures in (
-      member_more l c.items.first (write (view v)) rest (string_bytes c.items.out) (string_bytes c.push_start.new.out)
-          (string_bytes c.push_item.new.out) (string_bytes c.push_end.new.out) _ c.in_ok-push_start.ensures
-          c.in_ok-push_item.ensures c.in_ok-push_end.ensures left,
-      well.1,
-      begun,
-    )
+    (string_bytes c.push_item.new.out) (string_bytes c.push_end.new.out) _ _ _ c.items.invariant.begins
+    c.in_ok-push_start.ensures c.in_ok-push_item.ensures c.in_ok-push_end.ensures in
+    record {
+      written = member_more l c.items.first (write (view v)) rest (string_bytes c.items.out)
+          (string_bytes c.push_start.new.out) (string_bytes c.push_item.new.out) (string_bytes c.push_end.new.out) _
+          c.in_ok-push_start.ensures c.in_ok-push_item.ensures c.in_ok-push_end.ensures left;
+      well = well.1;
+      begins = begun;
+    }
 
 pub push_items-returns : goal.push_items-returns
 push_items-returns t c =
@@ -186,7 +189,7 @@ push_items-returns t c =
     let context = c.args.context.now in
     let write = item_text c.inside-inner.result in
     let none = ap (λ vs. string_bytes c.items.out ++ members_left l c.items.first (item_texts write (items_view vs)))
-    (sym (drop_all c.items.item-index c.deref-item-items.result.now c.items-test.false)) ∙ c.items.invariant.0 in
+    (sym (drop_all c.items.item-index c.deref-item-items.result.now c.items-test.false)) ∙ c.items.invariant.written in
     let writes =
     writes_inner c.inside-inner.result (context.level + 1) (inside (members_layout l) (context_view context))
     c.inside-inner.ensures.level
@@ -209,19 +212,20 @@ push_pairs-pairs-preserved t c =
     (c.in_ok-push_colon.ensures ∙ ap (λ x. x ++ colon l) c.in_ok-push_item.ensures)
     ∙ regroup (string_bytes c.push_start.new.out) (write (view v.0)) (colon l) (write (view v.1)) in
     let left = ap (λ ms. string_bytes c.pairs.out ++ members_left l c.pairs.first ms)
-    (sym (pairs_rest write (colon l) all i v c.pairs-test.true c.pairs-item.is)) ∙ c.pairs.invariant.0 in
+    (sym (pairs_rest write (colon l) all i v c.pairs-test.true c.pairs-item.is)) ∙ c.pairs.invariant.written in
     let well = subst (λ vs. WellFormedPairs c.inside-inner.result.level (pairs_view vs))
-    (drop_here all i v c.pairs-test.true c.pairs-item.is) c.pairs.invariant.1 in
+    (drop_here all i v c.pairs-test.true c.pairs-item.is) c.pairs.invariant.well in
     let begun = begins_after_member (string_bytes c.args.out.now) (string_bytes c.pairs.out)
     (string_bytes c.push_start.new.out)
-    (string_bytes c.push_item-in-pairs.new.out) (string_bytes c.push_end.new.out) _ _ _ c.pairs.invariant.2
-    c.in_ok-push_start.ensures pair c.in_ok-push_end.ensures in (
-      member_more l c.pairs.first (write (view v.0) ++ (colon l ++ write (view v.1))) rest (string_bytes c.pairs.out)
-          (string_bytes c.push_start.new.out) (string_bytes c.push_item-in-pairs.new.out)
-          (string_bytes c.push_end.new.out) _ c.in_ok-push_start.ensures pair c.in_ok-push_end.ensures left,
-      well.2,
-      begun,
-    )
+    (string_bytes c.push_item-in-pairs.new.out) (string_bytes c.push_end.new.out) _ _ _ c.pairs.invariant.begins
+    c.in_ok-push_start.ensures pair c.in_ok-push_end.ensures in
+    record {
+      written = member_more l c.pairs.first (write (view v.0) ++ (colon l ++ write (view v.1))) rest
+          (string_bytes c.pairs.out) (string_bytes c.push_start.new.out) (string_bytes c.push_item-in-pairs.new.out)
+          (string_bytes c.push_end.new.out) _ c.in_ok-push_start.ensures pair c.in_ok-push_end.ensures left;
+      well = well.2;
+      begins = begun;
+    }
 
 pub push_pairs-returns : goal.push_pairs-returns
 push_pairs-returns t c =
@@ -230,7 +234,7 @@ push_pairs-returns t c =
     let write = item_text c.inside-inner.result in
     let none =
     ap (λ vs. string_bytes c.pairs.out ++ members_left l c.pairs.first (pair_texts write (colon l) (pairs_view vs)))
-    (sym (drop_all c.pairs.key-index c.deref-key-items.result.now c.pairs-test.false)) ∙ c.pairs.invariant.0 in
+    (sym (drop_all c.pairs.key-index c.deref-key-items.result.now c.pairs-test.false)) ∙ c.pairs.invariant.written in
     let writes =
     writes_inner c.inside-inner.result (context.level + 1) (inside (members_layout l) (context_view context))
     c.inside-inner.ensures.level

@@ -1,4 +1,5 @@
-use Rattle.cbor_diag.proofs.shared.Appending.{cut_back}
+-- The place where an error cuts the text back is a boundary between characters.
+use Rattle.cbor_grammar.proofs.shared.Appending.{cut_back}
 use Rattle.cbor_diag.proofs.encode.notation.push_outermost.Goals as goal
 
 pub truncate-requires : goal.truncate-requires

@@ -1,5 +1,5 @@
 use Rattle.std.proofs.Common.{arith}
-use Rattle.cbor_diag.proofs.bytes.ExactlyOne.{one_outcome}
+use Rattle.cbor_grammar.proofs.bytes.ExactlyOne.{one_outcome}
 use Rattle.cbor_diag.proofs.bytes.PublicReaders.{item_is, refusal_is, gave_item, gave_refused, fronts_are_cut}
 use Rattle.cbor_diag.proofs.bytes.PublicReaders.{whole_well_formed, written_as_read, size_bounded}
 use Rattle.cbor_diag.proofs.parse.binary.parse_bytes.Goals as goal

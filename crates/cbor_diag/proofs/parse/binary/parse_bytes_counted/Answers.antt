@@ -1,6 +1,6 @@
 use Rattle.std.proofs.Common.{arith}
 use Rattle.cbor_diag.proofs.turns.FrontTurns.{of_item, twice, of_cut, of_fault, within_item, within_cut, within_fault}
-use Rattle.cbor_diag.proofs.bytes.ExactlyOne.{one_outcome}
+use Rattle.cbor_grammar.proofs.bytes.ExactlyOne.{one_outcome}
 use Rattle.cbor_diag.proofs.bytes.PublicReaders.{found_is, cut_is, fault_is, exactly, fault_stays, found_stays}
 use Rattle.cbor_diag.proofs.bytes.PublicReaders.{front_well_formed}
 use Rattle.cbor_diag.proofs.parse.binary.parse_bytes_counted.Goals as goal

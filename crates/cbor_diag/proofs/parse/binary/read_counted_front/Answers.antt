@@ -1,10 +1,10 @@
 use Rattle.std.proofs.Common.{◌-◌, subst, arith}
 use Rattle.cbor_diag.specs.View.{view}
-use Rattle.cbor_diag.specs.Reading.{Fails, later, counted_item, read_item}
-use Rattle.cbor_diag.specs.mirror.Counting.{Stops}
-use Rattle.cbor_diag.proofs.bytes.Shorter.{item_shorter}
-use Rattle.cbor_diag.proofs.bytes.CutShort.{cut_takes}
-use Rattle.cbor_diag.proofs.bytes.Outcomes.{found_outcome, refusal_outcome}
+use Rattle.cbor_grammar.specs.Reading.{Fails, later, counted_item, read_item}
+use Rattle.cbor_grammar.specs.mirror.Counting.{Stops}
+use Rattle.cbor_grammar.proofs.bytes.Shorter.{item_shorter}
+use Rattle.cbor_grammar.proofs.bytes.CutShort.{cut_takes}
+use Rattle.cbor_grammar.proofs.bytes.Outcomes.{found_outcome, refusal_outcome}
 use Rattle.cbor_diag.proofs.turns.FrontTurns.{first_ok, first_fails, ok_turns, cut_risen, fault_risen}
 use Rattle.cbor_diag.proofs.parse.binary.read_counted_front.Goals as goal
 

@@ -1,7 +1,7 @@
 use Rattle.std.proofs.Common.{◌-◌, arith}
 use Rattle.std.proofs.lemmas.Result.{err_from_is_err_and}
 use Rattle.cbor_diag.specs.View.{view}
-use Rattle.cbor_diag.proofs.bytes.Outcomes.{whole_found, more_found, whole_refusal}
+use Rattle.cbor_grammar.proofs.bytes.Outcomes.{whole_found, more_found, whole_refusal}
 use Rattle.cbor_diag.proofs.turns.FrontTurns.{first_ok, first_fails}
 use Rattle.cbor_diag.proofs.parse.binary.read_whole.Goals as goal
 

@@ -1,16 +1,19 @@
+-- The functions that read notation return what the definition reads, and well-formed items alone.
 use Rattle.std.proofs.Common.{◌≡◌, suc, ◌+◌, ◌-◌, ◌≤◌, ◌++◌, ◌∷◌, [], Ok, length, map, sym, ap, subst, ◌∙◌, arith}
 use Rattle.std.proofs.lemmas.List.{map_push}
 use Rattle.std.proofs.lemmas.Result.{err_from_is_err_and}
-use Rattle.cbor_diag.specs.declared.parse.notation.start.Start.TheVariants as start
+use Rattle.cbor_notation.specs.declared.start.Start.TheVariants as start
 use Rattle.cbor_diag.specs.declared.syntax.DataItem.{DataItem}
-use Rattle.cbor_diag.specs.Item as spec
-use Rattle.cbor_diag.specs.Item.{Item, atom, negative, array, chunked_string}
-use Rattle.cbor_diag.specs.View.{view, items_of, pairs_of, items_view, pairs_view}
-use Rattle.cbor_diag.specs.Reading.{◌>>=◌, Fails}
-use Rattle.cbor_diag.specs.mirror.NotationReading.{skip_blank, read_negative_number, read_length, read_pair}
-use Rattle.cbor_diag.specs.mirror.NotationReading.{read_chunk, read_item, read_core, read_members, read_pieces}
-use Rattle.cbor_diag.specs.mirror.NotationReading.{begins_piece, kind_from, members_from}
-use Rattle.cbor_diag.specs.mirror.StringView.{kind_view, chunk_list, list_kind}
+use Rattle.cbor_grammar.specs.Item as spec
+use Rattle.cbor_grammar.specs.Item.{Item, atom, negative, array, chunked_string}
+use Rattle.cbor_diag.specs.View.{view, items_view, pairs_view}
+use Rattle.cbor_grammar.specs.Item.{items_of, pairs_of}
+use Rattle.cbor_grammar.specs.Reading.{◌>>=◌, Fails}
+use Rattle.cbor_notation.specs.mirror.NotationReading.{skip_blank, read_negative_number, read_length, read_pair}
+use Rattle.cbor_notation.specs.mirror.NotationReading.{read_chunk, read_item, read_core, read_members, read_pieces}
+use Rattle.cbor_notation.specs.mirror.NotationReading.{begins_piece, kind_from, members_from}
+use Rattle.cbor_grammar.specs.mirror.StringView.{kind_view}
+use Rattle.cbor_diag.specs.mirror.ChunkList.{chunk_list, list_kind}
 use Rattle.cbor_diag.proofs.notation.ChunkLoops.{Fails-bind, onto}
 use Rattle.cbor_diag.proofs.notation.Loops.{members_closed, members_begin, member_fails, member_last, no_comma}
 use Rattle.cbor_diag.proofs.notation.Loops.{member_more}
@@ -33,15 +36,22 @@ read_items-items-init t c =
     let begun = members_begin read c.args.close c.args.text.now c.after_blank-rest.result.now
     (map view c.in_ok-items.items.items) (ap (map view) c.in_ok-items.ensures.items)
     c.after_blank-rest.ensures.gives (sym c.in_default.ensures.gives) in
-    (begun.0, begun.1, begun.2, c.after_blank-rest.ensures.shorter, rw c.in_ok-items.ensures.items tt)
+    record {
+      bound = begun.0;
+      enough = begun.1;
+      so_far = begun.2;
+      room = c.after_blank-rest.ensures.shorter;
+      well = rw c.in_ok-items.ensures.items tt;
+    }
 
 pub read_items-returns-in_err-item-clause-gives : goal.read_items-returns-in_err-item-clause-gives
 read_items-returns-in_err-item-clause-gives t c =
     let p = err_from_is_err_and c.from_residual-in_err-item.result c.from_residual-in_err-item.ensures.1 in
     let read = read_item (129 - c.args.level) in
     let i = c.items.invariant in
-    rw (p.1, p.2) (member_fails read c.args.close (map view c.items.items.items) i.0 c.items.rest.now (read_members read
-    c.args.close c.args.text.now) i.1 i.2 c.in_err-item.field-0.0 c.in_err-item.ensures.gives)
+    rw (p.1, p.2) (member_fails read c.args.close (map view c.items.items.items) i.bound c.items.rest.now
+    (read_members read
+    c.args.close c.args.text.now) i.enough i.so_far c.in_err-item.field-0.0 c.in_err-item.ensures.gives)
 
 pub read_items-returns-in-Some-after_end-clause-gives : goal.read_items-returns-in-Some-after_end-clause-gives
 read_items-returns-in-Some-after_end-clause-gives t c =
@@ -50,8 +60,8 @@ read_items-returns-in-Some-after_end-clause-gives t c =
     let held = c.items.items.items in
     let pushed : map view c.push.new.self.items ≡ map view held ++ (view c.in_ok-item.item) ∷ [] =
     rw c.in_ok-push.ensures.items (map_push view held c.in_ok-item.item) in
-    rw pushed (member_last read c.args.close (map view held) i.0 c.items.rest.now (read_members read c.args.close
-    c.args.text.now) i.1 i.2 (view c.in_ok-item.item) c.in_ok-item.after.now c.in-Some-after_end.end.now
+    rw pushed (member_last read c.args.close (map view held) i.bound c.items.rest.now (read_members read c.args.close
+    c.args.text.now) i.enough i.so_far (view c.in_ok-item.item) c.in_ok-item.after.now c.in-Some-after_end.end.now
     c.in_ok-item.ensures.gives (sym c.in-Some-after_end.ensures.gives))
 
 pub read_items-returns-in_err-rest-clause-gives : goal.read_items-returns-in_err-rest-clause-gives
@@ -59,8 +69,9 @@ read_items-returns-in_err-rest-clause-gives t c =
     let p = err_from_is_err_and c.from_residual-in_err-rest.result c.from_residual-in_err-rest.ensures.1 in
     let read = read_item (129 - c.args.level) in
     let i = c.items.invariant in
-    rw (p.1, p.2) (no_comma read c.args.close (map view c.items.items.items) i.0 c.items.rest.now (read_members read
-    c.args.close c.args.text.now) i.1 i.2 (view c.in_ok-item.item) c.in_ok-item.after.now c.in_err-rest.field-0.0
+    rw (p.1, p.2) (no_comma read c.args.close (map view c.items.items.items) i.bound c.items.rest.now (read_members read
+    c.args.close c.args.text.now) i.enough i.so_far (view c.in_ok-item.item) c.in_ok-item.after.now
+    c.in_err-rest.field-0.0
     c.in_ok-item.ensures.gives (sym c.in_default-after_end.ensures.gives) c.in_err-rest.ensures.gives)
 
 pub read_items-items-preserved : goal.read_items-items-preserved
@@ -70,21 +81,23 @@ read_items-items-preserved t c =
     let held = c.items.items.items in
     let pushed : map view c.push.new.self.items ≡ map view held ++ (view c.in_ok-item.item) ∷ [] =
     rw c.in_ok-push.ensures.items (map_push view held c.in_ok-item.item) in
-    let next = member_more read c.args.close (map view held) i.0 c.items.rest.now (read_members read c.args.close
-    c.args.text.now) i.1 i.2 (view c.in_ok-item.item)
+    let next = member_more read c.args.close (map view held) i.bound c.items.rest.now (read_members read c.args.close
+    c.args.text.now) i.enough i.so_far (view c.in_ok-item.item)
     c.in_ok-item.after.now c.in_ok-rest.rest.now c.in_ok-item.ensures.gives
     (sym c.in_default-after_end.ensures.gives) c.in_ok-rest.ensures.gives c.in_ok-item.ensures.shorter
-    c.in_ok-rest.ensures.shorter in (
-      next.0,
-      next.1,
-      rw pushed next.2,
-      omega (arith, c.in_ok-rest.ensures.shorter, c.in_ok-item.ensures.shorter),
-      rw c.in_ok-push.ensures.items (items_push c.args.level held c.in_ok-item.item i.4 c.in_ok-item.ensures.well),
-    )
+    c.in_ok-rest.ensures.shorter in
+    record {
+      bound = next.0;
+      enough = next.1;
+      so_far = rw pushed next.2;
+      room = omega (arith, c.in_ok-rest.ensures.shorter, c.in_ok-item.ensures.shorter, i.room);
+      well = rw c.in_ok-push.ensures.items (items_push c.args.level held c.in_ok-item.item i.well
+          c.in_ok-item.ensures.well);
+    }
 
 pub read_items-returns-in-Some-after_end-clause-well : goal.read_items-returns-in-Some-after_end-clause-well
 read_items-returns-in-Some-after_end-clause-well t c =
-    rw c.in_ok-push.ensures.items (items_push c.args.level c.items.items.items c.in_ok-item.item c.items.invariant.4
+    rw c.in_ok-push.ensures.items (items_push c.args.level c.items.items.items c.in_ok-item.item c.items.invariant.well
     c.in_ok-item.ensures.well)
 
 pub read_pairs-returns-in-Some-clause-gives : goal.read_pairs-returns-in-Some-clause-gives
@@ -99,25 +112,31 @@ read_pairs-pairs-init t c =
     let begun = members_begin read 125 c.args.text.now c.after_blank-rest.result.now
     (map pair_view c.in_ok-pairs.pairs.items) (ap (map pair_view) c.in_ok-pairs.ensures.items)
     c.after_blank-rest.ensures.gives (sym c.in_default.ensures.gives) in
-    (begun.0, begun.1, begun.2, c.after_blank-rest.ensures.shorter, rw c.in_ok-pairs.ensures.items tt)
+    record {
+      bound = begun.0;
+      enough = begun.1;
+      so_far = begun.2;
+      room = c.after_blank-rest.ensures.shorter;
+      well = rw c.in_ok-pairs.ensures.items tt;
+    }
 
 pub read_pairs-returns-in_err-key-clause-gives : goal.read_pairs-returns-in_err-key-clause-gives
 read_pairs-returns-in_err-key-clause-gives t c =
     let p = err_from_is_err_and c.from_residual-in_err-key.result c.from_residual-in_err-key.ensures.1 in
     let item = read_item (129 - c.args.level) in
     let i = c.pairs.invariant in
-    rw (p.1, p.2) (member_fails (read_pair item) 125 (map pair_view c.pairs.pairs.items) i.0 c.pairs.rest.now
-    (read_members (read_pair item) 125 c.args.text.now) i.1
-    i.2 c.in_err-key.field-0.0 (no_key item c.pairs.rest.now c.in_err-key.field-0.0 c.in_err-key.ensures.gives))
+    rw (p.1, p.2) (member_fails (read_pair item) 125 (map pair_view c.pairs.pairs.items) i.bound c.pairs.rest.now
+    (read_members (read_pair item) 125 c.args.text.now) i.enough
+    i.so_far c.in_err-key.field-0.0 (no_key item c.pairs.rest.now c.in_err-key.field-0.0 c.in_err-key.ensures.gives))
 
 pub read_pairs-returns-in_err-next-clause-gives : goal.read_pairs-returns-in_err-next-clause-gives
 read_pairs-returns-in_err-next-clause-gives t c =
     let p = err_from_is_err_and c.from_residual-in_err-next.result c.from_residual-in_err-next.ensures.1 in
     let item = read_item (129 - c.args.level) in
     let i = c.pairs.invariant in
-    rw (p.1, p.2) (member_fails (read_pair item) 125 (map pair_view c.pairs.pairs.items) i.0 c.pairs.rest.now
-    (read_members (read_pair item) 125 c.args.text.now) i.1
-    i.2 c.in_err-next.field-0.0 (no_colon item c.pairs.rest.now (view c.in_ok-key.key) c.in_ok-key.after_key.now
+    rw (p.1, p.2) (member_fails (read_pair item) 125 (map pair_view c.pairs.pairs.items) i.bound c.pairs.rest.now
+    (read_members (read_pair item) 125 c.args.text.now) i.enough
+    i.so_far c.in_err-next.field-0.0 (no_colon item c.pairs.rest.now (view c.in_ok-key.key) c.in_ok-key.after_key.now
     c.in_ok-key.ensures.gives c.in_err-next.field-0.0 c.in_err-next.ensures.gives))
 
 pub read_pairs-returns-in_err-value-clause-gives : goal.read_pairs-returns-in_err-value-clause-gives
@@ -125,8 +144,9 @@ read_pairs-returns-in_err-value-clause-gives t c =
     let p = err_from_is_err_and c.from_residual-in_err-value.result c.from_residual-in_err-value.ensures.1 in
     let item = read_item (129 - c.args.level) in
     let i = c.pairs.invariant in
-    rw (p.1, p.2) (member_fails (read_pair item) 125 (map pair_view c.pairs.pairs.items) i.0 c.pairs.rest.now
-    (read_members (read_pair item) 125 c.args.text.now) i.1 i.2 c.in_err-value.field-0.0 (no_value item c.pairs.rest.now
+    rw (p.1, p.2) (member_fails (read_pair item) 125 (map pair_view c.pairs.pairs.items) i.bound c.pairs.rest.now
+    (read_members (read_pair item) 125 c.args.text.now) i.enough i.so_far c.in_err-value.field-0.0
+    (no_value item c.pairs.rest.now
     (view c.in_ok-key.key) c.in_ok-key.after_key.now c.in_ok-key.ensures.gives c.in_ok-next.next.now
     c.in_ok-next.ensures.gives c.in_err-value.field-0.0 c.in_err-value.ensures.gives))
 
@@ -141,8 +161,8 @@ read_pairs-returns-in-Some-after_end-clause-gives t c =
     c.in_ok-value.ensures.gives in
     let pushed : map pair_view c.push.new.self.items ≡ map pair_view held ++ pair_view p ∷ [] =
     rw c.in_ok-push.ensures.items (map_push pair_view held p) in
-    rw pushed (member_last (read_pair item) 125 (map pair_view held) i.0 c.pairs.rest.now (read_members (read_pair
-    item) 125 c.args.text.now) i.1 i.2 (pair_view p)
+    rw pushed (member_last (read_pair item) 125 (map pair_view held) i.bound c.pairs.rest.now (read_members (read_pair
+    item) 125 c.args.text.now) i.enough i.so_far (pair_view p)
     c.in_ok-value.after.now c.in-Some-after_end.end.now read (sym c.in-Some-after_end.ensures.gives))
 
 pub read_pairs-returns-in_err-rest-clause-gives : goal.read_pairs-returns-in_err-rest-clause-gives
@@ -153,8 +173,9 @@ read_pairs-returns-in_err-rest-clause-gives t c =
     let read = pair_read item c.pairs.rest.now (view c.in_ok-key.key) c.in_ok-key.after_key.now
     c.in_ok-key.ensures.gives c.in_ok-next.next.now c.in_ok-next.ensures.gives (view c.in_ok-value.value)
     c.in_ok-value.after.now c.in_ok-value.ensures.gives in
-    rw (p.1, p.2) (no_comma (read_pair item) 125 (map pair_view c.pairs.pairs.items) i.0 c.pairs.rest.now (read_members
-    (read_pair item) 125 c.args.text.now) i.1 i.2
+    rw (p.1, p.2) (no_comma (read_pair item) 125 (map pair_view c.pairs.pairs.items) i.bound c.pairs.rest.now
+    (read_members
+    (read_pair item) 125 c.args.text.now) i.enough i.so_far
     (view c.in_ok-key.key, view c.in_ok-value.value) c.in_ok-value.after.now c.in_err-rest.field-0.0 read
     (sym c.in_default-after_end.ensures.gives) c.in_err-rest.ensures.gives)
 
@@ -171,22 +192,23 @@ read_pairs-pairs-preserved t c =
     omega (arith, c.in_ok-key.ensures.shorter, c.in_ok-next.ensures.shorter, c.in_ok-value.ensures.shorter) in
     let pushed : map pair_view c.push.new.self.items ≡ map pair_view held ++ pair_view p ∷ [] =
     rw c.in_ok-push.ensures.items (map_push pair_view held p) in
-    let next = member_more (read_pair item) 125 (map pair_view held) i.0 c.pairs.rest.now (read_members (read_pair
-    item) 125 c.args.text.now) i.1 i.2 (pair_view p)
+    let next = member_more (read_pair item) 125 (map pair_view held) i.bound c.pairs.rest.now (read_members (read_pair
+    item) 125 c.args.text.now) i.enough i.so_far (pair_view p)
     c.in_ok-value.after.now c.in_ok-rest.rest.now read (sym c.in_default-after_end.ensures.gives)
-    c.in_ok-rest.ensures.gives shorter c.in_ok-rest.ensures.shorter in (
-      next.0,
-      next.1,
-      rw pushed next.2,
-      omega (arith, c.in_ok-rest.ensures.shorter, shorter),
-      rw c.in_ok-push.ensures.items (pairs_push c.args.level held p i.4 c.in_ok-key.ensures.well
-          c.in_ok-value.ensures.well),
-    )
+    c.in_ok-rest.ensures.gives shorter c.in_ok-rest.ensures.shorter in
+    record {
+      bound = next.0;
+      enough = next.1;
+      so_far = rw pushed next.2;
+      room = omega (arith, c.in_ok-rest.ensures.shorter, shorter, i.room);
+      well = rw c.in_ok-push.ensures.items (pairs_push c.args.level held p i.well c.in_ok-key.ensures.well
+          c.in_ok-value.ensures.well);
+    }
 
 pub read_pairs-returns-in-Some-after_end-clause-well : goal.read_pairs-returns-in-Some-after_end-clause-well
 read_pairs-returns-in-Some-after_end-clause-well t c =
     rw c.in_ok-push.ensures.items (pairs_push c.args.level c.pairs.pairs.items (c.in_ok-key.key, c.in_ok-value.value)
-    c.pairs.invariant.4 c.in_ok-key.ensures.well c.in_ok-value.ensures.well)
+    c.pairs.invariant.well c.in_ok-key.ensures.well c.in_ok-value.ensures.well)
 
 pub strings::read_chunk_list-returns-in-Some-clause-gives : goal.strings::read_chunk_list-returns-in-Some-clause-gives
 strings::read_chunk_list-returns-in-Some-clause-gives t c =
@@ -198,14 +220,15 @@ pub strings::read_chunk_list-chunks-init : goal.strings::read_chunk_list-chunks-
 strings::read_chunk_list-chunks-init t c =
     let read = read_chunk (read_item (129 - c.args.inner)) (kind_view c.args.kind) in
     let begun = members_begin read 41 c.args.text.now c.after_blank-rest.result.now (chunk_list c.new-chunks.result)
-    c.new-chunks.ensures.none c.after_blank-rest.ensures.gives (sym c.in_default.ensures.gives) in (
-      begun.0,
-      begun.1,
-      begun.2,
-      c.after_blank-rest.ensures.shorter,
-      rw c.new-chunks.ensures.none tt,
-      c.new-chunks.ensures.kind,
-    )
+    c.new-chunks.ensures.none c.after_blank-rest.ensures.gives (sym c.in_default.ensures.gives) in
+    record {
+      bound = begun.0;
+      enough = begun.1;
+      so_far = begun.2;
+      room = c.after_blank-rest.ensures.shorter;
+      well = rw c.new-chunks.ensures.none tt;
+      kind = c.new-chunks.ensures.kind;
+    }
 
 pub strings::read_chunk_list-returns-in_err-content-clause-gives :
     goal.strings::read_chunk_list-returns-in_err-content-clause-gives
@@ -214,8 +237,9 @@ strings::read_chunk_list-returns-in_err-content-clause-gives t c =
     let item = read_item (129 - c.args.inner) in
     let read = read_chunk item (kind_view c.args.kind) in
     let i = c.chunks.invariant in
-    rw (p.1, p.2) (member_fails read 41 (chunk_list c.chunks.chunks) i.0 c.chunks.rest.now (read_members read 41
-    c.args.text.now) i.1 i.2 c.in_err-content.field-0.0 (no_content item (kind_view c.args.kind) c.chunks.rest.now
+    rw (p.1, p.2) (member_fails read 41 (chunk_list c.chunks.chunks) i.bound c.chunks.rest.now (read_members read 41
+    c.args.text.now) i.enough i.so_far c.in_err-content.field-0.0
+    (no_content item (kind_view c.args.kind) c.chunks.rest.now
     c.after_blank.result.now c.after_blank.ensures.gives c.in_err-content.field-0.0 c.in_err-content.ensures.gives))
 
 pub strings::read_chunk_list-returns-in_err-push-clause-gives :
@@ -225,10 +249,11 @@ strings::read_chunk_list-returns-in_err-push-clause-gives t c =
     let item = read_item (129 - c.args.inner) in
     let read = read_chunk item (kind_view c.args.kind) in
     let i = c.chunks.invariant in
-    rw (p.1, p.2) (member_fails read 41 (chunk_list c.chunks.chunks) i.0 c.chunks.rest.now (read_members read 41
-    c.args.text.now) i.1 i.2 c.in_err-push.field-0.0 (no_string item (kind_view c.args.kind) c.chunks.rest.now
+    rw (p.1, p.2) (member_fails read 41 (chunk_list c.chunks.chunks) i.bound c.chunks.rest.now (read_members read 41
+    c.args.text.now) i.enough i.so_far c.in_err-push.field-0.0 (no_string item (kind_view c.args.kind) c.chunks.rest.now
     c.after_blank.result.now c.after_blank.ensures.gives c.in_ok-content.content.items c.in_ok-content.after.now
-    c.in_ok-content.ensures.gives (list_kind c.chunks.chunks) (chunk_list c.chunks.chunks) i.5 c.in_err-push.field-0.0
+    c.in_ok-content.ensures.gives (list_kind c.chunks.chunks) (chunk_list c.chunks.chunks) i.kind
+    c.in_err-push.field-0.0
     c.in_err-push.ensures.gives))
 
 pub strings::read_chunk_list-returns-in-Some-after_end-clause-gives :
@@ -239,17 +264,18 @@ strings::read_chunk_list-returns-in-Some-after_end-clause-gives t c =
     let i = c.chunks.invariant in
     let added = string_read item (kind_view c.args.kind) c.chunks.rest.now c.after_blank.result.now
     c.after_blank.ensures.gives c.in_ok-content.content.items c.in_ok-content.after.now c.in_ok-content.ensures.gives
-    (list_kind c.chunks.chunks) (chunk_list c.chunks.chunks) i.5 (chunk_list c.push.new.self)
+    (list_kind c.chunks.chunks) (chunk_list c.chunks.chunks) i.kind (chunk_list c.push.new.self)
     c.in_ok-push.ensures.gives in
-    rw added.1 (member_last read 41 (chunk_list c.chunks.chunks) i.0 c.chunks.rest.now
-    (read_members read 41 c.args.text.now) i.1 i.2 added.0 c.in_ok-content.after.now c.in-Some-after_end.end.now added.2
+    rw added.1 (member_last read 41 (chunk_list c.chunks.chunks) i.bound c.chunks.rest.now
+    (read_members read 41 c.args.text.now) i.enough i.so_far added.0 c.in_ok-content.after.now
+    c.in-Some-after_end.end.now added.2
     (sym c.in-Some-after_end.ensures.gives))
 
 pub strings::read_chunk_list-returns-in-Some-after_end-clause-well :
     goal.strings::read_chunk_list-returns-in-Some-after_end-clause-well
 strings::read_chunk_list-returns-in-Some-after_end-clause-well t c =
     let i = c.chunks.invariant in
-    (rw i.5 at c.in_ok-push.ensures.well) i.4
+    (rw i.kind at c.in_ok-push.ensures.well) i.well
 
 pub strings::read_chunk_list-returns-in_err-rest-clause-gives :
     goal.strings::read_chunk_list-returns-in_err-rest-clause-gives
@@ -260,10 +286,10 @@ strings::read_chunk_list-returns-in_err-rest-clause-gives t c =
     let i = c.chunks.invariant in
     let added = string_read item (kind_view c.args.kind) c.chunks.rest.now c.after_blank.result.now
     c.after_blank.ensures.gives c.in_ok-content.content.items c.in_ok-content.after.now c.in_ok-content.ensures.gives
-    (list_kind c.chunks.chunks) (chunk_list c.chunks.chunks) i.5 (chunk_list c.push.new.self)
+    (list_kind c.chunks.chunks) (chunk_list c.chunks.chunks) i.kind (chunk_list c.push.new.self)
     c.in_ok-push.ensures.gives in
-    rw (p.1, p.2) (no_comma read 41 (chunk_list c.chunks.chunks) i.0 c.chunks.rest.now (read_members read 41
-    c.args.text.now) i.1 i.2 added.0 c.in_ok-content.after.now c.in_err-rest.field-0.0 added.2 (sym
+    rw (p.1, p.2) (no_comma read 41 (chunk_list c.chunks.chunks) i.bound c.chunks.rest.now (read_members read 41
+    c.args.text.now) i.enough i.so_far added.0 c.in_ok-content.after.now c.in_err-rest.field-0.0 added.2 (sym
     c.in_default-after_end.ensures.gives) c.in_err-rest.ensures.gives)
 
 pub strings::read_chunk_list-chunks-preserved : goal.strings::read_chunk_list-chunks-preserved
@@ -273,21 +299,23 @@ strings::read_chunk_list-chunks-preserved t c =
     let i = c.chunks.invariant in
     let added = string_read item (kind_view c.args.kind) c.chunks.rest.now c.after_blank.result.now
     c.after_blank.ensures.gives c.in_ok-content.content.items c.in_ok-content.after.now c.in_ok-content.ensures.gives
-    (list_kind c.chunks.chunks) (chunk_list c.chunks.chunks) i.5 (chunk_list c.push.new.self)
+    (list_kind c.chunks.chunks) (chunk_list c.chunks.chunks) i.kind (chunk_list c.push.new.self)
     c.in_ok-push.ensures.gives in
     let shorter : length c.in_ok-content.after.now ≤ length c.chunks.rest.now =
     omega (arith, c.in_ok-content.ensures.shorter, c.after_blank.ensures.shorter) in
-    let next = member_more read 41 (chunk_list c.chunks.chunks) i.0 c.chunks.rest.now
-    (read_members read 41 c.args.text.now) i.1 i.2 added.0 c.in_ok-content.after.now c.in_ok-rest.rest.now added.2
-    (sym c.in_default-after_end.ensures.gives) c.in_ok-rest.ensures.gives shorter c.in_ok-rest.ensures.shorter in (
-      next.0,
-      next.1,
-      subst (λ cs. onto (λ xs. cs ++ xs) (members_from read 41 next.0 c.in_ok-rest.rest.now)
-          ≡ read_members read 41 c.args.text.now) (sym added.1) next.2,
-      omega (arith, c.in_ok-rest.ensures.shorter, shorter),
-      (rw i.5 at c.in_ok-push.ensures.well) i.4,
-      c.in_ok-push.ensures.kind ∙ i.5,
-    )
+    let next = member_more read 41 (chunk_list c.chunks.chunks) i.bound c.chunks.rest.now
+    (read_members read 41 c.args.text.now) i.enough i.so_far added.0 c.in_ok-content.after.now c.in_ok-rest.rest.now
+    added.2
+    (sym c.in_default-after_end.ensures.gives) c.in_ok-rest.ensures.gives shorter c.in_ok-rest.ensures.shorter in
+    record {
+      bound = next.0;
+      enough = next.1;
+      so_far = subst (λ cs. onto (λ xs. cs ++ xs) (members_from read 41 next.0 c.in_ok-rest.rest.now)
+          ≡ read_members read 41 c.args.text.now) (sym added.1) next.2;
+      room = omega (arith, c.in_ok-rest.ensures.shorter, shorter, i.room);
+      well = (rw i.kind at c.in_ok-push.ensures.well) i.well;
+      kind = c.in_ok-push.ensures.kind ∙ i.kind;
+    }
 
 pub strings::read_chunks-returns-in_err-chunks-clause-gives :
     goal.strings::read_chunks-returns-in_err-chunks-clause-gives
@@ -459,7 +487,7 @@ pub strings::read_pieces-pieces-init : goal.strings::read_pieces-pieces-init
 strings::read_pieces-pieces-init t c =
     let begun = pieces_begin (read_item (129 - c.args.inner)) (kind_view c.args.kind) c.args.text.now
     c.new-content.result.items c.new-content.ensures.items in
-    (begun.0, begun.1, begun.2, omega arith)
+    record { bound = begun.0; enough = begun.1; so_far = begun.2; room = omega arith }
 
 pub strings::read_pieces-returns-in_err-piece-clause-gives : goal.strings::read_pieces-returns-in_err-piece-clause-gives
 strings::read_pieces-returns-in_err-piece-clause-gives t c =
@@ -468,8 +496,8 @@ strings::read_pieces-returns-in_err-piece-clause-gives t c =
     let i = c.pieces.invariant in
     let begins = sym (c.begins_piece.ensures ∙ ap (begins_piece (kind_view c.args.kind)) c.of.ensures)
     ∙ c.pieces-test.true in
-    rw (p.1, p.2) (piece_fails read (kind_view c.args.kind) c.pieces.content.items i.0 c.pieces.rest.now
-    (read_pieces read (kind_view c.args.kind) (suc (length c.args.text.now)) c.args.text.now) i.1 i.2
+    rw (p.1, p.2) (piece_fails read (kind_view c.args.kind) c.pieces.content.items i.bound c.pieces.rest.now
+    (read_pieces read (kind_view c.args.kind) (suc (length c.args.text.now)) c.args.text.now) i.enough i.so_far
     c.in_err-piece.field-0.0 begins c.in_err-piece.ensures.gives)
 
 pub strings::read_pieces-pieces-preserved : goal.strings::read_pieces-pieces-preserved
@@ -478,20 +506,21 @@ strings::read_pieces-pieces-preserved t c =
     let i = c.pieces.invariant in
     let begins = sym (c.begins_piece.ensures ∙ ap (begins_piece (kind_view c.args.kind)) c.of.ensures)
     ∙ c.pieces-test.true in
-    let next = piece_more read (kind_view c.args.kind) c.pieces.content.items i.0 c.pieces.rest.now
-    (read_pieces read (kind_view c.args.kind) (suc (length c.args.text.now)) c.args.text.now) i.1 i.2
+    let next = piece_more read (kind_view c.args.kind) c.pieces.content.items i.bound c.pieces.rest.now
+    (read_pieces read (kind_view c.args.kind) (suc (length c.args.text.now)) c.args.text.now) i.enough i.so_far
     c.in_ok-piece.piece.items c.in_ok-piece.after.now c.after_blank-rest.result.now begins c.in_ok-piece.ensures.gives
-    c.after_blank-rest.ensures.gives c.in_ok-piece.ensures.shorter c.after_blank-rest.ensures.shorter in (
-      next.0,
-      next.1,
-      rw c.in_ok-append.ensures next.2,
-      omega (arith, c.in_ok-piece.ensures.shorter, c.after_blank-rest.ensures.shorter),
-    )
+    c.after_blank-rest.ensures.gives c.in_ok-piece.ensures.shorter c.after_blank-rest.ensures.shorter in
+    record {
+      bound = next.0;
+      enough = next.1;
+      so_far = rw c.in_ok-append.ensures next.2;
+      room = omega (arith, c.in_ok-piece.ensures.shorter, c.after_blank-rest.ensures.shorter, i.room);
+    }
 
 pub strings::read_pieces-returns-clause-gives : goal.strings::read_pieces-returns-clause-gives
 strings::read_pieces-returns-clause-gives t c =
     let read = read_item (129 - c.args.inner) in
     let i = c.pieces.invariant in
-    pieces_end read (kind_view c.args.kind) c.pieces.content.items i.0 c.pieces.rest.now
-    (read_pieces read (kind_view c.args.kind) (suc (length c.args.text.now)) c.args.text.now) i.1 i.2
+    pieces_end read (kind_view c.args.kind) c.pieces.content.items i.bound c.pieces.rest.now
+    (read_pieces read (kind_view c.args.kind) (suc (length c.args.text.now)) c.args.text.now) i.enough i.so_far
     (sym (c.begins_piece.ensures ∙ ap (begins_piece (kind_view c.args.kind)) c.of.ensures) ∙ c.pieces-test.false)

@@ -1,10 +1,12 @@
+-- The recursion ends, and what is in hand and the members that are left are the whole list.
 use Rattle.std.proofs.Common.{◌≡◌, ℕ, suc, ◌+◌, ◌-◌, ◌*◌, ◌<◌, ◌≤◌, ◌++◌, length, map}
 use Rattle.std.specs.List.{AllByRecursion}
 use Rattle.cbor_diag.specs.View.{view, items_view, pairs_view}
-use Rattle.cbor_diag.specs.WellFormed.{WellFormedItems, WellFormedPairs, IsChunk}
-use Rattle.cbor_diag.specs.mirror.NotationReading.{read_item, read_pair, read_chunk, read_members, members_from}
-use Rattle.cbor_diag.specs.mirror.NotationReading.{read_pieces}
-use Rattle.cbor_diag.specs.mirror.StringView.{kind_view, chunk_list, list_kind}
+use Rattle.cbor_grammar.specs.WellFormed.{WellFormedItems, WellFormedPairs, IsChunk}
+use Rattle.cbor_notation.specs.mirror.NotationReading.{read_item, read_pair, read_chunk, read_members, members_from}
+use Rattle.cbor_notation.specs.mirror.NotationReading.{read_pieces}
+use Rattle.cbor_grammar.specs.mirror.StringView.{kind_view}
+use Rattle.cbor_diag.specs.mirror.ChunkList.{chunk_list, list_kind}
 use Rattle.cbor_diag.proofs.notation.ChunkLoops.{onto}
 use Rattle.cbor_diag.proofs.parse.notation.+diag.Given as goal
 
@@ -54,9 +56,14 @@ decreases-read_items-items l = length l.rest
 abbrev pub invariant-read_items-items : goal.invariant-read_items-items
 invariant-read_items-items l =
     let read = read_item (129 - l.level) in
-    (n : ℕ) × (length l.rest < n) × (onto (λ xs. map view l.items.items ++ xs) (members_from read l.close n l.rest)
-    ≡ read_members read l.close l.text) × (length l.rest ≤ length l.text)
-    × WellFormedItems l.level (items_view l.items.items)
+    record {
+      bound : ℕ;
+      enough : length l.rest < bound;
+      so_far : onto (λ xs. map view l.items.items ++ xs) (members_from read l.close bound l.rest)
+          ≡ read_members read l.close l.text;
+      room : length l.rest ≤ length l.text;
+      well : WellFormedItems l.level (items_view l.items.items);
+    }
 
 abbrev pub decreases-read_pairs-pairs : goal.decreases-read_pairs-pairs
 decreases-read_pairs-pairs l = length l.rest
@@ -64,9 +71,14 @@ decreases-read_pairs-pairs l = length l.rest
 abbrev pub invariant-read_pairs-pairs : goal.invariant-read_pairs-pairs
 invariant-read_pairs-pairs l =
     let read = read_pair (read_item (129 - l.level)) in
-    (n : ℕ) × (length l.rest < n) × (onto (λ xs. map (λ p. (view p.0, view p.1)) l.pairs.items ++ xs)
-    (members_from read 125 n l.rest) ≡ read_members read 125 l.text) × (length l.rest ≤ length l.text)
-    × WellFormedPairs l.level (pairs_view l.pairs.items)
+    record {
+      bound : ℕ;
+      enough : length l.rest < bound;
+      so_far : onto (λ xs. map (λ p. (view p.0, view p.1)) l.pairs.items ++ xs) (members_from read 125 bound l.rest)
+          ≡ read_members read 125 l.text;
+      room : length l.rest ≤ length l.text;
+      well : WellFormedPairs l.level (pairs_view l.pairs.items);
+    }
 
 abbrev pub decreases-strings::read_pieces-pieces : goal.decreases-strings::read_pieces-pieces
 decreases-strings::read_pieces-pieces l = length l.rest
@@ -74,8 +86,13 @@ decreases-strings::read_pieces-pieces l = length l.rest
 abbrev pub invariant-strings::read_pieces-pieces : goal.invariant-strings::read_pieces-pieces
 invariant-strings::read_pieces-pieces l =
     let read = read_item (129 - l.inner) in
-    (n : ℕ) × (length l.rest < n) × (onto (λ xs. l.content.items ++ xs) (read_pieces read (kind_view l.kind) n l.rest)
-    ≡ read_pieces read (kind_view l.kind) (suc (length l.text)) l.text) × (length l.rest ≤ length l.text)
+    record {
+      bound : ℕ;
+      enough : length l.rest < bound;
+      so_far : onto (λ xs. l.content.items ++ xs) (read_pieces read (kind_view l.kind) bound l.rest)
+          ≡ read_pieces read (kind_view l.kind) (suc (length l.text)) l.text;
+      room : length l.rest ≤ length l.text;
+    }
 
 abbrev pub decreases-strings::read_chunk_list-chunks : goal.decreases-strings::read_chunk_list-chunks
 decreases-strings::read_chunk_list-chunks l = length l.rest
@@ -84,6 +101,11 @@ abbrev pub invariant-strings::read_chunk_list-chunks : goal.invariant-strings::r
 invariant-strings::read_chunk_list-chunks l =
     let kind = kind_view l.kind in
     let read = read_chunk (read_item (129 - l.inner)) kind in
-    (n : ℕ) × (length l.rest < n) × (onto (λ xs. chunk_list l.chunks ++ xs) (members_from read 41 n l.rest)
-    ≡ read_members read 41 l.text) × (length l.rest ≤ length l.text)
-    × AllByRecursion (IsChunk kind) (chunk_list l.chunks) × (list_kind l.chunks ≡ kind)
+    record {
+      bound : ℕ;
+      enough : length l.rest < bound;
+      so_far : onto (λ xs. chunk_list l.chunks ++ xs) (members_from read 41 bound l.rest) ≡ read_members read 41 l.text;
+      room : length l.rest ≤ length l.text;
+      well : AllByRecursion (IsChunk kind) (chunk_list l.chunks);
+      kind : list_kind l.chunks ≡ kind;
+    }

@@ -1,3 +1,4 @@
+-- What is read is what the grammar has: each item, each error, and one item alone.
 use Rattle.cbor_diag.proofs.notation.PublicReader.{text_is, gave_text, text_refused, only_item, larger_limit}
 use Rattle.cbor_diag.proofs.parse.notation.parse_diag.Goals as goal
 

@@ -1,9 +1,10 @@
+-- What is promised of the encoding: it is the one strict spelling, is read back, and tells items apart.
 use Rattle.std.proofs.Common.{◌++◌, ap, sym, subst, ◌∙◌}
 use Rattle.cbor_diag.specs.View.{view}
-use Rattle.cbor_diag.specs.Written.{encoded, resolve}
-use Rattle.cbor_diag.specs.Bytes.{any, strict, Spells}
-use Rattle.cbor_diag.proofs.bytes.Strict.{strict_any, strict_encoded, strict_only, encoded-resolve}
-use Rattle.cbor_diag.proofs.bytes.Resolved.{written_alike, resolved_alike}
+use Rattle.cbor_grammar.specs.Written.{encoded, resolve}
+use Rattle.cbor_grammar.specs.Bytes.{any, strict, Spells}
+use Rattle.cbor_grammar.proofs.bytes.Strict.{strict_any, strict_encoded, strict_only, encoded-resolve}
+use Rattle.cbor_grammar.proofs.bytes.Resolved.{written_alike, resolved_alike}
 use Rattle.cbor_diag.proofs.syntax.DataItem.to_bytes.Goals as goal
 
 pub returns-in_err-push_bytes-clause-alike : goal.returns-in_err-push_bytes-clause-alike

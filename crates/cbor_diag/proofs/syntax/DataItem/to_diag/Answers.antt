@@ -1,15 +1,16 @@
+-- What is promised of the text: it is read back, is that of the normal form, and tells normal forms apart.
 use Rattle.std.proofs.Common.{◌++◌, None, refl, ap, sym, subst, ◌∙◌, arith}
-use Rattle.cbor_diag.specs.Encoding.{Base16}
+use Rattle.cbor_grammar.specs.Encoding.{Base16}
 use Rattle.cbor_diag.specs.View.{view}
-use Rattle.cbor_diag.specs.Layout.{Compact}
-use Rattle.cbor_diag.specs.Facts.{diag_of}
-use Rattle.cbor_diag.specs.Notation.{Reads}
-use Rattle.cbor_diag.specs.NotationText.{in_encoding}
-use Rattle.cbor_diag.specs.Normal.{normal_at}
-use Rattle.cbor_diag.proofs.normal.ReadBack.{reads_back}
-use Rattle.cbor_diag.proofs.normal.Text.{normal_text, normal_twice}
-use Rattle.cbor_diag.proofs.normal.TextsAlike.{texts_alike}
-use Rattle.cbor_diag.proofs.shared.EmbeddedItems.{embeds_exactly}
+use Rattle.cbor_grammar.specs.Layout.{Compact}
+use Rattle.cbor_grammar.specs.Facts.{diag_of}
+use Rattle.cbor_grammar.specs.Notation.{Reads}
+use Rattle.cbor_grammar.specs.NotationText.{in_encoding}
+use Rattle.cbor_grammar.specs.Normal.{normal_at}
+use Rattle.cbor_notation.proofs.normal.ReadBack.{reads_back}
+use Rattle.cbor_notation.proofs.normal.Text.{normal_text, normal_twice}
+use Rattle.cbor_notation.proofs.normal.TextsAlike.{texts_alike}
+use Rattle.cbor_grammar.proofs.shared.EmbeddedItems.{embeds_exactly}
 use Rattle.cbor_diag.proofs.syntax.DataItem.to_diag.Goals as goal
 
 pub returns-in_err-push_diag-clause-of_normal : goal.returns-in_err-push_diag-clause-of_normal

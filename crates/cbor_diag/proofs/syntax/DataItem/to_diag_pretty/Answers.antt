@@ -1,13 +1,14 @@
+-- The text is read back as the normal form, and embedded items are exactly what the bytes spell.
 use Rattle.std.proofs.Common.{◌++◌, None, refl, ap, sym, subst, ◌∙◌, arith}
-use Rattle.cbor_diag.specs.Encoding.{Base16}
-use Rattle.cbor_diag.specs.Layout.{Pretty}
+use Rattle.cbor_grammar.specs.Encoding.{Base16}
+use Rattle.cbor_grammar.specs.Layout.{Pretty}
 use Rattle.cbor_diag.specs.View.{view}
-use Rattle.cbor_diag.specs.Facts.{pretty_of}
-use Rattle.cbor_diag.specs.Notation.{Reads}
-use Rattle.cbor_diag.specs.NotationText.{in_encoding}
-use Rattle.cbor_diag.specs.Normal.{normal_at}
-use Rattle.cbor_diag.proofs.normal.ReadBack.{reads_back}
-use Rattle.cbor_diag.proofs.shared.EmbeddedItems.{embeds_exactly}
+use Rattle.cbor_grammar.specs.Facts.{pretty_of}
+use Rattle.cbor_grammar.specs.Notation.{Reads}
+use Rattle.cbor_grammar.specs.NotationText.{in_encoding}
+use Rattle.cbor_grammar.specs.Normal.{normal_at}
+use Rattle.cbor_notation.proofs.normal.ReadBack.{reads_back}
+use Rattle.cbor_grammar.proofs.shared.EmbeddedItems.{embeds_exactly}
 use Rattle.cbor_diag.proofs.syntax.DataItem.to_diag_pretty.Goals as goal
 
 pub returns-clause-read_back : goal.returns-clause-read_back

@@ -1,3 +1,4 @@
+-- The copies so far are the chunks so far.
 use Rattle.std.proofs.Common.{◌≡◌, map, take}
 use Rattle.cbor_diag.proofs.syntax.clone.clone_chunks.Given as goal
 

@@ -1,4 +1,5 @@
-use Rattle.cbor_diag.proofs.shared.Compared.{lists_compared}
+-- Strings in chunks are equal exactly where their lists of chunks are.
+use Rattle.cbor_grammar.proofs.shared.Compared.{lists_compared}
 use Rattle.cbor_diag.proofs.syntax.equal.chunks_equal.Goals as goal
 
 pub returns : goal.returns

@@ -1,9 +1,10 @@
+-- A container is well formed exactly where its count fits its width and its members are well formed.
 use Rattle.std.proofs.Common.{◌≡◌, ◌↔◌, ℕ, ◌+◌, ◌≤◌, Bool, false, IsTrue, Option, sym, ap, subst, ◌∙◌, arith}
 use Rattle.std.proofs.lemmas.Bool.{false≢true}
-use Rattle.cbor_diag.specs.declared.syntax.IntegerWidth.{IntegerWidth}
-use Rattle.cbor_diag.specs.Item.{Item, item_count, pair_count}
+use Rattle.cbor_grammar.specs.declared.width.IntegerWidth.{IntegerWidth}
+use Rattle.cbor_grammar.specs.Item.{Item, item_count, pair_count}
 use Rattle.cbor_diag.specs.View.{view, items_view, pairs_view}
-use Rattle.cbor_diag.specs.WellFormed.{deepest, WellFormed, WellFormedItems, WellFormedPairs, FitsCount}
+use Rattle.cbor_grammar.specs.WellFormed.{deepest, WellFormed, WellFormedItems, WellFormedPairs, FitsCount}
 use Rattle.cbor_diag.proofs.shared.Views.{view-Array, view-Map, item_count_view, pair_count_view}
 use Rattle.cbor_diag.proofs.syntax.well_formed.+well_formed.Goals as goal
 

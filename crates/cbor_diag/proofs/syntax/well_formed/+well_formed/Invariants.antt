@@ -1,6 +1,7 @@
+-- The members that are left are well formed exactly where all are.
 use Rattle.std.proofs.Common.{◌↔◌, drop}
 use Rattle.cbor_diag.specs.View.{items_view, pairs_view}
-use Rattle.cbor_diag.specs.WellFormed.{WellFormedItems, WellFormedPairs}
+use Rattle.cbor_grammar.specs.WellFormed.{WellFormedItems, WellFormedPairs}
 use Rattle.cbor_diag.proofs.syntax.well_formed.+well_formed.Given as goal
 
 abbrev pub invariant-items_well_formed-items : goal.invariant-items_well_formed-items

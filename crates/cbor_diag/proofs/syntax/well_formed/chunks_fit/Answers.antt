@@ -1,7 +1,8 @@
+-- The test of all chunks holds exactly where each length fits its width.
 use Rattle.std.proofs.Common.{rules}
 use Rattle.std.proofs.lemmas.Iterator.{cases_from_all, YieldsList-from_slice}
-use Rattle.cbor_diag.specs.WellFormed.{IsChunk}
-use Rattle.cbor_diag.proofs.shared.Fitting.{all_tested}
+use Rattle.cbor_grammar.specs.WellFormed.{IsChunk}
+use Rattle.cbor_grammar.proofs.shared.Fitting.{all_tested}
 use Rattle.cbor_diag.proofs.syntax.well_formed.chunks_fit.Goals as goal
 
 pub returns : goal.returns

@@ -1,19 +1,30 @@
 //! Whether the token at the front of a text is wrong for good, whatever follows the text.
-ghost use Rattle.std.specs.Prelude.{◌≡◌, ◌⊎◌, ◌++◌, List, ℕ, false, Ok, None, IsTrue, IfErr, IfOk};
-ghost use Rattle.std.specs.Prelude.{IfSome};
+ghost use Rattle.std.specs.Prelude.{◌≡◌, ◌≢◌, ◌⊎◌, ◌++◌, List, [], ◌∷◌, ℕ, false, Ok, Err};
+ghost use Rattle.std.specs.Prelude.{Some, None, IsTrue, IfErr, IfOk, IfSome, IfNone, codes};
+ghost use Rattle.std.specs.Prelude.{position, ◌==◌, nat_lt};
+ghost use Rattle.std.specs.List.{list_all};
+ghost use Rattle.std.specs.Char.{digit_value};
+ghost use Rattle.std.specs.Bool.{IsFalse};
+ghost use Rattle.cbor_notes.specs.Token.{Blank};
 ghost use Rattle.cbor_notes.specs.TokenReading.{unquoted};
-ghost use Rattle.cbor_diag.specs.mirror.DeadEnds.{NeverReads, HasEnd, ends_blank, is_firm};
-ghost use Rattle.cbor_diag.specs.mirror.DeadEnds.{is_settled, closes, NotRead, IsRefused};
-ghost use Rattle.cbor_diag.specs.mirror.NotationReading.{after_end, after_space, after_word};
-ghost use Rattle.cbor_diag.specs.mirror.NotationReading.{read_unsigned_number, read_word};
-ghost use Rattle.cbor_diag.specs.mirror.NotationReading.{read_negative_number, read_simple};
-ghost use Rattle.cbor_diag.specs.mirror.NotationReading.{read_float, b_notation, h_notation};
+ghost use Rattle.cbor_grammar.specs.DeadEnd.{GoesOn, IsCut, closes, closes_text};
+ghost use Rattle.cbor_grammar.specs.Notation.{NumberOf, NegativeOf, SimpleOf, Notation, Core};
+ghost use Rattle.cbor_grammar.specs.Notation.{Reads};
+ghost use Rattle.cbor_grammar.specs.Notation.{Closes};
+ghost use Rattle.cbor_diag.specs.mirror.DeadEnds.{NeverReads, ends_blank, is_firm};
+ghost use Rattle.cbor_diag.specs.mirror.DeadEnds.{is_settled, NotRead, IsRefused};
+ghost use Rattle.cbor_notation.specs.mirror.NotationReading.{after_end, after_space, after_word};
+ghost use Rattle.cbor_notation.specs.mirror.NotationReading.{read_unsigned_number, read_word};
+ghost use Rattle.cbor_notation.specs.mirror.NotationReading.{read_negative_number, read_simple};
+ghost use Rattle.cbor_notation.specs.mirror.NotationReading.{read_float, b_notation, h_notation};
+ghost use Rattle.cbor_notation.specs.mirror.OpenTokens.{widens, is_prefix, may_be_negative};
+ghost use Rattle.cbor_notation.specs.mirror.OpenTokens.{may_close, is_small, is_float, Near};
 
-use super::super::content::{b_notation, h_notation};
-use super::super::number::{read_negative_number, read_number, read_unsigned_number};
-use super::super::scan::{after_blank, after_space, after_word, whitespace_len};
-use super::super::word::{find_apostrophe, read_float, read_simple};
-use crate::error::{Error, Result};
+use super::super::word::are_decimal;
+use cbor_grammar::{Error, IntegerWidth, Result};
+use cbor_notation::content::{b_notation, h_notation};
+use cbor_notation::number::{read_negative_number, read_number, read_unsigned_number};
+use cbor_notation::scan::{after_blank, after_space, after_word, whitespace_len};
 use std::alloc::Global;
 
 /// Whether a blank before this text ends here, whatever follows the text: there is a byte, and it
@@ -49,7 +60,8 @@ pub(super) fn is_firm(text: &[u8]) -> bool
 
 /// Whether this is an error other than `Memory`.
 fn is_refused<T: Drop>(answer: Result<T>) -> bool
-    ensures { IsTrue result → IsRefused answer }
+    ensures refused { IsTrue result → IsRefused answer }
+    ensures other { IsFalse result → answer ≢ Err Error.Memory → (x : T) × (answer ≡ Ok x) }
 {
     match answer {
         Ok(_) => false,
@@ -61,6 +73,7 @@ fn is_refused<T: Drop>(answer: Result<T>) -> bool
 /// What was read, or `None` for any error but `Memory`.
 pub(super) fn but_memory<T: Drop>(answer: Result<T>) -> Result<Option<T>>
     ensures found { IfOk result (λ found. IfSome found (λ x. answer ≡ Ok x)) }
+    ensures none { IfOk result (λ found. IfNone found (IsRefused answer)) }
     ensures refused { IfErr result (λ e. e ≡ Error.Memory) }
 {
     match answer {
@@ -73,7 +86,10 @@ pub(super) fn but_memory<T: Drop>(answer: Result<T>) -> Result<Option<T>>
 /// Whether no list ends here, whatever follows the text.
 #[tactic(auto, using(crate::proofs::notation::DeadTokens::comma_open, crate::proofs::notation::DeadTokens::other_open))]
 pub(super) fn is_open(text: &[u8], close: u8) -> bool
-    ensures { IsTrue result → (more : List ℕ) → after_end close (text.now ++ more) ≡ None }
+    ensures unended { IsTrue result → (more : List ℕ) → after_end close (text.now ++ more) ≡ None }
+    // Otherwise a list ends here, or more text ends it.
+    ensures closes { IsFalse result → ((rest : List ℕ) × (after_end close text.now ≡ Some rest))
+        ⊎ ((more : List ℕ) × Closes (close ∷ []) (text.now ++ more)) }
 {
     match text {
         [] => false,
@@ -85,7 +101,9 @@ pub(super) fn is_open(text: &[u8], close: u8) -> bool
 /// Whether whitespace and the closing byte are not next, whatever follows the text.
 #[tactic(auto, using(crate::proofs::notation::DeadTokens::space_grown))]
 fn has_no_end(text: &[u8], close: u8) -> bool
-    ensures { IsTrue result → (more : List ℕ) → after_space close (text.now ++ more) ≡ None }
+    ensures unended { IsTrue result → (more : List ℕ) → after_space close (text.now ++ more) ≡ None }
+    ensures closes { IsFalse result → ((rest : List ℕ) × (after_space close text.now ≡ Some rest))
+        ⊎ Blank false text.now }
 {
     match whitespace_len(text) {
         Some(_) => after_space(text, close).is_none(),
@@ -96,61 +114,142 @@ fn has_no_end(text: &[u8], close: u8) -> bool
 /// Whether the text and the word differ before either ends.
 #[tactic(auto, using(crate::proofs::notation::GrownTokens::word_apart))]
 pub(super) fn is_apart(text: &[u8], word: &[u8]) -> bool
-    ensures { IsTrue result → (more : List ℕ) → after_word word.now (text.now ++ more) ≡ None }
+    ensures apart { IsTrue result → (more : List ℕ) → after_word word.now (text.now ++ more) ≡ None }
+    // Otherwise the text begins with the word, or more text makes it the word.
+    ensures near { IsFalse result → Near word.now text.now }
 {
     !text.starts_with(word) && !word.starts_with(text)
 }
 
-/// Whether the number at the front is the same whatever follows the text, or there is none.
-#[tactic(auto, using(crate::proofs::notation::DeadTokens::number_stays, crate::proofs::notation::DeadTokens::number_never))]
-fn has_all_digits(text: &[u8]) -> bool
-    ensures { IsTrue result → HasEnd text.now }
+/// Whether a greater indicator makes this number fit, and a digit may still be behind the one that
+/// it has, which is 0.
+fn widens(value: u128, indicator: Option<u8>, rest: &[u8]) -> bool
+    ensures { result ≡ widens value indicator rest.now }
 {
-    match read_number(text) {
-        Ok((_, rest)) => is_settled(rest),
-        Err(_) => !text.is_empty(),
+    match indicator {
+        Some(0) => rest.is_empty() && value < 1 << 64,
+        _ => false,
     }
 }
 
 /// Whether no unsigned number is at the front, whatever follows.
-#[tactic(auto, using(crate::proofs::notation::DeadTokens::unsigned_dead, crate::proofs::notation::DeadTokens::refused))]
 pub(super) fn is_dead_unsigned(text: &[u8]) -> bool
-    ensures { IsTrue result → NeverReads read_unsigned_number text.now }
+    ensures dead { IsTrue result → NeverReads read_unsigned_number text.now }
+    ensures cut { IsFalse result → NotRead (read_unsigned_number text.now)
+        → IsCut (λ t (x : ℕ × IntegerWidth). NumberOf t x.0 x.1) text.now }
 {
-    has_all_digits(text) && is_refused(read_unsigned_number(text))
+    match read_number(text) {
+        Ok(((value, indicator), rest)) => {
+            !widens(value, indicator, rest) && is_refused(read_unsigned_number(text))
+        }
+        Err(_) => !text.is_empty(),
+    }
+}
+
+/// Whether these bytes are `0x`, `0o` or `0b`.
+fn is_prefix(text: &[u8]) -> bool
+    ensures { result ≡ is_prefix text.now }
+{
+    match text {
+        [first, letter] => *first == b'0' && matches!(*letter, b'b' | b'o' | b'x'),
+        _ => false,
+    }
+}
+
+/// Whether more digits make a number of a negative integer of this one, which the text begins with.
+fn may_be_negative(text: &[u8], value: u128, indicator: Option<u8>, rest: &[u8]) -> bool
+    ensures { result ≡ may_be_negative text.now value indicator rest.now }
+{
+    if value == 0 {
+        indicator.is_none() && (rest.is_empty() || is_prefix(text))
+    } else {
+        widens(value - 1, indicator, rest)
+    }
 }
 
 /// Whether no number of a negative integer is at the front, whatever follows.
-#[tactic(auto, using(crate::proofs::notation::DeadTokens::negative_dead, crate::proofs::notation::DeadTokens::refused))]
 pub(super) fn is_dead_negative(text: &[u8]) -> bool
-    ensures { IsTrue result → NeverReads read_negative_number text.now }
+    ensures dead { IsTrue result → NeverReads read_negative_number text.now }
+    ensures cut { IsFalse result → NotRead (read_negative_number text.now)
+        → IsCut (λ t (x : ℕ × IntegerWidth). NegativeOf t x.0 x.1) (45 ∷ text.now) }
 {
-    has_all_digits(text) && is_refused(read_negative_number(text))
+    match read_number(text) {
+        Ok(((value, indicator), rest)) => {
+            !may_be_negative(text, value, indicator, rest) && is_refused(read_negative_number(text))
+        }
+        Err(_) => !text.is_empty(),
+    }
+}
+
+/// Whether a `)` is next, or may be.
+fn may_close(text: &[u8]) -> bool
+    ensures { result ≡ may_close text.now }
+{
+    match text {
+        [] => true,
+        [first, ..] => *first == b')',
+    }
+}
+
+/// Whether this is the value of a simple value with these digits, and a `)` is next, or may be.
+fn is_small(value: u128, digits: &[u8], rest: &[u8]) -> bool
+    ensures { result ≡ is_small value digits.now rest.now }
+{
+    value < 256 && are_decimal(digits) && may_close(rest)
 }
 
 /// Whether no simple value is after its `simple(`, whatever follows.
-#[tactic(auto, using(crate::proofs::notation::DeadTokens::simple_dead, crate::proofs::notation::DeadTokens::refused))]
 fn is_dead_simple(text: &[u8]) -> bool
-    ensures { IsTrue result → NeverReads read_simple text.now }
+    ensures dead { IsTrue result → NeverReads read_simple text.now }
+    ensures cut { IsFalse result → NotRead (read_simple text.now)
+        → GoesOn SimpleOf (codes "simple(" ++ text.now) }
 {
-    has_all_digits(text) && is_refused(read_simple(text))
+    match read_number(text) {
+        Ok(((value, _), rest)) => !is_small(value, &text[..text.len() - rest.len()], rest),
+        Err(_) => !text.is_empty(),
+    }
+}
+
+/// The index of the first apostrophe.
+fn apostrophe_at(text: &[u8]) -> Option<usize>
+    ensures { result ≡ position (λ b. b == 39) text.now }
+{
+    text.iter().position(|byte| *byte == b'\'')
+}
+
+/// Whether all of them are hex digits.
+fn are_hex(digits: &[u8]) -> bool
+    ensures { result ≡ list_all (λ c. nat_lt (digit_value c) 16) digits.now }
+{
+    digits.iter().all(|digit| char::from(*digit).is_digit(16))
+}
+
+/// Whether these are the hex digits of a float.
+fn is_float(digits: &[u8]) -> bool
+    ensures { result ≡ is_float digits.now }
+{
+    matches!(digits.len(), 4 | 8 | 16) && are_hex(digits)
 }
 
 /// Whether no float is after its `float'`, whatever follows.
-#[tactic(auto, using(crate::proofs::notation::DeadTokens::float_dead, crate::proofs::notation::DeadTokens::refused))]
+#[tactic(auto, using(crate::proofs::notation::DeadTokens::float_dead))]
 fn is_dead_float(text: &[u8]) -> bool
-    ensures { IsTrue result → NeverReads read_float text.now }
+    ensures dead { IsTrue result → NeverReads read_float text.now }
+    ensures cut { IsFalse result → NotRead (read_float text.now)
+        → closes false false text.now ≡ false }
 {
-    match find_apostrophe(text) {
-        Ok(_) => is_refused(read_float(text)),
-        Err(_) => false,
+    match apostrophe_at(text) {
+        Some(end) => !is_float(&text[..end]),
+        None => false,
     }
 }
 
 /// Whether no word is at the front, whatever follows.
 #[tactic(auto, using(crate::proofs::notation::DeadTokens::word_simple_dead, crate::proofs::notation::DeadTokens::word_float_dead))]
 pub(super) fn is_dead_word(text: &[u8]) -> bool
-    ensures { IsTrue result → NeverReads read_word text.now }
+    ensures dead { IsTrue result → NeverReads read_word text.now }
+    ensures cut { IsFalse result → NotRead (read_word text.now)
+        → IsCut (λ t i. (left : ℕ) → Core (Reads left) t i) text.now }
 {
     if let Some(rest) = after_word(text, b"simple(") {
         is_dead_simple(rest)
@@ -164,7 +263,11 @@ pub(super) fn is_dead_word(text: &[u8]) -> bool
 /// Whether the text differs from each word before it ends.
 #[tactic(auto, using(crate::proofs::notation::DeadTokens::no_word_dead))]
 fn is_no_word(text: &[u8]) -> bool
-    ensures { IsTrue result → NeverReads read_word text.now }
+    ensures dead { IsTrue result → NeverReads read_word text.now }
+    // Otherwise it begins with a word, or more text makes it one.
+    ensures near { IsFalse result → Near (codes "false") text.now ⊎ Near (codes "true") text.now
+        ⊎ Near (codes "null") text.now ⊎ Near (codes "undefined") text.now
+        ⊎ Near (codes "simple(") text.now ⊎ Near (codes "float'") text.now }
 {
     is_apart(text, b"false")
         && is_apart(text, b"true")
@@ -177,7 +280,9 @@ fn is_no_word(text: &[u8]) -> bool
 /// Whether a `\` that escapes nothing comes before the closing quote.
 pub(super) fn has_bad_escape(text: &[u8], quote: u8) -> bool
     requires { (quote ≡ 34) ⊎ (quote ≡ 39) }
-    ensures { IsTrue result → (more : List ℕ) → unquoted quote false (text.now ++ more) ≡ None }
+    ensures bad { IsTrue result → (more : List ℕ) → unquoted quote false (text.now ++ more) ≡ None }
+    ensures cut { IsFalse result → unquoted quote false text.now ≡ None
+        → closes_text quote false text.now ≡ false }
 {
     let mut rest = text;
     'content: loop {
@@ -222,7 +327,9 @@ fn are_closed(text: &[u8], comments: bool) -> bool
 /// Whether no other bytes behind the text change that it is no `b32'..'` or `b64'..'` after the `b`.
 #[tactic(auto, using(crate::proofs::notation::DeadTokens::b32_dead, crate::proofs::notation::DeadTokens::b64_dead, crate::proofs::notation::DeadTokens::b_dead))]
 fn is_dead_b(text: &[u8]) -> bool
-    ensures { IsTrue result → NotRead (b_notation text.now) → NeverReads b_notation text.now }
+    ensures dead { IsTrue result → NotRead (b_notation text.now) → NeverReads b_notation text.now }
+    ensures cut { IsFalse result → NotRead (b_notation text.now)
+        → IsCut (λ t bytes. (left : ℕ) → Notation (Reads left) t bytes) (98 ∷ text.now) }
 {
     if let Some(digits) = after_word(text, b"32'") {
         are_closed(digits, true)
@@ -236,7 +343,9 @@ fn is_dead_b(text: &[u8]) -> bool
 /// Whether no other bytes behind the text change that it is no `h'..'` or `h32'..'` after the `h`.
 #[tactic(auto, using(crate::proofs::notation::DeadTokens::h16_dead, crate::proofs::notation::DeadTokens::h32_dead, crate::proofs::notation::DeadTokens::h_dead))]
 fn is_dead_h(text: &[u8]) -> bool
-    ensures { IsTrue result → NotRead (h_notation text.now) → NeverReads h_notation text.now }
+    ensures dead { IsTrue result → NotRead (h_notation text.now) → NeverReads h_notation text.now }
+    ensures cut { IsFalse result → NotRead (h_notation text.now)
+        → IsCut (λ t bytes. (left : ℕ) → Notation (Reads left) t bytes) (104 ∷ text.now) }
 {
     if let Some(digits) = after_word(text, b"'") {
         are_closed(digits, true)
@@ -251,6 +360,8 @@ fn is_dead_h(text: &[u8]) -> bool
 #[tactic(auto, using(crate::proofs::notation::DeadTokens::refused))]
 pub(super) fn is_dead_b_notation(alloc: Global, text: &[u8]) -> Result<bool>
     ensures dead { IfOk result (λ dead. IsTrue dead → NeverReads b_notation text.now) }
+    ensures cut { IfOk result (λ dead. IsFalse dead → NotRead (b_notation text.now)
+        → IsCut (λ t bytes. (left : ℕ) → Notation (Reads left) t bytes) (98 ∷ text.now)) }
     ensures refused { IfErr result (λ e. e ≡ Error.Memory) }
 {
     match b_notation(alloc, text) {
@@ -264,6 +375,8 @@ pub(super) fn is_dead_b_notation(alloc: Global, text: &[u8]) -> Result<bool>
 #[tactic(auto, using(crate::proofs::notation::DeadTokens::refused))]
 pub(super) fn is_dead_h_notation(alloc: Global, text: &[u8]) -> Result<bool>
     ensures dead { IfOk result (λ dead. IsTrue dead → NeverReads h_notation text.now) }
+    ensures cut { IfOk result (λ dead. IsFalse dead → NotRead (h_notation text.now)
+        → IsCut (λ t bytes. (left : ℕ) → Notation (Reads left) t bytes) (104 ∷ text.now)) }
     ensures refused { IfErr result (λ e. e ≡ Error.Memory) }
 {
     match h_notation(alloc, text) {

@@ -1,5 +1,5 @@
 use Rattle.std.proofs.Common.{◌≡◌, [], drop, ap, ◌∙◌, rules}
-use Rattle.cbor_diag.specs.declared.parse.binary.skip.answer.Extent.TheVariants as extent
+use Rattle.cbor_bytes.specs.declared.skip.answer.Extent.TheVariants as extent
 use Rattle.cbor_inspect.proofs.StreamLemmas.{one_passed, later_passed, begins_so}
 use Rattle.cbor_inspect.proofs.stream.Stream.skip.Goals as goal
 

@@ -1,6 +1,7 @@
+-- A map leaves of the budget what its pairs leave.
 use Rattle.std.proofs.Common.{ap, ◌∙◌, arith}
 use Rattle.cbor_diag.specs.View.{view}
-use Rattle.cbor_diag.specs.Estimate.{estimated_length}
+use Rattle.cbor_grammar.specs.Estimate.{estimated_length}
 use Rattle.cbor_diag.proofs.shared.Views.{view-Map}
 use Rattle.cbor_diag.proofs.encode.notation.estimate.+estimate.Goals as goal
 

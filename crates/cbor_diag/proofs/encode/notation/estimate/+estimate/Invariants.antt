@@ -1,6 +1,7 @@
+-- The members that are left leave of the rest what all members leave of the budget.
 use Rattle.std.proofs.Common.{◌≡◌, ◌-◌, drop}
 use Rattle.cbor_diag.specs.View.{items_view, pairs_view}
-use Rattle.cbor_diag.specs.Estimate.{estimated_items, estimated_pairs}
+use Rattle.cbor_grammar.specs.Estimate.{estimated_items, estimated_pairs}
 use Rattle.cbor_diag.proofs.encode.notation.estimate.+estimate.Given as goal
 
 -- the members that are left leave of the rest what all leave of the budget

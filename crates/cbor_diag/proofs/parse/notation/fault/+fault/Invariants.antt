@@ -1,9 +1,13 @@
+-- The recursion ends, and a rest that is a dead end makes the whole list one.
 use Rattle.std.proofs.Common.{◌+◌, ◌-◌, ◌*◌, ℕ, length}
 use Rattle.cbor_diag.specs.declared.parse.notation.fault.Member.{Member}
 use Rattle.cbor_diag.specs.declared.parse.notation.fault.Member.TheVariants as member
-use Rattle.cbor_diag.specs.mirror.NotationReading.{read_item, read_members}
-use Rattle.cbor_diag.specs.mirror.StringView.{kind_view}
-use Rattle.cbor_diag.specs.mirror.DeadEnds.{NeverReads, NeverMembers, NeverPieces, read_member}
+use Rattle.cbor_notation.specs.mirror.NotationReading.{read_item, read_members}
+use Rattle.cbor_grammar.specs.mirror.StringView.{kind_view}
+use Rattle.cbor_diag.specs.mirror.DeadEnds.{NeverReads, NeverMembers, NeverPieces, read_member, MemberIs}
+use Rattle.cbor_grammar.specs.Notation.{Reads}
+use Rattle.cbor_diag.proofs.notation.CutLists.{ListGoes}
+use Rattle.cbor_diag.proofs.notation.CutStrings.{PiecesGo}
 use Rattle.cbor_diag.proofs.parse.notation.fault.+fault.Given as goal
 
 -- Each level is deeper than the one before. At one level a call is for less than the one that it is made by; a chunk
@@ -58,7 +62,8 @@ decreases-is_dead_list-members l = length l.rest
 abbrev pub invariant-is_dead_list-members : goal.invariant-is_dead_list-members
 invariant-is_dead_list-members l =
     let read = read_member l.member (read_item (129 - l.level)) in
-    NeverMembers read l.close l.rest → NeverReads (read_members read l.close) l.text
+    (NeverMembers read l.close l.rest → NeverReads (read_members read l.close) l.text)
+    × ListGoes read (MemberIs l.member (Reads (129 - l.level))) l.close l.text l.rest
 
 abbrev pub decreases-is_dead_pieces-pieces : goal.decreases-is_dead_pieces-pieces
 decreases-is_dead_pieces-pieces l = length l.rest
@@ -66,4 +71,5 @@ decreases-is_dead_pieces-pieces l = length l.rest
 abbrev pub invariant-is_dead_pieces-pieces : goal.invariant-is_dead_pieces-pieces
 invariant-is_dead_pieces-pieces l =
     let read = read_item (129 - l.inner) in
-    NeverPieces read (kind_view l.kind) l.rest → NeverPieces read (kind_view l.kind) l.text
+    (NeverPieces read (kind_view l.kind) l.rest → NeverPieces read (kind_view l.kind) l.text)
+    × PiecesGo (129 - l.inner) (kind_view l.kind) l.text l.rest

@@ -1,8 +1,9 @@
+-- Hex digits that end a string are the whole string to the definition, too.
 use Rattle.std.proofs.Common.{◌+◌, ◌-◌, take, drop, length, get_or, sym, ◌∙◌, codes, arith}
 use Rattle.std.proofs.lemmas.Bool.{eqb-true}
-use Rattle.cbor_diag.proofs.notation.OnePiece.{plain_hex}
-use Rattle.cbor_diag.proofs.notation.PlainDigits.{plain_digits}
-use Rattle.cbor_diag.proofs.notation.sound.Steps.{after_word_is}
+use Rattle.cbor_notation.proofs.notation.OnePiece.{plain_hex}
+use Rattle.cbor_notation.proofs.notation.PlainDigits.{plain_digits}
+use Rattle.cbor_notation.proofs.notation.sound.Steps.{after_word_is}
 use Rattle.cbor_diag.proofs.parse.notation.strings.read_plain_hex.Goals as goal
 
 pub returns-then-ends_string-clause-gives : goal.returns-then-ends_string-clause-gives

@@ -1,6 +1,7 @@
+-- A text without escapes that ends a string is the whole string to the definition, too.
 use Rattle.std.proofs.Common.{sym, ◌∙◌}
-use Rattle.cbor_diag.proofs.notation.OnePiece.{plain_text}
-use Rattle.cbor_diag.proofs.notation.sound.Steps.{after_byte_is}
+use Rattle.cbor_notation.proofs.notation.OnePiece.{plain_text}
+use Rattle.cbor_notation.proofs.notation.sound.Steps.{after_byte_is}
 use Rattle.cbor_diag.proofs.parse.notation.strings.read_plain_text.Goals as goal
 
 pub returns-then-ends_string-clause-gives : goal.returns-then-ends_string-clause-gives

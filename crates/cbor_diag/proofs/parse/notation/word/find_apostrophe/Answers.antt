@@ -1,7 +1,8 @@
+-- The index is that of the first apostrophe, or there is none.
 use Rattle.std.proofs.Common.{◌==◌, ap, sym, ◌∙◌, rules, tests}
 use Rattle.std.proofs.lemmas.Iterator.{YieldsList-from_slice}
 use Rattle.std.proofs.lemmas.Iterator.Search.{position_from_yields_List}
-use Rattle.cbor_diag.specs.mirror.NotationReading.{or_refused}
+use Rattle.cbor_notation.specs.mirror.NotationReading.{or_refused}
 use Rattle.cbor_diag.proofs.parse.notation.word.find_apostrophe.Goals as goal
 
 pub returns-in-Some-clause-gives : goal.returns-in-Some-clause-gives

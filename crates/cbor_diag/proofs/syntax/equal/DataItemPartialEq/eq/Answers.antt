@@ -1,6 +1,7 @@
+-- The test of all fields is the one of the definition.
 use Rattle.std.proofs.lemmas.Bool.Decides.{same_from_decides}
 use Rattle.cbor_diag.specs.View.{view}
-use Rattle.cbor_diag.specs.mirror.SameDecides.{same_decides}
+use Rattle.cbor_grammar.specs.mirror.SameDecides.{same_decides}
 use Rattle.cbor_diag.proofs.syntax.equal.DataItemPartialEq.eq.Goals as goal
 
 pub returns-clause-value : goal.returns-clause-value

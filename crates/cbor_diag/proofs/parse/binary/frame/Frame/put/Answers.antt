@@ -1,6 +1,7 @@
 use Rattle.std.proofs.Common.{length, refl}
 use Rattle.cbor_diag.specs.declared.syntax.DataItem.{DataItem}
-use Rattle.cbor_diag.proofs.turns.Frames.{item_joins, pair_joins, left_less, left_pushed}
+use Rattle.cbor_diag.proofs.turns.Frames.{item_joins, pair_joins}
+use Rattle.cbor_bytes.proofs.bytes.Remaining.{left_less, left_pushed}
 use Rattle.cbor_diag.proofs.parse.binary.frame.Frame.put.Goals as goal
 
 pub returns-in_ok-push-in-Array-clause-put : goal.returns-in_ok-push-in-Array-clause-put

@@ -1,6 +1,8 @@
-use Rattle.std.proofs.Common.{arith}
-use Rattle.cbor_diag.proofs.turns.TopFrames.{depth_at}
+use Rattle.std.proofs.Common.{length, ap, arith}
+use Rattle.std.proofs.lemmas.List.{length-reverse}
 use Rattle.cbor_diag.proofs.parse.binary.stack.Stack.depth.Goals as goal
 
 pub returns : goal.returns
-returns c = omega (arith, depth_at c.args.self.now.«open».items, c.args.self.now.«open».ok.0)
+returns c =
+    let opens = c.self.inside.«open» in
+    omega (arith, length-reverse opens.items, opens.ok.0, ap length c.self.view_is)

@@ -1,5 +1,6 @@
+-- The rest is closed exactly where all of the text is.
 use Rattle.std.proofs.Common.{◌≡◌, false, length}
-use Rattle.cbor_diag.specs.mirror.DeadEnds.{closes}
+use Rattle.cbor_grammar.specs.DeadEnd.{closes}
 use Rattle.cbor_diag.proofs.parse.notation.fault.tokens.are_closed.Given as goal
 
 abbrev pub invariant-digits : goal.invariant-digits

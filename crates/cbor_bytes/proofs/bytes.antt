@@ -1,0 +1,3 @@
+pub mod NoLongSimple
+pub mod StrictHeads
+pub mod Remaining

@@ -1,0 +1,14 @@
+-- Skipping the chunks that are left is skipping all of them, and each chunk shortens the rest.
+use Rattle.std.proofs.Common.{◌≤◌, length}
+use Rattle.cbor_bytes.specs.mirror.Skipping.{Goes, skip_chunks}
+use Rattle.cbor_grammar.specs.mirror.StringView.{kind_view}
+use Rattle.cbor_bytes.proofs.skip.after_chunks.Given as goal
+
+abbrev pub decreases-chunks : goal.decreases-chunks
+decreases-chunks l = length l.rest
+
+abbrev pub invariant-chunks : goal.invariant-chunks
+invariant-chunks l = record {
+  goes : Goes (skip_chunks (kind_view l.kind)) (skip_chunks (kind_view l.kind)) l.bytes l.rest;
+  shorter : length l.rest ≤ length l.bytes;
+}

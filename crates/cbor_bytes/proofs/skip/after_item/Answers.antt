@@ -1,0 +1,78 @@
+-- Skipping an item goes on from part to part over the open containers, and stops where a part does.
+use Rattle.std.proofs.Common.{◌≡◌, ◌-◌, List, length, replicate, sym, subst, arith}
+use Rattle.std.proofs.lemmas.Result.{err_from_is_err_and}
+use Rattle.cbor_bytes.specs.declared.skip.to_come.ToCome.{ToCome}
+use Rattle.cbor_grammar.specs.WellFormed.{deepest}
+use Rattle.cbor_bytes.specs.mirror.Skipping.{here, Goes, StopsSo, skip_item, begun, skip_open, ended}
+use Rattle.cbor_bytes.proofs.skipping.Skips.{goes_then, stops_then}
+use Rattle.cbor_bytes.proofs.skipping.SkippedParts.{item_goes, last_ends, open_ends, part_stops, whole_goes, opens_goes}
+use Rattle.cbor_bytes.proofs.skip.after_item.Goals as goal
+
+pub turns-init : goal.turns-init
+turns-init c =
+    let b = c.args.bytes.now in
+    let levels : deepest - (c.args.level - 1) ≡ 129 - c.args.level = omega arith in
+    let goes = item_goes (c.args.level - 1) b c.one-top.result c.one-top.ensures in
+    record {
+      goes = rw c.around-outer.ensures (subst
+          (λ l. Goes (skip_item l) (skip_open (replicate (c.args.level - 1) ended) c.one-top.result) b b) levels goes);
+    }
+
+pub returns-in_default-pop-clause-goes : goal.returns-in_default-pop-clause-goes
+returns-in_default-pop-clause-goes c =
+    let top = c.turns.top in
+    let rest = c.turns.rest.now in
+    let none = c.pop.ensures.none c.in_default-pop.is in
+    let ends = last_ends top rest c.in-Some.after.now c.in-Some.ensures in
+    goes_then c.turns.invariant.goes (subst (λ (outer : List ToCome). Goes (skip_open outer top) here rest
+    c.in-Some.after.now) (sym none) ends)
+
+pub turns-preserved-in-Some : goal.turns-preserved-in-Some
+turns-preserved-in-Some c =
+    let top = c.turns.top in
+    let rest = c.turns.rest.now in
+    let outer = c.pop.new.self in
+    let open1 = c.in-Some-pop.«open» in
+    let ends = open_ends outer open1 top rest c.in-Some.after.now c.in-Some.ensures in
+    record {
+      goes = goes_then c.turns.invariant.goes
+          (subst (λ (all : List ToCome). Goes (skip_open all top) (skip_open outer open1) rest c.in-Some.after.now)
+          (sym c.in-Some-pop.ensures.some) ends);
+    }
+
+pub returns-in_err-parts-clause-stops : goal.returns-in_err-parts-clause-stops
+returns-in_err-parts-clause-stops c =
+    let p = err_from_is_err_and c.from_residual.result c.from_residual.ensures.1 in
+    let stop = c.in_err-parts.field-0.0 in
+    let levels : c.from.result - c.len.result ≡ deepest - length c.turns.outer = omega arith in
+    let part = subst (λ l. StopsSo (skip_item l) c.turns.rest.now stop) levels c.in_err-parts.ensures.stops in
+    rw (p.1, p.2) (stops_then stop c.turns.invariant.goes
+    (part_stops c.turns.outer c.turns.top c.turns.rest.now stop c.in_default.ensures part))
+
+pub turns-preserved-in-Some-parts : goal.turns-preserved-in-Some-parts
+turns-preserved-in-Some-parts c =
+    let outer = c.turns.outer in
+    let top = c.turns.top in
+    let rest = c.turns.rest.now in
+    let after = c.in_ok-parts.after.now in
+    let parts = c.in-Some-parts.parts in
+    let levels : c.from.result - c.len.result ≡ deepest - length outer = omega arith in
+    let part = subst (λ l. Goes (skip_item l) (begun (l - 1) c.in_ok-parts.parts) rest after) levels
+    c.in_ok-parts.ensures.goes in
+    let next = opens_goes outer top c.after_part-top.result parts rest after c.in_default.ensures
+    c.after_part-top.ensures
+    c.in_ok-parts.ensures.shorter (rw c.in-Some-parts.is at part) in
+    record { goes = goes_then c.turns.invariant.goes (rw c.push.ensures next) }
+
+pub turns-preserved : goal.turns-preserved
+turns-preserved c =
+    let outer = c.turns.outer in
+    let top = c.turns.top in
+    let rest = c.turns.rest.now in
+    let after = c.in_ok-parts.after.now in
+    let levels : c.from.result - c.len.result ≡ deepest - length outer = omega arith in
+    let part = subst (λ l. Goes (skip_item l) (begun (l - 1) c.in_ok-parts.parts) rest after) levels
+    c.in_ok-parts.ensures.goes in
+    let next = whole_goes outer top c.after_part-top.result rest after c.in_default.ensures c.after_part-top.ensures
+    c.in_ok-parts.ensures.shorter (rw c.in_default-parts.is at part) in
+    record { goes = goes_then c.turns.invariant.goes next }

@@ -1,0 +1,453 @@
+-- Steps of skipping, and what they skip: contents, chunks and heads.
+use Rattle.std.proofs.Common.{◌≡◌, ◌≢◌, ℕ, zero, suc, ◌-◌, ◌/◌, ◌%◌, ◌<◌, ◌≤◌, List, [], ◌∷◌, ◌++◌, length, get_or}
+use Rattle.std.proofs.Common.{take, drop, Option, Some, None, Ok, Err, ◌⊎◌, inl, inr, refl, sym, ap, subst, ◌∙◌}
+use Rattle.std.proofs.Common.{append_assoc, arith}
+use Rattle.std.specs.Prelude.{IsUtf8}
+use Rattle.std.proofs.lemmas.List.{append-nil, length-append, length-take, take-append-drop, take_all}
+use Rattle.std.proofs.lemmas.Str.{IsUtf8-nil}
+use Rattle.cbor_grammar.specs.declared.width.IntegerWidth.{IntegerWidth}
+use Rattle.cbor_grammar.specs.declared.error.Error.{Error}
+use Rattle.cbor_grammar.specs.declared.error.Error.TheVariants as refusal
+use Rattle.cbor_grammar.specs.Argument.{Argument, number, indefinite}
+use Rattle.cbor_grammar.specs.ItemHead.{ItemHead}
+use Rattle.cbor_bytes.specs.declared.skip.Stop.{Stop}
+use Rattle.cbor_bytes.specs.declared.skip.Stop.TheVariants as stops
+use Rattle.cbor_grammar.specs.Item.{Chunk}
+use Rattle.cbor_grammar.specs.Head.{break_byte}
+use Rattle.cbor_grammar.specs.StringKind.{StringKind, bytes_kind, text_kind, major_of, IsContent}
+use Rattle.cbor_grammar.specs.Refused.{BadHead, no_info, no_length}
+use Rattle.cbor_grammar.specs.Reading.{Read, ◌>>=◌, read_argument, head_of, read_head, read_content, chunk_of}
+use Rattle.cbor_grammar.specs.Reading.{read_chunk}
+use Rattle.cbor_grammar.specs.Reading.{Counted, go_on, ◌>>-◌, more_chunks, read_chunks, opened, read_body, counted_item}
+use Rattle.cbor_bytes.specs.mirror.Skipping.{Skip, rest_of, here, Goes, Shows, StopsSo, stop_of, skip_content}
+use Rattle.cbor_bytes.specs.mirror.Skipping.{skip_chunks, skip_item, skip_body}
+use Rattle.cbor_grammar.proofs.bytes.Heads.{IsBytes, IsBytes-rest, bind_ok, ok_is, number_bytes, ArgumentIs, info_takes}
+use Rattle.cbor_grammar.proofs.bytes.Heads.{info_again}
+use Rattle.cbor_grammar.proofs.bytes.Shorter.{Leaves, chunk_leaves}
+use Rattle.cbor_grammar.proofs.bytes.Chunks.{content_again, chunk_ways}
+use Rattle.cbor_grammar.proofs.bytes.HeadRefusals.{InfoRefusal, cut_info, bad_info, info_refused, info_refuses}
+use Rattle.cbor_grammar.proofs.bytes.HeadRefusals.{info_opens}
+use Rattle.cbor_grammar.proofs.bytes.HeadRefusals.{HeadRefusal, no_head, short_head, bad_head, head_refused, head_bad}
+use Rattle.cbor_grammar.proofs.bytes.StringRefusals.{short_content, bad_content, content_refuses}
+use Rattle.cbor_grammar.proofs.bytes.Refusals.{item_nothing}
+use Rattle.cbor_grammar.proofs.bytes.Steps.{then_first, first_same}
+
+-- ---- steps
+
+-- no byte is skipped
+pub goes_here : {f g : List ℕ → Skip} (b : List ℕ) → ((c : List ℕ) → f c ≡ g c) → Goes f g b b
+goes_here b same = record { over = []; parts = refl; along = same }
+
+pub goes_then : {f g h : List ℕ → Skip} {b r s : List ℕ} → Goes f g b r → Goes g h r s → Goes f h b s
+goes_then {f = f} {s = s} x y = record {
+  over = x.over ++ y.over;
+  parts = x.parts ∙ ap (λ (z : List ℕ). x.over ++ z) y.parts ∙ sym (append_assoc x.over y.over s);
+  along = λ c. ap f (append_assoc x.over y.over c) ∙ x.along (y.over ++ c) ∙ y.along c;
+}
+
+-- what was skipped before the same step
+pub goes_within : {f g : List ℕ → Skip} {b r : List ℕ} (F : Skip → Skip) → Goes f g b r
+    → Goes (λ c. F (f c)) (λ c. F (g c)) b r
+goes_within F x = record { over = x.over; parts = x.parts; along = λ c. ap F (x.along c) }
+
+-- another way to say where it goes on
+pub goes_from : {f g h : List ℕ → Skip} {b r : List ℕ} → ((c : List ℕ) → f c ≡ g c) → Goes g h b r → Goes f h b r
+goes_from same x = record { over = x.over; parts = x.parts; along = λ c. same (x.over ++ c) ∙ x.along c }
+
+-- the result of skipping at these bytes
+pub goes_at : {f g : List ℕ → Skip} {b r : List ℕ} → Goes f g b r → f b ≡ g r
+goes_at {f = f} {r = r} x = ap f x.parts ∙ x.along r
+
+pub shows_then : {f g : List ℕ → Skip} {b r : List ℕ} {e : Error} {after : ℕ} → Goes f g b r → Shows g r e after
+    → Shows f b e after
+shows_then {f = f} x s = record {
+  before = x.over ++ s.before;
+  last = s.last;
+  behind = s.behind;
+  parts = x.parts ∙ ap (λ (z : List ℕ). x.over ++ z) s.parts ∙ sym (append_assoc x.over s.before (s.last ∷ s.behind));
+  count = s.count;
+  cut = x.along s.before ∙ s.cut;
+  fails = ap f (append_assoc x.over s.before (s.last ∷ [])) ∙ x.along (s.before ++ s.last ∷ []) ∙ s.fails;
+  other = s.other;
+}
+
+pub stops_then : {f g : List ℕ → Skip} {b r : List ℕ} (stop : Stop) → Goes f g b r → StopsSo g r stop → StopsSo f b stop
+stops_then stops.Cut x s = goes_at x ∙ s
+stops_then (stops.Fault e after) x s = shows_then x s
+
+pub stops_within : (f : List ℕ → Skip) (b : List ℕ) (stop : Stop) (F : Skip → Skip) → ((e : Error) → F (Err e) ≡ Err e)
+    → StopsSo f b stop → StopsSo (λ c. F (f c)) b stop
+stops_within f b stops.Cut F keeps s = ap F s ∙ keeps refusal.CutShort
+stops_within f b (stops.Fault e after) F keeps s = record {
+  before = s.before;
+  last = s.last;
+  behind = s.behind;
+  parts = s.parts;
+  count = s.count;
+  cut = ap F s.cut ∙ keeps refusal.CutShort;
+  fails = ap F s.fails ∙ keeps e;
+  other = s.other;
+}
+
+pub stops_from : (f g : List ℕ → Skip) (b : List ℕ) (stop : Stop) → ((c : List ℕ) → f c ≡ g c) → StopsSo g b stop
+    → StopsSo f b stop
+stops_from f g b stop same s = stops_then stop (goes_here b same) s
+
+-- the first byte shows it
+pub shows_first : (f : List ℕ → Skip) (first : ℕ) (b : List ℕ) (e : Error) → f [] ≡ Err refusal.CutShort
+    → f (first ∷ []) ≡ Err e → e ≢ refusal.CutShort → Shows f (first ∷ b) e (length b)
+shows_first f first b e cut fails other = record {
+  before = [];
+  last = first;
+  behind = b;
+  parts = refl;
+  count =
+      refl;
+  cut = cut;
+  fails = fails;
+  other = other;
+}
+
+-- ---- what is forgotten
+
+pub bind_here : (r : Skip) → (r >>= here) ≡ r
+bind_here (Ok b) = refl
+bind_here (Err e) = refl
+
+pub rest_made : {X Y : Type 0} (r : Read X) (f : X → Y) → rest_of (r >>= λ x. Ok (f x.0, x.1)) ≡ rest_of r
+rest_made (Ok x) f = refl
+rest_made (Err e) f = refl
+
+-- one after the other
+pub rest_then : {X Y : Type 0} (c : Counted X) (f : X × List ℕ → Counted Y) (g : List ℕ → Skip)
+    → ((x : X × List ℕ) → c.1 ≡ Ok x → rest_of (f x).1 ≡ g x.1) → rest_of (c >>- f).1 ≡ (rest_of c.1 >>= g)
+rest_then {X = X} {Y = Y} c f g same = go c.0 c.1 same
+  where
+    go : (n : ℕ) (r : Read X) → ((x : X × List ℕ) → r ≡ Ok x → rest_of (f x).1 ≡ g x.1)
+        → rest_of (go_on n r f).1 ≡ (rest_of r >>= g)
+    go n (Ok x) same = same x refl
+    go n (Err e) same = refl
+
+-- ---- contents
+
+-- a list has a last, or nothing
+last_ways : (x : List ℕ) → (x ≡ []) ⊎ ((front : List ℕ) × (last : ℕ) × (x ≡ front ++ last ∷ []))
+last_ways [] = inl refl
+last_ways (first ∷ x) =
+    elim (last_ways x) [
+      | inl none ↦ inr ([], first, ap (λ (z : List ℕ). first ∷ z) none)
+      | inr more ↦ inr (first ∷ more.0, more.1, ap (λ (z : List ℕ). first ∷ z) more.2)
+    ]
+
+pub content_cut : (kind : StringKind) (n : ℕ) (w : IntegerWidth) (b : List ℕ) → length b < n
+    → skip_content kind n w b ≡ Err refusal.CutShort
+content_cut kind n w b short = ap rest_of (content_refuses kind n w b refusal.CutShort (short_content short))
+
+pub content_goes : (kind : StringKind) (n : ℕ) (w : IntegerWidth) (b : List ℕ) → n ≤ length b
+    → IsContent kind (take n b) → Goes (skip_content kind n w) here b (drop n b)
+content_goes kind n w b long holds =
+    let chunk : Chunk = record { bytes = take n b; width = w } in
+    let count : n ≡ length (take n b) = omega (arith, length-take n b) in
+    record {
+      over = take n b;
+      parts = sym (take-append-drop n b);
+      along = λ c. ap (λ k. skip_content kind k w (take n b ++ c)) count
+          ∙ ap rest_of (content_again kind chunk c holds);
+    }
+
+content_bad : (n : ℕ) (w : IntegerWidth) (b : List ℕ) → n ≤ length b → ¬ (IsUtf8 (take n b))
+    → Shows (skip_content text_kind n w) b refusal.Utf8 (length (drop n b))
+content_bad n w b long bad =
+    elim (last_ways (take n b)) [
+      | inl none ↦ absurd (bad (rw none IsUtf8-nil))
+      | inr at ↦
+          let count : length (at.0 ++ at.1 ∷ []) ≡ n = omega (arith, length-take n b, ap length at.2) in
+          record {
+            before = at.0;
+            last = at.1;
+            behind = drop n b;
+            parts = sym (take-append-drop n b) ∙ ap (λ (z : List ℕ). z ++ drop n b) at.2
+                ∙ append_assoc at.0 (at.1 ∷ []) (drop n b);
+            count = refl;
+            cut = content_cut text_kind n w at.0 (omega (arith, length-append at.0 (at.1 ∷ [])));
+            fails = ap rest_of (content_refuses text_kind n w (at.0 ++ at.1 ∷ []) refusal.Utf8
+                (bad_content (at.0 ++ at.1 ∷ []) [] (sym (append-nil (at.0 ++ at.1 ∷ []))) count (rw (← at.2) bad)));
+            other = λ e. absurd cc;
+          }
+    ]
+
+pub content_shows : (kind : StringKind) (n : ℕ) (w : IntegerWidth) (b : List ℕ) → n ≤ length b
+    → ¬ (IsContent kind (take n b)) → Shows (skip_content kind n w) b refusal.Utf8 (length (drop n b))
+content_shows bytes_kind n w b long bad = absurd (bad tt)
+content_shows text_kind n w b long bad = content_bad n w b long bad
+
+-- ---- chunks
+
+-- how many chunks are looked for at most makes no difference
+chunks_same : (n m : ℕ) (kind : StringKind) (b : List ℕ) → length b ≤ n → length b ≤ m
+    → (read_chunks n kind b).1 ≡ (read_chunks m kind b).1
+unfolding read_chunks read_chunk
+chunks_same zero zero kind b le_n le_m = refl
+chunks_same zero (suc m) kind [] le_n le_m = refl
+chunks_same zero (suc m) kind (first ∷ b) le_n le_m = absurd (omega arith)
+chunks_same (suc n) zero kind [] le_n le_m = refl
+chunks_same (suc n) zero kind (first ∷ b) le_n le_m = absurd (omega arith)
+chunks_same (suc n) (suc m) kind b le_n le_m =
+    first_same (1, read_chunk kind b) _ _ (λ c e.
+    let lt : length c.1 < length b = subst (Leaves (length b)) e (chunk_leaves kind b) in
+    more_same c.0 c.1 (chunks_same n m kind c.1 (omega arith) (omega arith)))
+  where
+    more_same : (o : Option Chunk) (r : List ℕ) → (read_chunks n kind r).1 ≡ (read_chunks m kind r).1
+        → (more_chunks (read_chunks n kind) o r).1 ≡ (more_chunks (read_chunks m kind) o r).1
+    more_same None r same = refl
+    more_same (Some c) r same = then_first (read_chunks n kind r) (read_chunks m kind r) _ same
+
+-- what becomes of chunks after the next one, if there is one
+abbrev chunk_then : StringKind → Option Chunk → List ℕ → Skip
+chunk_then kind None r = here r
+chunk_then kind (Some c) r = skip_chunks kind r
+
+abbrev chunks_after : StringKind → Read (Option Chunk) → Skip
+chunks_after kind (Ok x) = chunk_then kind x.0 x.1
+chunks_after kind (Err e) = Err e
+
+one_then : (kind : StringKind) (n : ℕ) (o : Option Chunk) (r : List ℕ) → length r ≤ n
+    → rest_of (more_chunks (read_chunks n kind) o r).1 ≡ chunk_then kind o r
+one_then kind n None r le = refl
+one_then kind n (Some c) r le = rest_then (read_chunks n kind r) _ here (λ cs e. refl)
+    ∙ bind_here (rest_of (read_chunks n kind r).1) ∙ ap rest_of (chunks_same n (length r) kind r le (omega arith))
+
+next_then : (kind : StringKind) (n : ℕ) (read : Read (Option Chunk)) → Leaves (suc n) read
+    → rest_of ((1, read) >>- λ c. more_chunks (read_chunks n kind) c.0 c.1).1 ≡ chunks_after kind read
+next_then kind n (Ok x) lt = one_then kind n x.0 x.1 (omega arith)
+next_then kind n (Err e) lt = refl
+
+none_next : (kind : StringKind) → skip_chunks kind [] ≡ chunks_after kind (read_chunk kind [])
+unfolding read_chunks read_chunk
+none_next kind = refl
+
+chunks_next : (kind : StringKind) (b : List ℕ) → skip_chunks kind b ≡ chunks_after kind (read_chunk kind b)
+unfolding read_chunks
+chunks_next kind [] = none_next kind
+chunks_next kind (first ∷ b) = next_then kind (length b) (read_chunk kind (first ∷ b)) (chunk_leaves kind (first ∷ b))
+
+-- a break
+pub break_goes : (kind : StringKind) (b : List ℕ) → Goes (skip_chunks kind) here (break_byte ∷ b) b
+unfolding read_chunk
+break_goes kind b = record { over = break_byte ∷ []; parts = refl; along = λ c. chunks_next kind (break_byte ∷ c) }
+
+-- the number after five bits of info, whatever is after it
+info_over : (bits : ℕ) (i : Argument) (b rest : List ℕ) → ArgumentIs bits i b rest
+    → (x : List ℕ) × (b ≡ x ++ rest) × ((c : List ℕ) → read_argument bits (x ++ c) ≡ Ok (i, c))
+info_over bits (number n w) b rest is =
+    (number_bytes w n, is.2, λ c. ap (λ k. read_argument k (number_bytes w n ++ c)) is.1 ∙ info_again w n c is.0)
+info_over bits indefinite b rest is = ([], is.1, λ c. info_opens bits c is.0)
+
+-- a chunk's head, with its content and more chunks after it
+content_then : (kind : StringKind) (n : ℕ) (w : IntegerWidth) (c : List ℕ)
+    → chunks_after kind (chunk_of kind (number n w) c) ≡ (skip_content kind n w c >>= skip_chunks kind)
+content_then kind n w c = after (read_content kind n w c)
+  where
+    after : (read : Read Chunk) → chunks_after kind (read >>= λ c. Ok (Some c.0, c.1))
+        ≡ (rest_of read >>= skip_chunks kind)
+    after (Ok x) = refl
+    after (Err e) = refl
+
+-- what a chunk is where its info is read so
+chunk_reads : (kind : StringKind) (first : ℕ) (b : List ℕ) (read : Read Argument) → first ≢ break_byte
+    → first / 32 ≡ major_of kind → read_argument (first % 32) b ≡ read
+    → read_chunk kind (first ∷ b) ≡ (read >>= λ i. chunk_of kind i.0 i.1)
+chunk_reads kind first b read no_break major e =
+    elim (chunk_ways kind first b) [
+      | inl way ↦ absurd (no_break way.0)
+      | inr ways ↦ elim ways [
+        | inl way ↦ way.2 ∙ ap (λ r. r >>= λ i. chunk_of kind i.0 i.1) e
+        | inr way ↦ absurd (way.1 major)
+      ]
+    ]
+
+pub chunk_goes : (kind : StringKind) (first n : ℕ) (w : IntegerWidth) (b rest : List ℕ) → IsBytes b → first ≢ break_byte
+    → first / 32 ≡ major_of kind → read_argument (first % 32) b ≡ Ok (number n w, rest)
+    → Goes (skip_chunks kind) (λ c. skip_content kind n w c >>= skip_chunks kind) (first ∷ b) rest
+chunk_goes kind first n w b rest fits no_break major e =
+    let f = info_over (first % 32) (number n w) b rest (info_takes (first % 32) b rest (number n w) fits e) in
+    record {
+      over = first ∷ f.0;
+      parts = ap (λ (z : List ℕ). first ∷ z) f.1;
+      along = λ c. chunks_next kind (first ∷ (f.0 ++ c))
+          ∙ ap (chunks_after kind) (chunk_reads kind first (f.0 ++ c) (Ok (number n w, c)) no_break major (f.2 c))
+          ∙ content_then kind n w c;
+    }
+
+-- no chunk begins so, which the first byte shows
+chunk_shows : (kind : StringKind) (first : ℕ) (b : List ℕ) → read_chunk kind (first ∷ []) ≡ Err refusal.Head
+    → Shows (skip_chunks kind) (first ∷ b) refusal.Head (length b)
+unfolding read_chunks
+chunk_shows kind first b e = shows_first (skip_chunks kind) first b refusal.Head refl
+    (chunks_next kind (first ∷ []) ∙ ap (chunks_after kind) e) (λ same. absurd cc)
+
+pub kind_shows : (kind : StringKind) (first : ℕ) (b : List ℕ) → first ≢ break_byte → first / 32 ≢ major_of kind
+    → Shows (skip_chunks kind) (first ∷ b) refusal.Head (length b)
+kind_shows kind first b no_break other =
+    chunk_shows kind first b (elim (chunk_ways kind first []) [
+      | inl way ↦ absurd (no_break way.0)
+      | inr ways ↦ elim ways [
+        | inl way ↦ absurd (other way.1)
+        | inr way ↦ way.2
+      ]
+    ])
+
+-- a stop is a cut, or an error
+stop_either : (from : List ℕ → Skip) (b : List ℕ) (e : Error) (after : ℕ)
+    → (e ≡ refusal.CutShort → from b ≡ Err refusal.CutShort) → (e ≢ refusal.CutShort → Shows from b e after)
+    → StopsSo from b (stop_of e after)
+stop_either from b refusal.CutShort after cut shows = cut refl
+stop_either from b e after cut shows = shows (λ same. absurd cc)
+
+bad_info_from : {bits : ℕ} {b : List ℕ} {e : Error} → InfoRefusal bits b e → e ≢ refusal.CutShort
+    → InfoRefusal bits [] refusal.Head × (refusal.Head ≡ e)
+bad_info_from (cut_info k small is short) other = absurd (other refl)
+bad_info_from (bad_info least most) other = (bad_info least most, refl)
+
+info_shows : (kind : StringKind) (first : ℕ) (b : List ℕ) (e : Error) → first ≢ break_byte → first / 32 ≡ major_of kind
+    → read_argument (first % 32) b ≡ Err e → e ≢ refusal.CutShort → Shows (skip_chunks kind) (first ∷ b) e (length b)
+info_shows kind first b e no_break major h other =
+    let bad = bad_info_from (info_refused (first % 32) b e (omega arith) h) other in
+    subst (λ d. Shows (skip_chunks kind) (first ∷ b) d (length b)) bad.1
+    (chunk_shows kind first b (chunk_reads kind first [] (Err refusal.Head) no_break major
+    (info_refuses (first % 32) [] refusal.Head bad.0)))
+
+pub indefinite_shows : (kind : StringKind) (first : ℕ) (b rest : List ℕ) → IsBytes b → first ≢ break_byte
+    → first / 32 ≡ major_of kind → read_argument (first % 32) b ≡ Ok (indefinite, rest)
+    → Shows (skip_chunks kind) (first ∷ b) refusal.Head (length b)
+indefinite_shows kind first b rest fits no_break major e =
+    let is = info_takes (first % 32) b rest indefinite fits e in
+    chunk_shows kind first b (chunk_reads kind first [] (Ok (indefinite, [])) no_break major
+    (info_opens (first % 32) [] is.0))
+
+info_cut : (kind : StringKind) (first : ℕ) (b : List ℕ) → first ≢ break_byte → first / 32 ≡ major_of kind
+    → read_argument (first % 32) b ≡ Err refusal.CutShort → skip_chunks kind (first ∷ b) ≡ Err refusal.CutShort
+info_cut kind first b no_break major e = chunks_next kind (first ∷ b)
+    ∙ ap (chunks_after kind) (chunk_reads kind first b (Err refusal.CutShort) no_break major e)
+
+pub info_stops : (kind : StringKind) (first : ℕ) (b : List ℕ) (e : Error) → first ≢ break_byte
+    → first / 32 ≡ major_of kind → read_argument (first % 32) b ≡ Err e
+    → StopsSo (skip_chunks kind) (first ∷ b) (stop_of e (length b))
+info_stops kind first b e no_break major is =
+    stop_either (skip_chunks kind) (first ∷ b) e (length b)
+    (λ cut. info_cut kind first b no_break major (is ∙ ap (λ d. Err d) cut))
+    (info_shows kind first b e no_break major is)
+
+pub no_chunks : (kind : StringKind) → skip_chunks kind [] ≡ Err refusal.CutShort
+unfolding read_chunks
+no_chunks kind = refl
+
+-- more chunks after a content
+pub more_keeps : (kind : StringKind) (e : Error) → (Err e >>= skip_chunks kind) ≡ Err e
+more_keeps kind e = refl
+
+-- ---- heads
+
+-- a head whose info is read, whatever is after it
+head_reads : (h : ItemHead) (first : ℕ) (b c : List ℕ) (i : Argument) → head_of (first / 32) i ≡ Ok h
+    → read_argument (first % 32) b ≡ Ok (i, c) → read_head (first ∷ b) ≡ Ok (h, c)
+unfolding read_head
+head_reads h first b c i named info = ap (λ r. r >>= λ i. head_of (first / 32) i.0 >>= λ h. Ok (h, i.1)) info
+    ∙ ap (λ r. r >>= λ h. Ok (h, c)) named
+
+-- a head that is read, whatever is after it
+head_over : (h : ItemHead) (first : ℕ) (b rest : List ℕ) → IsBytes (first ∷ b) → read_head (first ∷ b) ≡ Ok (h, rest)
+    → (x : List ℕ) × (b ≡ x ++ rest) × ((c : List ℕ) → read_head (first ∷ (x ++ c)) ≡ Ok (h, c))
+unfolding read_head
+head_over h first b rest fits e =
+    let a = bind_ok (read_argument (first % 32) b) (λ i. head_of (first / 32) i.0 >>= λ h. Ok (h, i.1)) (h, rest) e in
+    let o = bind_ok (head_of (first / 32) a.0.0) (λ h. Ok (h, a.0.1)) (h, rest) a.2 in
+    let made = ok_is (o.0, a.0.1) (h, rest) o.2 in
+    let named : head_of (first / 32) a.0.0 ≡ Ok h = o.1 ∙ ap (λ (p : ItemHead × List ℕ). Ok p.0) made in
+    let info : read_argument (first % 32) b ≡ Ok (a.0.0, rest) = a.1
+    ∙ ap (λ (p : ItemHead × List ℕ). Ok (a.0.0, p.1)) made in
+    let f = info_over (first % 32) a.0.0 b rest
+    (info_takes (first % 32) b rest a.0.0 (IsBytes-rest first b fits) info) in
+    (f.0, f.1, λ c. head_reads h first (f.0 ++ c) c a.0.0 named (f.2 c))
+
+pub head_goes : (left : ℕ) (h : ItemHead) (first : ℕ) (b rest : List ℕ) → 0 < left → IsBytes (first ∷ b)
+    → read_head (first ∷ b) ≡ Ok (h, rest) → Goes (skip_item left) (skip_body (left - 1) h) (first ∷ b) rest
+unfolding counted_item
+head_goes zero h first b rest some fits e = absurd (omega arith)
+head_goes (suc left) h first b rest some fits e =
+    let f = head_over h first b rest fits e in
+    let same : left ≡ suc left - 1 = omega arith in
+    record {
+      over = first ∷ f.0;
+      parts = ap (λ (z : List ℕ). first ∷ z) f.1;
+      along = λ c. ap (λ r. rest_of (go_on 1 r (λ h. read_body (counted_item left) (opened h.0) h.0 h.1)).1) (f.2 c)
+          ∙ ap (λ l. skip_body l h c) same;
+    }
+
+bad_head_from : {b : List ℕ} {e : Error} → HeadRefusal b e → e ≢ refusal.CutShort → BadHead b × (refusal.Head ≡ e)
+bad_head_from no_head other = absurd (other refl)
+bad_head_from (short_head h) other = absurd (other refl)
+bad_head_from (bad_head h) other = (h, refl)
+
+-- a head that no item has, by its first byte alone
+bad_alone : {first : ℕ} {b : List ℕ} → BadHead (first ∷ b) → BadHead (first ∷ [])
+bad_alone (no_info least most) = no_info least most
+bad_alone (no_length is major) = no_length is major
+
+bad_shows : (left first : ℕ) (b : List ℕ) → 0 < left → BadHead (first ∷ b)
+    → Shows (skip_item left) (first ∷ b) refusal.Head (length b)
+unfolding counted_item
+bad_shows zero first b some bad = absurd (omega arith)
+bad_shows (suc left) first b some bad = shows_first (skip_item (suc left)) first b refusal.Head
+    (ap rest_of (item_nothing (suc left)))
+    (ap (λ r. rest_of (go_on 1 r (λ h. read_body (counted_item left) (opened h.0) h.0 h.1)).1)
+    (head_bad (first ∷ []) (bad_alone bad))) (λ same. absurd cc)
+
+head_shows : (left first : ℕ) (b : List ℕ) (e : Error) → 0 < left → IsBytes (first ∷ b) → read_head (first ∷ b) ≡ Err e
+    → e ≢ refusal.CutShort → Shows (skip_item left) (first ∷ b) e (length b)
+head_shows left first b e some fits h other =
+    let bad = bad_head_from (head_refused (first ∷ b) e fits h) other in
+    subst (λ d. Shows (skip_item left) (first ∷ b) d (length b)) bad.1 (bad_shows left first b some bad.0)
+
+head_short : (left : ℕ) (b : List ℕ) → 0 < left → read_head b ≡ Err refusal.CutShort
+    → skip_item left b ≡ Err refusal.CutShort
+unfolding counted_item
+head_short zero b some e = absurd (omega arith)
+head_short (suc left) b some e =
+    ap (λ r. rest_of (go_on 1 r (λ h. read_body (counted_item left) (opened h.0) h.0 h.1)).1) e
+
+pub head_stops : (left first : ℕ) (b : List ℕ) (e : Error) → 0 < left → IsBytes (first ∷ b)
+    → read_head (first ∷ b) ≡ Err e → StopsSo (skip_item left) (first ∷ b) (stop_of e (length b))
+head_stops left first b e some fits is =
+    stop_either (skip_item left) (first ∷ b) e (length b)
+    (λ cut. head_short left (first ∷ b) some (is ∙ ap (λ d. Err d) cut)) (head_shows left first b e some fits is)
+
+pub no_item : (left : ℕ) → skip_item left [] ≡ Err refusal.CutShort
+no_item left = ap rest_of (item_nothing left)
+
+pub deep_shows : (left first : ℕ) (b : List ℕ) → left ≡ 0
+    → Shows (skip_item left) (first ∷ b) refusal.TooDeep (length b)
+unfolding counted_item
+deep_shows zero first b none = shows_first (skip_item 0) first b refusal.TooDeep refl refl (λ same. absurd cc)
+deep_shows (suc left) first b none = absurd (omega arith)
+
+-- ---- bytes that are not empty
+
+-- the first byte, and the bytes after it
+abbrev pub behind_first : List ℕ → List ℕ
+behind_first b = take (length b - 1) (drop 1 b)
+
+pub first_is : (b : List ℕ) → 1 ≤ length b → b ≡ get_or b 0 0 ∷ behind_first b
+first_is [] some = absurd (omega arith)
+first_is (first ∷ b) some = ap (λ (x : List ℕ). first ∷ x) (sym (take_all (length (first ∷ b) - 1) b (omega arith)))
+
+-- a fact of such bytes, from that of their first byte and those after it
+pub at_first : (Fact : List ℕ → Type 0) (b : List ℕ) → 1 ≤ length b → Fact (get_or b 0 0 ∷ behind_first b) → Fact b
+at_first Fact b some holds = subst Fact (sym (first_is b some)) holds
+
+pub fits_first : (b : List ℕ) → 1 ≤ length b → IsBytes b → IsBytes (get_or b 0 0 ∷ behind_first b)
+fits_first b some fits = subst IsBytes (first_is b some) fits
+
+pub empty_is : (b : List ℕ) → length b < 1 → b ≡ []
+empty_is [] none = refl
+empty_is (first ∷ b) none = absurd (omega arith)

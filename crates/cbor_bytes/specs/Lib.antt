@@ -1,0 +1,3 @@
+pub mod Extent
+pub mod Scanning
+pub mod mirror

@@ -1,0 +1,6 @@
+-- Definitions that mirror the code. Only the checker reads them: no contract of a public call needs them.
+pub mod Skipping
+pub mod OpenStack
+pub mod Scanning
+pub mod Scanned
+pub mod HeadView

@@ -1,0 +1,29 @@
+-- What is still to be skipped after the bytes that came, as the code of `parse/binary/skip/progress.rt` keeps it. No
+-- public clause names it.
+use Rattle.std.specs.Prelude.{◌≡◌, ℕ, ◌-◌, List, length, Result, Ok, Err}
+use Rattle.cbor_bytes.specs.declared.skip.answer.Extent.{Extent}
+use Rattle.cbor_bytes.specs.declared.skip.answer.Extent.TheVariants as extent
+use Rattle.cbor_bytes.specs.declared.skip.Stop.{Stop}
+use Rattle.cbor_bytes.specs.declared.skip.Stop.TheVariants as stops
+use Rattle.cbor_bytes.specs.declared.skip.progress.Progress.{Progress}
+use Rattle.cbor_bytes.specs.mirror.Skipping.{Skip, here, Goes, Shows}
+use Rattle.cbor_bytes.specs.mirror.Scanning.{skip_from, Waits}
+
+-- what is due, and what is open round it
+abbrev pub skip_rest : Progress → List ℕ → Skip
+skip_rest p = skip_from p.due p.containers.outer p.containers.top
+
+-- the bytes end so, with this many after what is skipped
+abbrev pub EndsSo : (List ℕ → Skip) → List ℕ → ℕ → Type 0
+EndsSo from b after = (rest : List ℕ) × Goes from here b rest × (length rest ≡ after)
+
+-- why there is no complete item, and what is still to come where the bytes end
+abbrev pub StopsAt : Progress → (List ℕ → Skip) → List ℕ → Stop → Type 0
+StopsAt p from b stops.Cut = Waits from (skip_rest p) b p.held
+StopsAt p from b (stops.Fault error after) = Shows from b error after
+
+-- the answer for this many bytes, of how many follow the item or why there is none
+abbrev pub answer_of : ℕ → Result ℕ Stop → Extent
+answer_of fed (Ok after) = extent.Item (fed - after)
+answer_of fed (Err stops.Cut) = extent.Cut
+answer_of fed (Err (stops.Fault error after)) = extent.Fault error (fed - after)

@@ -1,0 +1,20 @@
+//! Reads and writes the heads of CBOR items (RFC 7049 section 2), and finds where items end without
+//! building any.
+//!
+//! [`extent`] tells how bytes begin, [`Scanner`] does the same with bytes that come in pieces, and
+//! `hex_text` finds the bytes of hex with comments.
+#![tactic(auto)]
+
+pub mod argument;
+pub mod borrowed;
+pub mod head;
+pub mod hex_text;
+pub mod skip;
+pub mod strict;
+pub mod strings;
+pub mod turns;
+pub mod write;
+
+pub use hex_text::{hex_bytes, hex_fault, hex_place};
+pub use skip::{Extent, Scanner, extent};
+pub use turns::Turns;

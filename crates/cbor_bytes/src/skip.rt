@@ -1,0 +1,328 @@
+//! Reports how bytes begin, without building an item: a loop over heads with a stack of the open
+//! containers. For each container it keeps how many parts are still to come; strings are skipped.
+//!
+//! Each private function takes the remaining bytes and returns those after what it skips, or why it
+//! stops.
+mod answer;
+mod containers;
+mod due;
+mod held;
+mod outer;
+mod packed;
+mod progress;
+mod scanner;
+mod to_come;
+
+ghost use Rattle.std.specs.Prelude.{◌≡◌, ◌≢◌, ℕ, ◌+◌, ◌-◌, ◌<◌, ◌≤◌, List, ◌++◌, length, take, ◌↔◌};
+ghost use Rattle.std.specs.Prelude.{IsTrue, IsSome, None, IfOk, IfErr, IfSome, IfNone, Ok, Err};
+ghost use Rattle.cbor_grammar.specs.declared.error.Error.{Error};
+ghost use Rattle.cbor_grammar.specs.declared.width.IntegerWidth.{IntegerWidth};
+ghost use Rattle.cbor_grammar.specs.Item.{Item};
+ghost use Rattle.cbor_grammar.specs.WellFormed.{deepest, levels_left};
+ghost use Rattle.cbor_grammar.specs.Facts.{BeginsWithItem, IsCut, HasFault};
+ghost use Rattle.cbor_bytes.specs.Extent.{IfItem, IfFault, FaultEnds, IsExtent};
+ghost use Rattle.cbor_grammar.specs.Reading.{opened, read_item};
+ghost use Rattle.cbor_grammar.specs.ItemHead.{string};
+ghost use Rattle.cbor_bytes.specs.mirror.HeadView.{argument_view, head_view};
+ghost use Rattle.cbor_grammar.specs.mirror.StringView.{kind_view};
+ghost use Rattle.cbor_bytes.specs.mirror.Skipping.{here, Goes, StopsSo, stop_of};
+ghost use Rattle.cbor_bytes.specs.mirror.Skipping.{skip_content, skip_chunks, after_chunk};
+ghost use Rattle.cbor_bytes.specs.mirror.Skipping.{after_chunk_length};
+ghost use Rattle.cbor_bytes.specs.mirror.Skipping.{skip_item, skip_body, begun};
+
+use crate::argument::Argument;
+use crate::head::{ItemHead, read_argument, read_head};
+pub use answer::Extent;
+use cbor_grammar::Error;
+use cbor_grammar::level::DEEPEST;
+use cbor_grammar::strings::StringKind;
+use outer::Outer;
+pub use scanner::Scanner;
+use to_come::ToCome;
+
+/// Why there is no complete item.
+#[derive(Clone, Copy)]
+enum Stop {
+    /// The bytes end.
+    Cut,
+    /// An error, and how many bytes follow the first ones that have it.
+    Fault { error: Error, after: usize },
+}
+
+impl Stop {
+    /// The reason for this error, with `after` bytes after those that have it.
+    fn new(error: Error, after: usize) -> Stop
+        ensures { result ≡ stop_of error after }
+    {
+        match error {
+            Error::CutShort => Stop::Cut,
+            _ => Stop::Fault { error, after },
+        }
+    }
+}
+
+/// What the next chunk of an indefinite string is.
+#[derive(Clone, Copy)]
+enum Chunk {
+    /// A string of definite length.
+    Content,
+    /// The break.
+    Break,
+}
+
+/// The bytes after a string of that length; its head is read already.
+fn after_content(kind: StringKind, count: u64, bytes: &[u8]) -> Result<&[u8], Stop>
+    ensures goes { (w : IntegerWidth) → IfOk result (λ rest.
+        Goes (skip_content (kind_view kind) count w) here bytes.now rest.now) }
+    ensures stops { (w : IntegerWidth) → IfErr result (λ stop.
+        StopsSo (skip_content (kind_view kind) count w) bytes.now stop) }
+    ensures shorter { IfOk result (λ rest. length rest.now ≤ length bytes.now) }
+{
+    if (bytes.len() as u64) < count {
+        return Err(Stop::Cut);
+    }
+    let (content, rest) = bytes.split_at(count as usize);
+    if kind.may_hold(content) {
+        return Ok(rest);
+    }
+    let after = rest.len();
+    let error = Error::Utf8;
+    Err(Stop::Fault { error, after })
+}
+
+/// The length of the next chunk of an indefinite string, or `None` at its break, and the bytes
+/// after this head.
+fn read_chunk_length(kind: StringKind, bytes: &[u8]) -> Result<(Option<u64>, &[u8]), Stop>
+    ensures goes { IfOk result (λ x. Goes (skip_chunks (kind_view kind))
+        (after_chunk_length (kind_view kind) x.0) bytes.now x.1.now) }
+    ensures stops { IfErr result (λ stop. StopsSo (skip_chunks (kind_view kind)) bytes.now stop) }
+    ensures shorter { IfOk result (λ x. length x.1.now < length bytes.now) }
+    ensures few { IfErr result (λ stop. stop ≡ Stop.Cut → length bytes.now ≤ 8) }
+{
+    match bytes {
+        [] => Err(Stop::Cut),
+        [0xff, rest @ ..] => Ok((None, rest)),
+        [first, rest @ ..] => {
+            let after = rest.len();
+            let error = Error::Head;
+            if *first / 32 != kind.major().number() {
+                return Err(Stop::Fault { error, after });
+            }
+            match read_argument(*first % 32, rest) {
+                Ok((Argument::Number(count, _), rest)) => Ok((Some(count), rest)),
+                Ok((Argument::Indefinite, _)) => Err(Stop::Fault { error, after }),
+                Err(error) => Err(Stop::new(error, after)),
+            }
+        }
+    }
+}
+
+/// The next chunk of an indefinite string, or its break, and the bytes after it.
+fn read_chunk(kind: StringKind, bytes: &[u8]) -> Result<(Chunk, &[u8]), Stop>
+    ensures goes { IfOk result (λ x.
+        Goes (skip_chunks (kind_view kind)) (after_chunk (kind_view kind) x.0) bytes.now x.1.now) }
+    ensures stops { IfErr result (λ stop. StopsSo (skip_chunks (kind_view kind)) bytes.now stop) }
+    ensures shorter { IfOk result (λ x. length x.1.now < length bytes.now) }
+{
+    let (len, rest) = read_chunk_length(kind, bytes)?;
+    let Some(count) = len else {
+        return Ok((Chunk::Break, rest));
+    };
+    let rest = after_content(kind, count, rest)?;
+    Ok((Chunk::Content, rest))
+}
+
+/// The bytes after the break of an indefinite string; its opening byte is read already.
+fn after_chunks(kind: StringKind, bytes: &[u8]) -> Result<&[u8], Stop>
+    ensures goes { IfOk result
+        (λ rest. Goes (skip_chunks (kind_view kind)) here bytes.now rest.now) }
+    ensures stops { IfErr result (λ stop. StopsSo (skip_chunks (kind_view kind)) bytes.now stop) }
+    ensures shorter { IfOk result (λ rest. length rest.now ≤ length bytes.now) }
+{
+    let mut rest = bytes;
+    'chunks: loop {
+        let (chunk, after) = read_chunk(kind, rest)?;
+        match chunk {
+            Chunk::Break => return Ok(after),
+            Chunk::Content => rest = after,
+        }
+    }
+}
+
+/// The head of an item with `levels` left for it, and the bytes after it.
+#[inline(always)]
+fn read_item_head(bytes: &[u8], levels: usize) -> Result<(ItemHead, &[u8]), Stop>
+    ensures goes { IfOk result (λ x.
+        Goes (skip_item levels) (skip_body (levels - 1) (head_view x.0)) bytes.now x.1.now) }
+    ensures stops { IfErr result (λ stop. StopsSo (skip_item levels) bytes.now stop) }
+    ensures shorter { IfOk result (λ x. length x.1.now < length bytes.now) }
+    ensures level { IfOk result (λ x. 0 < levels) }
+    ensures few { IfErr result (λ stop. stop ≡ Stop.Cut → length bytes.now ≤ 8) }
+{
+    let [_, after_first @ ..] = bytes else {
+        return Err(Stop::Cut);
+    };
+    let after = after_first.len();
+    if levels == 0 {
+        let error = Error::TooDeep;
+        return Err(Stop::Fault { error, after });
+    }
+    match read_head(bytes) {
+        Ok(read) => Ok(read),
+        Err(error) => Err(Stop::new(error, after)),
+    }
+}
+
+/// The bytes after a string of that length, or one in chunks; its head is read already.
+fn after_string(kind: StringKind, len: Argument, bytes: &[u8]) -> Result<&[u8], Stop>
+    ensures goes { (left : ℕ) → IfOk result (λ rest. Goes (skip_body left
+        (string (kind_view kind) (argument_view len))) here bytes.now rest.now) }
+    ensures stops { (left : ℕ) → IfErr result (λ stop. StopsSo (skip_body left
+        (string (kind_view kind) (argument_view len))) bytes.now stop) }
+    ensures shorter { IfOk result (λ rest. length rest.now ≤ length bytes.now) }
+{
+    match len {
+        Argument::Number(count, _) => after_content(kind, count, bytes),
+        Argument::Indefinite => after_chunks(kind, bytes),
+    }
+}
+
+/// The bytes after an item without parts; its head is read already.
+fn after_atom(head: ItemHead, bytes: &[u8]) -> Result<&[u8], Stop>
+    requires { opened (head_view head) ≡ None }
+    ensures goes { (left : ℕ) → IfOk result
+        (λ rest. Goes (skip_body left (head_view head)) here bytes.now rest.now) }
+    ensures stops { (left : ℕ) → IfErr result
+        (λ stop. StopsSo (skip_body left (head_view head)) bytes.now stop) }
+    ensures shorter { IfOk result (λ rest. length rest.now ≤ length bytes.now) }
+{
+    match head {
+        ItemHead::String(kind, len) => after_string(kind, len, bytes),
+        _ => Ok(bytes),
+    }
+}
+
+/// What is still to come of an item with `levels` left for it, and the bytes after its head: all of
+/// a container if the head opens one, otherwise nothing. Inlined into the loop of `extent` and into
+/// that of a `Scanner`.
+#[inline(always)]
+fn read_part(bytes: &[u8], levels: usize) -> Result<(Option<ToCome>, &[u8]), Stop>
+    ensures goes { IfOk result
+        (λ x. Goes (skip_item levels) (begun (levels - 1) x.0) bytes.now x.1.now) }
+    ensures stops { IfErr result (λ stop. StopsSo (skip_item levels) bytes.now stop) }
+    ensures shorter { IfOk result (λ x. length x.1.now < length bytes.now) }
+    ensures level { IfOk result (λ x. 0 < levels) }
+{
+    let (head, rest) = read_item_head(bytes, levels)?;
+    if let Some(parts) = ToCome::new(head) {
+        return Ok((Some(parts), rest));
+    }
+    let rest = after_atom(head, rest)?;
+    Ok((None, rest))
+}
+
+/// The bytes after the item at the front, read from `level`.
+fn after_item(bytes: &[u8], level: u8) -> Result<&[u8], Stop>
+    requires from { 1 ≤ level }
+    requires to { level ≤ deepest + 1 }
+    ensures goes { IfOk result (λ rest.
+        Goes (skip_item (levels_left level)) here bytes.now rest.now) }
+    ensures stops { IfErr result (λ stop. StopsSo (skip_item (levels_left level)) bytes.now stop) }
+{
+    let mut outer = Outer::around(level);
+    // One item is to come.
+    let mut top = ToCome::one();
+    let mut rest = bytes;
+    'turns: loop {
+        if let Some(after) = top.after_end(rest) {
+            rest = after;
+            let Some(open) = outer.pop() else {
+                return Ok(rest);
+            };
+            top = open;
+        } else {
+            let (parts, after) = read_part(rest, usize::from(DEEPEST) - outer.len())?;
+            rest = after;
+            top = top.after_part();
+            if let Some(parts) = parts {
+                outer.push(top);
+                top = parts;
+            }
+        }
+    }
+}
+
+/// The bytes after the item at the front, read from `level`; `None` where none is read.
+pub fn after_front(bytes: &[u8], level: u8) -> Option<&[u8]>
+    requires from { 1 ≤ level }
+    requires to { level ≤ deepest + 1 }
+    ensures some { IfSome result (λ rest. (i : Item)
+        × (read_item (levels_left level) bytes.now ≡ Ok (i, rest.now))) }
+    ensures none { IfNone result ((e : Error)
+        × (read_item (levels_left level) bytes.now ≡ Err e)) }
+{
+    match after_item(bytes, level) {
+        Ok(rest) => Some(rest),
+        Err(_) => None,
+    }
+}
+
+/// How the bytes begin.
+fn begins(bytes: &[u8]) -> Extent
+    ensures { IsExtent bytes.now result }
+{
+    match after_item(bytes, 1) {
+        Ok(rest) => Extent::Item(bytes.len() - rest.len()),
+        Err(Stop::Cut) => Extent::Cut,
+        Err(Stop::Fault { error, after }) => {
+            let end = bytes.len() - after;
+            Extent::Fault { error, end }
+        }
+    }
+}
+
+/// Reports how the bytes begin, by the rules of [`parse_bytes_partial`]. It allocates nothing.
+///
+/// Returns `Item` with the length of the item; `Cut` if the bytes end before the item does and
+/// before any error; or `Fault` with the first error from the left. The first `end` bytes have this
+/// error, and fewer are cut. For `Head` and `TooDeep`, the last of them is the byte at fault. For
+/// `Utf8`, they end with the text that is not UTF-8.
+///
+/// ```rust
+/// use cbor_diag::{Error, Extent, extent};
+///
+/// assert_eq!(rt; extent(b"\x82\x01\x02\xff"), Extent::Item(3));
+/// assert_eq!(rt; extent(b"\x82\x01"), Extent::Cut);
+/// let (error, end) = (Error::Head, 3);
+/// assert_eq!(rt; extent(b"\x82\x01\x1f\x00"), Extent::Fault { error, end });
+/// ```
+///
+/// [`parse_bytes_partial`]: cbor_diag::parse::binary::parse_bytes_partial
+pub fn extent(bytes: &[u8]) -> Extent
+    // An item of `n` bytes, exactly if they spell one.
+    ensures item { IfItem result (λ n. (i : Item) × BeginsWithItem bytes.now i n) }
+    ensures every_item { (i : Item) (n : ℕ) → BeginsWithItem bytes.now i n
+        → result ≡ Extent.Item n }
+
+    // Cut, exactly if the bytes are.
+    ensures cut { (result ≡ Extent.Cut) ↔ IsCut bytes.now }
+
+    // A fault, exactly if the bytes have it.
+    ensures fault { IfFault result (λ error end. HasFault bytes.now error) }
+    ensures every_fault { (error : Error) → HasFault bytes.now error
+        → (end : ℕ) × (result ≡ Extent.Fault error end) }
+
+    // The first `end` bytes have the fault, and fewer are cut.
+    ensures shown { IfFault result (λ error end. FaultEnds bytes.now error end) }
+    ensures fronts_cut { IfFault result
+        (λ error end. (n : ℕ) → n < end → IsCut (take n bytes.now)) }
+
+    // Bytes that come later change no item, no fault, and no `end`.
+    ensures item_stays { IfItem result (λ n.
+        (more : List ℕ) → (i : Item) × BeginsWithItem (bytes.now ++ more) i n) }
+    ensures fault_stays { IfFault result (λ error end.
+        (more : List ℕ) → HasFault (bytes.now ++ more) error
+        × FaultEnds (bytes.now ++ more) error end) }
+{
+    begins(bytes)
+}

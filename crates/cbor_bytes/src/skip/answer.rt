@@ -1,0 +1,15 @@
+//! How bytes begin.
+use cbor_grammar::Error;
+
+/// How bytes begin, as [`extent`] reports it.
+///
+/// [`extent`]: crate::extent
+#[derive(Clone, Copy, PartialEq, Eq, Debug)]
+pub enum Extent {
+    /// An item comes first, and takes this number of bytes.
+    Item(usize),
+    /// The bytes end before the item does, and before any error.
+    Cut,
+    /// There is an error. The first `end` bytes have it, and fewer bytes are cut.
+    Fault { error: Error, end: usize },
+}

@@ -1,0 +1,208 @@
+//! Strings whose bytes come in pieces: what is due next, and where the bytes end.
+//!
+//! Each function takes the remaining bytes and returns those after what it skips, or why it pauses.
+ghost use Rattle.std.specs.Prelude.{◌≡◌, ◌<◌, ◌≤◌, ℕ, ◌+◌, length, take, None, IfOk, IfErr, IsUtf8};
+ghost use Rattle.cbor_grammar.specs.ItemHead.{string};
+ghost use Rattle.cbor_grammar.specs.Reading.{opened};
+ghost use Rattle.cbor_grammar.specs.declared.width.IntegerWidth.TheVariants.{Zero};
+ghost use Rattle.cbor_bytes.specs.mirror.HeadView.{argument_view, head_view};
+ghost use Rattle.cbor_grammar.specs.mirror.StringView.{kind_view};
+ghost use Rattle.cbor_bytes.specs.mirror.Skipping.{here, Goes, Shows, skip_content, skip_chunks};
+ghost use Rattle.cbor_bytes.specs.mirror.Skipping.{skip_body};
+ghost use Rattle.cbor_bytes.specs.mirror.Scanning.{WholeChars, then_chunks, skip_bad, skip_due};
+ghost use Rattle.cbor_bytes.specs.mirror.Scanning.{Waits, PausesSo};
+ghost use Rattle.cbor_grammar.specs.StringKind.{text_kind};
+
+use super::{Stop, after_content, read_chunk_length};
+use crate::argument::Argument;
+use crate::head::ItemHead;
+use cbor_grammar::Error;
+use cbor_grammar::strings::StringKind;
+
+/// What is due next.
+#[derive(Clone, Copy)]
+pub(super) enum Due {
+    /// A part of the innermost container, or its end.
+    Part,
+    /// A number of bytes of a string's content, and whether it is that of a chunk.
+    Content(StringKind, u64, bool),
+    /// A chunk, or the break.
+    Chunk(StringKind),
+    /// A number of bytes of a text that is not UTF-8, and its last byte.
+    BadText(u64),
+}
+
+/// Why the bytes were not enough.
+#[derive(Clone, Copy)]
+pub(super) enum Pause<'a> {
+    /// The bytes end: what is due, and the bytes from there on, which are few.
+    Cut(Due, &'a [u8]),
+    /// An error, and how many bytes follow the first ones that have it.
+    Fault { error: Error, after: usize },
+}
+
+/// How many of the first bytes are whole characters.
+fn whole_chars(bytes: &[u8]) -> usize
+    ensures { WholeChars bytes.now result }
+{
+    match simdutf8::compat::from_utf8(bytes) {
+        Ok(_) => bytes.len(),
+        Err(error) => error.valid_up_to(),
+    }
+}
+
+/// What is due in a text of `left` bytes of which fewer are here.
+fn unfinished_text(left: u64, chunked: bool, bytes: &[u8]) -> (Due, &[u8])
+    requires { length bytes.now < left }
+    ensures { Waits (λ c. then_chunks chunked text_kind (skip_content text_kind left Zero c))
+        (skip_due result.0) bytes.now result.1.now }
+{
+    let whole = whole_chars(bytes);
+    let rest = &bytes[whole..];
+    // No character takes more than four bytes.
+    if rest.len() < 4 {
+        let left = left - whole as u64;
+        (Due::Content(StringKind::Text, left, chunked), rest)
+    } else {
+        (Due::BadText(left - bytes.len() as u64 - 1), &[])
+    }
+}
+
+/// What is due in a content of `left` bytes of which fewer are here.
+fn unfinished(kind: StringKind, left: u64, chunked: bool, bytes: &[u8]) -> (Due, &[u8])
+    requires { length bytes.now < left }
+    ensures { Waits
+        (λ c. then_chunks chunked (kind_view kind) (skip_content (kind_view kind) left Zero c))
+        (skip_due result.0) bytes.now result.1.now }
+{
+    match kind {
+        StringKind::Bytes => {
+            let left = left - bytes.len() as u64;
+            (Due::Content(kind, left, chunked), &[])
+        }
+        StringKind::Text => unfinished_text(left, chunked, bytes),
+    }
+}
+
+/// The bytes after a content of `left` bytes.
+fn after_rest(kind: StringKind, left: u64, chunked: bool, bytes: &[u8]) -> Result<&[u8], Pause>
+    ensures goes { IfOk result (λ rest.
+        Goes (skip_content (kind_view kind) left Zero) here bytes.now rest.now) }
+    ensures pauses { IfErr result (λ pause. PausesSo
+        (λ c. then_chunks chunked (kind_view kind) (skip_content (kind_view kind) left Zero c))
+        bytes.now pause) }
+    ensures shorter { IfOk result (λ rest. length rest.now ≤ length bytes.now) }
+{
+    match after_content(kind, left, bytes) {
+        Ok(rest) => Ok(rest),
+        Err(Stop::Cut) => {
+            let (due, rest) = unfinished(kind, left, chunked, bytes);
+            Err(Pause::Cut(due, rest))
+        }
+        Err(Stop::Fault { error, after }) => Err(Pause::Fault { error, after }),
+    }
+}
+
+/// The bytes after the break of an indefinite string.
+fn after_break_due(kind: StringKind, bytes: &[u8]) -> Result<&[u8], Pause>
+    ensures goes { IfOk result
+        (λ rest. Goes (skip_chunks (kind_view kind)) here bytes.now rest.now) }
+    ensures pauses { IfErr result
+        (λ pause. PausesSo (skip_chunks (kind_view kind)) bytes.now pause) }
+    ensures shorter { IfOk result (λ rest. length rest.now ≤ length bytes.now) }
+{
+    let mut rest = bytes;
+    'chunks: loop {
+        match read_chunk_length(kind, rest) {
+            Ok((len, after)) => {
+                let Some(len) = len else {
+                    return Ok(after);
+                };
+                rest = after_rest(kind, len, true, after)?;
+            }
+            Err(Stop::Cut) => return Err(Pause::Cut(Due::Chunk(kind), rest)),
+            Err(Stop::Fault { error, after }) => return Err(Pause::Fault { error, after }),
+        }
+    }
+}
+
+/// The bytes after a content of `left` bytes, and after the chunks that follow if it is a chunk.
+fn after_content_due(
+    kind: StringKind,
+    left: u64,
+    chunked: bool,
+    bytes: &[u8],
+) -> Result<&[u8], Pause>
+    ensures goes { IfOk result (λ rest. Goes
+        (λ c. then_chunks chunked (kind_view kind) (skip_content (kind_view kind) left Zero c))
+        here bytes.now rest.now) }
+    ensures pauses { IfErr result (λ pause. PausesSo
+        (λ c. then_chunks chunked (kind_view kind) (skip_content (kind_view kind) left Zero c))
+        bytes.now pause) }
+    ensures shorter { IfOk result (λ rest. length rest.now ≤ length bytes.now) }
+{
+    let rest = after_rest(kind, left, chunked, bytes)?;
+    if chunked {
+        after_break_due(kind, rest)
+    } else {
+        Ok(rest)
+    }
+}
+
+/// The bytes after a string of that length, or one in chunks; its head is read already.
+fn after_string_due(kind: StringKind, len: Argument, bytes: &[u8]) -> Result<&[u8], Pause>
+    ensures goes { (left : ℕ) → IfOk result (λ rest. Goes (skip_body left
+        (string (kind_view kind) (argument_view len))) here bytes.now rest.now) }
+    ensures pauses { (left : ℕ) → IfErr result (λ pause. PausesSo (skip_body left
+        (string (kind_view kind) (argument_view len))) bytes.now pause) }
+    ensures shorter { IfOk result (λ rest. length rest.now ≤ length bytes.now) }
+{
+    match len {
+        Argument::Number(count, _) => after_rest(kind, count, false, bytes),
+        Argument::Indefinite => after_break_due(kind, bytes),
+    }
+}
+
+/// The bytes after an item without parts; its head is read already.
+pub(super) fn after_atom_due(head: ItemHead, bytes: &[u8]) -> Result<&[u8], Pause>
+    requires { opened (head_view head) ≡ None }
+    ensures goes { (left : ℕ) → IfOk result
+        (λ rest. Goes (skip_body left (head_view head)) here bytes.now rest.now) }
+    ensures pauses { (left : ℕ) → IfErr result
+        (λ pause. PausesSo (skip_body left (head_view head)) bytes.now pause) }
+    ensures shorter { IfOk result (λ rest. length rest.now ≤ length bytes.now) }
+{
+    match head {
+        ItemHead::String(kind, len) => after_string_due(kind, len, bytes),
+        _ => Ok(bytes),
+    }
+}
+
+/// Why there are no bytes after a text that is not UTF-8, with `more` bytes before its last.
+fn bad_text(more: u64, bytes: &[u8]) -> Pause
+    ensures { PausesSo (skip_bad more) bytes.now result }
+{
+    let len = bytes.len() as u64;
+    if len <= more {
+        return Pause::Cut(Due::BadText(more - len), &[]);
+    }
+    let after = (len - more - 1) as usize;
+    let error = Error::Utf8;
+    Pause::Fault { error, after }
+}
+
+impl Due {
+    /// The bytes after what is due of a string; all of them if a part is due.
+    pub(super) fn after(self, bytes: &[u8]) -> Result<&[u8], Pause>
+        ensures goes { IfOk result (λ rest. Goes (skip_due self) here bytes.now rest.now) }
+        ensures pauses { IfErr result (λ pause. PausesSo (skip_due self) bytes.now pause) }
+        ensures shorter { IfOk result (λ rest. length rest.now ≤ length bytes.now) }
+    {
+        match self {
+            Due::Part => Ok(bytes),
+            Due::Content(kind, left, chunked) => after_content_due(kind, left, chunked, bytes),
+            Due::Chunk(kind) => after_break_due(kind, bytes),
+            Due::BadText(more) => Err(bad_text(more, bytes)),
+        }
+    }
+}

@@ -1,0 +1,99 @@
+//! Reports how bytes begin that come in pieces.
+ghost use Rattle.std.specs.Prelude.{◌≡◌, ◌≢◌, ℕ, ◌+◌, ◌^◌, ◌<◌, List, [], ◌++◌, length};
+ghost use Rattle.cbor_bytes.specs.Extent.{IsExtent};
+ghost use Rattle.cbor_bytes.specs.Scanning.{HasScanned};
+ghost use Rattle.cbor_bytes.specs.mirror.Scanned.{answer_of};
+
+use super::Stop;
+use super::answer::Extent;
+use super::progress::Progress;
+
+/// Reports how bytes begin, as [`extent`] does, where they come in pieces, as from a socket. It
+/// looks at each piece once and allocates nothing.
+///
+/// ```rust
+/// use cbor_diag::{Extent, Scanner};
+///
+/// let mut scanner = Scanner::new();
+/// assert_eq!(rt; scanner.feed(b"\x82\x19\x03"), Extent::Cut);
+/// assert_eq!(rt; scanner.feed(b"\xe8\x02\xff"), Extent::Item(5));
+/// assert_eq!(rt; scanner.feed(b"\x00"), Extent::Item(5));
+/// ```
+///
+/// [`extent`]: crate::extent
+#[derive(Drop)]
+pub struct Scanner {
+    progress: Progress,
+    fed: usize,
+    answer: Extent,
+}
+
+impl Scanner {
+    /// Returns a scanner that was fed no bytes.
+    pub fn new() -> Scanner
+        ensures { HasScanned result [] }
+    {
+        Scanner {
+            progress: Progress::new(),
+            fed: 0,
+            answer: Extent::Cut,
+        }
+    }
+
+    /// Feeds the bytes that come next, and reports how all bytes that were fed begin: what
+    /// [`extent`] returns for all of them, counts included. The time grows with the new bytes
+    /// alone, and is constant once the answer is an item or a fault, which then stays.
+    ///
+    /// A text is tested for UTF-8 across the pieces. The counts are right as long as fewer than
+    /// 2^64 bytes were fed.
+    ///
+    /// [`extent`]: crate::extent
+    pub fn feed(&mut self, bytes: &[u8]) -> Extent
+        // The scanner has scanned these bytes, too.
+        ensures scanned { (fed : List ℕ) → HasScanned self.old fed
+            → length fed + length bytes.now < 2 ^ 64 → HasScanned self.new (fed ++ bytes.now) }
+
+        // So all of the bytes begin, and in no other way.
+        ensures answer { (fed : List ℕ) → HasScanned self.old fed
+            → length fed + length bytes.now < 2 ^ 64 → IsExtent (fed ++ bytes.now) result }
+        ensures only { (fed : List ℕ) (answer : Extent) → HasScanned self.old fed
+            → length fed + length bytes.now < 2 ^ 64 → IsExtent (fed ++ bytes.now) answer
+            → result ≡ answer }
+
+        // An item or a fault stays.
+        ensures stays { (fed : List ℕ) (answer : Extent) → HasScanned self.old fed
+            → IsExtent fed answer → answer ≢ Extent.Cut → result ≡ answer }
+    {
+        match self.answer {
+            Extent::Cut => self.feed_more(bytes),
+            answer => answer,
+        }
+    }
+
+    /// The same where the bytes that were fed are cut.
+    fn feed_more(&mut self, bytes: &[u8]) -> Extent
+        requires { self.old.answer ≡ Extent.Cut }
+        ensures scanned { (fed : List ℕ) → HasScanned self.old fed
+            → length fed + length bytes.now < 2 ^ 64 → HasScanned self.new (fed ++ bytes.now) }
+        ensures answer { self.new.answer ≡ result }
+    {
+        self.fed = self.fed.saturating_add(bytes.len());
+        let scanned = self.progress.after_more(bytes);
+        self.answer = answer_of(self.fed, scanned);
+        self.answer
+    }
+}
+
+/// The answer for `fed` bytes, of how many follow the item or why there is none.
+fn answer_of(fed: usize, scanned: Result<usize, Stop>) -> Extent
+    ensures { result ≡ answer_of fed scanned }
+{
+    match scanned {
+        Ok(after) => Extent::Item(fed.saturating_sub(after)),
+        Err(Stop::Cut) => Extent::Cut,
+        Err(Stop::Fault { error, after }) => {
+            let end = fed.saturating_sub(after);
+            Extent::Fault { error, end }
+        }
+    }
+}

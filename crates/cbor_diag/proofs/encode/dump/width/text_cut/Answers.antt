@@ -1,8 +1,0 @@
-use Rattle.cbor_diag.proofs.dump.Pieces.{floor_is}
-use Rattle.cbor_diag.proofs.encode.dump.width.text_cut.Goals as goal
-
-pub returns-clause-cut : goal.returns-clause-cut
-returns-clause-cut c =
-    let floor = c.floor_char_boundary.ensures in
-    floor_is c.args.rest.now c.floor_char_boundary.result c.utf8.rest c.requires floor.bound floor.boundary
-    floor.nearest

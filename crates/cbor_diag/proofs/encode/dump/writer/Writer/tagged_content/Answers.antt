@@ -1,7 +1,0 @@
-use Rattle.std.proofs.Common.{◌∙◌, sym, subst}
-use Rattle.cbor_diag.proofs.dump.Elements.{Small, element_small}
-use Rattle.cbor_diag.proofs.encode.dump.writer.Writer.tagged_content.Goals as goal
-
-pub elements-requires-clause-few : goal.elements-requires-clause-few
-elements-requires-clause-few c =
-    (subst Small (sym c.element_size.ensures.size ∙ c.in-Some-element_size.is) (element_small c.in-Some.tag.0)).1

@@ -1,9 +1,0 @@
-use Rattle.std.proofs.Common.{◌-◌}
-use Rattle.cbor_diag.proofs.straight.SequencesAhead.{SequenceSoFar}
-use Rattle.cbor_diag.proofs.encode.notation.ahead.left_after_sequence.Given as goal
-
-abbrev pub decreases-items : goal.decreases-items
-decreases-items l = l.left
-
-abbrev pub invariant-items : goal.invariant-items
-invariant-items l = SequenceSoFar l.budget (129 - l.level) l.bytes l.left l.rest

@@ -1,9 +1,0 @@
-use Rattle.std.proofs.Common.{◌+◌}
-use Rattle.cbor_diag.specs.Estimate.{estimated_items}
-use Rattle.cbor_diag.specs.Item.{array}
-use Rattle.cbor_diag.proofs.encode.notation.context.Layout.array_style_ahead.Goals as goal
-
-pub returns-in-Pretty-clause-style : goal.returns-in-Pretty-clause-style
-returns-in-Pretty-clause-style c levels is w rest e =
-    rw c.in-Pretty.is (c.style_of.ensures.style (4 + estimated_items is) rest
-    (c.items_ahead.ensures.leaves levels (array is w) rest e))

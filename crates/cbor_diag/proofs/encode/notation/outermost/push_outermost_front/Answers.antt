@@ -1,6 +1,0 @@
-use Rattle.cbor_diag.proofs.shared.Appending.{cut_back}
-use Rattle.cbor_diag.proofs.encode.notation.outermost.push_outermost_front.Goals as goal
-
-pub truncate-requires : goal.truncate-requires
-truncate-requires c = λ _. (cut_back c.args.out.now c.push_front.new.out c.len-start.result c.len-start.ensures
-    c.in-Err.ensures.begun).0

@@ -1,5 +1,0 @@
-use Rattle.cbor_diag.proofs.shared.EmbeddedItems.{embeds_exactly}
-use Rattle.cbor_diag.proofs.encode.notation.straight.bytes_to_diag_pretty.Goals as goal
-
-pub returns-clause-embedded : goal.returns-clause-embedded
-returns-clause-embedded c = embeds_exactly

@@ -1,4 +1,0 @@
-pub mod Lines
-pub mod Search
-pub mod Digits
-pub mod Kept

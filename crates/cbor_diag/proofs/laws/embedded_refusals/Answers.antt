@@ -1,5 +1,0 @@
-use Rattle.cbor_diag.proofs.shared.EmbeddedItems.{rejects_exactly}
-use Rattle.cbor_diag.proofs.laws.embedded_refusals.Goals as goal
-
-pub returns : goal.returns
-returns c = rejects_exactly

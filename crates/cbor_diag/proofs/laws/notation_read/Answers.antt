@@ -1,5 +1,0 @@
-use Rattle.cbor_diag.proofs.notation.sound.Items.{notation_sound}
-use Rattle.cbor_diag.proofs.laws.notation_read.Goals as goal
-
-pub returns : goal.returns
-returns c = notation_sound

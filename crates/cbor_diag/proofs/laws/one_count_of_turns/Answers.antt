@@ -1,8 +1,0 @@
-use Rattle.cbor_diag.proofs.turns.ItemTurns.{one_cut_spent, one_fault_spent}
-use Rattle.cbor_diag.proofs.laws.one_count_of_turns.Goals as goal
-
-pub returns-clause-cut : goal.returns-clause-cut
-returns-clause-cut c = one_cut_spent
-
-pub returns-clause-fault : goal.returns-clause-fault
-returns-clause-fault c = one_fault_spent

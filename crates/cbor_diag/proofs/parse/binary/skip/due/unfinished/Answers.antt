@@ -1,6 +1,0 @@
-use Rattle.std.proofs.Common.{arith}
-use Rattle.cbor_diag.proofs.skipping.Scans.{bytes_wait}
-use Rattle.cbor_diag.proofs.parse.binary.skip.due.unfinished.Goals as goal
-
-pub returns-in-Bytes : goal.returns-in-Bytes
-returns-in-Bytes c = bytes_wait c.args.kind c.args.left c.args.chunked c.args.bytes.now c.in-Bytes.is (omega arith)

@@ -1,5 +1,0 @@
-use Rattle.cbor_diag.proofs.skipping.Scans.{whole_chars_are}
-use Rattle.cbor_diag.proofs.parse.binary.skip.due.whole_chars.Goals as goal
-
-pub returns-in-Err : goal.returns-in-Err
-returns-in-Err c = rw c.valid_up_to.ensures (whole_chars_are c.args.bytes.now _ c.in-Err.ensures.cases.1)

@@ -1,7 +1,0 @@
-use Rattle.std.proofs.Common.{◌-◌, arith}
-use Rattle.std.proofs.lemmas.List.{take-replicate}
-use Rattle.cbor_diag.specs.mirror.Skipping.{ended}
-use Rattle.cbor_diag.proofs.parse.binary.skip.outer.Outer.around.Goals as goal
-
-pub returns : goal.returns
-returns c = rw c.from.ensures (take-replicate (c.args.level - 1) 128 ended (omega arith))

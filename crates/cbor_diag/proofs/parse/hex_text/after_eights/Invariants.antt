@@ -1,9 +1,0 @@
-use Rattle.std.proofs.Common.{◌≡◌, ◌≤◌, length}
-use Rattle.cbor_notes.specs.Columns.{unspaced}
-use Rattle.cbor_diag.proofs.parse.hex_text.after_eights.Given as goal
-
-abbrev pub invariant-eights : goal.invariant-eights
-invariant-eights l = (unspaced l.rest ≡ unspaced l.line) × (length l.rest ≤ length l.line)
-
-abbrev pub decreases-eights : goal.decreases-eights
-decreases-eights l = length l.rest

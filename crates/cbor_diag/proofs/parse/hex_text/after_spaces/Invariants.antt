@@ -1,9 +1,0 @@
-use Rattle.std.proofs.Common.{◌≡◌, ◌≤◌, ◌-◌, length, drop}
-use Rattle.cbor_notes.specs.Columns.{unspaced}
-use Rattle.cbor_diag.proofs.parse.hex_text.after_spaces.Given as goal
-
-abbrev pub invariant-spaces : goal.invariant-spaces
-invariant-spaces l = (l.at ≤ length l.near) × (unspaced (drop l.at l.near) ≡ unspaced l.line)
-
-abbrev pub decreases-spaces : goal.decreases-spaces
-decreases-spaces l = length l.near - l.at

@@ -1,8 +1,0 @@
-use Rattle.std.proofs.Common.{◌≢◌, ℕ, ◌<◌, ◌≤◌, ◌-◌, length, get_or}
-use Rattle.cbor_diag.proofs.parse.hex_text.first_space.Given as goal
-
-abbrev pub invariant-digits : goal.invariant-digits
-invariant-digits l = (l.end ≤ length l.line) × ((k : ℕ) → k < l.end → get_or l.line k 0 ≢ 32)
-
-abbrev pub decreases-digits : goal.decreases-digits
-decreases-digits l = length l.line - l.end

@@ -1,9 +1,0 @@
-use Rattle.cbor_diag.proofs.hex.Kept.{keeps_here, still_none}
-use Rattle.cbor_diag.proofs.parse.hex_text.place.at_kept.Goals as goal
-
-pub dropped-init : goal.dropped-init
-dropped-init c = keeps_here c.args.text.now
-
-pub dropped-preserved : goal.dropped-preserved
-dropped-preserved c = still_none c.args.text.now c.dropped.rest.now c.in-Some.after.now c.dropped.invariant
-    c.in-Some.ensures.over

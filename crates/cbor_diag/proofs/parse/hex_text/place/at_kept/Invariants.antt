@@ -1,9 +1,0 @@
-use Rattle.std.proofs.Common.{[], length}
-use Rattle.cbor_diag.specs.mirror.HexPlaces.{Keeps}
-use Rattle.cbor_diag.proofs.parse.hex_text.place.at_kept.Given as goal
-
-abbrev pub invariant-dropped : goal.invariant-dropped
-invariant-dropped l = Keeps l.text l.rest []
-
-abbrev pub decreases-dropped : goal.decreases-dropped
-decreases-dropped l = length l.rest

@@ -1,9 +1,0 @@
-use Rattle.std.proofs.Common.{◌≡◌, ◌++◌, length}
-use Rattle.cbor_notes.specs.Columns.{uncommented}
-use Rattle.cbor_diag.proofs.parse.hex_text.uncommented.Given as goal
-
-abbrev pub invariant-lines : goal.invariant-lines
-invariant-lines l = l.digits.items ++ uncommented l.rest ≡ uncommented l.text
-
-abbrev pub decreases-lines : goal.decreases-lines
-decreases-lines l = length l.rest

@@ -1,7 +1,0 @@
-use Rattle.cbor_notes.specs.Base32.{standard}
-use Rattle.cbor_diag.proofs.notation.DigitsFound.{base32_answer}
-use Rattle.cbor_diag.proofs.parse.notation.content.base32.Goals as goal
-
-pub returns : goal.returns
-returns c = rw c.ok_or.ensures.value (base32_answer standard c.args.digits.now c.in_ok-found.found
-    c.in_ok-found.ensures.found c.in_ok-found.ensures.none)

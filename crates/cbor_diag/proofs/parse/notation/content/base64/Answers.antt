@@ -1,6 +1,0 @@
-use Rattle.cbor_diag.proofs.notation.DigitsFound.{base64_answer}
-use Rattle.cbor_diag.proofs.parse.notation.content.base64.Goals as goal
-
-pub returns : goal.returns
-returns c = rw c.ok_or.ensures.value (base64_answer c.args.digits.now c.in_ok-found.found
-    c.in_ok-found.ensures.found c.in_ok-found.ensures.none)

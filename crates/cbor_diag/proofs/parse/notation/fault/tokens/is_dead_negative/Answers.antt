@@ -1,0 +1,32 @@
+use Rattle.std.proofs.Common.{ℕ, sym, ap, ◌∙◌}
+use Rattle.cbor_notation.specs.mirror.NotationReading.{read_negative_number}
+use Rattle.cbor_notation.specs.mirror.OpenTokens.{may_be_negative}
+use Rattle.cbor_diag.proofs.notation.DeadTokens.{refused}
+use Rattle.cbor_diag.proofs.notation.DeadNumbers.{negative_dead, negative_never, negative_capped}
+use Rattle.cbor_diag.proofs.notation.CutNumbers.{negative_cut, negative_none, some_length}
+use Rattle.cbor_diag.proofs.parse.notation.fault.tokens.is_dead_negative.Goals as goal
+
+pub returns-then-not-may_be_negative-clause-dead : goal.returns-then-not-may_be_negative-clause-dead
+returns-then-not-may_be_negative-clause-dead c is =
+    let g = c.in-Ok.ensures.gives in
+    negative_dead c.args.text.now ((g.0, c.in-Ok.indicator), c.in-Ok.rest.now) g.1
+    (sym (negative_capped c.args.text.now g.0 c.in-Ok.indicator c.in-Ok.rest.now)
+    ∙ ap (λ (v : ℕ). may_be_negative c.args.text.now v c.in-Ok.indicator c.in-Ok.rest.now) (sym g.2) ∙ sym c.may_be_negative.ensures ∙ c.if-not-may_be_negative.true)
+    (refused (λ x. ((x.0.0, x.0.1), x.1.now)) c.read_negative_number.result (read_negative_number c.args.text.now) c.read_negative_number.ensures.gives
+    (c.is_refused.ensures.refused is))
+
+pub returns-else-not-may_be_negative-clause-cut : goal.returns-else-not-may_be_negative-clause-cut
+returns-else-not-may_be_negative-clause-cut c is not =
+    let g = c.in-Ok.ensures.gives in
+    negative_cut c.args.text.now ((g.0, c.in-Ok.indicator), c.in-Ok.rest.now) g.1
+    (sym (negative_capped c.args.text.now g.0 c.in-Ok.indicator c.in-Ok.rest.now)
+    ∙ ap (λ (v : ℕ). may_be_negative c.args.text.now v c.in-Ok.indicator c.in-Ok.rest.now) (sym g.2) ∙ sym c.may_be_negative.ensures ∙ c.if-not-may_be_negative.false)
+
+pub returns-in-Err-clause-dead : goal.returns-in-Err-clause-dead
+returns-in-Err-clause-dead c is =
+    negative_never c.args.text.now c.in-Err.ensures.gives.1
+    (some_length c.args.text.now c.is_empty.result c.is_empty.ensures is)
+
+pub returns-in-Err-clause-cut : goal.returns-in-Err-clause-cut
+returns-in-Err-clause-cut c is not =
+    negative_none c.args.text.now c.is_empty.result c.is_empty.ensures is

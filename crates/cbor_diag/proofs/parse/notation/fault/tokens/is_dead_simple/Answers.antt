@@ -1,0 +1,35 @@
+use Rattle.std.proofs.Common.{ℕ, length, take, ◌-◌, sym, ap, ◌∙◌}
+use Rattle.std.proofs.lemmas.Bool.{not-true, not-false}
+use Rattle.cbor_notation.specs.mirror.OpenTokens.{is_small}
+use Rattle.cbor_diag.proofs.notation.DeadWords.{simple_dead, simple_never, small_capped}
+use Rattle.cbor_diag.proofs.notation.CutNumbers.{is_small_cut, simple_none, some_length}
+use Rattle.cbor_diag.proofs.parse.notation.fault.tokens.is_dead_simple.Goals as goal
+
+pub returns-in-Ok-clause-dead : goal.returns-in-Ok-clause-dead
+returns-in-Ok-clause-dead c is =
+    let text = c.args.text.now in
+    let rest = c.in-Ok.rest.now in
+    let g = c.in-Ok.ensures.gives in
+    let digits = take (length text - length rest) text in
+    simple_dead text ((g.0, c.in-Ok.field-0-0-1), rest) g.1
+    (sym (small_capped g.0 digits rest) ∙ ap (λ (v : ℕ). is_small v digits rest) (sym g.2) ∙ sym c.is_small.ensures
+    ∙ not-true _ is)
+
+pub returns-in-Ok-clause-cut : goal.returns-in-Ok-clause-cut
+returns-in-Ok-clause-cut c is not =
+    let text = c.args.text.now in
+    let rest = c.in-Ok.rest.now in
+    let g = c.in-Ok.ensures.gives in
+    let digits = take (length text - length rest) text in
+    is_small_cut text ((g.0, c.in-Ok.field-0-0-1), rest) g.1
+    (sym (small_capped g.0 digits rest) ∙ ap (λ (v : ℕ). is_small v digits rest) (sym g.2) ∙ sym c.is_small.ensures
+    ∙ not-false _ is) not
+
+pub returns-in-Err-clause-dead : goal.returns-in-Err-clause-dead
+returns-in-Err-clause-dead c is =
+    simple_never c.args.text.now c.in-Err.ensures.gives.1
+    (some_length c.args.text.now c.is_empty.result c.is_empty.ensures is)
+
+pub returns-in-Err-clause-cut : goal.returns-in-Err-clause-cut
+returns-in-Err-clause-cut c is not =
+    simple_none c.args.text.now c.is_empty.result c.is_empty.ensures is

@@ -1,0 +1,32 @@
+use Rattle.std.proofs.Common.{ℕ, sym, ap, ◌∙◌}
+use Rattle.cbor_notation.specs.mirror.NotationReading.{read_unsigned_number}
+use Rattle.cbor_notation.specs.mirror.OpenTokens.{widens}
+use Rattle.cbor_diag.proofs.notation.DeadTokens.{refused}
+use Rattle.cbor_diag.proofs.notation.DeadNumbers.{unsigned_dead, unsigned_never, widens_capped}
+use Rattle.cbor_diag.proofs.notation.CutNumbers.{unsigned_cut, unsigned_none, some_length}
+use Rattle.cbor_diag.proofs.parse.notation.fault.tokens.is_dead_unsigned.Goals as goal
+
+pub returns-then-not-widens-clause-dead : goal.returns-then-not-widens-clause-dead
+returns-then-not-widens-clause-dead c is =
+    let g = c.in-Ok.ensures.gives in
+    unsigned_dead c.args.text.now ((g.0, c.in-Ok.indicator), c.in-Ok.rest.now) g.1
+    (sym (widens_capped g.0 c.in-Ok.indicator c.in-Ok.rest.now)
+    ∙ ap (λ (v : ℕ). widens v c.in-Ok.indicator c.in-Ok.rest.now) (sym g.2) ∙ sym c.widens.ensures ∙ c.if-not-widens.true)
+    (refused (λ x. ((x.0.0, x.0.1), x.1.now)) c.read_unsigned_number.result (read_unsigned_number c.args.text.now) c.read_unsigned_number.ensures.gives
+    (c.is_refused.ensures.refused is))
+
+pub returns-else-not-widens-clause-cut : goal.returns-else-not-widens-clause-cut
+returns-else-not-widens-clause-cut c is not =
+    let g = c.in-Ok.ensures.gives in
+    unsigned_cut c.args.text.now ((g.0, c.in-Ok.indicator), c.in-Ok.rest.now) g.1
+    (sym (widens_capped g.0 c.in-Ok.indicator c.in-Ok.rest.now)
+    ∙ ap (λ (v : ℕ). widens v c.in-Ok.indicator c.in-Ok.rest.now) (sym g.2) ∙ sym c.widens.ensures ∙ c.if-not-widens.false)
+
+pub returns-in-Err-clause-dead : goal.returns-in-Err-clause-dead
+returns-in-Err-clause-dead c is =
+    unsigned_never c.args.text.now c.in-Err.ensures.gives.1
+    (some_length c.args.text.now c.is_empty.result c.is_empty.ensures is)
+
+pub returns-in-Err-clause-cut : goal.returns-in-Err-clause-cut
+returns-in-Err-clause-cut c is not =
+    unsigned_none c.args.text.now c.is_empty.result c.is_empty.ensures is

@@ -1,5 +1,0 @@
-use Rattle.cbor_diag.proofs.notation.Tokens.{blank_left}
-use Rattle.cbor_diag.proofs.parse.notation.scan.after_blank.Goals as goal
-
-pub returns-clause-gives : goal.returns-clause-gives
-returns-clause-gives c = blank_left c.args.text.now c.blank_end.result c.blank_end.ensures.longest

@@ -1,8 +1,0 @@
-pub mod Ahead
-pub mod StringsAhead
-pub mod SequencesAhead
-pub mod PublicCalls
-pub mod Readings
-pub mod Levels
-pub mod Sequences
-pub mod Texts

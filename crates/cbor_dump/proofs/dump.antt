@@ -1,0 +1,12 @@
+pub mod Widths
+pub mod FrontWidths
+pub mod PublicDumps
+pub mod Walks
+pub mod HeadLines
+pub mod Members
+pub mod EmbeddedDumps
+pub mod WholeDumps
+pub mod NotesFit
+pub mod ItemsFit
+pub mod Fronts
+pub mod NotedValues

@@ -1,0 +1,71 @@
+//! Where in a dump an item is.
+ghost use Rattle.std.specs.Prelude.{◌≡◌, ◌+◌};
+ghost use Rattle.cbor_grammar.specs.Dump as spec;
+ghost use Rattle.cbor_dump.specs.mirror.Dumped.{context_view, IsContext};
+
+use cbor_grammar::Tag;
+use cbor_notation::encoding::{Encoding, encoding_below};
+
+/// Where in a dump an item is.
+#[derive(Clone, Copy)]
+pub(crate) struct DumpContext {
+    /// The item's level: 1 plus the number of items round it, of those that embed it, too.
+    pub(crate) level: u8,
+    /// The depth of its lines, which are indented by it.
+    pub(crate) depth: usize,
+    /// How byte strings are shown; they are quoted where there is none.
+    pub(crate) encoding: Option<Encoding>,
+    /// The tag right above it.
+    pub(crate) tag: Option<Tag>,
+    /// The number of values that were shared before that tag.
+    pub(crate) shared: u64,
+}
+
+impl DumpContext {
+    /// Outside of any item, where the next one is at `level`.
+    pub(crate) fn top(level: u8) -> DumpContext
+        ensures context { context_view result ≡ spec.top }
+        ensures depth { result.depth ≡ 0 }
+        ensures level { result.level ≡ level }
+    {
+        DumpContext {
+            level,
+            depth: 0,
+            encoding: None,
+            tag: None,
+            shared: 0,
+        }
+    }
+
+    /// In a container, or in a string in chunks.
+    pub(crate) fn inside(&self) -> DumpContext
+        requires { IsContext self.now }
+        ensures context { context_view result ≡ spec.inside (context_view self.now) }
+        ensures depth { result.depth ≡ self.now.depth + 1 }
+        ensures level { result.level ≡ self.now.level + 1 }
+    {
+        DumpContext {
+            level: self.level + 1,
+            depth: self.depth + 1,
+            encoding: self.encoding,
+            tag: None,
+            shared: 0,
+        }
+    }
+
+    /// Right below a tag, before which `known` values were shared.
+    pub(crate) fn below(&self, tag: Tag, known: u64) -> DumpContext
+        requires { IsContext self.now }
+        ensures context { context_view result ≡ spec.below tag.0 known (context_view self.now) }
+        ensures depth { result.depth ≡ self.now.depth + 1 }
+        ensures level { result.level ≡ self.now.level + 1 }
+    {
+        DumpContext {
+            level: self.level + 1,
+            depth: self.depth + 1,
+            encoding: encoding_below(tag, self.encoding),
+            tag: Some(tag),
+            shared: known,
+        }
+    }
+}

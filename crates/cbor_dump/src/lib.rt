@@ -1,0 +1,18 @@
+//! Dumps of CBOR items: annotated hex, written straight from their bytes.
+//!
+//! One recursion over the bytes finds the column of the digits, and one writes each line as soon as
+//! it is read.
+#![tactic(auto)]
+
+pub mod comment;
+pub mod context;
+pub mod convert;
+pub mod hex_style;
+pub mod lines;
+pub mod note_lines;
+pub mod notes;
+pub mod walk;
+pub mod width;
+pub mod writer;
+
+pub use convert::{bytes_to_hex, hex_to_hex, push_bytes_to_hex, push_bytes_to_hex_partial};

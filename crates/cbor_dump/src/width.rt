@@ -1,0 +1,363 @@
+//! How far the digits of a dump reach, found from its bytes: no item is built, and no comment.
+//!
+//! Each function takes the remaining bytes and returns those after what it counted. Notes have no
+//! digits, so what is embedded in a byte string counts as its bytes.
+ghost use Rattle.std.specs.Prelude.{◌≡◌, ◌<◌, ◌≤◌, ◌+◌, ◌-◌, length, max, IfOk, IfErr};
+ghost use Rattle.std.specs.Str.{IsCharBoundary};
+ghost use Rattle.cbor_notes.specs.Layout.{width_of};
+ghost use Rattle.cbor_grammar.specs.Argument.{indefinite};
+ghost use Rattle.cbor_grammar.specs.Dump.{lines_at_level, top};
+ghost use Rattle.cbor_grammar.specs.ItemHead as item_head;
+ghost use Rattle.cbor_grammar.specs.Pieces.{text_cut as cut_of, text_pieces};
+ghost use Rattle.cbor_grammar.specs.Reading.{Fails, count_width};
+ghost use Rattle.cbor_grammar.specs.WellFormed.{deepest};
+ghost use Rattle.cbor_bytes.specs.mirror.HeadView.{argument_view, head_view};
+ghost use Rattle.cbor_grammar.specs.mirror.AtLevel.{read_at, read_behind};
+ghost use Rattle.cbor_dump.specs.mirror.Dumped.{tag_number};
+ghost use Rattle.cbor_grammar.specs.mirror.StringView.{bytes_of, kind_of, kind_view};
+ghost use Rattle.cbor_dump.specs.mirror.Widths as spec;
+ghost use Rattle.cbor_dump.specs.mirror.Widths.{IsPlace, Measured, MeasuredBehind};
+
+use cbor_bytes::argument::Argument;
+use cbor_bytes::borrowed::{next_chunk, read_borrowed};
+use cbor_bytes::head::{ItemHead, no_level_left, read_head};
+use cbor_grammar::Tag;
+use cbor_grammar::level::DEEPEST;
+use cbor_grammar::strings::{StringContent, StringKind};
+use cbor_notes::element_size;
+
+/// How many bytes of a string a line shows at most.
+const PIECE: usize = 16;
+
+/// How many bytes a text has at most that is shown in one line.
+const SHORT_TEXT: usize = 24;
+
+/// Where in a dump an item is, as far as its digits depend on it.
+#[derive(Clone, Copy)]
+pub(crate) struct Place {
+    /// The item's level: 1 plus the number of items round it, of those that embed it, too.
+    pub(crate) level: u8,
+    /// The depth of its lines, which are indented by it.
+    pub(crate) depth: usize,
+    /// The tag right above it.
+    pub(crate) tag: Option<Tag>,
+}
+
+impl Place {
+    /// In a container.
+    fn inside(self) -> Place
+        requires place { IsPlace self }
+        requires level { self.level ≤ deepest }
+        ensures level { result.level ≡ self.level + 1 }
+        ensures depth { result.depth ≡ self.depth + 1 }
+        ensures tag { tag_number result.tag ≡ None }
+    {
+        Place {
+            level: self.level + 1,
+            depth: self.depth + 1,
+            tag: None,
+        }
+    }
+
+    /// Right below a tag.
+    fn below(self, tag: Tag) -> Place
+        requires place { IsPlace self }
+        requires level { self.level ≤ deepest }
+        ensures level { result.level ≡ self.level + 1 }
+        ensures depth { result.depth ≡ self.depth + 1 }
+        ensures tag { tag_number result.tag ≡ Some tag.0 }
+    {
+        Place {
+            level: self.level + 1,
+            depth: self.depth + 1,
+            tag: Some(tag),
+        }
+    }
+}
+
+/// The width of the left column of the dump of the item at the front, which is at `level`, and the
+/// bytes after it. The error is the one of reading it; `Memory` never comes.
+pub(super) fn dump_width(bytes: &[u8], level: u8) -> cbor_grammar::Result<(usize, &[u8])>
+    requires some { 1 ≤ level }
+    requires level { level ≤ deepest + 1 }
+    ensures width { IfOk result (λ found. Measured (λ i. width_of (lines_at_level level top 0 i))
+        (read_at level bytes.now) found.1.now 0 found.0) }
+    ensures refused { IfErr result (λ e. Fails e (read_at level bytes.now)) }
+{
+    let mut reach = Reach { widest: 0 };
+    let place = Place {
+        level,
+        depth: 0,
+        tag: None,
+    };
+    let rest = reach.front(bytes, place)?;
+    Ok((reach.widest, rest))
+}
+
+/// How far the digits of the lines so far reach.
+#[derive(Drop)]
+pub(crate) struct Reach {
+    /// The column after the last of them.
+    pub(crate) widest: usize,
+}
+
+impl Reach {
+    /// Counts a line of this many digits and blanks. One without digits does not count.
+    fn line(&mut self, depth: usize, digits: usize)
+        requires depth { depth ≤ deepest + 2 }
+        requires digits { digits ≤ 64 }
+        ensures { self.new.widest ≡ max self.old.widest (spec.reached depth digits) }
+    {
+        if digits > 0 {
+            self.widest = self.widest.max(3 * depth + digits);
+        }
+    }
+
+    /// Counts the line of a head of this many bytes. A blank follows the first if there are others.
+    fn head(&mut self, depth: usize, len: usize)
+        requires depth { depth ≤ deepest + 2 }
+        requires len { len ≤ 9 }
+        ensures { self.new.widest ≡ max self.old.widest (spec.head_reach depth len) }
+    {
+        let digits = if len <= 1 { 2 * len } else { 2 * len + 1 };
+        self.line(depth, digits);
+    }
+
+    /// Counts the lines of a string's content, whose longest piece has this many bytes.
+    fn pieces(&mut self, depth: usize, longest: usize)
+        requires depth { depth ≤ deepest + 2 }
+        requires longest { longest ≤ SHORT_TEXT }
+        ensures { self.new.widest ≡ max self.old.widest (spec.piece_reach depth longest) }
+    {
+        self.line(depth, 2 * longest);
+    }
+
+    /// Counts the line after the members of a container of that length, if there is one.
+    fn end(&mut self, depth: usize, count: Argument)
+        requires depth { depth ≤ deepest + 2 }
+        ensures { self.new.widest ≡ max self.old.widest
+            (spec.close_width depth (count_width (argument_view count))) }
+    {
+        match count {
+            Argument::Number(..) => {}
+            Argument::Indefinite => self.head(depth, 1),
+        }
+    }
+
+    /// Counts the item at the front.
+    #[cycle(reach)]
+    fn front<'a>(&mut self, bytes: &'a [u8], place: Place) -> cbor_grammar::Result<&'a [u8]>
+        requires { IsPlace place }
+        ensures measured { IfOk result (λ rest. Measured (spec.width_there place)
+            (read_at place.level bytes.now) rest.now self.old.widest self.new.widest) }
+        ensures refused { IfErr result (λ e. Fails e (read_at place.level bytes.now)) }
+    {
+        if place.level > DEEPEST {
+            return Err(no_level_left(bytes));
+        }
+        let (head, rest) = read_head(bytes)?;
+        self.head(place.depth, shown_length(head, bytes.len() - rest.len()));
+        match head {
+            ItemHead::String(kind, len) => self.string((kind, len), rest, place),
+            ItemHead::Array(count) => self.items(count, rest, place),
+            ItemHead::Map(count) => self.pairs(count, rest, place),
+            ItemHead::Tag(tag, _) => self.front(rest, place.below(Tag(tag))),
+            _ => Ok(rest),
+        }
+    }
+
+    /// Counts the items of an array after its head, with this count of them.
+    #[cycle(reach)]
+    #[inline(never)]
+    fn items<'a>(
+        &mut self,
+        count: Argument,
+        bytes: &'a [u8],
+        place: Place,
+    ) -> cbor_grammar::Result<&'a [u8]>
+        requires place { IsPlace place }
+        requires level { place.level ≤ deepest }
+        ensures measured { IfOk result (λ rest. MeasuredBehind place
+            (item_head.array (argument_view count)) bytes.now rest.now self.old.widest
+            self.new.widest) }
+        ensures refused { IfErr result (λ e. Fails e (read_behind place.level
+            (item_head.array (argument_view count)) bytes.now)) }
+    {
+        let inner = place.inside();
+        let mut rest = bytes;
+        let mut held = 0;
+        'items: loop {
+            if let Some(after) = count.after_end(held, rest) {
+                self.end(inner.depth, count);
+                return Ok(after);
+            }
+            rest = self.front(rest, inner)?;
+            held += 1;
+        }
+    }
+
+    /// Counts the pairs of a map after its head, with this count of them.
+    #[cycle(reach)]
+    #[inline(never)]
+    fn pairs<'a>(
+        &mut self,
+        count: Argument,
+        bytes: &'a [u8],
+        place: Place,
+    ) -> cbor_grammar::Result<&'a [u8]>
+        requires place { IsPlace place }
+        requires level { place.level ≤ deepest }
+        ensures measured { IfOk result (λ rest. MeasuredBehind place
+            (item_head.map (argument_view count)) bytes.now rest.now self.old.widest
+            self.new.widest) }
+        ensures refused { IfErr result (λ e. Fails e (read_behind place.level
+            (item_head.map (argument_view count)) bytes.now)) }
+    {
+        let inner = place.inside();
+        let mut rest = bytes;
+        let mut held = 0;
+        'pairs: loop {
+            if let Some(after) = count.after_end(held, rest) {
+                self.end(inner.depth, count);
+                return Ok(after);
+            }
+            let value = self.front(rest, inner)?;
+            rest = self.front(value, inner)?;
+            held += 1;
+        }
+    }
+
+    /// Counts a string after its head, by its kind and length.
+    fn string<'a>(
+        &mut self,
+        head: (StringKind, Argument),
+        bytes: &'a [u8],
+        place: Place,
+    ) -> cbor_grammar::Result<&'a [u8]>
+        requires place { IsPlace place }
+        requires level { place.level ≤ deepest }
+        ensures measured { IfOk result (λ rest. MeasuredBehind place
+            (item_head.string (kind_view head.0) (argument_view head.1)) bytes.now rest.now
+            self.old.widest self.new.widest) }
+        ensures refused { IfErr result (λ e. Fails e (read_behind place.level
+            (item_head.string (kind_view head.0) (argument_view head.1)) bytes.now)) }
+    {
+        let (kind, len) = head;
+        match len {
+            Argument::Number(count, _) => {
+                let (content, rest) = read_borrowed(kind, count, bytes)?;
+                self.pieces(place.depth + 1, longest_piece(content, place.tag));
+                Ok(rest)
+            }
+            Argument::Indefinite => self.chunks(kind, bytes, place),
+        }
+    }
+
+    /// Counts the chunks of an indefinite string after its opening byte.
+    #[inline(never)]
+    fn chunks<'a>(
+        &mut self,
+        kind: StringKind,
+        bytes: &'a [u8],
+        place: Place,
+    ) -> cbor_grammar::Result<&'a [u8]>
+        requires place { IsPlace place }
+        requires level { place.level ≤ deepest }
+        ensures measured { IfOk result (λ rest. MeasuredBehind place
+            (item_head.string (kind_view kind) indefinite) bytes.now rest.now self.old.widest
+            self.new.widest) }
+        ensures refused { IfErr result (λ e. Fails e (read_behind place.level
+            (item_head.string (kind_view kind) indefinite) bytes.now)) }
+    {
+        let depth = place.depth + 1;
+        let mut rest = bytes;
+        'chunks: loop {
+            let (chunk, after) = next_chunk(kind, rest)?;
+            let Some((content, _)) = chunk else {
+                self.head(depth, 1);
+                return Ok(after);
+            };
+            self.chunk(depth, content, rest.len() - after.len());
+            rest = after;
+        }
+    }
+
+    /// Counts a chunk, which takes this many bytes with its head.
+    fn chunk(&mut self, depth: usize, content: StringContent<'_>, taken: usize)
+        requires depth { depth ≤ deepest + 1 }
+        requires taken { length (bytes_of content) ≤ taken }
+        requires head { taken ≤ length (bytes_of content) + 9 }
+        ensures { self.new.widest ≡ max self.old.widest
+            (max (spec.head_reach depth (taken - length (bytes_of content.entry)))
+            (spec.content_width (kind_of content.entry) depth None (bytes_of content.entry))) }
+    {
+        self.head(depth, taken - content.as_bytes().len());
+        self.pieces(depth + 1, longest_piece(content, None));
+    }
+}
+
+/// How many bytes of a dump a head shows that took this many: the same, but for a simple value below
+/// 24, which one byte shows.
+fn shown_length(head: ItemHead, taken: usize) -> usize
+    ensures { result ≡ spec.shown_length (head_view head) taken }
+{
+    match head {
+        ItemHead::Simple(value) => { if value < 24 { 1 } else { taken } }
+        _ => taken,
+    }
+}
+
+/// The length of the longest piece of a string's content, below that tag.
+fn longest_piece(content: StringContent<'_>, tag: Option<Tag>) -> usize
+    ensures longest { result ≡ spec.longest_piece (kind_of content.entry) (tag_number tag)
+        (bytes_of content.entry) }
+    ensures short { result ≤ SHORT_TEXT }
+{
+    match content {
+        StringContent::Bytes(bytes) => bytes_piece(bytes.len(), tag),
+        StringContent::Text(text) => text_piece(text),
+    }
+}
+
+/// The same of a byte string of that length: an element, where the tag is that of a typed array and
+/// the bytes are whole elements.
+fn bytes_piece(len: usize, tag: Option<Tag>) -> usize
+    ensures longest { result ≡ spec.tagged_piece (tag_number tag) len }
+    ensures short { result ≤ PIECE }
+{
+    let Some(tag) = tag else {
+        return len.min(PIECE);
+    };
+    match element_size(tag.0) {
+        Some(size) if len % size == 0 => len.min(size),
+        _ => len.min(PIECE),
+    }
+}
+
+/// The same of a text. No piece is longer than `PIECE`, so one of that length ends the search: in
+/// ASCII that is the first.
+fn text_piece(text: &str) -> usize
+    ensures longest { result ≡ spec.longest (text_pieces text.now) }
+    ensures short { result ≤ SHORT_TEXT }
+{
+    if text.len() <= SHORT_TEXT {
+        return text.len();
+    }
+    let mut rest = text;
+    let mut longest = 0;
+    'pieces: while longest < PIECE && !rest.is_empty() {
+        let (piece, after) = rest.split_at(text_cut(rest));
+        longest = longest.max(piece.len());
+        rest = after;
+    }
+    longest
+}
+
+/// After how many bytes a text is cut: at most 16, before a character.
+fn text_cut(rest: &str) -> usize
+    requires { 0 < length rest.now }
+    ensures cut { result ≡ cut_of rest.now }
+    ensures boundary { IsCharBoundary rest.now result }
+{
+    rest.floor_char_boundary(PIECE)
+}

@@ -1,0 +1,8 @@
+pub mod bytes
+pub mod dump
+pub mod hex
+pub mod normal
+pub mod shared
+pub mod straight
+pub mod text
+pub mod turns

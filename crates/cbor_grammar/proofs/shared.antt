@@ -1,0 +1,5 @@
+pub mod Utf8
+pub mod Compared
+pub mod Appending
+pub mod Fitting
+pub mod EmbeddedItems

@@ -1,0 +1,93 @@
+-- What is in memory after calls that append.
+use Rattle.std.specs.Prelude.{Result, Ok, Err, is_ok, if◌then◌else◌}
+use Rattle.std.specs.Io.{StartsWith}
+use Rattle.std.specs.Str.{IsUtf8}
+use Rattle.std.specs.String.{string_bytes, string_len}
+use Rattle.std.specs.String.Boundary.{IsSplitPoint}
+use Rattle.std.specs.declared.string.String.{String}
+use Rattle.std.proofs.Common.{◌≡◌, ℕ, ◌≤◌, List, ◌++◌, length, take, drop, refl, ap, sym, subst, ◌∙◌, append_assoc}
+use Rattle.std.proofs.Common.{arith}
+use Rattle.std.proofs.Math.Seq.{take-append_seam, take-length}
+use Rattle.std.proofs.lemmas.List.{length-take, take-append-drop}
+use Rattle.std.proofs.lemmas.Str.{IsCharBoundary-from_take, IsUtf8-string_bytes}
+use Rattle.cbor_grammar.specs.mirror.Appends.{Appends}
+
+begins : (old text new : List ℕ) → new ≡ old ++ text → StartsWith new old
+begins old text new is = ap (take (length old)) is ∙ take-append_seam old text
+
+-- what begins with a text and more begins with that text
+earlier : (old text new : List ℕ) → StartsWith new (old ++ text) → StartsWith new old
+earlier old text new h =
+    let rest = drop (length (old ++ text)) new in
+    begins old (text ++ rest) new (sym (take-append-drop (length (old ++ text)) new) ∙ ap (λ x. x ++ rest) h
+    ∙ append_assoc old text rest)
+
+pub begins_through : (old mid new : List ℕ) → StartsWith new mid → StartsWith mid old → StartsWith new old
+begins_through old mid new h g =
+    let parts : mid ≡ old ++ drop (length old) mid = sym (take-append-drop (length old) mid)
+    ∙ ap (λ x. x ++ drop (length old) mid) g in
+    earlier old (drop (length old) mid) new (subst (λ x. StartsWith new x) parts h)
+
+-- after one call more, and after two calls
+pub begins_still : (old mid text new : List ℕ) → StartsWith mid old → new ≡ mid ++ text → StartsWith new old
+begins_still old mid text new h is = begins_through old mid new (begins mid text new is) h
+
+-- after the three calls that write a member
+pub begins_after_member : (old mid start member end a b c : List ℕ) → StartsWith mid old → start ≡ mid ++ a
+    → member ≡ start ++ b → end ≡ member ++ c → StartsWith end old
+begins_after_member old mid start member end a b c h p q r =
+    begins_still old member c end (begins_still old start b member (begins_still old mid a start h p) q) r
+
+pub begins_two : (old mid a b new : List ℕ) → mid ≡ old ++ a → new ≡ mid ++ b → StartsWith new old
+begins_two old mid a b new p q = begins_still old mid b new (begins old a mid p) q
+
+-- For `grind`, which picks a lemma up at the first call in its conclusion that mentions every variable. So these
+-- state that call first.
+pub begins_earlier : (old text new : List ℕ) → StartsWith new (old ++ text)
+    → (take (length (old ++ text)) new ≡ take (length (old ++ text)) new) × StartsWith new old
+begins_earlier old text new h = (refl, earlier old text new h)
+
+pub front_and_rest : (n : ℕ) (xs : List ℕ) → (take n xs ≡ take n xs) × (take n xs ++ drop n xs ≡ xs)
+front_and_rest n xs = (refl, take-append-drop n xs)
+
+pub ruleset appending_steps = (begins_earlier, front_and_rest)
+
+-- a text begins with itself
+pub begins_same : (old : List ℕ) → StartsWith old old
+begins_same old = take-length old
+
+-- what std's calls that append ensure
+pub appends_of : {T E : Type 0} (r : Result T E) (old new text : List ℕ)
+    → new ≡ (if is_ok r then old ++ text else old) → Appends r old new text
+appends_of (Ok x) old new text h = h
+appends_of (Err e) old new text h = ap (take (length old)) h ∙ take-length old
+
+-- a call that appends the same, said in another way
+pub appends_as : {T E : Type 0} (r : Result T E) (old new text other : List ℕ)
+    → (new ≡ old ++ text → new ≡ old ++ other) → Appends r old new text → Appends r old new other
+appends_as (Ok x) old new text other f h = f h
+appends_as (Err e) old new text other f h = h
+
+-- the last of several calls that append
+pub appends_last : {T E : Type 0} (r : Result T E) (old mid new text all : List ℕ) → StartsWith mid old
+    → (new ≡ mid ++ text → new ≡ old ++ all) → Appends r mid new text → Appends r old new all
+appends_last (Ok x) old mid new text all begun f h = f h
+appends_last (Err e) old mid new text all begun f h = begins_through old mid new h begun
+
+-- the last of two
+pub appends_after : {T E : Type 0} (r : Result T E) (old mid new a b : List ℕ) → mid ≡ old ++ a → Appends r mid new b
+    → Appends r old new (a ++ b)
+appends_after r old mid new a b is h =
+    appends_last r old mid new b (a ++ b) (begins old a mid is) (λ e. e ∙ ap (λ x. x ++ b) is ∙ append_assoc old a b) h
+
+-- A text that begins with another can be cut back to it.
+pub cut_back : {Z : Type 0} (old new : String Z) (n : ℕ) → n ≡ string_len old
+    → StartsWith (string_bytes new) (string_bytes old)
+    → IsSplitPoint (string_bytes new) n × (take n (string_bytes new) ≡ string_bytes old)
+cut_back old new n len h =
+    let is : n ≡ length (string_bytes old) = omega (arith, len, old.bytes.ok.0) in
+    let cut : take n (string_bytes new) ≡ string_bytes old = rw is h in
+    let within : n ≤ length (string_bytes new) = omega (arith, ap length cut, length-take n (string_bytes new), is) in
+    let boundary = IsCharBoundary-from_take (string_bytes new) n (IsUtf8-string_bytes new) within
+    (subst IsUtf8 (sym cut) (IsUtf8-string_bytes old)) in
+    ((boundary.0, λ _. boundary.1), cut)

@@ -1,0 +1,3 @@
+pub mod DigitCounts
+pub mod Parts
+pub mod Forms

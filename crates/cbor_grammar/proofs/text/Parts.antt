@@ -1,0 +1,81 @@
+-- The text of an item, put together from its parts.
+use Rattle.std.specs.Prelude.{Result}
+use Rattle.std.proofs.Common.{◌≡◌, ℕ, suc, ◌+◌, ◌≤◌, List, ◌++◌, codes, Option, Some}
+use Rattle.std.proofs.Common.{None, sym, ap, subst, ◌∙◌, append_assoc, arith}
+use Rattle.cbor_grammar.specs.declared.width.IntegerWidth.{IntegerWidth}
+use Rattle.cbor_grammar.specs.mirror.Appends.{Appends}
+use Rattle.cbor_grammar.specs.Layout.{Content, Bytes, Context}
+use Rattle.cbor_grammar.specs.ContainerStyle.{ContainerStyle}
+use Rattle.cbor_grammar.specs.Item as spec
+use Rattle.cbor_grammar.specs.Item.{Item, Items, atom, array, tagged}
+use Rattle.cbor_grammar.specs.WellFormed.{levels_left, WellFormed}
+use Rattle.cbor_grammar.specs.NotationText.{Writer, number, content_below, below, inside, members_layout, members}
+use Rattle.cbor_grammar.specs.NotationText.{last_line, bracketed, item_texts, text_with, text_at}
+use Rattle.cbor_grammar.specs.NotationText.{text_at_level, rest_text, sequence_listed}
+
+-- how many levels are left below an item, and what writes an item there
+abbrev pub left_below : ℕ → ℕ
+left_below level = levels_left (level + 1)
+
+abbrev pub write_below : ℕ → Writer
+write_below level = text_at_level (level + 1)
+
+-- what the bytes of a byte string right below this tag, if there is one, are shown as
+abbrev pub content_of : Option ℕ → Content
+content_of None = Bytes
+content_of (Some t) = content_below t
+
+pub text_opens : (level : ℕ) (c : Context) (i : Item) → level ≤ 128
+    → text_at_level level c i ≡ text_with (left_below level) (write_below level) c i
+unfolding text_at
+text_opens level c i le =
+    let levels : levels_left level ≡ suc (left_below level) = omega arith in
+    ap (λ n. text_at n c i) levels
+
+pub well_level : (level : ℕ) (i : Item) → WellFormed level i → level ≤ 128
+well_level level (atom a) h = h.0
+well_level level (array is w) h = h.0
+well_level level (spec.map ps w) h = h.0
+well_level level (tagged t w i) h = h.0
+
+-- what is written of an item that is this one
+pub shown : {T E : Type 0} (r : Result T E) (level : ℕ) (c : Context) (i j : Item) (out new : List ℕ)
+    → WellFormed level i → i ≡ j
+    → Appends r out new (text_with (left_below level) (write_below level) c j)
+    → Appends r out new (text_at_level level c i)
+shown r level c i j out new well is h =
+    let opens = sym (text_opens level c j (well_level level i well)) in
+    subst (Appends r out new) (opens ∙ ap (text_at_level level c) (sym is)) h
+
+-- what is written of members between brackets, in the style of their container
+pub bracketed_written : (l : ContainerStyle) (opening closing : List ℕ) (ms : List (List ℕ))
+    (out opened written new : List ℕ)
+    → opened ≡ out ++ opening → written ≡ opened ++ members l ms → new ≡ written ++ (last_line l ++ closing)
+    → new ≡ out ++ bracketed l opening ms closing
+bracketed_written l opening closing ms out opened written new p q r =
+    r ∙ ap (λ x. x ++ (last_line l ++ closing)) (q ∙ ap (λ x. x ++ members l ms) p) ∙ simp append_assoc
+
+-- what is written of a container, an item without its level
+pub opened_again : (level : ℕ) (c : Context) (i : Item) (out new : List ℕ) → level ≤ 128
+    → new ≡ out ++ text_with (left_below level) (write_below level) c i → new ≡ out ++ text_at_level level c i
+opened_again level c i out new le h = h ∙ ap (λ x. out ++ x) (sym (text_opens level c i le))
+
+pub tag_shown : (level : ℕ) (c : Context) (v : Item) (t : ℕ) (w : IntegerWidth) (out a b e new : List ℕ) → level ≤ 128
+    → a ≡ out ++ number t w → b ≡ a ++ codes "(" → e ≡ b ++ write_below level (below t c) v → new ≡ e ++ codes ")"
+    → new ≡ out ++ text_at_level level c (tagged t w v)
+tag_shown level c v t w out a b e new le p q r s =
+    let inner = r ∙ ap (λ x. x ++ write_below level (below t c) v) (q ∙ ap (λ x. x ++ codes "(") p) in
+    opened_again level c (tagged t w v) out new le (s ∙ ap (λ x. x ++ codes ")") inner ∙ simp append_assoc)
+
+-- what is written of a sequence and its rest
+pub sequence_shown : (write : Writer) (c : Context) (l : ContainerStyle) (s : Items × List ℕ) (out a b d e new : List ℕ)
+    → a ≡ out ++ codes "<<" → b ≡ a ++ members l (item_texts (write (inside (members_layout l) c)) s.0)
+    → d ≡ b ++ (last_line l ++ codes ">") → e ≡ d ++ codes ">" → new ≡ e ++ rest_text c s.1
+    → new ≡ out ++ sequence_listed write c l s
+sequence_shown write c l s out a b d e new p q r t u =
+    let ms = members l (item_texts (write (inside (members_layout l) c)) s.0) in
+    let opened = q ∙ ap (λ x. x ++ ms) p in
+    let closed = t ∙ ap (λ x. x ++ codes ">") (r ∙ ap (λ x. x ++ (last_line l ++ codes ">")) opened) in
+    u ∙ ap (λ x. x ++ rest_text c s.1) closed ∙ simp append_assoc
+
+-- ---- members

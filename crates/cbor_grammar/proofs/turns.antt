@@ -1,0 +1,4 @@
+pub mod Turning
+pub mod Counting
+pub mod ChunkLoops
+pub mod ItemTurns

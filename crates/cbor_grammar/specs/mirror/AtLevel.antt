@@ -1,0 +1,13 @@
+-- What reading gives at a level. No public clause names it.
+use Rattle.std.specs.Prelude.{ℕ, ◌+◌, List}
+use Rattle.cbor_grammar.specs.Item.{Item}
+use Rattle.cbor_grammar.specs.ItemHead.{ItemHead}
+use Rattle.cbor_grammar.specs.Reading.{Read, opened, read_body, counted_item, read_item}
+use Rattle.cbor_grammar.specs.WellFormed.{levels_left}
+
+abbrev pub read_at : ℕ → List ℕ → Read Item
+read_at level b = read_item (levels_left level) b
+
+-- the same behind a head
+abbrev pub read_behind : ℕ → ItemHead → List ℕ → Read Item
+read_behind level h b = (read_body (counted_item (levels_left (level + 1))) (opened h) h b).1

@@ -1,0 +1,20 @@
+//! What CBOR items are (RFC 7049), and which bytes and texts they are: the definitions that the
+//! contracts of the other crates cite, and the laws of these definitions.
+//!
+//! `specs/` has the definitions, and `proofs/` the lemmas that follow from them alone. The code is
+//! the types that they speak of: widths, tags, strings and errors. The calls are in `cbor_diag`.
+#![tactic(auto)]
+
+pub mod error;
+mod examples;
+mod laws;
+pub mod level;
+pub mod major;
+pub mod strings;
+pub mod tags;
+pub mod width;
+
+pub use error::{Error, Result};
+pub use strings::{ByteString, TextString};
+pub use tags::{Simple, Tag};
+pub use width::{FloatWidth, IntegerWidth};

@@ -1,0 +1,4 @@
+pub mod notation
+pub mod normal
+pub mod straight
+pub mod text

@@ -1,0 +1,8 @@
+-- The digits of base 32 with the extended hex alphabet are decoded, or refused, as the definition does.
+use Rattle.cbor_notes.specs.Base32.{extended_hex}
+use Rattle.cbor_notation.proofs.notation.DigitsFound.{base32_answer}
+use Rattle.cbor_notation.proofs.content.base32hex.Goals as goal
+
+pub returns : goal.returns
+returns c = rw c.ok_or.ensures.value (base32_answer extended_hex c.args.digits.now c.in_ok-found.found
+    c.in_ok-found.ensures.found c.in_ok-found.ensures.none)

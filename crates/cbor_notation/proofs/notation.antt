@@ -1,0 +1,17 @@
+pub mod Ends
+pub mod Lists
+pub mod Decoded
+pub mod Pieces
+pub mod PlainDigits
+pub mod Strings
+pub mod Chunked
+pub mod Numbers
+pub mod Words
+pub mod Containers
+pub mod ItemsFound
+pub mod Levels
+pub mod OneReading
+pub mod DigitsFound
+pub mod Tokens
+pub mod OnePiece
+pub mod sound

@@ -1,0 +1,118 @@
+-- What the calls of cbor_notes answer, beside what reading gives.
+use Rattle.std.proofs.Common.{◌≡◌, ℕ, ◌≤◌, List, [], ◌∷◌, ◌++◌, ◌+◌, ◌-◌, ◌*◌, ◌^◌, ◌<◌, ◌≢◌, Bool, false, not, nat_lt}
+use Rattle.std.proofs.Common.{◌==◌, if◌then◌else◌, true, option_and_then, length, take, drop, position, Option, Some}
+use Rattle.std.proofs.Common.{None, Ok, Err, slice_range, refl, sym, ap, ◌∙◌, arith}
+use Rattle.std.specs.Char.{digit_value}
+use Rattle.std.specs.List.{list_all}
+use Rattle.std.specs.Str.Parse.{digits_value_after}
+use Rattle.std.proofs.lemmas.List.{take_rest}
+use Rattle.std.proofs.lemmas.Bool.{cond-true, lt-ltb}
+use Rattle.std.proofs.Math.Nat.{pow-le-pow_right}
+use Rattle.cbor_grammar.specs.declared.error.Error.TheVariants as refusal
+use Rattle.cbor_notes.specs.Token.{Blank, IsLongest, IsNumber, IsSomeNumber, is_whitespace, in_quotes, DigitsBetween}
+use Rattle.cbor_notes.specs.TokenReading.{after_blank, number_of, unquoted, digits_of}
+use Rattle.cbor_notes.proofs.tokens.Blanks.{after_longest_blank}
+use Rattle.cbor_notes.proofs.tokens.Numbers.{IsNumber-number_of, number_of-longest}
+use Rattle.cbor_notes.proofs.tokens.Quoted.{in_quotes-unquoted, unquoted-in_quotes}
+use Rattle.cbor_notes.proofs.tokens.Spaced.{DigitsBetween-digits_of, digits_of-DigitsBetween}
+use Rattle.cbor_notes.proofs.tokens.TextPlaces.{part_and_rest}
+use Rattle.cbor_grammar.specs.Reading.{◌>>=◌}
+use Rattle.cbor_notation.specs.mirror.NotationReading.{or_refused, skip_blank, read_number, after_byte, after_space}
+use Rattle.cbor_notation.specs.mirror.NotationReading.{numeral}
+
+pub blank_left : (text : List ℕ) (end : ℕ) → IsLongest (Blank true) (slice_range text 0 end) (drop end text)
+    → take (length text - end) (drop end text) ≡ skip_blank text
+blank_left text end longest = take_rest text end
+    ∙ after_longest_blank true (slice_range text 0 end) (drop end text) longest
+    ∙ ap (after_blank true) (sym (part_and_rest text 0 end (omega arith)))
+
+pub number_found : (text : List ℕ) (end value : ℕ) (indicator : Option ℕ)
+    → IsNumber (slice_range text 0 end) value indicator
+    → IsLongest IsSomeNumber (slice_range text 0 end) (drop end text)
+    → read_number text ≡ Ok ((value, indicator), take (length text - end) (drop end text))
+number_found text end value indicator is longest =
+    let here : number_of text ≡ Some (value, indicator, drop end text) =
+    ap number_of (part_and_rest text 0 end (omega arith))
+    ∙ number_of-longest (slice_range text 0 end) (drop end text) value indicator is longest in
+    ap (λ r. or_refused r >>= λ x. Ok ((x.0, x.1), x.2)) here
+    ∙ ap (λ rest. Ok ((value, indicator), rest)) (sym (take_rest text end))
+
+pub number_missing : (text : List ℕ) → ((front rest : List ℕ) → drop 0 text ≡ front ++ rest → ¬ (IsSomeNumber front))
+    → read_number text ≡ Err refusal.Notation
+number_missing text none = from_none (number_of text) refl where
+  from_none : (r : Option (ℕ × Option ℕ × List ℕ)) → number_of text ≡ r → read_number text ≡ Err refusal.Notation
+  from_none None e = ap (λ r. or_refused r >>= λ x. Ok ((x.0, x.1), x.2)) e
+  from_none (Some read) e =
+      let found = IsNumber-number_of text read e in
+      absurd (none found.0 read.2 found.1 (read.0, read.1, found.2))
+
+-- whitespace before the close of a list
+abbrev after_spaces : ℕ → List ℕ → Option ℕ → Option (List ℕ)
+after_spaces close text place = option_and_then
+    (λ spaces. if nat_lt 0 spaces then after_byte close (drop spaces text) else None) place
+
+pub space_missing : (close : ℕ) (text : List ℕ) (place : Option ℕ) → place ≡ position (λ b. not (is_whitespace b)) text
+    → place ≡ None → after_space close text ≡ None
+space_missing close text place found e = ap (after_spaces close text) (sym found ∙ e)
+
+pub space_found : (close : ℕ) (text : List ℕ) (place : Option ℕ) (spaces : ℕ)
+    → place ≡ position (λ b. not (is_whitespace b)) text → place ≡ Some spaces → spaces ≢ 0
+    → after_space close text ≡ after_byte close (drop spaces text)
+space_found close text place spaces found e some = ap (after_spaces close text) (sym found ∙ e)
+    ∙ cond-true (nat_lt 0 spaces) (after_byte close (drop spaces text)) None (lt-ltb 0 spaces (omega (arith, some)))
+
+-- The number that hex digits write after those of another, read one by one.
+abbrev pub hex_after : ℕ → List ℕ → Option ℕ
+hex_after n [] = Some n
+hex_after n (d ∷ ds) = if nat_lt (digit_value d) 16 then hex_after (n * 16 + digit_value d) ds else None
+
+hex_after-is : (n : ℕ) (ds : List ℕ) → hex_after n ds
+    ≡ (if list_all (λ c. nat_lt (digit_value c) 16) ds then Some (digits_value_after 16 n ds) else None)
+hex_after-is n [] = refl
+hex_after-is n (d ∷ ds) = by_test (hex_after-is (n * 16 + digit_value d) ds) (nat_lt (digit_value d) 16) refl where
+  by_test : hex_after (n * 16 + digit_value d) ds
+      ≡ (if list_all (λ c. nat_lt (digit_value c) 16) ds then Some (digits_value_after 16 (n * 16 + digit_value d) ds)
+      else None) → (t : Bool) → nat_lt (digit_value d) 16 ≡ t
+      → hex_after n (d ∷ ds) ≡ (if list_all (λ c. nat_lt (digit_value c) 16) (d ∷ ds)
+      then Some (digits_value_after 16 n (d ∷ ds)) else None)
+  by_test more true e = rw e more
+  by_test more false e = rw e refl
+
+pub numeral-hex_after : (ds : List ℕ) → false ≡ (length ds == 0) → hex_after 0 ds ≡ numeral 16 ds
+numeral-hex_after [] none = absurd cc
+numeral-hex_after (d ∷ ds) some = hex_after-is 0 (d ∷ ds)
+
+-- sixteen digits fit 64 bits
+pub room_for_digit : (n i : ℕ) → n < 16 ^ i → i < 16 → n * 16 + 15 < 2 ^ 64
+room_for_digit n i small lt =
+    let most : 16 ^ i ≤ 16 ^ 15 = let sixteen : 0 < 16 = omega arith in let low : i ≤ 15 =
+    omega arith in pow-le-pow_right sixteen low in
+    omega (arith, most)
+
+-- content of quotes
+pub quoted_found : (quote : ℕ) (text content rest : List ℕ) → quote ≢ 92
+    → text ≡ in_quotes quote content ++ quote ∷ rest → unquoted quote false text ≡ Some (content, rest)
+quoted_found quote text content rest other is = ap (unquoted quote false) is
+    ∙ unquoted-in_quotes quote content rest other
+
+pub quoted_missing : (quote : ℕ) (text : List ℕ)
+    → ((content rest : List ℕ) → text ≢ in_quotes quote content ++ quote ∷ rest) → unquoted quote false text ≡ None
+quoted_missing quote text none = from_none (unquoted quote false text) refl where
+  from_none : (r : Option (List ℕ × List ℕ)) → unquoted quote false text ≡ r → r ≡ None
+  from_none None e = refl
+  from_none (Some read) e = absurd (none read.0 read.1 (in_quotes-unquoted quote text read e))
+
+pub digits_found : (comments : Bool) (text content digits rest : List ℕ) → text ≡ content ++ 39 ∷ rest
+    → DigitsBetween comments content digits → digits_of comments text ≡ Some (digits, rest)
+digits_found comments text content digits rest is between = ap (digits_of comments) is
+    ∙ digits_of-DigitsBetween comments content digits rest between
+
+pub digits_missing : (comments : Bool) (text : List ℕ)
+    → ((content digits rest : List ℕ) → text ≡ content ++ 39 ∷ rest → ¬ (DigitsBetween comments content digits))
+    → digits_of comments text ≡ None
+digits_missing comments text none = from_none (digits_of comments text) refl where
+  from_none : (r : Option (List ℕ × List ℕ)) → digits_of comments text ≡ r → r ≡ None
+  from_none None e = refl
+  from_none (Some read) e =
+      let found = DigitsBetween-digits_of comments text read e in
+      absurd (none found.0 read.0 read.1 found.1 found.2)

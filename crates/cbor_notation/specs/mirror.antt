@@ -1,0 +1,7 @@
+-- Definitions that mirror the code. Only the checker reads them: no contract of a public call needs them.
+pub mod NotationReading
+pub mod OpenTokens
+pub mod Straight
+pub mod Ahead
+pub mod EncodingView
+pub mod LayoutView

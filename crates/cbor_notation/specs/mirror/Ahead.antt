@@ -1,0 +1,24 @@
+-- What a look at bytes that are still to be read finds.
+use Rattle.std.specs.Prelude.{◌≡◌, ℕ, ◌+◌, ◌<◌, ◌≤◌, List, Option, Some, None, Ok}
+use Rattle.cbor_notation.specs.declared.ahead.Ahead.{Ahead}
+use Rattle.cbor_grammar.specs.Estimate.{estimated_length}
+use Rattle.cbor_grammar.specs.Item.{Item}
+use Rattle.cbor_grammar.specs.ItemHead.{ItemHead}
+use Rattle.cbor_grammar.specs.Reading.{Read, opened, read_body, counted_item, read_item}
+
+-- What is that long takes this much of the budget, and these bytes follow it; or it takes all.
+abbrev pub Leaves : Option Ahead → ℕ → ℕ → List ℕ → Type 0
+Leaves (Some ahead) budget size rest = (ahead.left + size ≡ budget) × (0 < ahead.left) × (ahead.rest.now ≡ rest)
+Leaves None budget size rest = budget ≤ size
+
+-- The item that reading gives takes this much, whatever the number of levels that are left for it.
+abbrev pub Estimates : Option Ahead → ℕ → (ℕ → Read Item) → Type 0
+Estimates found budget read = (levels : ℕ) (i : Item) (rest : List ℕ) → read levels ≡ Ok (i, rest)
+    → Leaves found budget (estimated_length i) rest
+
+-- the item at the front, and what is read after a head
+abbrev pub front_read : List ℕ → ℕ → Read Item
+front_read b levels = read_item levels b
+
+abbrev pub body_read : ItemHead → List ℕ → ℕ → Read Item
+body_read h b levels = (read_body (counted_item levels) (opened h) h b).1

@@ -1,0 +1,101 @@
+//! What numbers, strings and floats take of the budget of an estimate.
+ghost use Rattle.std.specs.Prelude.{◌≡◌, ◌+◌, ◌-◌, ◌^◌, ◌≤◌, nat_lt, length, map};
+ghost use Rattle.std.specs.Prelude.{if◌then◌else◌};
+ghost use Rattle.cbor_grammar.specs.Item.{Chunk};
+ghost use Rattle.cbor_grammar.specs.ContainerStyle as style;
+ghost use Rattle.cbor_notation.specs.mirror.LayoutView.{layout_view, style_view};
+ghost use Rattle.cbor_grammar.specs.mirror.StringView.{kind_view};
+ghost use Rattle.cbor_grammar.specs.NotationText.{container_style};
+ghost use Rattle.cbor_grammar.specs.Estimate.{digit_count, estimated_string, estimated_chunks};
+ghost use Rattle.cbor_grammar.specs.Estimate.{estimated_float};
+
+use crate::context::{ContainerStyle, Layout};
+use cbor_grammar::FloatWidth;
+use cbor_grammar::strings::{DefiniteString, StringKind};
+
+/// The budget for the members of a container, which is long where they take all of it: 60 less
+/// the 4 that are for its brackets.
+pub const BUDGET: usize = 56;
+
+/// The style of a container with blanks, by what its members leave of the budget.
+pub fn pretty_style(indent: usize, left: usize) -> ContainerStyle
+    ensures { style_view result
+        ≡ (if nat_lt 0 left then style.OneLine indent else style.MultiLine indent) }
+{
+    if left > 0 {
+        ContainerStyle::OneLine { indent }
+    } else {
+        ContainerStyle::MultiLine { indent }
+    }
+}
+
+/// How many decimal digits a number has.
+#[tactic(auto, using(std::proofs::lemmas::Fmt::decimal_digit, cbor_grammar::proofs::text::DigitCounts::power_below))]
+pub fn digit_count(number: u64) -> usize
+    ensures count { result ≡ digit_count number }
+    ensures small { result ≤ 2 ^ 32 }
+{
+    number
+        .checked_ilog10()
+        .map_or(1, |power| power as usize + 1)
+}
+
+/// What a string of `len` bytes leaves of the budget.
+pub(super) fn left_after_content(kind: StringKind, len: usize, budget: usize) -> usize
+    ensures leaves { (c : Chunk) → length c.bytes ≡ len
+        → result ≡ budget - estimated_string (kind_view kind) c }
+    ensures takes { result ≤ budget - 2 }
+{
+    match kind {
+        StringKind::Bytes => budget
+            .saturating_sub(4)
+            .saturating_sub(len)
+            .saturating_sub(len),
+        StringKind::Text => budget.saturating_sub(2).saturating_sub(len),
+    }
+}
+
+/// How long a float is.
+pub fn float_len(width: FloatWidth) -> usize
+    ensures { result ≡ estimated_float width }
+{
+    match width {
+        FloatWidth::Sixteen => 11,
+        FloatWidth::ThirtyTwo => 15,
+        FloatWidth::Unknown | FloatWidth::SixtyFour => 23,
+    }
+}
+
+/// What a string leaves of the budget.
+pub fn left_after_string<S: DefiniteString>(string: &S, budget: usize) -> usize
+    ensures { result ≡ budget - estimated_string S.kind (S.chunk string.now) }
+{
+    left_after_content(S::kind(), string.content().as_bytes().len(), budget)
+}
+
+/// What the chunks of a string leave of the budget, two characters more for each.
+pub fn left_after_chunks<S: DefiniteString>(chunks: &[S], budget: usize) -> usize
+    ensures { result ≡ budget - estimated_chunks S.kind (map S.chunk chunks.now) }
+{
+    let mut left = budget;
+    'chunks: for chunk in chunks {
+        if left == 0 {
+            return 0;
+        }
+        left = left_after_string(chunk, left).saturating_sub(2);
+    }
+    left
+}
+
+impl Layout {
+    /// The style of an indefinite string of these chunks.
+    pub fn chunks_style<S: DefiniteString>(self, chunks: &[S]) -> ContainerStyle
+        ensures { style_view result ≡ container_style (layout_view self)
+            (4 + estimated_chunks S.kind (map S.chunk chunks.now)) }
+    {
+        match self {
+            Layout::Compact => ContainerStyle::Compact,
+            Layout::Pretty { indent } => pretty_style(indent, left_after_chunks(chunks, BUDGET)),
+        }
+    }
+}

@@ -1,0 +1,150 @@
+//! What is between quotes: text with escapes, and digits with blanks.
+ghost use Rattle.std.specs.Prelude.{◌≡◌, ◌⊎◌, ◌<◌, length, true, false, option_map, IfOk, IfErr};
+ghost use Rattle.std.specs.Prelude.{IfSome, Some, None, Err, position};
+ghost use Rattle.cbor_grammar.specs.Reading.{Gives};
+ghost use Rattle.cbor_notes.specs.Base32.{standard, extended_hex};
+ghost use Rattle.cbor_notes.specs.Token.{is_special};
+ghost use Rattle.cbor_notes.specs.TokenReading.{unquoted, digits_of};
+ghost use Rattle.cbor_notation.specs.mirror.NotationReading.{or_refused, base16_of, base32_of};
+ghost use Rattle.cbor_notation.specs.mirror.NotationReading.{base64_of, read_decoded};
+ghost use Rattle.cbor_notation.specs.mirror.NotationReading.{h_notation, b_notation};
+
+use crate::scan::{after_byte, after_word};
+use cbor_grammar::{Error, Result};
+use hex::FromHexError;
+use memchr::memchr;
+use std::alloc::Global;
+
+/// The content up to the closing quote, without its escapes.
+pub fn read_quoted(alloc: Global, text: &[u8], quote: u8) -> Result<(Vec<u8>, &[u8])>
+    requires { (quote ≡ 34) ⊎ (quote ≡ 39) }
+    ensures gives { Gives (λ x. (x.0.items, x.1.now)) result
+        (or_refused (unquoted quote false text.now)) }
+    ensures shorter { IfOk result (λ x. length x.1.now < length text.now) }
+{
+    match cbor_notes::quoted_at(alloc, text, 0, quote)? {
+        Some((content, end)) => Ok((content, &text[end..])),
+        None => Err(Error::Notation),
+    }
+}
+
+/// How many bytes come before the first double quote or backslash, if there is one.
+fn plain_len(text: &[u8]) -> Option<usize>
+    ensures { result ≡ position (is_special 34) text.now }
+{
+    text.iter().position(|byte| matches!(*byte, b'"' | b'\\'))
+}
+
+/// The content of a text without escapes after its opening quote, and the text after its closing
+/// one. `None` if a backslash comes first, or there is no closing quote.
+pub fn read_plain(text: &[u8]) -> Option<(&[u8], &[u8])>
+    ensures gives { IfSome result (λ x. unquoted 34 false text.now ≡ Some (x.0.now, x.1.now)) }
+    ensures shorter { IfSome result (λ x. length x.1.now < length text.now) }
+{
+    let end = plain_len(text)?;
+    let (content, rest) = text.split_at(end);
+    let after = after_byte(rest, b'"')?;
+    Some((content, after))
+}
+
+/// The digits up to the closing apostrophe, without the blanks between them.
+fn read_digits(alloc: Global, text: &[u8], comments: bool) -> Result<(Vec<u8>, &[u8])>
+    ensures gives { Gives (λ x. (x.0.items, x.1.now)) result
+        (or_refused (digits_of comments text.now)) }
+    ensures shorter { IfOk result (λ x. length x.1.now < length text.now) }
+{
+    match cbor_notes::digits_at(alloc, text, 0, comments)? {
+        Some((digits, end)) => Ok((digits, &text[end..])),
+        None => Err(Error::Notation),
+    }
+}
+
+/// The bytes of hex digits of either case, two digits for each byte, or `None` if they are not such
+/// digits. The only error is `Memory`.
+pub fn base16(alloc: Global, digits: &[u8]) -> Result<Option<Vec<u8>>>
+    ensures gives { IfOk result (λ bytes. option_map (λ x. x.items) bytes ≡ base16_of digits.now) }
+    ensures refused { IfErr result (λ e. e ≡ Error.Memory) }
+{
+    match hex::decode(alloc, digits) {
+        Ok(bytes) => Ok(Some(bytes)),
+        Err(FromHexError::OutOfMemory) => Err(Error::Memory),
+        Err(_) => Ok(None),
+    }
+}
+
+/// The bytes of hex digits up to the closing apostrophe. Digits without blanks between them, the
+/// usual case, are decoded in place; others are gathered first.
+fn read_base16(alloc: Global, text: &[u8]) -> Result<(Vec<u8>, &[u8])>
+    ensures gives { Gives (λ x. (x.0.items, x.1.now)) result
+        (read_decoded true base16_of text.now) }
+    ensures shorter { IfOk result (λ x. length x.1.now < length text.now) }
+{
+    if let Some(end) = memchr(b'\'', text) {
+        // `None` here: blanks between them, other bytes, or an odd number of digits.
+        if let Some(bytes) = base16(alloc, &text[..end])? {
+            return Ok((bytes, &text[end + 1..]));
+        }
+    }
+    let (digits, rest) = read_digits(alloc, text, true)?;
+    match base16(alloc, &digits)? {
+        Some(bytes) => Ok((bytes, rest)),
+        None => Err(Error::Notation),
+    }
+}
+
+/// The bytes that base 32 digits encode.
+fn base32(alloc: Global, digits: &[u8]) -> Result<Vec<u8>>
+    ensures { Gives (λ x. x.items) result (or_refused (base32_of standard digits.now)) }
+{
+    let found = cbor_notes::base32_decode(alloc, digits)?;
+    found.ok_or(Error::Notation)
+}
+
+/// The bytes that digits of base 32 with the extended hex alphabet encode.
+fn base32hex(alloc: Global, digits: &[u8]) -> Result<Vec<u8>>
+    ensures { Gives (λ x. x.items) result (or_refused (base32_of extended_hex digits.now)) }
+{
+    let found = cbor_notes::base32hex_decode(alloc, digits)?;
+    found.ok_or(Error::Notation)
+}
+
+/// The bytes that base 64 digits encode, in the alphabet for URLs without padding or in the
+/// standard one with it.
+fn base64(alloc: Global, digits: &[u8]) -> Result<Vec<u8>>
+    ensures { Gives (λ x. x.items) result (or_refused (base64_of digits.now)) }
+{
+    let found = cbor_notes::base64_any_decode(alloc, digits)?;
+    found.ok_or(Error::Notation)
+}
+
+/// The bytes of `h'..'` or `h32'..'` after the `h`.
+pub fn h_notation(alloc: Global, text: &[u8]) -> Result<(Vec<u8>, &[u8])>
+    ensures gives { Gives (λ x. (x.0.items, x.1.now)) result (h_notation text.now) }
+    ensures shorter { IfOk result (λ x. length x.1.now < length text.now) }
+{
+    if let Some(quoted) = after_word(text, b"'") {
+        read_base16(alloc, quoted)
+    } else if let Some(quoted) = after_word(text, b"32'") {
+        let (digits, rest) = read_digits(alloc, quoted, true)?;
+        Ok((base32hex(alloc, &digits)?, rest))
+    } else {
+        Err(Error::Notation)
+    }
+}
+
+/// The bytes of `b32'..'` or `b64'..'` after the `b`. In base 64 a `/` is a digit, so there are no
+/// comments.
+pub fn b_notation(alloc: Global, text: &[u8]) -> Result<(Vec<u8>, &[u8])>
+    ensures gives { Gives (λ x. (x.0.items, x.1.now)) result (b_notation text.now) }
+    ensures shorter { IfOk result (λ x. length x.1.now < length text.now) }
+{
+    if let Some(quoted) = after_word(text, b"32'") {
+        let (digits, rest) = read_digits(alloc, quoted, true)?;
+        Ok((base32(alloc, &digits)?, rest))
+    } else if let Some(quoted) = after_word(text, b"64'") {
+        let (digits, rest) = read_digits(alloc, quoted, false)?;
+        Ok((base64(alloc, &digits)?, rest))
+    } else {
+        Err(Error::Notation)
+    }
+}
