@@ -297,7 +297,7 @@ fn begins(bytes: &[u8]) -> Extent
 /// assert_eq!(rt; extent(b"\x82\x01\x1f\x00"), Extent::Fault { error, end });
 /// ```
 ///
-/// [`parse_bytes_partial`]: cbor_diag::parse::binary::parse_bytes_partial
+/// [`parse_bytes_partial`]: cbor_diag::parse_bytes_partial
 pub fn extent(bytes: &[u8]) -> Extent
     // An item of `n` bytes, exactly if they spell one.
     ensures item { IfItem result (λ n. (i : Item) × BeginsWithItem bytes.now i n) }

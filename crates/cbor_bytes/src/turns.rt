@@ -6,7 +6,7 @@ use std::marker::Model;
 /// Counts the turns of [`parse_bytes_counted`]. A turn reads a head, with the content of a string,
 /// reads a chunk or a break, or closes a container that is complete.
 ///
-/// [`parse_bytes_counted`]: cbor_diag::parse::binary::parse_bytes_counted
+/// [`parse_bytes_counted`]: cbor_diag::parse_bytes_counted
 #[derive(Drop)]
 pub struct Turns {
     count: u128,

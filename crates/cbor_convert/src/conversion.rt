@@ -32,8 +32,8 @@ pub fn convert(alloc: Global, from: Source, to: To, input: &[u8]) -> Result<Vec<
     }
 }
 
-/// Returns the output for an input in bytes. No item is built, unless the input spells a simple
-/// value below 24 in two bytes and its encoding is wanted.
+/// Returns the output for an input in bytes. No item is built, unless the output is bytes and the
+/// input spells a simple value below 24 in two of them.
 fn from_bytes(alloc: Global, to: To, input: &[u8]) -> Result<Vec<u8>, Error>
     ensures ok { IfOk result (λ output. IsOutput Source.Bytes to input.now (Ok output.items)) }
     ensures refused { RefusedSo result (Refuses Source.Bytes input.now) }

@@ -53,8 +53,8 @@ fn dump_whole(alloc: Global, bytes: &[u8]) -> cbor_grammar::Result<String>
 /// assert_eq!(rt; cut.err(), Some(Error::CutShort));
 /// ```
 ///
-/// [`parse_bytes`]: cbor_diag::parse::binary::parse_bytes
-/// [`DataItem::to_hex`]: cbor_diag::syntax::DataItem
+/// [`parse_bytes`]: cbor_diag::parse_bytes
+/// [`DataItem::to_hex`]: cbor_diag::DataItem::to_hex
 pub fn bytes_to_hex(alloc: Global, bytes: &[u8]) -> cbor_grammar::Result<String>
     // The dump of the item that the bytes are, exactly if they are one.
     ensures ok { IfOk result (λ s. (i : Item) × IsItem bytes.now i
@@ -133,8 +133,8 @@ fn push_whole(alloc: Global, bytes: &[u8], out: &mut String) -> cbor_grammar::Re
 /// assert_eq!(rt; out.as_str(), "01 # unsigned(1)\n");
 /// ```
 ///
-/// [`parse_bytes_partial`]: cbor_diag::parse::binary::parse_bytes_partial
-/// [`DataItem::to_hex`]: cbor_diag::syntax::DataItem
+/// [`parse_bytes_partial`]: cbor_diag::parse_bytes_partial
+/// [`DataItem::to_hex`]: cbor_diag::DataItem::to_hex
 pub fn push_bytes_to_hex_partial(
     alloc: Global,
     bytes: &[u8],
@@ -181,8 +181,8 @@ pub fn push_bytes_to_hex_partial(
 /// assert_eq!(rt; dump.as_str(), lines);
 /// ```
 ///
-/// [`parse_hex`]: cbor_diag::parse::hex_text::parse_hex
-/// [`DataItem::to_hex`]: cbor_diag::syntax::DataItem
+/// [`parse_hex`]: cbor_diag::parse_hex
+/// [`DataItem::to_hex`]: cbor_diag::DataItem::to_hex
 pub fn hex_to_hex(alloc: Global, hex: &str) -> cbor_grammar::Result<String>
     ensures ok { IfOk result (λ s. (i : Item) × IsHexOf hex.now i
         × (string_bytes s ≡ spec.dump i)) }

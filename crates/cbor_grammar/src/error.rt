@@ -12,7 +12,7 @@ use std::fmt;
 /// before the errors of the bytes. An error carries nothing else; [`extent`] reports the place of
 /// an error in bytes.
 ///
-/// [`extent`]: cbor_bytes::extent
+/// [`extent`]: cbor_diag::extent
 #[derive(Clone, Copy, PartialEq, Eq, Debug)]
 pub enum Error {
     /// An allocation failed.

@@ -41,8 +41,8 @@ const PRETTY: Layout = Layout::Pretty { indent: 0 };
 /// assert_eq!(rt; cut.err(), Some(Error::CutShort));
 /// ```
 ///
-/// [`parse_bytes`]: cbor_diag::parse::binary::parse_bytes
-/// [`DataItem::to_diag`]: cbor_diag::syntax::DataItem
+/// [`parse_bytes`]: cbor_diag::parse_bytes
+/// [`DataItem::to_diag`]: cbor_diag::DataItem::to_diag
 pub fn bytes_to_diag(alloc: Global, bytes: &[u8]) -> cbor_grammar::Result<String>
     // The text of the item that the bytes are, exactly if they are one.
     ensures ok { IfOk result (λ s. (i : Item) × IsItem bytes.now i × (string_bytes s ≡ diag_of i)) }
@@ -97,8 +97,8 @@ pub fn push_bytes_to_diag(alloc: Global, bytes: &[u8], out: &mut String) -> cbor
 /// assert_eq!(rt; out.as_str(), "[1]");
 /// ```
 ///
-/// [`parse_bytes_partial`]: cbor_diag::parse::binary::parse_bytes_partial
-/// [`DataItem::push_diag`]: cbor_diag::syntax::DataItem
+/// [`parse_bytes_partial`]: cbor_diag::parse_bytes_partial
+/// [`DataItem::push_diag`]: cbor_diag::DataItem::push_diag
 pub fn push_bytes_to_diag_partial(
     alloc: Global,
     bytes: &[u8],
@@ -135,8 +135,8 @@ pub fn push_bytes_to_diag_partial(
 /// assert_eq!(rt; text.as_str(), "[1,2,3]");
 /// ```
 ///
-/// [`parse_hex`]: cbor_diag::parse::hex_text::parse_hex
-/// [`DataItem::to_diag`]: cbor_diag::syntax::DataItem
+/// [`parse_hex`]: cbor_diag::parse_hex
+/// [`DataItem::to_diag`]: cbor_diag::DataItem::to_diag
 pub fn hex_to_diag(alloc: Global, hex: &str) -> cbor_grammar::Result<String>
     ensures ok { IfOk result (λ s. (i : Item) × IsHexOf hex.now i × (string_bytes s ≡ diag_of i)) }
     ensures every_item { (i : Item) → IsHexOf hex.now i
@@ -160,8 +160,8 @@ pub fn hex_to_diag(alloc: Global, hex: &str) -> cbor_grammar::Result<String>
 /// assert_eq!(rt; text.as_str(), "[_ 1, [2, 3]]");
 /// ```
 ///
-/// [`parse_bytes`]: cbor_diag::parse::binary::parse_bytes
-/// [`DataItem::to_diag_pretty`]: cbor_diag::syntax::DataItem
+/// [`parse_bytes`]: cbor_diag::parse_bytes
+/// [`DataItem::to_diag_pretty`]: cbor_diag::DataItem::to_diag_pretty
 #[tactic(auto, using(cbor_grammar::proofs::text::Forms::pretty_laws))]
 pub fn bytes_to_diag_pretty(alloc: Global, bytes: &[u8]) -> cbor_grammar::Result<String>
     // The text of the item that the bytes are, exactly if they are one.
@@ -240,8 +240,8 @@ pub fn push_bytes_to_diag_pretty(
 /// assert_eq!(rt; out.as_str(), "[1, 2]");
 /// ```
 ///
-/// [`parse_bytes_partial`]: cbor_diag::parse::binary::parse_bytes_partial
-/// [`DataItem::push_diag_pretty`]: cbor_diag::syntax::DataItem
+/// [`parse_bytes_partial`]: cbor_diag::parse_bytes_partial
+/// [`DataItem::push_diag_pretty`]: cbor_diag::DataItem::push_diag_pretty
 pub fn push_bytes_to_diag_pretty_partial(
     alloc: Global,
     bytes: &[u8],
@@ -278,8 +278,8 @@ pub fn push_bytes_to_diag_pretty_partial(
 /// assert_eq!(rt; text.as_str(), "[1, 2, 3]");
 /// ```
 ///
-/// [`parse_hex`]: cbor_diag::parse::hex_text::parse_hex
-/// [`DataItem::to_diag_pretty`]: cbor_diag::syntax::DataItem
+/// [`parse_hex`]: cbor_diag::parse_hex
+/// [`DataItem::to_diag_pretty`]: cbor_diag::DataItem::to_diag_pretty
 pub fn hex_to_diag_pretty(alloc: Global, hex: &str) -> cbor_grammar::Result<String>
     ensures ok { IfOk result (λ s. (i : Item) × IsHexOf hex.now i
         × (string_bytes s ≡ pretty_of i)) }

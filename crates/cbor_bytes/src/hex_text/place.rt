@@ -122,7 +122,7 @@ fn bad_place(text: &[u8]) -> Option<usize>
 /// ```
 ///
 /// [`extent`]: crate::extent
-/// [`parse_hex`]: cbor_diag::parse::hex_text::parse_hex
+/// [`parse_hex`]: cbor_diag::parse_hex
 pub fn hex_fault(hex: &str) -> Option<(Error, usize)>
     // The error and its place, or none exactly where the kept bytes are digits of whole bytes.
     ensures fault { IfSome result (λ x. IsHexFault hex.now x.0 x.1) }

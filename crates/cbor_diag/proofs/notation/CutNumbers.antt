@@ -123,7 +123,7 @@ widened : (text : List ℕ) (x : (ℕ × Option ℕ) × List ℕ) → read_numbe
 widened text x e was none =
     three_more text x.0.0 (subst (IsNumber text x.0.0) was (whole_number text x e none))
 
--- T1
+-- an unsigned number that more text may widen is cut short
 pub unsigned_cut : (text : List ℕ) (x : (ℕ × Option ℕ) × List ℕ) → read_number text ≡ Ok x
     → widens x.0.0 x.0.1 x.1 ≡ true → IsCut IsUnsigned text
 unsigned_cut text x e wider =
@@ -224,7 +224,7 @@ negative_by text (suc n) indicator rest e may =
       ),
     )
 
--- T2
+-- so is a negative one
 pub negative_cut : (text : List ℕ) (x : (ℕ × Option ℕ) × List ℕ) → read_number text ≡ Ok x
     → may_be_negative text x.0.0 x.0.1 x.1 ≡ true → IsCut IsNegative (45 ∷ text)
 negative_cut text x e may = negative_by text x.0.0 x.0.1 x.1 e may

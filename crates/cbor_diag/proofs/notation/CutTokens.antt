@@ -60,7 +60,7 @@ rest_goes_on (b ∷ rest) same none =
     let words = open_comment (47 ∷ rest) rest opened (omega arith) in
     (47 ∷ [], comment rest [] refl words nothing (ap (λ (c : ℕ). c ∷ (rest ++ 47 ∷ [])) is))
 
--- T7
+-- A blank at the end of a text goes on, and a comment that is open there is closed.
 pub blank_goes_on : (text : List ℕ) → ends_blank (skip_blank text) ≡ false → (more : List ℕ) × IsBlank (text ++ more)
 blank_goes_on text none =
     let left = blank_left true text in
@@ -83,7 +83,7 @@ prefix_of (w ∷ word) (c ∷ text) e =
       | inr other ↦ cc (rw other at e)
     ]
 
--- T9
+-- a text that begins with a word, or with which the word begins, is near it
 pub near_begun : (word text : List ℕ) → starts_with nat_eq text word ≡ true → Near word text
 near_begun word text is = inl (drop (length word) text, rw is refl)
 
@@ -120,7 +120,7 @@ abbrev pub Closing : ℕ → List ℕ → Type 0
 Closing close text = ((rest : List ℕ) × (after_end close text ≡ Some rest))
     ⊎ ((more : List ℕ) × Closes (close ∷ []) (text ++ more))
 
--- T8
+-- where the end of a list may still come
 pub nothing_closes : (close : ℕ) (text : List ℕ) → length text < 1 → Closing close text
 nothing_closes close [] none = inr (close ∷ [], inl refl)
 nothing_closes close (b ∷ text) none = absurd (omega (arith, none))
@@ -178,7 +178,7 @@ opened_cut letter word text rest at empty unfinished = (
   unfinished,
 )
 
--- T5
+-- digits and content whose apostrophe is not closed
 pub b32_cut : (text rest : List ℕ) → after_word (codes "32'") text ≡ Some rest → closes true false rest ≡ false
     → IsCut IsBytes (98 ∷ text)
 b32_cut text rest at none = opened_cut 98 (codes "32'") text rest at empty_b32 (digits (inr (inr refl)) none)

@@ -1,7 +1,4 @@
-//! Writes an item as a dump: annotated hex.
-//!
-//! One recursion over the bytes finds the column of the digits, and one writes each line as soon as
-//! it is read.
+//! Writes an item as a dump, annotated hex: the dump of its bytes.
 ghost use Rattle.std.specs.Prelude.{◌≡◌, ◌+◌, IfOk, IfErr};
 ghost use Rattle.std.specs.List.{AllByRecursion};
 ghost use Rattle.std.specs.String.{string_bytes};
