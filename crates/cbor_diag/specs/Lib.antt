@@ -12,7 +12,6 @@ pub use Rattle.cbor_grammar.specs.ContainerStyle
 pub use Rattle.cbor_grammar.specs.DeadEnd
 pub use Rattle.cbor_grammar.specs.Dump
 pub use Rattle.cbor_grammar.specs.Embedded
-pub use Rattle.cbor_grammar.specs.Encoding
 pub use Rattle.cbor_grammar.specs.Estimate
 pub use Rattle.cbor_grammar.specs.Examples
 pub use Rattle.cbor_bytes.specs.Extent

@@ -12,7 +12,6 @@ ghost use Rattle.cbor_grammar.specs.Written.{encoded_head, encoded_simple};
 ghost use Rattle.cbor_grammar.specs.StringKind.{major_of};
 ghost use Rattle.cbor_dump.specs.mirror.Dumped.{context_view, tag_number, IsContext, Wrote};
 ghost use Rattle.cbor_dump.specs.mirror.Dumped.{IsHead, line_of_head};
-ghost use Rattle.cbor_notation.specs.mirror.EncodingView.{in_force};
 ghost use Rattle.cbor_bytes.specs.mirror.HeadView.{argument_view, head_view};
 ghost use Rattle.cbor_dump.specs.mirror.ShownLines.{comment_text, shown_line};
 ghost use Rattle.cbor_grammar.specs.mirror.StringView.{borrowed_chunk, bytes_of, kind_of};
@@ -24,8 +23,7 @@ use crate::writer::Writer;
 use cbor_bytes::argument::Argument;
 use cbor_bytes::head::ItemHead;
 use cbor_grammar::strings::StringContent;
-use cbor_grammar::{IntegerWidth, Tag};
-use cbor_notation::encoding::Encoding;
+use cbor_grammar::{Encoding, IntegerWidth, Tag};
 use cbor_notes::{element_size, push_blanks, push_gap};
 use std::alloc::AllocError;
 
@@ -160,7 +158,7 @@ impl Writer {
     ) -> Result<(), AllocError>
         requires { depth < 140 }
         ensures { OnOk result (Wrote self.old self.new
-            (spec.bytes_lines depth (in_force encoding) bytes.now)) }
+            (spec.bytes_lines depth encoding bytes.now)) }
     {
         if bytes.is_empty() {
             return self.piece_line(depth, bytes, &Comment::Empty);
@@ -197,7 +195,7 @@ impl Writer {
         requires { IsContext context.now }
         ensures { OnOk result (Wrote self.old self.new
             (spec.tagged_lines (context.now.depth + 1)
-            (in_force context.now.encoding) (tag_number context.now.tag) bytes.now)) }
+            context.now.encoding (tag_number context.now.tag) bytes.now)) }
     {
         let depth = context.depth + 1;
         let Some(tag) = context.tag else {

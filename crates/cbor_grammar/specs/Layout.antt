@@ -1,6 +1,6 @@
 -- Where in a text an item is: what decides how it is written, beside the item itself.
 use Rattle.std.specs.Prelude.{ℕ}
-use Rattle.cbor_grammar.specs.Encoding.{Encoding}
+use Rattle.cbor_grammar.specs.declared.encoding.Encoding.{Encoding}
 
 -- What the bytes of a byte string are shown as, where they can be: bytes, the one item that they are (RFC 7049
 -- section 2.4.4.1), or items one after the other (RFC 8742).

@@ -21,7 +21,6 @@ pub mod Pieces
 pub mod Dump
 pub mod Embedded
 pub mod Estimate
-pub mod Encoding
 pub mod Layout
 pub mod ContainerStyle
 pub mod NotationText

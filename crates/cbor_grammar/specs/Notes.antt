@@ -10,6 +10,8 @@ use Rattle.cbor_notes.specs.Element.{element_size}
 use Rattle.cbor_notes.specs.Identifier.{fields_line, base16_line, base58_line, base64_line}
 use Rattle.cbor_notes.specs.Text.{grouped, escaped_text}
 use Rattle.cbor_notes.specs.Url.{is_url}
+use Rattle.cbor_grammar.specs.declared.addresses.Family.{Family}
+use Rattle.cbor_grammar.specs.declared.addresses.Family.TheVariants.{IPv4, IPv6}
 use Rattle.cbor_grammar.specs.Item.{integer, negative, string, float, simple, Item, atom, array, Items, no_items, item}
 use Rattle.cbor_grammar.specs.StringKind.{bytes_kind, text_kind}
 use Rattle.cbor_grammar.specs.Comments.{in_brackets}
@@ -108,22 +110,18 @@ uuid_note _ = plain_note (codes "invalid type for uuid")
 
 -- ---- network addresses (RFC 9164)
 
-pub data Family : Type 0 where
-  ipv4 : Family
-  ipv6 : Family
-
 abbrev pub family_name : Family → List ℕ
-family_name ipv4 = codes "IPv4"
-family_name ipv6 = codes "IPv6"
+family_name IPv4 = codes "IPv4"
+family_name IPv6 = codes "IPv6"
 
 -- how many bytes an address has
 abbrev pub family_size : Family → ℕ
-family_size ipv4 = 4
-family_size ipv6 = 16
+family_size IPv4 = 4
+family_size IPv6 = 16
 
 abbrev pub address_text : Family → List ℕ → List ℕ
-address_text ipv4 = ipv4_text
-address_text ipv6 = ipv6_text
+address_text IPv4 = ipv4_text
+address_text IPv6 = ipv6_text
 
 -- the family's name, what is shown of it, and that between brackets
 abbrev pub shown : Family → List ℕ → List ℕ → List ℕ
@@ -233,8 +231,8 @@ value_note known t i =
     else if t == 33 then Some (base64_note true i)
     else if t == 34 then Some (base64_note false i)
     else if t == 37 then Some (uuid_note i)
-    else if t == 52 then Some (plain_note (address_note ipv4 i))
-    else if t == 54 then Some (plain_note (address_note ipv6 i))
+    else if t == 52 then Some (plain_note (address_note IPv4 i))
+    else if t == 54 then Some (plain_note (address_note IPv6 i))
     else if t == 100 then Some (plain_note (epoch_date_note i))
     else if t == 260 then Some (plain_note (network_note i))
     else if t == 1004 then Some (plain_note (date_note i))

@@ -2,7 +2,7 @@
 -- another each member has a line.
 use Rattle.std.specs.Prelude.{ℕ, ◌+◌, ◌++◌, List, codes}
 use Rattle.cbor_grammar.specs.declared.width.IntegerWidth.{IntegerWidth}
-use Rattle.cbor_grammar.specs.Encoding.{Encoding}
+use Rattle.cbor_grammar.specs.declared.encoding.Encoding.{Encoding}
 use Rattle.cbor_grammar.specs.Layout.{Pretty}
 use Rattle.cbor_grammar.specs.ContainerStyle.{ContainerStyle, OneLine, MultiLine}
 use Rattle.cbor_grammar.specs.StringKind.{bytes_kind}

@@ -13,7 +13,7 @@ ghost use Rattle.cbor_grammar.specs.WellFormed.{WellFormed};
 ghost use Rattle.cbor_grammar.specs.Written.{encoded, encoded_open, resolve};
 ghost use Rattle.cbor_grammar.specs.Bytes.{any, strict, Spells};
 ghost use Rattle.cbor_grammar.specs.Refused.{Cut, Fault};
-ghost use Rattle.cbor_grammar.specs.Encoding.{Base16};
+ghost use Rattle.cbor_grammar.specs.declared.encoding.Encoding.TheVariants.{Base16};
 ghost use Rattle.cbor_grammar.specs.Embedded.{embedded, sequence};
 ghost use Rattle.cbor_grammar.specs.Compact.{compact};
 ghost use Rattle.cbor_grammar.specs.Dump.{dump, lines};

@@ -5,6 +5,8 @@
 //! the types that they speak of: widths, tags, strings and errors. The calls are in `cbor_diag`.
 #![tactic(auto)]
 
+pub mod addresses;
+pub mod encoding;
 pub mod error;
 mod examples;
 mod laws;
@@ -14,6 +16,7 @@ pub mod strings;
 pub mod tags;
 pub mod width;
 
+pub use encoding::Encoding;
 pub use error::{Error, Result};
 pub use strings::{ByteString, TextString};
 pub use tags::{Simple, Tag};

@@ -3,5 +3,4 @@ pub mod NotationReading
 pub mod OpenTokens
 pub mod Straight
 pub mod Ahead
-pub mod EncodingView
 pub mod LayoutView

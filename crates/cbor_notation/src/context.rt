@@ -1,13 +1,12 @@
 //! Where in a text an item is: what decides how it is written, beside the item itself.
 ghost use Rattle.std.specs.Prelude.{◌≡◌, ◌+◌, ◌<◌, ◌≤◌, ◌^◌};
-ghost use Rattle.cbor_grammar.specs.Encoding.{Base16};
+ghost use Rattle.cbor_grammar.specs.declared.encoding.Encoding.TheVariants.{Base16};
 ghost use Rattle.cbor_grammar.specs.WellFormed.{deepest};
 ghost use Rattle.cbor_notation.specs.mirror.LayoutView.{layout_view, style_view, context_view};
 ghost use Rattle.cbor_grammar.specs.NotationText.{in_encoding, below, inside, members_layout};
 ghost use Rattle.cbor_grammar.specs.NotationText.{style_indent};
 
-use crate::encoding::Encoding;
-use cbor_grammar::Tag;
+use cbor_grammar::{Encoding, Tag};
 
 /// What the bytes of a byte string are shown as, where they can be.
 #[derive(Clone, Copy)]

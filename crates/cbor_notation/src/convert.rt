@@ -6,7 +6,7 @@ ghost use Rattle.std.specs.String.{string_bytes};
 ghost use Rattle.cbor_grammar.specs.declared.width.IntegerWidth.{IntegerWidth};
 ghost use Rattle.cbor_grammar.specs.Answer.{Outcome, GavePart, GaveRefusal, RefusedSo};
 ghost use Rattle.cbor_grammar.specs.Embedded.{sequence, EmbedsExactly};
-ghost use Rattle.cbor_grammar.specs.Encoding.{Encoding};
+ghost use Rattle.cbor_grammar.specs.declared.encoding.Encoding.{Encoding};
 ghost use Rattle.cbor_grammar.specs.Estimate.{estimated_length, one_line_limit};
 ghost use Rattle.cbor_grammar.specs.Facts.{IsItem, BeginsWithItem, IsCut, HasFault, IsNoItem};
 ghost use Rattle.cbor_grammar.specs.Facts.{BeginsSo, BeginsInOneWay, diag_of, pretty_of, normal_of};

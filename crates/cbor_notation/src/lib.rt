@@ -7,7 +7,6 @@ pub mod budget;
 pub mod content;
 pub mod context;
 pub mod convert;
-pub mod encoding;
 mod examples;
 pub mod from_bytes;
 mod laws;

@@ -19,7 +19,9 @@ use Rattle.cbor_grammar.specs.Item as spec
 use Rattle.cbor_grammar.specs.Item.{Chunk, Atom, Item, atom, array, tagged, Items, no_items, item}
 use Rattle.cbor_grammar.specs.ItemHead as item_head
 use Rattle.cbor_grammar.specs.ItemHead.{ItemHead}
-use Rattle.cbor_grammar.specs.Notes.{Family, ipv4, ipv6, zone_at, interface_note, members_note, typed_array_note}
+use Rattle.cbor_grammar.specs.Notes.{zone_at, interface_note, members_note, typed_array_note}
+use Rattle.cbor_grammar.specs.declared.addresses.Family.{Family}
+use Rattle.cbor_grammar.specs.declared.addresses.Family.TheVariants.{IPv4, IPv6}
 use Rattle.cbor_grammar.specs.Notes.{value_note}
 use Rattle.cbor_grammar.specs.Reading.{Counted, Frame, items_in, pairs_in, value_of, tag_of, tagged_with, opened}
 use Rattle.cbor_grammar.specs.Reading.{joined}
@@ -405,7 +407,7 @@ pub array_note : (known t : ℕ) (is : Items) (w : Option IntegerWidth)
     → value_note known t (array (first_seen 3 is) None) ≡ value_note known t (array is w)
 unfolding value_note
 array_note known t is w =
-    rw (members_seen ipv4 is, members_seen ipv6 is, not_elements (element_size t) (first_seen 3 is) is None w) refl
+    rw (members_seen IPv4 is, members_seen IPv6 is, not_elements (element_size t) (first_seen 3 is) is None w) refl
 
 elements_seen : (size : Option ℕ) (i : Item) → typed_array_note size (seen i) ≡ typed_array_note size i
 elements_seen None i = refl

@@ -24,7 +24,6 @@ use Rattle.cbor_grammar.specs.Notes.{value_note}
 use Rattle.cbor_grammar.specs.StringKind.{major_of}
 use Rattle.cbor_grammar.specs.WellFormed.{deepest, levels_left}
 use Rattle.cbor_grammar.specs.Written.{encoded_head, encoded_float, encoded_simple}
-use Rattle.cbor_notation.specs.mirror.EncodingView.{in_force}
 use Rattle.cbor_bytes.specs.mirror.HeadView.{argument_count}
 use Rattle.cbor_grammar.specs.mirror.AtLevel.{read_behind}
 
@@ -35,7 +34,7 @@ tag_number (Some t) = Some t.0
 tag_number None = None
 
 abbrev pub context_view : DumpContext → Context
-context_view c = record { depth = c.depth; encoding = in_force c.encoding; tag = tag_number c.tag; shared = c.shared }
+context_view c = record { depth = c.depth; encoding = c.encoding; tag = tag_number c.tag; shared = c.shared }
 
 -- an item is less deep than its level, which is at most one past the deepest
 abbrev pub IsContext : DumpContext → Type 0

@@ -23,7 +23,7 @@ use Rattle.cbor_grammar.specs.declared.width.IntegerWidth.{IntegerWidth}
 use Rattle.cbor_grammar.specs.declared.width.IntegerWidth.TheVariants as width
 use Rattle.cbor_grammar.specs.declared.width.FloatWidth.{FloatWidth}
 use Rattle.cbor_grammar.specs.declared.width.FloatWidth.TheVariants as float_width
-use Rattle.cbor_grammar.specs.Encoding.{Encoding}
+use Rattle.cbor_grammar.specs.declared.encoding.Encoding.{Encoding}
 use Rattle.cbor_grammar.specs.Item.{Chunk, Atom, integer, negative, string, chunked_string, float, simple}
 use Rattle.cbor_grammar.specs.Head.{head, stated, opening, break_byte}
 use Rattle.cbor_grammar.specs.StringKind.{StringKind, bytes_kind, text_kind, major_of}

@@ -29,7 +29,9 @@ use Rattle.cbor_grammar.specs.declared.width.IntegerWidth.{IntegerWidth}
 use Rattle.cbor_grammar.specs.Comments.{in_brackets}
 use Rattle.cbor_grammar.specs.Item.{Chunk, Item, Items, atom, integer, negative, string, float, simple, array, item}
 use Rattle.cbor_grammar.specs.StringKind.{bytes_kind, text_kind}
-use Rattle.cbor_grammar.specs.Notes.{Note, plain_note, Family, ipv4, ipv6, Zone, no_zone, zone_text, not_zone}
+use Rattle.cbor_grammar.specs.Notes.{Note, plain_note, Zone, no_zone, zone_text, not_zone}
+use Rattle.cbor_grammar.specs.declared.addresses.Family.{Family}
+use Rattle.cbor_grammar.specs.declared.addresses.Family.TheVariants.{IPv4, IPv6}
 use Rattle.cbor_grammar.specs.Notes.{null_value}
 use Rattle.cbor_grammar.specs.Notes.{word_or, datetime_note, epoch_datetime_note, epoch_date_note, date_note}
 use Rattle.cbor_grammar.specs.Notes.{shareable_note, reference_note, url_words, url_note, base64_name, decoded_note}
@@ -87,8 +89,8 @@ filled_up bytes octets size n are is short small =
     ∙ ap (λ zeros. bytes ++ zeros) (take-replicate (size - length bytes) (16 - length bytes) 0 (omega arith)))
 
 pub size_small : (f : Family) → family_size f ≤ 16
-size_small ipv4 = omega arith
-size_small ipv6 = omega arith
+size_small IPv4 = omega arith
+size_small IPv6 = omega arith
 
 pub prefix_is : (f : Family) (len : ℕ) (bytes : List ℕ) → ends_with nat_eq bytes (0 ∷ []) ≡ false
     → length bytes ≤ family_size f
@@ -220,12 +222,12 @@ uuid_line _ = (from_test 10 (codes "invalid type for uuid") refl, tt)
 
 -- network addresses
 name_line : (f : Family) → Free 10 (family_name f)
-name_line ipv4 = from_test 10 (codes "IPv4") refl
-name_line ipv6 = from_test 10 (codes "IPv6") refl
+name_line IPv4 = from_test 10 (codes "IPv4") refl
+name_line IPv6 = from_test 10 (codes "IPv6") refl
 
 text_line : (f : Family) (bytes : List ℕ) → Free 10 (address_text f bytes)
-text_line ipv4 bytes = ipv4_line bytes
-text_line ipv6 bytes = ipv6_line bytes
+text_line IPv4 bytes = ipv4_line bytes
+text_line IPv6 bytes = ipv6_line bytes
 
 shown_line : (f : Family) (what text : List ℕ) → Free 10 what → Free 10 text → Free 10 (shown f what text)
 shown_line f what text h k =
@@ -237,8 +239,8 @@ invalid_line : Free 10 invalid_address
 invalid_line = from_test 10 invalid_address refl
 
 length_line : (f : Family) → Free 10 (invalid_length f)
-length_line ipv4 = from_test 10 (invalid_length ipv4) refl
-length_line ipv6 = from_test 10 (invalid_length ipv6) refl
+length_line IPv4 = from_test 10 (invalid_length IPv4) refl
+length_line IPv6 = from_test 10 (invalid_length IPv6) refl
 
 plain_line : (f : Family) (bytes : List ℕ) → Free 10 (plain_address f bytes)
 plain_line f bytes =
@@ -351,8 +353,8 @@ value_note_line known t i =
     (some_cond (t == 33) (Some (base64_note true i)) _ (base64_line true i)
     (some_cond (t == 34) (Some (base64_note false i)) _ (base64_line false i)
     (some_cond (t == 37) (Some (uuid_note i)) _ (uuid_line i)
-    (plain_cond (t == 52) (address_note ipv4 i) _ (address_line ipv4 i)
-    (plain_cond (t == 54) (address_note ipv6 i) _ (address_line ipv6 i)
+    (plain_cond (t == 52) (address_note IPv4 i) _ (address_line IPv4 i)
+    (plain_cond (t == 54) (address_note IPv6 i) _ (address_line IPv6 i)
     (plain_cond (t == 100) (epoch_date_note i) _ (epoch_date_line i)
     (plain_cond (t == 260) (network_note i) _ (network_line i)
     (plain_cond (t == 1004) (date_note i) (typed_array_note (element_size t) i) (date_line i)

@@ -17,7 +17,9 @@ use Rattle.cbor_grammar.specs.Item as spec
 use Rattle.cbor_grammar.specs.Item.{Chunk, Atom, integer, negative, string, chunked_string, float, simple, Item, atom}
 use Rattle.cbor_grammar.specs.Item.{array}
 use Rattle.cbor_grammar.specs.Item.{tagged, Items, no_items, item, Pairs, no_pairs, pair, item_count, pair_count}
-use Rattle.cbor_grammar.specs.Notes.{Family, ipv4, ipv6, zone_at, interface_note, members_note, with_length}
+use Rattle.cbor_grammar.specs.Notes.{zone_at, interface_note, members_note, with_length}
+use Rattle.cbor_grammar.specs.declared.addresses.Family.{Family}
+use Rattle.cbor_grammar.specs.declared.addresses.Family.TheVariants.{IPv4, IPv6}
 use Rattle.cbor_grammar.specs.Notes.{value_note, typed_array_note}
 use Rattle.cbor_grammar.specs.Reading.{Fails, read_item}
 use Rattle.cbor_grammar.specs.StringKind.{StringKind, bytes_kind, text_kind, major_of}
@@ -69,7 +71,7 @@ value_same known t (atom (chunked_string kind cs)) =
 value_same known t (atom (float bits w)) = rw (typed_same (element_size t) (atom (float bits w))) refl
 value_same known t (atom (simple n)) = refl
 value_same known t (array is w) =
-    rw (members_same ipv4 is, members_same ipv6 is, typed_same (element_size t) (array is w)) refl
+    rw (members_same IPv4 is, members_same IPv6 is, typed_same (element_size t) (array is w)) refl
 value_same known t (spec.map ps w) = rw (typed_same (element_size t) (spec.map ps w)) refl
 value_same known t (tagged u w i) = rw (typed_same (element_size t) (tagged u w i)) refl
 

@@ -2,7 +2,7 @@
 use Rattle.std.proofs.Common.{◌≡◌, ℕ, ◌+◌, ◌<◌, ◌≤◌, ◌++◌, codes, refl, ap, ◌∙◌, arith}
 use Rattle.std.proofs.lemmas.Bool.{lt-ltb, le-ltb}
 use Rattle.cbor_grammar.specs.declared.width.IntegerWidth.{IntegerWidth}
-use Rattle.cbor_grammar.specs.Encoding.{Encoding}
+use Rattle.cbor_grammar.specs.declared.encoding.Encoding.{Encoding}
 use Rattle.cbor_grammar.specs.Layout.{Pretty}
 use Rattle.cbor_grammar.specs.ContainerStyle.{OneLine, MultiLine}
 use Rattle.cbor_grammar.specs.Item as spec

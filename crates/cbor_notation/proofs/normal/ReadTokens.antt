@@ -22,7 +22,8 @@ use Rattle.cbor_grammar.specs.declared.width.IntegerWidth.TheVariants.{Unknown, 
 use Rattle.cbor_grammar.specs.declared.width.IntegerWidth.TheVariants.{SixtyFour}
 use Rattle.cbor_grammar.specs.declared.width.FloatWidth.{FloatWidth}
 use Rattle.cbor_grammar.specs.declared.width.FloatWidth.TheVariants as float_width
-use Rattle.cbor_grammar.specs.Encoding.{Encoding, Base16, Base64, Base64Url}
+use Rattle.cbor_grammar.specs.declared.encoding.Encoding.{Encoding}
+use Rattle.cbor_grammar.specs.declared.encoding.Encoding.TheVariants.{Base16, Base64, Base64Url}
 use Rattle.cbor_grammar.specs.Item.{Chunk, Item}
 use Rattle.cbor_grammar.specs.Head.{FitsWidth}
 use Rattle.cbor_grammar.specs.WellFormed.{FitsFloat, IsChunk}

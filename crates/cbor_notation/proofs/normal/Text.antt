@@ -7,7 +7,7 @@ use Rattle.cbor_grammar.specs.declared.width.IntegerWidth.{IntegerWidth}
 use Rattle.cbor_grammar.specs.declared.width.IntegerWidth.TheVariants.{Unknown, Zero}
 use Rattle.cbor_grammar.specs.declared.width.FloatWidth.{FloatWidth}
 use Rattle.cbor_grammar.specs.declared.width.FloatWidth.TheVariants as float_width
-use Rattle.cbor_grammar.specs.Encoding.{Encoding}
+use Rattle.cbor_grammar.specs.declared.encoding.Encoding.{Encoding}
 use Rattle.cbor_grammar.specs.Layout as content
 use Rattle.cbor_grammar.specs.Layout.{Compact, Context}
 use Rattle.cbor_grammar.specs.ContainerStyle as style

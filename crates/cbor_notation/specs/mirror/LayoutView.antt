@@ -10,7 +10,6 @@ use Rattle.cbor_notation.specs.declared.context.NotationContext.{NotationContext
 use Rattle.cbor_grammar.specs.Layout.{Content, Layout, Context}
 use Rattle.cbor_grammar.specs.Layout as content
 use Rattle.cbor_grammar.specs.ContainerStyle as style
-use Rattle.cbor_notation.specs.mirror.EncodingView.{encoding_view}
 use Rattle.cbor_grammar.specs.StringKind.{StringKind}
 use Rattle.cbor_grammar.specs.Item as spec
 use Rattle.cbor_grammar.specs.Estimate.{estimated_chunks}
@@ -35,7 +34,7 @@ style_view (code_style.MultiLine indent) = style.MultiLine indent
 abbrev pub context_view : NotationContext → Context
 context_view c = record {
   layout = layout_view c.layout;
-  encoding = encoding_view c.encoding;
+  encoding = c.encoding;
   content = content_view c.content;
 }
 
@@ -63,7 +62,7 @@ chunks_style c kind cs = container_style (layout_view c.layout) (4 + estimated_c
 
 -- the text of an indefinite string of these chunks there
 abbrev pub chunks_there : NotationContext → StringKind → List spec.Chunk → List ℕ
-chunks_there c kind cs = chunks_text kind (encoding_view c.encoding) (chunks_style c kind cs) cs
+chunks_there c kind cs = chunks_text kind c.encoding (chunks_style c kind cs) cs
 
 -- the texts of the members of a container there, in this style
 abbrev pub items_there : NotationContext → style.ContainerStyle → spec.Items → List ℕ

@@ -4,7 +4,7 @@ use Rattle.cbor_notation.specs.declared.context.Layout.{Layout}
 use Rattle.cbor_notation.specs.declared.context.NotationContext.{NotationContext}
 use Rattle.cbor_grammar.specs.declared.strings.StringContent.{StringContent}
 use Rattle.cbor_grammar.specs.declared.strings.StringContent.TheVariants as content
-use Rattle.cbor_grammar.specs.Encoding.{Base16}
+use Rattle.cbor_grammar.specs.declared.encoding.Encoding.TheVariants.{Base16}
 use Rattle.cbor_grammar.specs.Item.{Item}
 use Rattle.cbor_grammar.specs.ItemHead.{ItemHead}
 use Rattle.cbor_grammar.specs.ContainerStyle.{ContainerStyle}

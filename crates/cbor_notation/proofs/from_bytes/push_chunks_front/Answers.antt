@@ -6,7 +6,6 @@ use Rattle.std.specs.String.{string_bytes}
 use Rattle.cbor_grammar.specs.Item.{Chunk, atom, chunked_string}
 use Rattle.cbor_grammar.specs.Reading.{Counted, read_chunks}
 use Rattle.cbor_grammar.specs.NotationText.{string_text}
-use Rattle.cbor_notation.specs.mirror.EncodingView.{encoding_view}
 use Rattle.cbor_notation.specs.mirror.LayoutView.{style_view}
 use Rattle.cbor_grammar.specs.mirror.StringView.{kind_view, borrowed_chunk}
 use Rattle.cbor_grammar.proofs.bytes.Steps.{later_none}
@@ -61,7 +60,7 @@ pub chunks-preserved : goal.chunks-preserved
 chunks-preserved c =
     let i = c.chunks.invariant in
     let kind = kind_view c.args.kind in
-    let encoding = encoding_view c.args.context.now.encoding in
+    let encoding = c.args.context.now.encoding in
     let after = c.in_ok-chunk.after.now in
     let all = read_chunks (length c.args.bytes.now) kind c.args.bytes.now in
     let chunk = borrowed_chunk c.in-Some.field-0-1 c.in-Some.content in

@@ -1,6 +1,6 @@
 -- The text of the bytes is read back as the normal form of their item.
 use Rattle.std.proofs.Common.{◌++◌, None, refl, ap, sym, subst, ◌∙◌, arith}
-use Rattle.cbor_grammar.specs.Encoding.{Base16}
+use Rattle.cbor_grammar.specs.declared.encoding.Encoding.TheVariants.{Base16}
 use Rattle.cbor_grammar.specs.Normal.{normal_at}
 use Rattle.cbor_grammar.specs.Notation.{Reads}
 use Rattle.cbor_grammar.specs.NotationText.{in_encoding}

@@ -1,13 +1,12 @@
 -- The note of a prefix is its address, filled up with zeros, and its length.
 use Rattle.std.proofs.Common.{◌≤◌, ◌++◌, length, codes, decimal, sym, ap, ◌∙◌}
 use Rattle.cbor_grammar.specs.Notes.{address_text, family_size}
-use Rattle.cbor_dump.specs.mirror.NotesView.{family_view}
 use Rattle.cbor_grammar.proofs.dump.NoteTexts.{filled_up, prefix_is, size_small}
-use Rattle.cbor_dump.proofs.notes.addresses.Family.prefix_note.Goals as goal
+use Rattle.cbor_dump.proofs.notes.addresses.AddressNotes.prefix_note.Goals as goal
 
 pub returns-in_ok-push_length-in-Some : goal.returns-in_ok-push_length-in-Some
 returns-in_ok-push_length-in-Some c =
-    let f = family_view c.args.self in
+    let f = c.args.self.family in
     let bytes = c.args.bytes.now in
     let short : length bytes ≤ family_size f = rw c.size-size.ensures at c.if-bytes-size.false in
     let filled = filled_up bytes c.copy_from_slice.new.self (family_size f) c.size-size.result
