@@ -8,7 +8,7 @@ pub use Rattle.cbor_grammar.specs.Argument
 pub use Rattle.cbor_grammar.specs.Bytes
 pub use Rattle.cbor_grammar.specs.Comments
 pub use Rattle.cbor_grammar.specs.Compact
-pub use Rattle.cbor_grammar.specs.ContainerStyle
+pub use Rattle.cbor_grammar.specs.Context
 pub use Rattle.cbor_grammar.specs.DeadEnd
 pub use Rattle.cbor_grammar.specs.Dump
 pub use Rattle.cbor_grammar.specs.Embedded
@@ -20,7 +20,6 @@ pub use Rattle.cbor_grammar.specs.Head
 pub use Rattle.cbor_grammar.specs.HexText
 pub use Rattle.cbor_grammar.specs.Item
 pub use Rattle.cbor_grammar.specs.ItemHead
-pub use Rattle.cbor_grammar.specs.Layout
 pub use Rattle.cbor_grammar.specs.Normal
 pub use Rattle.cbor_grammar.specs.Notation
 pub use Rattle.cbor_grammar.specs.NotationRefused

@@ -8,8 +8,9 @@ ghost use Rattle.cbor_bytes.specs.mirror.HeadView.{head_view};
 ghost use Rattle.cbor_dump.specs.mirror.ShownLines.{comment_text, head_comment, major_word};
 
 use cbor_bytes::head::ItemHead;
+use cbor_grammar::Tag;
+use cbor_grammar::encoding::Encoding;
 use cbor_grammar::major::Major;
-use cbor_grammar::{Encoding, Tag};
 use cbor_notation::scalars::push_quoted;
 use cbor_notes::{
     push_element_text, push_escaped_text, push_grouped, push_hex, push_quoted_bytes, tag_name,

@@ -4,7 +4,8 @@ ghost use Rattle.cbor_grammar.specs.Comments.{encoding_below};
 ghost use Rattle.cbor_grammar.specs.Dump as spec;
 ghost use Rattle.cbor_dump.specs.mirror.Dumped.{context_view, IsContext};
 
-use cbor_grammar::{Encoding, Tag};
+use cbor_grammar::Tag;
+use cbor_grammar::encoding::Encoding;
 
 /// Where in a dump an item is.
 #[derive(Clone, Copy)]

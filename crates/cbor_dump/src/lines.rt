@@ -22,8 +22,9 @@ use crate::hex_style::HexStyle;
 use crate::writer::Writer;
 use cbor_bytes::argument::Argument;
 use cbor_bytes::head::ItemHead;
+use cbor_grammar::encoding::Encoding;
 use cbor_grammar::strings::StringContent;
-use cbor_grammar::{Encoding, IntegerWidth, Tag};
+use cbor_grammar::{IntegerWidth, Tag};
 use cbor_notes::{element_size, push_blanks, push_gap};
 use std::alloc::AllocError;
 

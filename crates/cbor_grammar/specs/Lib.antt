@@ -21,8 +21,7 @@ pub mod Pieces
 pub mod Dump
 pub mod Embedded
 pub mod Estimate
-pub mod Layout
-pub mod ContainerStyle
+pub mod Context
 pub mod NotationText
 pub mod Notes
 pub mod Compact

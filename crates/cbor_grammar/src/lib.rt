@@ -2,7 +2,8 @@
 //! contracts of the other crates cite, and the laws of these definitions.
 //!
 //! `specs/` has the definitions, and `proofs/` the lemmas that follow from them alone. The code is
-//! the types that they speak of: widths, tags, strings and errors. The calls are in `cbor_diag`.
+//! the types that they speak of: widths, tags, strings, layouts and errors. The calls are in
+//! `cbor_diag`.
 #![tactic(auto)]
 
 pub mod addresses;
@@ -10,13 +11,13 @@ pub mod encoding;
 pub mod error;
 mod examples;
 mod laws;
+pub mod layout;
 pub mod level;
 pub mod major;
 pub mod strings;
 pub mod tags;
 pub mod width;
 
-pub use encoding::Encoding;
 pub use error::{Error, Result};
 pub use strings::{ByteString, TextString};
 pub use tags::{Simple, Tag};

@@ -16,22 +16,21 @@ ghost use Rattle.cbor_grammar.specs.Estimate.{estimated_items, estimated_pairs};
 ghost use Rattle.cbor_grammar.specs.Item as spec;
 ghost use Rattle.cbor_grammar.specs.Item.{Chunk, Items, Pairs, atom, array, chunked_string};
 ghost use Rattle.cbor_grammar.specs.ItemHead as item_head;
-ghost use Rattle.cbor_grammar.specs.Layout as shown;
+ghost use Rattle.cbor_grammar.specs.declared.layout.Layout.TheVariants as shown;
 ghost use Rattle.cbor_grammar.specs.NotationText.{container_style, indent_of, style_indent};
 ghost use Rattle.cbor_grammar.specs.Reading.{read_content};
 ghost use Rattle.cbor_grammar.specs.WellFormed.{deepest, levels_left};
 ghost use Rattle.cbor_grammar.specs.declared.width.IntegerWidth.{IntegerWidth};
 ghost use Rattle.cbor_notation.specs.mirror.Ahead.{Leaves, Estimates, front_read, body_read};
 ghost use Rattle.cbor_bytes.specs.mirror.HeadView.{argument_view};
-ghost use Rattle.cbor_notation.specs.mirror.LayoutView.{layout_view, style_view};
 ghost use Rattle.cbor_grammar.specs.mirror.StringView.{kind_view};
 
 use crate::budget::{BUDGET, digit_count, float_len, left_after_content, pretty_style};
-use crate::context::{ContainerStyle, Layout};
 use cbor_bytes::argument::Argument;
 use cbor_bytes::head::{ItemHead, read_head};
 use cbor_bytes::skip::after_front;
 use cbor_bytes::strings::{read_chunk_length, split_at};
+use cbor_grammar::layout::{ContainerStyle, Layout};
 use cbor_grammar::strings::StringKind;
 
 /// What a look at bytes finds.
@@ -57,66 +56,63 @@ impl<'a> Ahead<'a> {
     }
 }
 
-impl Layout {
-    /// The style of an array with this count of items, whose bytes after its head these are.
-    pub fn array_style_ahead(self, count: Argument, bytes: &[u8]) -> ContainerStyle
-        ensures style { (levels : ℕ) (is : Items) (w : Option IntegerWidth) (rest : List ℕ)
-            → body_read (item_head.array (argument_view count)) bytes.now levels
-            ≡ Ok (array is w, rest)
-            → style_view result ≡ container_style (layout_view self) (4 + estimated_items is) }
-        ensures indent { style_indent (style_view result) ≡ indent_of (layout_view self) }
-    {
-        match self {
-            Layout::Compact => ContainerStyle::Compact,
-            Layout::Pretty { indent } => style_of(indent, items_ahead(count, bytes, BUDGET)),
-        }
+/// The style of an array with this count of items, whose bytes after its head these are.
+pub fn array_style_ahead(layout: Layout, count: Argument, bytes: &[u8]) -> ContainerStyle
+    ensures style { (levels : ℕ) (is : Items) (w : Option IntegerWidth) (rest : List ℕ)
+        → body_read (item_head.array (argument_view count)) bytes.now levels
+        ≡ Ok (array is w, rest)
+        → result ≡ container_style layout (4 + estimated_items is) }
+    ensures indent { style_indent result ≡ indent_of layout }
+{
+    match layout {
+        Layout::Compact => ContainerStyle::Compact,
+        Layout::Pretty { indent } => style_of(indent, items_ahead(count, bytes, BUDGET)),
     }
+}
 
-    /// The style of a map with this count of pairs, whose bytes after its head these are.
-    pub fn map_style_ahead(self, count: Argument, bytes: &[u8]) -> ContainerStyle
-        ensures style { (levels : ℕ) (ps : Pairs) (w : Option IntegerWidth) (rest : List ℕ)
-            → body_read (item_head.map (argument_view count)) bytes.now levels
-            ≡ Ok (spec.map ps w, rest)
-            → style_view result ≡ container_style (layout_view self) (4 + estimated_pairs ps) }
-        ensures indent { style_indent (style_view result) ≡ indent_of (layout_view self) }
-    {
-        match self {
-            Layout::Compact => ContainerStyle::Compact,
-            Layout::Pretty { indent } => style_of(indent, pairs_ahead(count, bytes, BUDGET)),
-        }
+/// The style of a map with this count of pairs, whose bytes after its head these are.
+pub fn map_style_ahead(layout: Layout, count: Argument, bytes: &[u8]) -> ContainerStyle
+    ensures style { (levels : ℕ) (ps : Pairs) (w : Option IntegerWidth) (rest : List ℕ)
+        → body_read (item_head.map (argument_view count)) bytes.now levels
+        ≡ Ok (spec.map ps w, rest)
+        → result ≡ container_style layout (4 + estimated_pairs ps) }
+    ensures indent { style_indent result ≡ indent_of layout }
+{
+    match layout {
+        Layout::Compact => ContainerStyle::Compact,
+        Layout::Pretty { indent } => style_of(indent, pairs_ahead(count, bytes, BUDGET)),
     }
+}
 
-    /// The style of an indefinite string, whose bytes after its opening byte these are.
-    pub fn chunks_style_ahead(self, kind: StringKind, bytes: &[u8]) -> ContainerStyle
-        ensures style { (levels : ℕ) (cs : List Chunk) (rest : List ℕ)
-            → body_read (item_head.string (kind_view kind) indefinite) bytes.now levels
-            ≡ Ok (atom (chunked_string (kind_view kind) cs), rest)
-            → style_view result
-            ≡ container_style (layout_view self) (4 + estimated_chunks (kind_view kind) cs) }
-        ensures indent { style_indent (style_view result) ≡ indent_of (layout_view self) }
-    {
-        match self {
-            Layout::Compact => ContainerStyle::Compact,
-            Layout::Pretty { indent } => style_of(indent, chunks_ahead(kind, bytes, BUDGET)),
-        }
+/// The style of an indefinite string, whose bytes after its opening byte these are.
+pub fn chunks_style_ahead(layout: Layout, kind: StringKind, bytes: &[u8]) -> ContainerStyle
+    ensures style { (levels : ℕ) (cs : List Chunk) (rest : List ℕ)
+        → body_read (item_head.string (kind_view kind) indefinite) bytes.now levels
+        ≡ Ok (atom (chunked_string (kind_view kind) cs), rest)
+        → result ≡ container_style layout (4 + estimated_chunks (kind_view kind) cs) }
+    ensures indent { style_indent result ≡ indent_of layout }
+{
+    match layout {
+        Layout::Compact => ContainerStyle::Compact,
+        Layout::Pretty { indent } => style_of(indent, chunks_ahead(kind, bytes, BUDGET)),
     }
+}
 
-    /// The style of a sequence of the items that can be read from `level` one after the other.
-    ///
-    /// Unlike the members of a container, these items count only if they can be read. So those that
-    /// are looked at are read to their end, 15 at most.
-    pub fn sequence_style_ahead(self, level: u8, bytes: &[u8]) -> ContainerStyle
-        requires from { 1 ≤ level }
-        requires to { level ≤ deepest + 1 }
-        ensures style { style_view result ≡ container_style (layout_view self)
-            (4 + estimated_items (sequence_at (levels_left level) bytes.now).0) }
-        ensures indent { style_indent (style_view result) ≡ indent_of (layout_view self) }
-    {
-        match self {
-            Layout::Compact => ContainerStyle::Compact,
-            Layout::Pretty { indent } => {
-                pretty_style(indent, left_after_sequence(level, bytes, BUDGET))
-            }
+/// The style of a sequence of the items that can be read from `level` one after the other.
+///
+/// Unlike the members of a container, these items count only if they can be read. So those that
+/// are looked at are read to their end, 15 at most.
+pub fn sequence_style_ahead(layout: Layout, level: u8, bytes: &[u8]) -> ContainerStyle
+    requires from { 1 ≤ level }
+    requires to { level ≤ deepest + 1 }
+    ensures style { result ≡ container_style layout
+        (4 + estimated_items (sequence_at (levels_left level) bytes.now).0) }
+    ensures indent { style_indent result ≡ indent_of layout }
+{
+    match layout {
+        Layout::Compact => ContainerStyle::Compact,
+        Layout::Pretty { indent } => {
+            pretty_style(indent, left_after_sequence(level, bytes, BUDGET))
         }
     }
 }
@@ -124,8 +120,8 @@ impl Layout {
 /// The style of a container with blanks, by what a look at its members finds.
 fn style_of(indent: usize, members: Option<Ahead<'_>>) -> ContainerStyle
     ensures style { (size : ℕ) (rest : List ℕ) → Leaves members.entry 60 size rest
-        → style_view result ≡ container_style (shown.Pretty indent) size }
-    ensures indent { style_indent (style_view result) ≡ indent }
+        → result ≡ container_style (shown.Pretty indent) size }
+    ensures indent { style_indent result ≡ indent }
 {
     let left = match members {
         Some(ahead) => ahead.left,

@@ -18,9 +18,9 @@ ghost use Rattle.cbor_grammar.specs.Pretty.{pretty, in_one_line, in_lines, encod
 ghost use Rattle.cbor_grammar.specs.Pretty.{sequence_in_one_line, sequence_in_lines};
 ghost use Rattle.cbor_grammar.specs.WellFormed.{deepest};
 
-use crate::context::Layout;
 use crate::outermost::{hex_text, push_part, push_whole, whole_text};
 use cbor_grammar::Error;
+use cbor_grammar::layout::Layout;
 use std::alloc::Global;
 
 /// Pretty text begins at the left.

@@ -15,8 +15,9 @@ ghost use Rattle.cbor_grammar.specs.NotationText.{indicator, number, prefix, enc
 ghost use Rattle.cbor_grammar.specs.NotationText.{text, string_text, float_text, simple_text};
 
 use base64::engine::general_purpose::{STANDARD, URL_SAFE_NO_PAD};
+use cbor_grammar::encoding::Encoding;
 use cbor_grammar::strings::StringContent;
-use cbor_grammar::{Encoding, FloatWidth, IntegerWidth, Simple};
+use cbor_grammar::{FloatWidth, IntegerWidth, Simple};
 use cbor_notes::push_hex;
 use std::alloc::AllocError;
 

@@ -3,8 +3,8 @@ use Rattle.std.proofs.Common.{◌≡◌, ℕ, ◌+◌, ◌<◌, ◌≤◌, ◌++
 use Rattle.std.proofs.lemmas.Bool.{lt-ltb, le-ltb}
 use Rattle.cbor_grammar.specs.declared.width.IntegerWidth.{IntegerWidth}
 use Rattle.cbor_grammar.specs.declared.encoding.Encoding.{Encoding}
-use Rattle.cbor_grammar.specs.Layout.{Pretty}
-use Rattle.cbor_grammar.specs.ContainerStyle.{OneLine, MultiLine}
+use Rattle.cbor_grammar.specs.declared.layout.Layout.TheVariants.{Pretty}
+use Rattle.cbor_grammar.specs.declared.layout.ContainerStyle.TheVariants.{OneLine, MultiLine}
 use Rattle.cbor_grammar.specs.Item as spec
 use Rattle.cbor_grammar.specs.Item.{Chunk, integer, negative, string, chunked_string, float}
 use Rattle.cbor_grammar.specs.Item.{simple, Item, atom, array, tagged}

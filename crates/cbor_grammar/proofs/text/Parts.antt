@@ -4,8 +4,10 @@ use Rattle.std.proofs.Common.{◌≡◌, ℕ, suc, ◌+◌, ◌≤◌, List, ◌
 use Rattle.std.proofs.Common.{None, sym, ap, subst, ◌∙◌, append_assoc, arith}
 use Rattle.cbor_grammar.specs.declared.width.IntegerWidth.{IntegerWidth}
 use Rattle.cbor_grammar.specs.mirror.Appends.{Appends}
-use Rattle.cbor_grammar.specs.Layout.{Content, Bytes, Context}
-use Rattle.cbor_grammar.specs.ContainerStyle.{ContainerStyle}
+use Rattle.cbor_grammar.specs.Context.{Context}
+use Rattle.cbor_grammar.specs.declared.layout.Content.{Content}
+use Rattle.cbor_grammar.specs.declared.layout.Content.TheVariants.{Bytes}
+use Rattle.cbor_grammar.specs.declared.layout.ContainerStyle.{ContainerStyle}
 use Rattle.cbor_grammar.specs.Item as spec
 use Rattle.cbor_grammar.specs.Item.{Item, Items, atom, array, tagged}
 use Rattle.cbor_grammar.specs.WellFormed.{levels_left, WellFormed}

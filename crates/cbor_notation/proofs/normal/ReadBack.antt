@@ -6,9 +6,12 @@ use Rattle.std.proofs.lemmas.List.{append-nil}
 use Rattle.cbor_notes.specs.Token.{nothing}
 use Rattle.cbor_grammar.specs.declared.width.IntegerWidth.TheVariants.{Unknown}
 use Rattle.cbor_grammar.specs.declared.encoding.Encoding.{Encoding}
-use Rattle.cbor_grammar.specs.Layout.{Content, Layout, Compact, Pretty, Context}
-use Rattle.cbor_grammar.specs.ContainerStyle.{ContainerStyle}
-use Rattle.cbor_grammar.specs.ContainerStyle as style
+use Rattle.cbor_grammar.specs.Context.{Context}
+use Rattle.cbor_grammar.specs.declared.layout.Content.{Content}
+use Rattle.cbor_grammar.specs.declared.layout.Layout.{Layout}
+use Rattle.cbor_grammar.specs.declared.layout.Layout.TheVariants.{Compact, Pretty}
+use Rattle.cbor_grammar.specs.declared.layout.ContainerStyle.{ContainerStyle}
+use Rattle.cbor_grammar.specs.declared.layout.ContainerStyle.TheVariants as style
 use Rattle.cbor_grammar.specs.Item as spec
 use Rattle.cbor_grammar.specs.Item.{Chunk, Atom, integer, negative, string, chunked_string}
 use Rattle.cbor_grammar.specs.Item.{float, simple, Item, atom, array, tagged, Items, no_items, item, Pairs, no_pairs}

@@ -9,13 +9,14 @@ use Rattle.cbor_grammar.specs.declared.width.IntegerWidth.{IntegerWidth}
 use Rattle.cbor_notation.specs.declared.context.NotationContext.{NotationContext}
 use Rattle.cbor_grammar.specs.declared.strings.StringContent.{StringContent}
 use Rattle.cbor_grammar.specs.declared.strings.StringContent.TheVariants as content
-use Rattle.cbor_grammar.specs.ContainerStyle as style
-use Rattle.cbor_grammar.specs.ContainerStyle.{ContainerStyle, OneLine, MultiLine}
+use Rattle.cbor_grammar.specs.declared.layout.ContainerStyle.TheVariants as style
+use Rattle.cbor_grammar.specs.declared.layout.ContainerStyle.{ContainerStyle}
+use Rattle.cbor_grammar.specs.declared.layout.ContainerStyle.TheVariants.{OneLine, MultiLine}
 use Rattle.cbor_grammar.specs.declared.encoding.Encoding.{Encoding}
 use Rattle.cbor_grammar.specs.Item as spec
 use Rattle.cbor_grammar.specs.Item.{Chunk, string, chunked_string, Item, atom, array, Items, no_items, item, item_count}
 use Rattle.cbor_grammar.specs.Item.{Pairs, no_pairs, pair, pair_count}
-use Rattle.cbor_grammar.specs.Layout.{Context}
+use Rattle.cbor_grammar.specs.Context.{Context}
 use Rattle.cbor_grammar.specs.NotationText.{line, separated, members, members_layout, last_line, bracketed, opened}
 use Rattle.cbor_grammar.specs.NotationText.{colon}
 use Rattle.cbor_grammar.specs.NotationText.{container_style, inside, item_texts, pair_texts}
@@ -24,7 +25,7 @@ use Rattle.cbor_grammar.specs.NotationText.{text_at_level}
 use Rattle.cbor_grammar.specs.Reading.{joined, joined_pairs}
 use Rattle.cbor_grammar.specs.StringKind.{StringKind, bytes_kind, text_kind, no_chunks}
 use Rattle.cbor_grammar.specs.Estimate.{estimated_items, estimated_pairs, estimated_chunks}
-use Rattle.cbor_notation.specs.mirror.LayoutView.{layout_view, context_view, before_member, after_member, item_text}
+use Rattle.cbor_notation.specs.mirror.LayoutView.{context_view, before_member, after_member, item_text}
 use Rattle.cbor_notation.specs.mirror.Straight.{string_there, before_chunk, after_chunks}
 use Rattle.cbor_grammar.specs.mirror.StringView.{borrowed_chunk, kind_of}
 use Rattle.cbor_grammar.proofs.text.Parts.{write_below, opened_again, bracketed_written}
@@ -134,7 +135,7 @@ writes_inner inner level c p q = ap (λ n. text_at_level n (context_view inner))
 
 -- the style of a container that is estimated so
 abbrev pub style_there : NotationContext → ℕ → ContainerStyle
-style_there c size = container_style (layout_view c.layout) size
+style_there c size = container_style c.layout size
 
 module _ (l : ContainerStyle) (c inner : NotationContext) (level : c.level ≤ 128) (deeper : inner.level ≡ c.level + 1)
     (inside_it : context_view inner ≡ inside (members_layout l) (context_view c)) where

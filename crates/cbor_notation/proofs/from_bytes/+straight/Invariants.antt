@@ -7,7 +7,7 @@ use Rattle.cbor_grammar.specs.NotationText.{members, opened, colon, item_texts, 
 use Rattle.cbor_grammar.specs.Reading.{items_in, pairs_in, count_width}
 use Rattle.cbor_grammar.specs.WellFormed.{levels_left}
 use Rattle.cbor_bytes.specs.mirror.HeadView.{argument_view}
-use Rattle.cbor_notation.specs.mirror.LayoutView.{style_view, item_text}
+use Rattle.cbor_notation.specs.mirror.LayoutView.{item_text}
 use Rattle.cbor_bytes.specs.mirror.HeadView.{left_of}
 use Rattle.cbor_notation.proofs.straight.Sequences.{SoFar}
 use Rattle.cbor_notation.proofs.straight.Readings.{parts_read}
@@ -60,8 +60,8 @@ invariant-push_array_front-items l =
           ≡ parts_read left (items_in no_items (argument_view l.count)) l.bytes;
       count : item_count found ≡ l.held;
       text : string_bytes l.out ≡ (string_bytes l.fn.out
-          ++ opened (style_view l.style) (codes "[") (count_width (argument_view l.count)))
-          ++ members (style_view l.style) (item_texts (item_text l.inner) found);
+          ++ opened l.style (codes "[") (count_width (argument_view l.count)))
+          ++ members l.style (item_texts (item_text l.inner) found);
       room : l.held + length l.rest ≤ length l.bytes;
     }
 
@@ -74,8 +74,8 @@ invariant-push_map_front-pairs l =
           ≡ parts_read left (pairs_in no_pairs (argument_view l.count)) l.bytes;
       count : pair_count found ≡ l.held;
       text : string_bytes l.out ≡ (string_bytes l.fn.out
-          ++ opened (style_view l.style) (codes "{") (count_width (argument_view l.count)))
-          ++ members (style_view l.style) (pair_texts (item_text l.inner) (colon (style_view l.style)) found);
+          ++ opened l.style (codes "{") (count_width (argument_view l.count)))
+          ++ members l.style (pair_texts (item_text l.inner) (colon l.style) found);
       room : l.held + length l.rest ≤ length l.bytes;
     }
 
@@ -88,6 +88,6 @@ invariant-push_sequence-items l =
       so_far : SoFar left found l.rest (sequence_at left l.bytes);
       count : item_count found ≡ l.held;
       text : string_bytes l.out ≡ (string_bytes l.fn.out ++ codes "<<")
-          ++ members (style_view l.style) (item_texts (item_text l.inner) found);
+          ++ members l.style (item_texts (item_text l.inner) found);
       room : l.held + length l.rest ≤ length l.bytes;
     }

@@ -6,7 +6,6 @@ use Rattle.std.specs.String.{string_bytes}
 use Rattle.cbor_grammar.specs.Item.{Chunk, atom, chunked_string}
 use Rattle.cbor_grammar.specs.Reading.{Counted, read_chunks}
 use Rattle.cbor_grammar.specs.NotationText.{string_text}
-use Rattle.cbor_notation.specs.mirror.LayoutView.{style_view}
 use Rattle.cbor_grammar.specs.mirror.StringView.{kind_view, borrowed_chunk}
 use Rattle.cbor_grammar.proofs.bytes.Steps.{later_none}
 use Rattle.cbor_notation.proofs.straight.Readings.{fails_then, fails_stopped, ok_then, none_before}
@@ -49,7 +48,7 @@ returns-in_default-clause-printed c =
     let read = ok_then all (i.chunks, after) _ (ap (λ (d : Counted (List Chunk)). d.1) whole) in (
       atom (chunked_string kind i.chunks),
       read,
-      chunks_printed (style_view c.chunks_style_ahead-style.result) c.args.context.now kind i.chunks
+      chunks_printed c.chunks_style_ahead-style.result c.args.context.now kind i.chunks
           c.chunks.held (string_bytes c.args.out.now) (string_bytes c.chunks.out)
           (string_bytes c.push_chunks_end.new.out) c.requires.level
           (c.chunks_style_ahead-style.ensures.style 0 i.chunks after read) i.count i.text
@@ -76,7 +75,7 @@ chunks-preserved c =
       enough = next.1;
       so_far = next.2;
       count = omega (arith, length-append i.chunks (chunk ∷ []), i.count);
-      text = chunk_more (style_view c.chunks_style_ahead-style.result) kind encoding i.chunks chunk
+      text = chunk_more c.chunks_style_ahead-style.result kind encoding i.chunks chunk
           c.chunks.held (string_bytes c.args.out.now) (string_bytes c.chunks.out) started
           (string_bytes c.push_string.new.out) (string_bytes c.push_end.new.out)
           i.count i.text c.in_ok-push_chunk_start.ensures written c.in_ok-push_end.ensures;

@@ -3,7 +3,6 @@ use Rattle.std.proofs.Common.{◌≡◌, ℕ, ◌+◌, ◌≤◌, List, ◌++◌
 use Rattle.std.specs.String.{string_bytes}
 use Rattle.cbor_grammar.specs.Item.{Chunk}
 use Rattle.cbor_grammar.specs.Reading.{later, read_chunks}
-use Rattle.cbor_notation.specs.mirror.LayoutView.{style_view}
 use Rattle.cbor_grammar.specs.mirror.StringView.{kind_view}
 use Rattle.cbor_notation.proofs.straight.Texts.{chunks_begun, chunk_texts}
 use Rattle.cbor_grammar.proofs.turns.ChunkLoops.{onto}
@@ -23,6 +22,6 @@ invariant-chunks l = record {
       ≡ read_chunks (length l.bytes) (kind_view l.kind) l.bytes;
   count : length chunks ≡ l.held;
   text : string_bytes l.out ≡ string_bytes l.fn.out
-      ++ chunks_begun (style_view l.style) (chunk_texts (kind_view l.kind) l.context.encoding chunks);
+      ++ chunks_begun l.style (chunk_texts (kind_view l.kind) l.context.encoding chunks);
   room : l.held + length l.rest ≤ length l.bytes;
 }

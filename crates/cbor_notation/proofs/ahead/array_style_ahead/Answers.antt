@@ -2,7 +2,7 @@
 use Rattle.std.proofs.Common.{◌+◌}
 use Rattle.cbor_grammar.specs.Estimate.{estimated_items}
 use Rattle.cbor_grammar.specs.Item.{array}
-use Rattle.cbor_notation.proofs.context.Layout.array_style_ahead.Goals as goal
+use Rattle.cbor_notation.proofs.ahead.array_style_ahead.Goals as goal
 
 pub returns-in-Pretty-clause-style : goal.returns-in-Pretty-clause-style
 returns-in-Pretty-clause-style c levels is w rest e =

@@ -2,7 +2,7 @@
 use Rattle.std.proofs.Common.{◌+◌}
 use Rattle.cbor_grammar.specs.Estimate.{estimated_pairs}
 use Rattle.cbor_grammar.specs.Item as spec
-use Rattle.cbor_notation.proofs.context.Layout.map_style_ahead.Goals as goal
+use Rattle.cbor_notation.proofs.ahead.map_style_ahead.Goals as goal
 
 pub returns-in-Pretty-clause-style : goal.returns-in-Pretty-clause-style
 returns-in-Pretty-clause-style c levels ps w rest e =

@@ -3,7 +3,7 @@ use Rattle.std.proofs.Common.{◌+◌}
 use Rattle.cbor_grammar.specs.Estimate.{estimated_chunks}
 use Rattle.cbor_grammar.specs.Item.{atom, chunked_string}
 use Rattle.cbor_grammar.specs.mirror.StringView.{kind_view}
-use Rattle.cbor_notation.proofs.context.Layout.chunks_style_ahead.Goals as goal
+use Rattle.cbor_notation.proofs.ahead.chunks_style_ahead.Goals as goal
 
 pub returns-in-Pretty-clause-style : goal.returns-in-Pretty-clause-style
 returns-in-Pretty-clause-style c levels cs rest e =
