@@ -1,7 +1,7 @@
 // Items that bytes are read as. Examples of RFC 7049 appendix A say so beside them.
 
 use crate::calls::{Input, View, check_table};
-use crate::ends::check_all_ends;
+use crate::item_ends::check_all_ends;
 
 /// Bytes in hex, and the fields of the item that they are.
 const ITEMS: &[(&str, &str)] = &[

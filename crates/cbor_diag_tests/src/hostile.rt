@@ -2,8 +2,8 @@
 // back to the item. Shown of all inputs of up to two bytes.
 
 use crate::calls::{View, check_same, of_bytes, of_diag, read, read_front};
-use crate::ends::check_ends;
-use crate::forms::read_back;
+use crate::item_ends::check_ends;
+use crate::normal_form::read_back;
 use cbor_diag::{Error, Result};
 use std::alloc::Global;
 use std::process::Abort;

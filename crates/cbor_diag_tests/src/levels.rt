@@ -1,8 +1,8 @@
 // How deep items may be nested: 128 levels, in bytes and in texts.
 
 use crate::calls::{View, check, check_same, front_of, nested, of_bytes, of_diag};
-use crate::ends::check_ends;
-use crate::forms::check_texts;
+use crate::item_ends::check_ends;
+use crate::normal_form::check_texts;
 use crate::samples::{embedded_digits, embedded_text};
 use cbor_diag::Result;
 use std::alloc::Global;

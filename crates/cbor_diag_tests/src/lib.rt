@@ -11,25 +11,25 @@ mod diag_fault;
 #[cfg(test)]
 mod doc_examples;
 #[cfg(test)]
-mod ends;
-#[cfg(test)]
-mod forms;
-#[cfg(test)]
 mod hex_text;
 #[cfg(test)]
 mod hostile;
+#[cfg(test)]
+mod item_ends;
 #[cfg(test)]
 mod items;
 #[cfg(test)]
 mod levels;
 #[cfg(test)]
-mod lines;
-#[cfg(test)]
 mod make;
 #[cfg(test)]
 mod malformed;
 #[cfg(test)]
+mod normal_form;
+#[cfg(test)]
 mod notation;
+#[cfg(test)]
+mod pretty_lines;
 #[cfg(test)]
 mod readme;
 #[cfg(test)]

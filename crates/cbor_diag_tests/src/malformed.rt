@@ -1,7 +1,7 @@
 // Bytes that are cut, and bytes that begin no item.
 
 use crate::calls::{Input, View, check, check_table, of_bytes, read, read_front};
-use crate::ends::check_faults;
+use crate::item_ends::check_faults;
 use cbor_diag::Error;
 
 /// Bytes that end before their item does, in hex, and the result of `parse_bytes_partial`.

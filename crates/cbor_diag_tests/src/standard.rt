@@ -2,7 +2,7 @@
 // A.
 
 use crate::calls::{Input, View, check_table};
-use crate::ends::check_all_ends;
+use crate::item_ends::check_all_ends;
 
 /// Items in hex, and the bytes that are written of them.
 const ITEMS: &[(&str, &str)] = &[

@@ -1,7 +1,7 @@
 // Notes of a dump on IPv4 and IPv6 addresses, prefixes and interfaces (RFC 9164).
 
 use crate::calls::{check_end, check_end_made, dump_tagged, dump_told};
-use crate::dumped::{check_dumps, check_lines, check_notes, notes_in};
+use crate::tables::{check_dumps, check_lines, check_notes, notes_in};
 use cbor_diag::Result;
 use std::alloc::Global;
 

@@ -2,8 +2,8 @@
 // documentation of the Rust crate; all are read back.
 
 use crate::calls::{check, check_end, dump_told, dumped, dumped_or_error};
-use crate::dumped::{check_dumps, check_lines};
 use crate::make::{bytes, tagged, text};
+use crate::tables::{check_dumps, check_lines};
 use cbor_diag::{DataItem, IntegerWidth, Result};
 use std::alloc::Global;
 

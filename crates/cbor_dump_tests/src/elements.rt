@@ -2,7 +2,7 @@
 // elements.
 
 use crate::calls::{check, check_end, dump_tagged, dump_told};
-use crate::dumped::{check_dumps, check_ends, check_lines, notes_in};
+use crate::tables::{check_dumps, check_ends, check_lines, notes_in};
 
 /// Items in hex, and their dumps.
 const DUMPS: &[(&str, &str)] = &[

@@ -2,8 +2,8 @@
 // 2.4.4.1, and RFC 8742).
 
 use crate::calls::{check, dumped_or_error, end_like, written};
-use crate::dumped::{check_dumps, check_notes};
 use crate::make::{array_of, bytes, tagged};
+use crate::tables::{check_dumps, check_notes};
 use cbor_diag::{DataItem, IntegerWidth, Result, parse_hex};
 use std::alloc::Global;
 use std::process::Abort;

@@ -7,15 +7,13 @@ mod addresses;
 #[cfg(test)]
 mod calls;
 #[cfg(test)]
-mod carried;
-#[cfg(test)]
 mod dump;
-#[cfg(test)]
-mod dumped;
 #[cfg(test)]
 mod elements;
 #[cfg(test)]
 mod embedded;
+#[cfg(test)]
+mod hostile_texts;
 #[cfg(test)]
 mod make;
 #[cfg(test)]
@@ -24,3 +22,5 @@ mod notes;
 mod shared;
 #[cfg(test)]
 mod straight;
+#[cfg(test)]
+mod tables;

@@ -1,6 +1,6 @@
 // Notes of a dump: dates and times, URLs, base 64, UUIDs, network addresses.
 
-use crate::dumped::{check_dumps, check_notes};
+use crate::tables::{check_dumps, check_notes};
 
 /// Items in hex, and their dumps.
 const DUMPS: &[(&str, &str)] = &[

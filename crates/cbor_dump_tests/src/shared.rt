@@ -2,7 +2,7 @@
 // tags.
 
 use crate::calls::{check_end, dump_told};
-use crate::dumped::{check_dumps, check_notes};
+use crate::tables::{check_dumps, check_notes};
 use cbor_diag::Result;
 use std::alloc::Global;
 

@@ -1,7 +1,7 @@
 // Pretty texts over several lines (docs/NOTATION.md), and which items have them.
 
 use crate::calls::{View, check, check_same, of_bytes, of_diag};
-use crate::forms::check_forms;
+use crate::normal_form::check_forms;
 use cbor_diag::Result;
 use std::alloc::Global;
 use std::process::Abort;

@@ -2,7 +2,7 @@
 // dump shows a text.
 
 use crate::calls::dump_told;
-use crate::dumped::check_lines;
+use crate::tables::check_lines;
 use cbor_diag::Result;
 use std::alloc::Global;
 

@@ -2,7 +2,7 @@
 // back as.
 
 use crate::calls::{View, check, check_same, of_bytes, of_diag, of_hex};
-use crate::ends::check_ends;
+use crate::item_ends::check_ends;
 use crate::samples::SAMPLES;
 use cbor_diag::Result;
 use std::alloc::Global;
