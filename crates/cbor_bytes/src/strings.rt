@@ -6,9 +6,9 @@ ghost use Rattle.cbor_grammar.specs.Reading.{Gives, split_at, read_content, read
 ghost use Rattle.cbor_grammar.specs.Reading.{read_chunk, read_chunks};
 ghost use Rattle.cbor_grammar.specs.mirror.Counting.{Runs};
 
-use crate::argument::Argument;
 use crate::head::read_argument;
 use crate::turns::Turns;
+use cbor_grammar::argument::Argument;
 use cbor_grammar::major::Major;
 use cbor_grammar::strings::DefiniteString;
 use cbor_grammar::{Error, IntegerWidth, Result};

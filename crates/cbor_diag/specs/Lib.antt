@@ -4,7 +4,6 @@ pub mod ItemAnswer
 -- what the crates below define, for callers
 pub use Rattle.cbor_grammar.specs.Answer
 pub use Rattle.cbor_grammar.specs.Appended
-pub use Rattle.cbor_grammar.specs.Argument
 pub use Rattle.cbor_grammar.specs.Bytes
 pub use Rattle.cbor_grammar.specs.Comments
 pub use Rattle.cbor_grammar.specs.Compact
@@ -20,7 +19,6 @@ pub use Rattle.cbor_grammar.specs.Facts
 pub use Rattle.cbor_grammar.specs.Head
 pub use Rattle.cbor_grammar.specs.HexText
 pub use Rattle.cbor_grammar.specs.Item
-pub use Rattle.cbor_grammar.specs.ItemHead
 pub use Rattle.cbor_grammar.specs.Layout
 pub use Rattle.cbor_grammar.specs.Normal
 pub use Rattle.cbor_grammar.specs.Notation

@@ -13,7 +13,6 @@ ghost use Rattle.cbor_grammar.specs.StringKind.{major_of};
 ghost use Rattle.cbor_dump.specs.mirror.Dumped.{context_view, tag_number, IsContext, Wrote};
 ghost use Rattle.cbor_dump.specs.mirror.Dumped.{IsHead, line_of_head};
 ghost use Rattle.cbor_notation.specs.mirror.EncodingView.{in_force};
-ghost use Rattle.cbor_bytes.specs.mirror.HeadView.{argument_view, head_view};
 ghost use Rattle.cbor_dump.specs.mirror.ShownLines.{comment_text, shown_line};
 ghost use Rattle.cbor_grammar.specs.mirror.StringView.{borrowed_chunk, bytes_of, kind_of};
 
@@ -21,8 +20,8 @@ use crate::comment::Comment;
 use crate::context::DumpContext;
 use crate::hex_style::HexStyle;
 use crate::writer::Writer;
-use cbor_bytes::argument::Argument;
-use cbor_bytes::head::ItemHead;
+use cbor_grammar::argument::Argument;
+use cbor_grammar::head::ItemHead;
 use cbor_grammar::strings::StringContent;
 use cbor_grammar::{IntegerWidth, Tag};
 use cbor_notation::encoding::Encoding;
@@ -93,8 +92,8 @@ impl Writer {
         bytes: &[u8],
     ) -> Result<(), AllocError>
         requires depth { depth < 140 }
-        requires bytes { IsHead (head_view head) bytes.now }
-        ensures { OnOk result (Wrote self.old self.new (line_of_head depth (head_view head) ∷ [])) }
+        requires bytes { IsHead head bytes.now }
+        ensures { OnOk result (Wrote self.old self.new (line_of_head depth head ∷ [])) }
     {
         match head {
             ItemHead::Simple(value) => self.simple(depth, value),
@@ -128,7 +127,7 @@ impl Writer {
     pub(super) fn close(&mut self, depth: usize, length: Argument) -> Result<(), AllocError>
         requires { depth < 140 }
         ensures { OnOk result (Wrote self.old self.new
-            (spec.close_lines depth (count_width (argument_view length)))) }
+            (spec.close_lines depth (count_width length))) }
     {
         match length {
             Argument::Number(..) => Ok(()),

@@ -8,8 +8,6 @@ pub mod Written
 pub mod Bytes
 pub mod Refused
 pub mod Turns
-pub mod Argument
-pub mod ItemHead
 pub mod Reading
 pub mod Answer
 pub mod Appended

@@ -4,6 +4,7 @@ pub mod Appends
 pub mod AtLevel
 pub mod MajorNumber
 pub mod StringView
+pub mod Lengths
 pub mod StrictHeads
 pub mod HexPlaces
 pub mod SameDecides

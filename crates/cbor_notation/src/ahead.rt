@@ -9,29 +9,26 @@
 //! Each head takes two characters of the budget or more. So one look reads fewer than 30 heads,
 //! however long or deep the container is.
 ghost use Rattle.std.specs.Prelude.{◌≡◌, ℕ, ◌+◌, ◌-◌, ◌<◌, ◌≤◌, List, length, Ok, Option, IfSome};
-ghost use Rattle.cbor_grammar.specs.Argument.{indefinite};
 ghost use Rattle.cbor_grammar.specs.Embedded.{sequence_at};
 ghost use Rattle.cbor_grammar.specs.Estimate.{estimated_string, estimated_chunks};
 ghost use Rattle.cbor_grammar.specs.Estimate.{estimated_items, estimated_pairs};
 ghost use Rattle.cbor_grammar.specs.Item as spec;
 ghost use Rattle.cbor_grammar.specs.Item.{Chunk, Items, Pairs, atom, array, chunked_string};
-ghost use Rattle.cbor_grammar.specs.ItemHead as item_head;
 ghost use Rattle.cbor_grammar.specs.Layout as shown;
 ghost use Rattle.cbor_grammar.specs.NotationText.{container_style, indent_of, style_indent};
 ghost use Rattle.cbor_grammar.specs.Reading.{read_content};
 ghost use Rattle.cbor_grammar.specs.WellFormed.{deepest, levels_left};
 ghost use Rattle.cbor_grammar.specs.declared.width.IntegerWidth.{IntegerWidth};
 ghost use Rattle.cbor_notation.specs.mirror.Ahead.{Leaves, Estimates, front_read, body_read};
-ghost use Rattle.cbor_bytes.specs.mirror.HeadView.{argument_view};
 ghost use Rattle.cbor_notation.specs.mirror.LayoutView.{layout_view, style_view};
-ghost use Rattle.cbor_grammar.specs.mirror.StringView.{kind_view};
 
 use crate::budget::{BUDGET, digit_count, float_len, left_after_content, pretty_style};
 use crate::context::{ContainerStyle, Layout};
-use cbor_bytes::argument::Argument;
-use cbor_bytes::head::{ItemHead, read_head};
+use cbor_bytes::head::read_head;
 use cbor_bytes::skip::after_front;
 use cbor_bytes::strings::{read_chunk_length, split_at};
+use cbor_grammar::argument::Argument;
+use cbor_grammar::head::ItemHead;
 use cbor_grammar::strings::StringKind;
 
 /// What a look at bytes finds.
@@ -61,8 +58,7 @@ impl Layout {
     /// The style of an array with this count of items, whose bytes after its head these are.
     pub fn array_style_ahead(self, count: Argument, bytes: &[u8]) -> ContainerStyle
         ensures style { (levels : ℕ) (is : Items) (w : Option IntegerWidth) (rest : List ℕ)
-            → body_read (item_head.array (argument_view count)) bytes.now levels
-            ≡ Ok (array is w, rest)
+            → body_read (ItemHead.Array count) bytes.now levels ≡ Ok (array is w, rest)
             → style_view result ≡ container_style (layout_view self) (4 + estimated_items is) }
         ensures indent { style_indent (style_view result) ≡ indent_of (layout_view self) }
     {
@@ -75,8 +71,7 @@ impl Layout {
     /// The style of a map with this count of pairs, whose bytes after its head these are.
     pub fn map_style_ahead(self, count: Argument, bytes: &[u8]) -> ContainerStyle
         ensures style { (levels : ℕ) (ps : Pairs) (w : Option IntegerWidth) (rest : List ℕ)
-            → body_read (item_head.map (argument_view count)) bytes.now levels
-            ≡ Ok (spec.map ps w, rest)
+            → body_read (ItemHead.Map count) bytes.now levels ≡ Ok (spec.map ps w, rest)
             → style_view result ≡ container_style (layout_view self) (4 + estimated_pairs ps) }
         ensures indent { style_indent (style_view result) ≡ indent_of (layout_view self) }
     {
@@ -89,10 +84,9 @@ impl Layout {
     /// The style of an indefinite string, whose bytes after its opening byte these are.
     pub fn chunks_style_ahead(self, kind: StringKind, bytes: &[u8]) -> ContainerStyle
         ensures style { (levels : ℕ) (cs : List Chunk) (rest : List ℕ)
-            → body_read (item_head.string (kind_view kind) indefinite) bytes.now levels
-            ≡ Ok (atom (chunked_string (kind_view kind) cs), rest)
-            → style_view result
-            ≡ container_style (layout_view self) (4 + estimated_chunks (kind_view kind) cs) }
+            → body_read (ItemHead.String kind Argument.Indefinite) bytes.now levels
+            ≡ Ok (atom (chunked_string kind cs), rest) → style_view result
+            ≡ container_style (layout_view self) (4 + estimated_chunks kind cs) }
         ensures indent { style_indent (style_view result) ≡ indent_of (layout_view self) }
     {
         match self {
@@ -136,8 +130,7 @@ fn style_of(indent: usize, members: Option<Ahead<'_>>) -> ContainerStyle
 
 /// Looks at a string after its head, with this length.
 fn string_ahead(kind: StringKind, len: Argument, bytes: &[u8], budget: usize) -> Option<Ahead<'_>>
-    ensures leaves { Estimates result budget
-        (body_read (item_head.string (kind_view kind) (argument_view len)) bytes.now) }
+    ensures leaves { Estimates result budget (body_read (ItemHead.String kind len) bytes.now) }
     ensures takes { IfSome result (λ ahead. (0 < ahead.left) × (ahead.left + 2 ≤ budget)) }
 {
     match len {
@@ -149,8 +142,8 @@ fn string_ahead(kind: StringKind, len: Argument, bytes: &[u8], budget: usize) ->
 /// Looks at a string of definite length after its head.
 fn content_ahead(kind: StringKind, count: u64, bytes: &[u8], budget: usize) -> Option<Ahead<'_>>
     ensures leaves { (w : IntegerWidth) (c : Chunk) (rest : List ℕ)
-        → read_content (kind_view kind) count w bytes.now ≡ Ok (c, rest)
-        → Leaves result budget (estimated_string (kind_view kind) c) rest }
+        → read_content kind count w bytes.now ≡ Ok (c, rest)
+        → Leaves result budget (estimated_string kind c) rest }
     ensures takes { IfSome result (λ ahead. (0 < ahead.left) × (ahead.left + 2 ≤ budget)) }
 {
     let Ok((content, rest)) = split_at(bytes, count) else {
@@ -162,7 +155,7 @@ fn content_ahead(kind: StringKind, count: u64, bytes: &[u8], budget: usize) -> O
 /// Looks at the chunks of a string after its opening byte: two characters more for each.
 fn chunks_ahead(kind: StringKind, bytes: &[u8], budget: usize) -> Option<Ahead<'_>>
     ensures leaves { Estimates result (4 + budget)
-        (body_read (item_head.string (kind_view kind) indefinite) bytes.now) }
+        (body_read (ItemHead.String kind Argument.Indefinite) bytes.now) }
     ensures takes { IfSome result (λ ahead. (0 < ahead.left) × (ahead.left ≤ budget)) }
 {
     let mut left = budget;
@@ -216,8 +209,7 @@ fn item_ahead(bytes: &[u8], budget: usize) -> Option<Ahead<'_>>
 /// Looks at the items of an array after its head: two characters more for each.
 #[cycle(ahead)]
 fn items_ahead(count: Argument, bytes: &[u8], budget: usize) -> Option<Ahead<'_>>
-    ensures leaves { Estimates result (4 + budget)
-        (body_read (item_head.array (argument_view count)) bytes.now) }
+    ensures leaves { Estimates result (4 + budget) (body_read (ItemHead.Array count) bytes.now) }
     ensures takes { IfSome result (λ ahead. (0 < ahead.left) × (ahead.left ≤ budget)) }
 {
     let mut left = budget;
@@ -237,8 +229,7 @@ fn items_ahead(count: Argument, bytes: &[u8], budget: usize) -> Option<Ahead<'_>
 /// Looks at the keys and values of a map after its head: two characters more for each pair.
 #[cycle(ahead)]
 fn pairs_ahead(count: Argument, bytes: &[u8], budget: usize) -> Option<Ahead<'_>>
-    ensures leaves { Estimates result (4 + budget)
-        (body_read (item_head.map (argument_view count)) bytes.now) }
+    ensures leaves { Estimates result (4 + budget) (body_read (ItemHead.Map count) bytes.now) }
     ensures takes { IfSome result (λ ahead. (0 < ahead.left) × (ahead.left ≤ budget)) }
 {
     let mut left = budget;

@@ -4,7 +4,6 @@ ghost use Rattle.std.specs.Prelude.{if◌then◌else◌};
 ghost use Rattle.cbor_grammar.specs.Item.{Chunk};
 ghost use Rattle.cbor_grammar.specs.ContainerStyle as style;
 ghost use Rattle.cbor_notation.specs.mirror.LayoutView.{layout_view, style_view};
-ghost use Rattle.cbor_grammar.specs.mirror.StringView.{kind_view};
 ghost use Rattle.cbor_grammar.specs.NotationText.{container_style};
 ghost use Rattle.cbor_grammar.specs.Estimate.{digit_count, estimated_string, estimated_chunks};
 ghost use Rattle.cbor_grammar.specs.Estimate.{estimated_float};
@@ -43,7 +42,7 @@ pub fn digit_count(number: u64) -> usize
 /// What a string of `len` bytes leaves of the budget.
 pub(super) fn left_after_content(kind: StringKind, len: usize, budget: usize) -> usize
     ensures leaves { (c : Chunk) → length c.bytes ≡ len
-        → result ≡ budget - estimated_string (kind_view kind) c }
+        → result ≡ budget - estimated_string kind c }
     ensures takes { result ≤ budget - 2 }
 {
     match kind {

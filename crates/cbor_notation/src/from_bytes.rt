@@ -9,19 +9,15 @@
 ghost use Rattle.std.specs.Prelude.{◌≡◌, ◌+◌, ◌*◌, ◌<◌, ◌≤◌, ◌^◌, ◌++◌, codes, IfOk, IfErr, OnErr};
 ghost use Rattle.std.specs.Io.{StartsWith};
 ghost use Rattle.std.specs.String.{string_bytes};
-ghost use Rattle.cbor_grammar.specs.ItemHead as item_head;
 ghost use Rattle.cbor_grammar.specs.Layout as shown;
 ghost use Rattle.cbor_grammar.specs.NotationText.{last_line, rest_text, style_indent};
 ghost use Rattle.cbor_grammar.specs.Reading.{Fails};
 ghost use Rattle.cbor_grammar.specs.WellFormed.{deepest};
 ghost use Rattle.cbor_grammar.specs.mirror.Appends.{AppendsText};
-ghost use Rattle.cbor_bytes.specs.mirror.HeadView.{argument_view};
 ghost use Rattle.cbor_notation.specs.mirror.LayoutView.{context_view, style_view, item_text};
 ghost use Rattle.cbor_notation.specs.mirror.LayoutView.{IsIndented, content_there};
 ghost use Rattle.cbor_notation.specs.mirror.Straight.{Printed, read_there, read_after};
 ghost use Rattle.cbor_notation.specs.mirror.Straight.{string_there, before_chunk, after_chunks};
-ghost use Rattle.cbor_grammar.specs.mirror.StringView.{kind_view};
-ghost use Rattle.cbor_grammar.specs.Argument.{indefinite};
 
 use crate::context::{ContainerStyle, Content, NotationContext};
 use crate::members::{
@@ -30,9 +26,10 @@ use crate::members::{
 use crate::scalars::{
     push_float, push_negative, push_number, push_quoted, push_simple, push_string, push_text,
 };
-use cbor_bytes::argument::Argument;
 use cbor_bytes::borrowed::{next_chunk, read_borrowed};
-use cbor_bytes::head::{ItemHead, no_level_left, read_head};
+use cbor_bytes::head::{no_level_left, read_head};
+use cbor_grammar::argument::Argument;
+use cbor_grammar::head::ItemHead;
 use cbor_grammar::level::DEEPEST;
 use cbor_grammar::strings::{StringContent, StringKind};
 use cbor_grammar::{Error, IntegerWidth, Simple, Tag};
@@ -92,10 +89,10 @@ fn push_array_front<'a>(
     requires level { context.now.level ≤ deepest }
     requires indent { IsIndented context.now }
     ensures printed { IfOk result (λ rest. Printed (item_text context.now)
-        (read_after context.now (item_head.array (argument_view count)) bytes.now) rest.now
+        (read_after context.now (ItemHead.Array count) bytes.now) rest.now
         (string_bytes out.old) (string_bytes out.new)) }
     ensures refused { IfErr result (λ e. Fails e
-        (read_after context.now (item_head.array (argument_view count)) bytes.now)) }
+        (read_after context.now (ItemHead.Array count) bytes.now)) }
     ensures begun { OnErr result (StartsWith (string_bytes out.new) (string_bytes out.old)) }
 {
     let style = context.layout.array_style_ahead(count, bytes);
@@ -127,10 +124,10 @@ fn push_map_front<'a>(
     requires level { context.now.level ≤ deepest }
     requires indent { IsIndented context.now }
     ensures printed { IfOk result (λ rest. Printed (item_text context.now)
-        (read_after context.now (item_head.map (argument_view count)) bytes.now) rest.now
+        (read_after context.now (ItemHead.Map count) bytes.now) rest.now
         (string_bytes out.old) (string_bytes out.new)) }
     ensures refused { IfErr result (λ e. Fails e
-        (read_after context.now (item_head.map (argument_view count)) bytes.now)) }
+        (read_after context.now (ItemHead.Map count) bytes.now)) }
     ensures begun { OnErr result (StartsWith (string_bytes out.new) (string_bytes out.old)) }
 {
     let style = context.layout.map_style_ahead(count, bytes);
@@ -164,10 +161,10 @@ fn push_tag_front<'a>(
     requires level { context.now.level ≤ deepest }
     requires indent { IsIndented context.now }
     ensures printed { IfOk result (λ rest. Printed (item_text context.now)
-        (read_after context.now (item_head.tag head.0 head.1) bytes.now) rest.now
+        (read_after context.now (ItemHead.Tag head.0 head.1) bytes.now) rest.now
         (string_bytes out.old) (string_bytes out.new)) }
     ensures refused { IfErr result (λ e. Fails e
-        (read_after context.now (item_head.tag head.0 head.1) bytes.now)) }
+        (read_after context.now (ItemHead.Tag head.0 head.1) bytes.now)) }
     ensures begun { OnErr result (StartsWith (string_bytes out.new) (string_bytes out.old)) }
 {
     let (tag, width) = head;
@@ -189,10 +186,10 @@ fn push_string_front<'a>(
     requires level { context.now.level ≤ deepest }
     requires indent { IsIndented context.now }
     ensures printed { IfOk result (λ rest. Printed (item_text context.now) (read_after context.now
-        (item_head.string (kind_view head.0) (argument_view head.1)) bytes.now) rest.now
+        (ItemHead.String head.0 head.1) bytes.now) rest.now
         (string_bytes out.old) (string_bytes out.new)) }
     ensures refused { IfErr result (λ e. Fails e (read_after context.now
-        (item_head.string (kind_view head.0) (argument_view head.1)) bytes.now)) }
+        (ItemHead.String head.0 head.1) bytes.now)) }
     ensures begun { OnErr result (StartsWith (string_bytes out.new) (string_bytes out.old)) }
 {
     let (kind, len) = head;
@@ -345,10 +342,10 @@ fn push_chunks_front<'a>(
     requires level { context.now.level ≤ deepest }
     requires indent { IsIndented context.now }
     ensures printed { IfOk result (λ rest. Printed (item_text context.now)
-        (read_after context.now (item_head.string (kind_view kind) indefinite) bytes.now) rest.now
+        (read_after context.now (ItemHead.String kind Argument.Indefinite) bytes.now) rest.now
         (string_bytes out.old) (string_bytes out.new)) }
     ensures refused { IfErr result (λ e. Fails e
-        (read_after context.now (item_head.string (kind_view kind) indefinite) bytes.now)) }
+        (read_after context.now (ItemHead.String kind Argument.Indefinite) bytes.now)) }
     ensures begun { OnErr result (StartsWith (string_bytes out.new) (string_bytes out.old)) }
 {
     let style = context.layout.chunks_style_ahead(kind, bytes);
@@ -388,8 +385,7 @@ fn push_chunks_end(
     held: usize,
     style: ContainerStyle,
 ) -> Result<(), AllocError>
-    ensures { AppendsText result out.old out.new
-        (after_chunks (style_view style) (kind_view kind) held) }
+    ensures { AppendsText result out.old out.new (after_chunks (style_view style) kind held) }
 {
     if held == 0 {
         push_no_chunks(out, kind)

@@ -6,7 +6,6 @@ ghost use Rattle.std.specs.Prelude.{◌≡◌, ◌∷◌, [], ◌++◌, ◌<◌,
 ghost use Rattle.cbor_grammar.specs.mirror.Appends.{AppendsText};
 ghost use Rattle.cbor_grammar.specs.StringKind.{no_chunks};
 ghost use Rattle.cbor_grammar.specs.WellFormed.{deepest};
-ghost use Rattle.cbor_grammar.specs.mirror.StringView.{kind_view};
 ghost use Rattle.cbor_notation.specs.mirror.LayoutView.{style_view, context_view, chunks_there};
 ghost use Rattle.cbor_notation.specs.mirror.LayoutView.{IsIndented, before_member, after_member};
 ghost use Rattle.cbor_grammar.specs.NotationText.{line, last_line, opened, colon, style_indent};
@@ -149,7 +148,7 @@ pub fn push_chunks<S: DefiniteString>(
 
 /// Writes an indefinite string of this kind that has no chunks.
 pub(crate) fn push_no_chunks(out: &mut String, kind: StringKind) -> Result<(), AllocError>
-    ensures { AppendsText result out.old out.new (no_chunks (kind_view kind)) }
+    ensures { AppendsText result out.old out.new (no_chunks kind) }
 {
     match kind {
         StringKind::Bytes => out.push_str("''_"),

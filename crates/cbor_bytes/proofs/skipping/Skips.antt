@@ -8,13 +8,16 @@ use Rattle.std.proofs.lemmas.Str.{IsUtf8-nil}
 use Rattle.cbor_grammar.specs.declared.width.IntegerWidth.{IntegerWidth}
 use Rattle.cbor_grammar.specs.declared.error.Error.{Error}
 use Rattle.cbor_grammar.specs.declared.error.Error.TheVariants as refusal
-use Rattle.cbor_grammar.specs.Argument.{Argument, number, indefinite}
-use Rattle.cbor_grammar.specs.ItemHead.{ItemHead}
+use Rattle.cbor_grammar.specs.declared.argument.Argument.{Argument}
+use Rattle.cbor_grammar.specs.declared.argument.Argument.TheVariants.{Number, Indefinite}
+use Rattle.cbor_grammar.specs.declared.head.ItemHead.{ItemHead}
 use Rattle.cbor_bytes.specs.declared.skip.Stop.{Stop}
 use Rattle.cbor_bytes.specs.declared.skip.Stop.TheVariants as stops
 use Rattle.cbor_grammar.specs.Item.{Chunk}
 use Rattle.cbor_grammar.specs.Head.{break_byte}
-use Rattle.cbor_grammar.specs.StringKind.{StringKind, bytes_kind, text_kind, major_of, IsContent}
+use Rattle.cbor_grammar.specs.declared.strings.StringKind.{StringKind}
+use Rattle.cbor_grammar.specs.declared.strings.StringKind.TheVariants.{Bytes, Text}
+use Rattle.cbor_grammar.specs.StringKind.{major_of, IsContent}
 use Rattle.cbor_grammar.specs.Refused.{BadHead, no_info, no_length}
 use Rattle.cbor_grammar.specs.Reading.{Read, ◌>>=◌, read_argument, head_of, read_head, read_content, chunk_of}
 use Rattle.cbor_grammar.specs.Reading.{read_chunk}
@@ -156,7 +159,7 @@ content_goes kind n w b long holds =
     }
 
 content_bad : (n : ℕ) (w : IntegerWidth) (b : List ℕ) → n ≤ length b → ¬ (IsUtf8 (take n b))
-    → Shows (skip_content text_kind n w) b refusal.Utf8 (length (drop n b))
+    → Shows (skip_content Text n w) b refusal.Utf8 (length (drop n b))
 content_bad n w b long bad =
     elim (last_ways (take n b)) [
       | inl none ↦ absurd (bad (rw none IsUtf8-nil))
@@ -169,8 +172,8 @@ content_bad n w b long bad =
             parts = sym (take-append-drop n b) ∙ ap (λ (z : List ℕ). z ++ drop n b) at.2
                 ∙ append_assoc at.0 (at.1 ∷ []) (drop n b);
             count = refl;
-            cut = content_cut text_kind n w at.0 (omega (arith, length-append at.0 (at.1 ∷ [])));
-            fails = ap rest_of (content_refuses text_kind n w (at.0 ++ at.1 ∷ []) refusal.Utf8
+            cut = content_cut Text n w at.0 (omega (arith, length-append at.0 (at.1 ∷ [])));
+            fails = ap rest_of (content_refuses Text n w (at.0 ++ at.1 ∷ []) refusal.Utf8
                 (bad_content (at.0 ++ at.1 ∷ []) [] (sym (append-nil (at.0 ++ at.1 ∷ []))) count (rw (← at.2) bad)));
             other = λ e. absurd cc;
           }
@@ -178,8 +181,8 @@ content_bad n w b long bad =
 
 pub content_shows : (kind : StringKind) (n : ℕ) (w : IntegerWidth) (b : List ℕ) → n ≤ length b
     → ¬ (IsContent kind (take n b)) → Shows (skip_content kind n w) b refusal.Utf8 (length (drop n b))
-content_shows bytes_kind n w b long bad = absurd (bad tt)
-content_shows text_kind n w b long bad = content_bad n w b long bad
+content_shows Bytes n w b long bad = absurd (bad tt)
+content_shows Text n w b long bad = content_bad n w b long bad
 
 -- ---- chunks
 
@@ -239,13 +242,13 @@ break_goes kind b = record { over = break_byte ∷ []; parts = refl; along = λ 
 -- the number after five bits of info, whatever is after it
 info_over : (bits : ℕ) (i : Argument) (b rest : List ℕ) → ArgumentIs bits i b rest
     → (x : List ℕ) × (b ≡ x ++ rest) × ((c : List ℕ) → read_argument bits (x ++ c) ≡ Ok (i, c))
-info_over bits (number n w) b rest is =
+info_over bits (Number n w) b rest is =
     (number_bytes w n, is.2, λ c. ap (λ k. read_argument k (number_bytes w n ++ c)) is.1 ∙ info_again w n c is.0)
-info_over bits indefinite b rest is = ([], is.1, λ c. info_opens bits c is.0)
+info_over bits Indefinite b rest is = ([], is.1, λ c. info_opens bits c is.0)
 
 -- a chunk's head, with its content and more chunks after it
 content_then : (kind : StringKind) (n : ℕ) (w : IntegerWidth) (c : List ℕ)
-    → chunks_after kind (chunk_of kind (number n w) c) ≡ (skip_content kind n w c >>= skip_chunks kind)
+    → chunks_after kind (chunk_of kind (Number n w) c) ≡ (skip_content kind n w c >>= skip_chunks kind)
 content_then kind n w c = after (read_content kind n w c)
   where
     after : (read : Read Chunk) → chunks_after kind (read >>= λ c. Ok (Some c.0, c.1))
@@ -267,15 +270,15 @@ chunk_reads kind first b read no_break major e =
     ]
 
 pub chunk_goes : (kind : StringKind) (first n : ℕ) (w : IntegerWidth) (b rest : List ℕ) → IsBytes b → first ≢ break_byte
-    → first / 32 ≡ major_of kind → read_argument (first % 32) b ≡ Ok (number n w, rest)
+    → first / 32 ≡ major_of kind → read_argument (first % 32) b ≡ Ok (Number n w, rest)
     → Goes (skip_chunks kind) (λ c. skip_content kind n w c >>= skip_chunks kind) (first ∷ b) rest
 chunk_goes kind first n w b rest fits no_break major e =
-    let f = info_over (first % 32) (number n w) b rest (info_takes (first % 32) b rest (number n w) fits e) in
+    let f = info_over (first % 32) (Number n w) b rest (info_takes (first % 32) b rest (Number n w) fits e) in
     record {
       over = first ∷ f.0;
       parts = ap (λ (z : List ℕ). first ∷ z) f.1;
       along = λ c. chunks_next kind (first ∷ (f.0 ++ c))
-          ∙ ap (chunks_after kind) (chunk_reads kind first (f.0 ++ c) (Ok (number n w, c)) no_break major (f.2 c))
+          ∙ ap (chunks_after kind) (chunk_reads kind first (f.0 ++ c) (Ok (Number n w, c)) no_break major (f.2 c))
           ∙ content_then kind n w c;
     }
 
@@ -318,11 +321,11 @@ info_shows kind first b e no_break major h other =
     (info_refuses (first % 32) [] refusal.Head bad.0)))
 
 pub indefinite_shows : (kind : StringKind) (first : ℕ) (b rest : List ℕ) → IsBytes b → first ≢ break_byte
-    → first / 32 ≡ major_of kind → read_argument (first % 32) b ≡ Ok (indefinite, rest)
+    → first / 32 ≡ major_of kind → read_argument (first % 32) b ≡ Ok (Indefinite, rest)
     → Shows (skip_chunks kind) (first ∷ b) refusal.Head (length b)
 indefinite_shows kind first b rest fits no_break major e =
-    let is = info_takes (first % 32) b rest indefinite fits e in
-    chunk_shows kind first b (chunk_reads kind first [] (Ok (indefinite, [])) no_break major
+    let is = info_takes (first % 32) b rest Indefinite fits e in
+    chunk_shows kind first b (chunk_reads kind first [] (Ok (Indefinite, [])) no_break major
     (info_opens (first % 32) [] is.0))
 
 info_cut : (kind : StringKind) (first : ℕ) (b : List ℕ) → first ≢ break_byte → first / 32 ≡ major_of kind

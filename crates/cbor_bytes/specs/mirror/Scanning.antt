@@ -9,9 +9,8 @@ use Rattle.cbor_bytes.specs.declared.skip.due.Due.TheVariants as due
 use Rattle.cbor_bytes.specs.declared.skip.due.Pause.{Pause}
 use Rattle.cbor_bytes.specs.declared.skip.due.Pause.TheVariants as pause
 use Rattle.cbor_bytes.specs.declared.skip.to_come.ToCome.{ToCome}
-use Rattle.cbor_grammar.specs.StringKind.{StringKind}
+use Rattle.cbor_grammar.specs.declared.strings.StringKind.{StringKind}
 use Rattle.cbor_grammar.specs.Reading.{◌>>=◌}
-use Rattle.cbor_grammar.specs.mirror.StringView.{kind_view}
 use Rattle.cbor_bytes.specs.mirror.Skipping.{Skip, here, Goes, Shows, skip_content, skip_chunks, skip_open}
 
 -- the longest front of some bytes that is UTF-8
@@ -33,8 +32,8 @@ skip_bad more b = if nat_lt more (length b) then Err Utf8 else Err CutShort
 abbrev pub skip_due : Due → List ℕ → Skip
 skip_due due.Part b = here b
 skip_due (due.Content kind left chunked) b =
-    then_chunks chunked (kind_view kind) (skip_content (kind_view kind) left Zero b)
-skip_due (due.Chunk kind) b = skip_chunks (kind_view kind) b
+    then_chunks chunked kind (skip_content kind left Zero b)
+skip_due (due.Chunk kind) b = skip_chunks kind b
 skip_due (due.BadText more) b = skip_bad more b
 
 -- the same, and then what is open round it

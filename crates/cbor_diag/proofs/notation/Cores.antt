@@ -14,7 +14,8 @@ use Rattle.cbor_notation.specs.declared.start.Start.TheVariants as start
 use Rattle.cbor_grammar.specs.Item.{Chunk, chunked_string, Item, atom, item_count, pair_count}
 use Rattle.cbor_diag.specs.View.{view, items_view, pairs_view}
 use Rattle.cbor_grammar.specs.WellFormed.{IsChunk, WellFormed, WellFormedItems, WellFormedPairs, FitsCount}
-use Rattle.cbor_grammar.specs.StringKind.{StringKind, bytes_kind}
+use Rattle.cbor_grammar.specs.declared.strings.StringKind.{StringKind}
+use Rattle.cbor_grammar.specs.declared.strings.StringKind.TheVariants.{Bytes}
 use Rattle.cbor_grammar.specs.Reading.{Read, ◌>>=◌, Fails}
 use Rattle.cbor_notation.specs.mirror.NotationReading.{or_refused, after_byte, skip_blank, read_pair, first_start}
 use Rattle.cbor_notation.specs.mirror.NotationReading.{rest_of}
@@ -37,7 +38,7 @@ core_by read (b ∷ text) rest s is behind = ap (λ s. core_of read s (b ∷ tex
 -- what bytes begin with
 pub bytes_core : (read : List ℕ → Read Item) (text rest : List ℕ) (s : Start)
     → (s ≡ start.Apostrophe) ⊎ ((s ≡ start.Angle) ⊎ ((s ≡ start.LetterB) ⊎ (s ≡ start.LetterH)))
-    → core_of read s text rest ≡ read_string_item read bytes_kind text
+    → core_of read s text rest ≡ read_string_item read Bytes text
 bytes_core read text rest s (inl e) = rw e refl
 bytes_core read text rest s (inr (inl e)) = rw e refl
 bytes_core read text rest s (inr (inr (inl e))) = rw e refl

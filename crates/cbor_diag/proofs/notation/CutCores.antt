@@ -8,7 +8,7 @@ use Rattle.cbor_notation.specs.declared.start.Start.{Start}
 use Rattle.cbor_notation.specs.declared.start.Start.TheVariants as start
 use Rattle.cbor_grammar.specs.declared.width.IntegerWidth.{IntegerWidth}
 use Rattle.cbor_grammar.specs.Item.{Item, atom, negative}
-use Rattle.cbor_grammar.specs.StringKind.{bytes_kind, text_kind}
+use Rattle.cbor_grammar.specs.declared.strings.StringKind.TheVariants.{Bytes, Text}
 use Rattle.cbor_grammar.specs.Reading.{Read, ◌>>=◌}
 use Rattle.cbor_grammar.specs.Notation.{Members, PairOf, NegativeOf, Notation, as_text, Core, Reads}
 use Rattle.cbor_grammar.specs.DeadEnd.{GoesOn, IsCut, closes_text, content}
@@ -91,7 +91,7 @@ module _ (left : ℕ) where
       cut (core_refused_at start.Digit text rest at behind some refused)
 
   pub quote_core : (text rest : List ℕ) → start.Quote ≡ first_start text → rest ≡ rest_of text → 0 < length text
-      → (NotRead (read_string_item (read_item left) text_kind text) → IsCut (Core (Reads left)) text)
+      → (NotRead (read_string_item (read_item left) Text text) → IsCut (Core (Reads left)) text)
       → NotRead (read_core (read_item left) text) → IsCut (Core (Reads left)) text
   quote_core text rest at behind some cut refused =
       cut (core_refused_at start.Quote text rest at behind some refused)
@@ -99,7 +99,7 @@ module _ (left : ℕ) where
   pub bytes_core_cut : (s : Start) (text rest : List ℕ)
       → ((s ≡ start.Apostrophe) ⊎ (s ≡ start.Angle) ⊎ (s ≡ start.LetterB) ⊎ (s ≡ start.LetterH))
       → s ≡ first_start text → rest ≡ rest_of text → 0 < length text
-      → (NotRead (read_string_item (read_item left) bytes_kind text) → IsCut (Core (Reads left)) text)
+      → (NotRead (read_string_item (read_item left) Bytes text) → IsCut (Core (Reads left)) text)
       → NotRead (read_core (read_item left) text) → IsCut (Core (Reads left)) text
   bytes_core_cut s text rest (inl is) at behind some cut refused =
       cut (core_refused_at start.Apostrophe text rest (sym is ∙ at) behind some refused)

@@ -19,7 +19,7 @@ use Rattle.cbor_grammar.specs.declared.width.IntegerWidth.TheVariants.{Unknown, 
 use Rattle.cbor_grammar.specs.Item as spec
 use Rattle.cbor_grammar.specs.Item.{Chunk, Item, integer, negative, atom, array, tagged}
 use Rattle.cbor_grammar.specs.Item.{items_of, pairs_of}
-use Rattle.cbor_grammar.specs.StringKind.{StringKind}
+use Rattle.cbor_grammar.specs.declared.strings.StringKind.{StringKind}
 use Rattle.cbor_grammar.specs.Reading.{Read, ◌>>=◌}
 use Rattle.cbor_grammar.specs.Notation.{IsBlank, Blanked, NumberOf, NegativeOf, Members, PairOf, StringOf, Core, Reads}
 use Rattle.cbor_grammar.specs.Notation.{IsNotation}
@@ -30,7 +30,6 @@ use Rattle.cbor_notation.specs.mirror.NotationReading.{read_item}
 use Rattle.cbor_notation.specs.mirror.NotationReading.{read_core, read_integer, integer_or_tag, read_unsigned_number}
 use Rattle.cbor_notation.specs.mirror.NotationReading.{read_number, with_width, read_members, read_length, length_of}
 use Rattle.cbor_notation.specs.mirror.NotationReading.{read_array, read_map, notation_of}
-use Rattle.cbor_grammar.specs.mirror.StringView.{kind_view}
 use Rattle.cbor_diag.specs.mirror.DeadEnds.{NotRead, ends_blank, is_firm, Value, read_member, MemberIs, ChunkIs}
 use Rattle.cbor_grammar.proofs.bytes.Heads.{bind_ok, ok_is}
 use Rattle.cbor_diag.proofs.notation.CutTokens.{blank_goes_on, cut_by}
@@ -75,7 +74,7 @@ member_behind member.Pair left text blank x h is = (
   reads_behind left h.1 blank x.1 h.4 is,
 )
 member_behind (member.Chunk kind) left text blank x h is =
-    blanked_behind (λ core. StringOf (kind_view kind) (Reads left) core x) text blank h is
+    blanked_behind (λ core. StringOf kind (Reads left) core x) text blank h is
 
 pub member_before : (m : Member) (left : ℕ) (blank text : List ℕ) (x : Value m) → IsBlank blank
     → MemberIs m (Reads left) text x → MemberIs m (Reads left) (blank ++ text) x
@@ -83,7 +82,7 @@ member_before member.Item left blank text x is h = reads_blank left blank text x
 member_before member.Pair left blank text x is h =
     pair_blank left (Reads left) (read_item left) (item_sound left) (reads_blank left) blank text x is h
 member_before (member.Chunk kind) left blank text x is h =
-    blanked_more (λ core. StringOf (kind_view kind) (Reads left) core x) blank text is h
+    blanked_more (λ core. StringOf kind (Reads left) core x) blank text is h
 
 pub item_finds : (left : ℕ) → Finds (read_item left) (Reads left)
 item_finds left = finds_by left (read_item left) (Reads left) (item_sound left)
@@ -92,9 +91,9 @@ pub member_finds : (m : Member) (left : ℕ) → Finds (read_member m (read_item
 member_finds member.Item left = item_finds left
 member_finds member.Pair left = finds_by left (read_pair (read_item left)) (PairOf (Reads left))
     (pair_sound left (Reads left) (read_item left) (item_sound left) (reads_blank left))
-member_finds (member.Chunk kind) left = finds_by (suc left) (read_chunk (read_item left) (kind_view kind))
-    (ChunkIs (kind_view kind) (Reads left))
-    (chunk_sound left (Reads left) (read_item left) (item_sound left) (reads_blank left) (kind_view kind))
+member_finds (member.Chunk kind) left = finds_by (suc left) (read_chunk (read_item left) kind)
+    (ChunkIs kind (Reads left))
+    (chunk_sound left (Reads left) (read_item left) (item_sound left) (reads_blank left) kind)
 
 -- ---- items
 

@@ -24,14 +24,14 @@ ghost use Rattle.cbor_grammar.specs.Facts.{IsNoItem, BeginsSo, BeginsInOneWay, I
 ghost use Rattle.cbor_grammar.specs.Reading.{Gives, later, no_level_left, read_atom, counted_item};
 ghost use Rattle.cbor_grammar.specs.mirror.Counting.{HoldsContent, Runs, Stops, read_item_head};
 ghost use Rattle.cbor_grammar.specs.mirror.Counting.{resume, resume_with};
-ghost use Rattle.cbor_bytes.specs.mirror.HeadView.{head_view};
 ghost use Rattle.cbor_diag.specs.mirror.Stack.{frames};
 
 use crate::syntax::DataItem;
 use cbor_bytes::Turns;
-use cbor_bytes::argument::Argument;
-use cbor_bytes::head::{ItemHead, no_level_left, read_head};
+use cbor_bytes::head::{no_level_left, read_head};
 use cbor_bytes::strings::{read_chunks, read_string};
+use cbor_grammar::argument::Argument;
+use cbor_grammar::head::ItemHead;
 use cbor_grammar::level::DEEPEST;
 use cbor_grammar::strings::StringKind;
 use cbor_grammar::{ByteString, Error, Result, Simple, TextString};
@@ -42,7 +42,7 @@ use std::alloc::Global;
 /// The head of an item at `level`, from 1 to 129. No item is allowed at level 129.
 fn read_item_head(bytes: &[u8], level: usize) -> Result<(ItemHead, &[u8])>
     requires { level ≤ deepest + 1 }
-    ensures gives { Gives (λ x. (head_view x.0, x.1.now)) result
+    ensures gives { Gives (λ x. (x.0, x.1.now)) result
         (read_item_head (levels_left level) bytes.now) }
     ensures shorter { IfOk result (λ x. length x.1.now < length bytes.now) }
     ensures memory { result ≢ Err Error.Memory }
@@ -63,12 +63,12 @@ fn read_atom<'a>(
 ) -> Result<(DataItem, &'a [u8])>
     requires { turns.old + 2 * length bytes.now < 2 ^ 126 }
     ensures gives { Runs (λ x. (view x.0, x.1.now)) turns.old turns.new result
-        (read_atom (head_view head) bytes.now) }
+        (read_atom head bytes.now) }
     ensures falls { IfOk result (λ x.
         turns.new + 2 * length x.1.now ≤ turns.old + 2 * length bytes.now) }
     ensures few { turns.new ≤ turns.old + 2 * length bytes.now + 1 }
     ensures rises { turns.old ≤ turns.new }
-    ensures memory { result ≡ Err Error.Memory → HoldsContent (head_view head) }
+    ensures memory { result ≡ Err Error.Memory → HoldsContent head }
 {
     match head {
         ItemHead::Integer(value, bitwidth) => Ok((DataItem::Integer { value, bitwidth }, bytes)),

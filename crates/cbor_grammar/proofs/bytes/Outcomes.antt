@@ -9,10 +9,11 @@ use Rattle.cbor_grammar.specs.declared.error.Error.TheVariants as refusal
 use Rattle.cbor_grammar.specs.declared.width.IntegerWidth.{IntegerWidth}
 use Rattle.cbor_grammar.specs.declared.width.IntegerWidth.TheVariants.{Unknown, Zero, Eight, Sixteen, ThirtyTwo}
 use Rattle.cbor_grammar.specs.declared.width.IntegerWidth.TheVariants.{SixtyFour}
-use Rattle.cbor_grammar.specs.Argument.{Argument, number, indefinite}
-use Rattle.cbor_grammar.specs.ItemHead as item_head
-use Rattle.cbor_grammar.specs.ItemHead.{ItemHead}
-use Rattle.cbor_grammar.specs.StringKind.{bytes_kind, text_kind}
+use Rattle.cbor_grammar.specs.declared.argument.Argument.{Argument}
+use Rattle.cbor_grammar.specs.declared.argument.Argument.TheVariants.{Number, Indefinite}
+use Rattle.cbor_grammar.specs.declared.head.ItemHead.TheVariants as item_head
+use Rattle.cbor_grammar.specs.declared.head.ItemHead.{ItemHead}
+use Rattle.cbor_grammar.specs.declared.strings.StringKind.TheVariants.{Bytes, Text}
 use Rattle.cbor_grammar.specs.Item.{Item}
 use Rattle.cbor_grammar.specs.Head.{HeadThen}
 use Rattle.cbor_grammar.specs.Bytes.{any, Spells}
@@ -45,18 +46,18 @@ number_opens major n SixtyFour b rest low high h = rw h.2 (omega arith, omega ar
 
 argument_opens : (major : ℕ) (a : Argument) (b rest : List ℕ) → 2 ≤ major → major ≤ 5 → ArgumentThen major a b rest
     → MayWantMemory b
-argument_opens major (number n w) b rest low high h = number_opens major n w b rest low (omega arith) h
-argument_opens major indefinite b rest low high h =
+argument_opens major (Number n w) b rest low high h = number_opens major n w b rest low (omega arith) h
+argument_opens major Indefinite b rest low high h =
     let info : (32 * major + 31) % 32 ≡ 31 = omega arith in
     let high_bits : (32 * major + 31) / 32 ≡ major = omega arith in
     rw h (omega (arith, high_bits), omega (arith, high_bits), inr (info, omega (arith, high_bits)))
 
 head_opens : (b rest : List ℕ) (h : ItemHead) → HeadIs h b rest → HoldsContent h → MayWantMemory b
-head_opens b rest (item_head.string bytes_kind a) is holds = argument_opens 2 a b rest (omega arith) (omega arith) is
-head_opens b rest (item_head.string text_kind a) is holds = argument_opens 3 a b rest (omega arith) (omega arith) is
-head_opens b rest (item_head.array a) is holds = argument_opens 4 a b rest (omega arith) (omega arith) is
-head_opens b rest (item_head.map a) is holds = argument_opens 5 a b rest (omega arith) (omega arith) is
-head_opens b rest (item_head.tag n w) is holds = number_opens 6 n w b rest (omega arith) (omega arith) is
+head_opens b rest (item_head.String Bytes a) is holds = argument_opens 2 a b rest (omega arith) (omega arith) is
+head_opens b rest (item_head.String Text a) is holds = argument_opens 3 a b rest (omega arith) (omega arith) is
+head_opens b rest (item_head.Array a) is holds = argument_opens 4 a b rest (omega arith) (omega arith) is
+head_opens b rest (item_head.Map a) is holds = argument_opens 5 a b rest (omega arith) (omega arith) is
+head_opens b rest (item_head.Tag n w) is holds = number_opens 6 n w b rest (omega arith) (omega arith) is
 head_opens b rest h is holds = absurd holds
 
 -- memory is needed only after a head that holds content

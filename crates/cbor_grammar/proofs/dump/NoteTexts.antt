@@ -28,7 +28,7 @@ use Rattle.cbor_grammar.proofs.dump.CommentLines.{brackets_line}
 use Rattle.cbor_grammar.specs.declared.width.IntegerWidth.{IntegerWidth}
 use Rattle.cbor_grammar.specs.Comments.{in_brackets}
 use Rattle.cbor_grammar.specs.Item.{Chunk, Item, Items, atom, integer, negative, string, float, simple, array, item}
-use Rattle.cbor_grammar.specs.StringKind.{bytes_kind, text_kind}
+use Rattle.cbor_grammar.specs.declared.strings.StringKind.TheVariants.{Bytes, Text}
 use Rattle.cbor_grammar.specs.Notes.{Note, plain_note, Family, ipv4, ipv6, Zone, no_zone, zone_text, not_zone}
 use Rattle.cbor_grammar.specs.Notes.{null_value}
 use Rattle.cbor_grammar.specs.Notes.{word_or, datetime_note, epoch_datetime_note, epoch_date_note, date_note}
@@ -42,7 +42,7 @@ use Rattle.cbor_grammar.specs.Notes.{typed_array_note, value_note}
 -- ---- what the functions of a note meet
 
 -- sixteen bytes are those of a UUID
-pub uuid_is : (i : Item) (c : Chunk) (bytes octets : List ℕ) → i ≡ atom (string bytes_kind c) → bytes ≡ c.bytes
+pub uuid_is : (i : Item) (c : Chunk) (bytes octets : List ℕ) → i ≡ atom (string Bytes c) → bytes ≡ c.bytes
     → IsWholeChunk bytes octets 16 → uuid_note i ≡ uuid_fields octets
 uuid_is i c bytes octets seen are whole =
     let long : (length c.bytes == 16) ≡ true = eq-eqb (length c.bytes) 16 (rw (sym are) whole.long) in
@@ -130,7 +130,7 @@ word_line word otherwise None h k l = k
 
 -- dates and times
 datetime_line : (i : Item) → Free 10 (datetime_note i)
-datetime_line (atom (string text_kind c)) =
+datetime_line (atom (string Text c)) =
     word_line (codes "epoch") (codes "error parsing datetime") (epoch_of_datetime c.bytes)
     (from_test 10 (codes "epoch") refl)
     (from_test 10 (codes "error parsing datetime") refl) (epoch_of_datetime_line c.bytes)
@@ -160,7 +160,7 @@ epoch_date_line (atom (negative n w)) = day_line (negsuc n)
 epoch_date_line _ = from_test 10 (codes "invalid type for epoch date") refl
 
 date_line : (i : Item) → Free 10 (date_note i)
-date_line (atom (string text_kind c)) =
+date_line (atom (string Text c)) =
     word_line (codes "epoch") (codes "error parsing date") (epoch_of_date c.bytes) (from_test 10 (codes "epoch") refl)
     (from_test 10 (codes "error parsing date") refl) (epoch_of_date_line c.bytes)
 date_line _ = from_test 10 (codes "invalid type for date") refl
@@ -186,7 +186,7 @@ words_line true = from_test 10 (url_words true) refl
 words_line false = from_test 10 (url_words false) refl
 
 url_line : (i : Item) → Free 10 (url_note i)
-url_line (atom (string text_kind c)) = words_line (is_url c.bytes)
+url_line (atom (string Text c)) = words_line (is_url c.bytes)
 url_line _ = from_test 10 (codes "invalid type for uri") refl
 
 base64_name_line : (url : Bool) → Free 10 (base64_name url)
@@ -203,7 +203,7 @@ decoded_line name None h k = (
 )
 
 base64_line : (url : Bool) (i : Item) → FreeNote (base64_note url i)
-base64_line url (atom (string text_kind c)) = decoded_line (base64_name url) (base64_lines url c.bytes)
+base64_line url (atom (string Text c)) = decoded_line (base64_name url) (base64_lines url c.bytes)
     (base64_name_line url) (base64_lines_line url c.bytes)
 base64_line url _ = (
   free_both 10 (codes "invalid type for ") (base64_name url)
@@ -212,7 +212,7 @@ base64_line url _ = (
 )
 
 uuid_line : (i : Item) → FreeNote (uuid_note i)
-uuid_line (atom (string bytes_kind c)) =
+uuid_line (atom (string Bytes c)) =
     note_cond (length c.bytes == 16) (uuid_fields c.bytes) (plain_note (codes "invalid data length for uuid"))
     (uuid_lines_line c.bytes)
     (from_test 10 (codes "invalid data length for uuid") refl, tt)
@@ -272,7 +272,7 @@ FreeZone _ = Unit
 
 zone_line : (is : Items) → FreeZone (zone_at is)
 zone_line (item (atom (integer n w)) is) = decimal_line n
-zone_line (item (atom (string text_kind c)) is) = escaped_line c.bytes
+zone_line (item (atom (string Text c)) is) = escaped_line c.bytes
 zone_line _ = tt
 
 with_length_line : (f : Family) (bytes : List ℕ) (len : ℕ) (zone : Zone) → FreeZone zone
@@ -304,14 +304,14 @@ interface_line f bytes (item (atom (simple n)) is) =
 interface_line f bytes _ = invalid_line
 
 members_line : (f : Family) (is : Items) → Free 10 (members_note f is)
-members_line f (item (atom (integer len w)) (item (atom (string bytes_kind c)) is)) = prefix_line f len c.bytes
-members_line f (item (atom (string bytes_kind c)) is) =
+members_line f (item (atom (integer len w)) (item (atom (string Bytes c)) is)) = prefix_line f len c.bytes
+members_line f (item (atom (string Bytes c)) is) =
     free_cond 10 (length c.bytes == family_size f) (interface_note f c.bytes is) (invalid_length f)
     (interface_line f c.bytes is) (length_line f)
 members_line f _ = invalid_line
 
 address_line : (f : Family) (i : Item) → Free 10 (address_note f i)
-address_line f (atom (string bytes_kind c)) = plain_line f c.bytes
+address_line f (atom (string Bytes c)) = plain_line f c.bytes
 address_line f (array is w) = members_line f is
 address_line f _ = invalid_line
 
@@ -329,13 +329,13 @@ network_bytes_line bytes =
     (from_test 10 (codes "invalid data length for network address") refl)))
 
 network_line : (i : Item) → Free 10 (network_note i)
-network_line (atom (string bytes_kind c)) = network_bytes_line c.bytes
+network_line (atom (string Bytes c)) = network_bytes_line c.bytes
 network_line _ = invalid_line
 
 -- typed arrays
 typed_array_line : (size : Option ℕ) (i : Item) → IfSome (typed_array_note size i) FreeNote
 typed_array_line None _ = tt
-typed_array_line (Some size) (atom (string bytes_kind c)) =
+typed_array_line (Some size) (atom (string Bytes c)) =
     some_cond (length c.bytes % size == 0) None (Some (plain_note (codes "invalid data length for typed array"))) tt
     (from_test 10 (codes "invalid data length for typed array") refl, tt)
 typed_array_line (Some size) _ = (from_test 10 (codes "invalid type for typed array") refl, tt)

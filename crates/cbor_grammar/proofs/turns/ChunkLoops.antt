@@ -5,7 +5,7 @@ use Rattle.std.proofs.lemmas.List.{append-nil}
 use Rattle.cbor_grammar.specs.declared.error.Error.{Error}
 use Rattle.cbor_grammar.specs.declared.error.Error.TheVariants as refusal
 use Rattle.cbor_grammar.specs.Item.{Chunk}
-use Rattle.cbor_grammar.specs.StringKind.{StringKind}
+use Rattle.cbor_grammar.specs.declared.strings.StringKind.{StringKind}
 use Rattle.cbor_grammar.specs.Reading.{Read, Fails, read_chunk, Counted, later, go_on, ◌>>-◌, more_chunks, read_chunks}
 use Rattle.cbor_grammar.specs.mirror.Counting.{Stops}
 use Rattle.cbor_grammar.proofs.bytes.Steps.{later_later, then_later, then_then, then_same, then_grows}

@@ -5,8 +5,8 @@ use Rattle.std.specs.Prelude.{IsSome, drop}
 use Rattle.cbor_grammar.specs.declared.error.Error.{Error}
 use Rattle.cbor_grammar.specs.declared.error.Error.TheVariants as refusal
 use Rattle.cbor_grammar.specs.Item.{Item}
-use Rattle.cbor_grammar.specs.ItemHead as item_head
-use Rattle.cbor_grammar.specs.ItemHead.{ItemHead}
+use Rattle.cbor_grammar.specs.declared.head.ItemHead.TheVariants as item_head
+use Rattle.cbor_grammar.specs.declared.head.ItemHead.{ItemHead}
 use Rattle.cbor_grammar.specs.Answer.{MayWantMemory}
 use Rattle.cbor_grammar.specs.Reading.{Fails, Counted, later, go_on, Frame, put, read_parts, opened, read_head}
 use Rattle.cbor_grammar.specs.Reading.{read_atom, read_body, no_level_left, counted_item}
@@ -103,15 +103,15 @@ pub wanted_opens : (left : ℕ) (b : List ℕ) (h : ItemHead) (rest : List ℕ) 
 wanted_opens left b h rest fits e holds = memory_opens b rest h fits (head_opens left b h rest e).2 holds
 
 pub opened_holds : (h : ItemHead) (f : Frame) → opened h ≡ Some f → HoldsContent h
-opened_holds (item_head.array a) f e = tt
-opened_holds (item_head.map a) f e = tt
-opened_holds (item_head.tag n w) f e = tt
+opened_holds (item_head.Array a) f e = tt
+opened_holds (item_head.Map a) f e = tt
+opened_holds (item_head.Tag n w) f e = tt
 opened_holds h f e = absurd cc
 
 pub some_holds : (h : ItemHead) → IsSome (opened h) → HoldsContent h
-some_holds (item_head.array a) e = tt
-some_holds (item_head.map a) e = tt
-some_holds (item_head.tag n w) e = tt
+some_holds (item_head.Array a) e = tt
+some_holds (item_head.Map a) e = tt
+some_holds (item_head.Tag n w) e = tt
 some_holds h e = absurd cc
 
 -- ---- a container that is opened

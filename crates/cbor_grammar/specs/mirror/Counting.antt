@@ -4,8 +4,8 @@ use Rattle.std.specs.Prelude.{◌≡◌, ℕ, zero, suc, ◌-◌, ◌≤◌, Lis
 use Rattle.cbor_grammar.specs.declared.error.Error.{Error}
 use Rattle.cbor_grammar.specs.declared.error.Error.TheVariants as refusal
 use Rattle.cbor_grammar.specs.Item.{Item}
-use Rattle.cbor_grammar.specs.ItemHead as item_head
-use Rattle.cbor_grammar.specs.ItemHead.{ItemHead}
+use Rattle.cbor_grammar.specs.declared.head.ItemHead.TheVariants as item_head
+use Rattle.cbor_grammar.specs.declared.head.ItemHead.{ItemHead}
 use Rattle.cbor_grammar.specs.Reading.{Read, Counted, later, ◌>>-◌, Frame, put, after_end, closed, read_head}
 use Rattle.cbor_grammar.specs.Reading.{read_parts}
 use Rattle.cbor_grammar.specs.Reading.{no_level_left, counted_item}
@@ -24,10 +24,10 @@ Runs view old new (Err e) c = Stops e new (later old c)
 
 -- what needs memory: a string, a container or a tag
 abbrev pub HoldsContent : ItemHead → Type 0
-HoldsContent (item_head.string kind a) = Unit {0}
-HoldsContent (item_head.array a) = Unit {0}
-HoldsContent (item_head.map a) = Unit {0}
-HoldsContent (item_head.tag n w) = Unit {0}
+HoldsContent (item_head.String kind a) = Unit {0}
+HoldsContent (item_head.Array a) = Unit {0}
+HoldsContent (item_head.Map a) = Unit {0}
+HoldsContent (item_head.Tag n w) = Unit {0}
 HoldsContent _ = ⊥
 
 -- the head of an item, with `left` levels left for it

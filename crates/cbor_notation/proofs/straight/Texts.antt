@@ -22,7 +22,9 @@ use Rattle.cbor_grammar.specs.NotationText.{container_style, inside, item_texts,
 use Rattle.cbor_grammar.specs.NotationText.{array_text, map_text, string_text, chunks_listed, chunks_text}
 use Rattle.cbor_grammar.specs.NotationText.{text_at_level}
 use Rattle.cbor_grammar.specs.Reading.{joined, joined_pairs}
-use Rattle.cbor_grammar.specs.StringKind.{StringKind, bytes_kind, text_kind, no_chunks}
+use Rattle.cbor_grammar.specs.declared.strings.StringKind.{StringKind}
+use Rattle.cbor_grammar.specs.declared.strings.StringKind.TheVariants.{Bytes, Text}
+use Rattle.cbor_grammar.specs.StringKind.{no_chunks}
 use Rattle.cbor_grammar.specs.Estimate.{estimated_items, estimated_pairs, estimated_chunks}
 use Rattle.cbor_notation.specs.mirror.EncodingView.{encoding_view}
 use Rattle.cbor_notation.specs.mirror.LayoutView.{layout_view, context_view, before_member, after_member, item_text}
@@ -227,7 +229,7 @@ chunks_printed l c kind cs held old out new level same count p q =
 pub string_printed : (c : NotationContext) (w : IntegerWidth) (s : StringContent) (old new : List ℕ) → c.level ≤ 128
     → new ≡ old ++ string_there c s → new ≡ old ++ item_text c (atom (string (kind_of s) (borrowed_chunk w s)))
 string_printed c w (content.Bytes b) old new level h =
-    opened_again c.level (context_view c) (atom (string bytes_kind (borrowed_chunk w (content.Bytes b))))
+    opened_again c.level (context_view c) (atom (string Bytes (borrowed_chunk w (content.Bytes b))))
     old new level h
 string_printed c w (content.Text t) old new level h =
-    opened_again c.level (context_view c) (atom (string text_kind (borrowed_chunk w (content.Text t)))) old new level h
+    opened_again c.level (context_view c) (atom (string Text (borrowed_chunk w (content.Text t)))) old new level h

@@ -11,7 +11,7 @@ use Rattle.cbor_grammar.specs.Layout.{Content, Layout, Context}
 use Rattle.cbor_grammar.specs.Layout as content
 use Rattle.cbor_grammar.specs.ContainerStyle as style
 use Rattle.cbor_notation.specs.mirror.EncodingView.{encoding_view}
-use Rattle.cbor_grammar.specs.StringKind.{StringKind}
+use Rattle.cbor_grammar.specs.declared.strings.StringKind.{StringKind}
 use Rattle.cbor_grammar.specs.Item as spec
 use Rattle.cbor_grammar.specs.Estimate.{estimated_chunks}
 use Rattle.cbor_grammar.specs.WellFormed.{levels_left}

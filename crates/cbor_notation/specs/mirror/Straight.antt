@@ -6,11 +6,12 @@ use Rattle.cbor_grammar.specs.declared.strings.StringContent.{StringContent}
 use Rattle.cbor_grammar.specs.declared.strings.StringContent.TheVariants as content
 use Rattle.cbor_grammar.specs.Encoding.{Base16}
 use Rattle.cbor_grammar.specs.Item.{Item}
-use Rattle.cbor_grammar.specs.ItemHead.{ItemHead}
+use Rattle.cbor_grammar.specs.declared.head.ItemHead.{ItemHead}
 use Rattle.cbor_grammar.specs.ContainerStyle.{ContainerStyle}
 use Rattle.cbor_grammar.specs.NotationText.{text, in_encoding, last_line, text_at_level}
 use Rattle.cbor_grammar.specs.NotationText as shown
-use Rattle.cbor_grammar.specs.StringKind.{StringKind, no_chunks}
+use Rattle.cbor_grammar.specs.declared.strings.StringKind.{StringKind}
+use Rattle.cbor_grammar.specs.StringKind.{no_chunks}
 use Rattle.cbor_grammar.specs.Reading.{Read, opened, read_body, counted_item, read_item}
 use Rattle.cbor_grammar.specs.WellFormed.{levels_left}
 use Rattle.cbor_notation.specs.mirror.LayoutView.{layout_view, context_view, content_there, before_member}

@@ -27,7 +27,6 @@ ghost use Rattle.cbor_notation.specs.mirror.NotationReading.{read_piece, read_st
 ghost use Rattle.cbor_notation.specs.mirror.NotationReading.{read_embedded};
 ghost use Rattle.cbor_notation.specs.mirror.NotationReading.{read_string_item, begins_string};
 ghost use Rattle.cbor_notation.specs.mirror.NotationReading.{first_start};
-ghost use Rattle.cbor_grammar.specs.mirror.StringView.{kind_view};
 
 use super::strings::{read_content, read_piece};
 use super::{parse_diag, read_items};
@@ -168,10 +167,10 @@ fn is_dead_pair(alloc: Global, text: &[u8], level: u8) -> Result<bool>
 fn is_dead_chunk(alloc: Global, kind: StringKind, text: &[u8], level: u8) -> Result<bool>
     requires { level ≤ 129 }
     ensures dead { IfOk result (λ dead. IsTrue dead
-        → NeverReads (read_chunk (read_item (levels_left level)) (kind_view kind)) text.now) }
+        → NeverReads (read_chunk (read_item (levels_left level)) kind) text.now) }
     ensures cut { IfOk result (λ dead. IsFalse dead
-        → NotRead (read_chunk (read_item (levels_left level)) (kind_view kind) text.now)
-        → IsCut (ChunkIs (kind_view kind) (Reads (levels_left level))) text.now) }
+        → NotRead (read_chunk (read_item (levels_left level)) kind text.now)
+        → IsCut (ChunkIs kind (Reads (levels_left level))) text.now) }
     ensures refused { IfErr result (λ e. e ≡ Error.Memory) }
 {
     let core = after_blank(text);
@@ -300,11 +299,11 @@ fn is_dead_piece(alloc: Global, text: &[u8], inner: u8) -> Result<bool>
 fn is_dead_pieces(alloc: Global, kind: StringKind, text: &[u8], inner: u8) -> Result<bool>
     requires { inner ≤ 129 }
     ensures dead { IfOk result (λ dead. IsTrue dead
-        → NeverPieces (read_item (levels_left inner)) (kind_view kind) text.now) }
+        → NeverPieces (read_item (levels_left inner)) kind text.now) }
     ensures cut { IfOk result (λ dead. IsFalse dead
-        → begins_string (kind_view kind) (first_start text.now) ≡ true
-        → NotRead (read_content (read_item (levels_left inner)) (kind_view kind) text.now)
-        → IsCut (StringOf (kind_view kind) (Reads (levels_left inner))) text.now) }
+        → begins_string kind (first_start text.now) ≡ true
+        → NotRead (read_content (read_item (levels_left inner)) kind text.now)
+        → IsCut (StringOf kind (Reads (levels_left inner))) text.now) }
     ensures refused { IfErr result (λ e. e ≡ Error.Memory) }
 {
     let mut rest = text;
@@ -326,10 +325,10 @@ fn is_dead_pieces(alloc: Global, kind: StringKind, text: &[u8], inner: u8) -> Re
 fn is_dead_string(alloc: Global, kind: StringKind, text: &[u8], inner: u8) -> Result<bool>
     requires { inner ≤ 129 }
     ensures dead { IfOk result (λ dead. IsTrue dead
-        → NeverReads (read_string (read_item (levels_left inner)) (kind_view kind)) text.now) }
+        → NeverReads (read_string (read_item (levels_left inner)) kind) text.now) }
     ensures cut { IfOk result (λ dead. IsFalse dead
-        → NotRead (read_string (read_item (levels_left inner)) (kind_view kind) text.now)
-        → IsCut (StringOf (kind_view kind) (Reads (levels_left inner))) text.now) }
+        → NotRead (read_string (read_item (levels_left inner)) kind text.now)
+        → IsCut (StringOf kind (Reads (levels_left inner))) text.now) }
     ensures refused { IfErr result (λ e. e ≡ Error.Memory) }
 {
     if !Start::of(text).begins_string(kind) {
@@ -347,9 +346,9 @@ fn is_dead_string(alloc: Global, kind: StringKind, text: &[u8], inner: u8) -> Re
 fn is_dead_string_item(alloc: Global, kind: StringKind, text: &[u8], inner: u8) -> Result<bool>
     requires { inner ≤ 129 }
     ensures dead { IfOk result (λ dead. IsTrue dead → NeverReads
-        (read_string_item (read_item (levels_left inner)) (kind_view kind)) text.now) }
+        (read_string_item (read_item (levels_left inner)) kind) text.now) }
     ensures cut { IfOk result (λ dead. IsFalse dead
-        → NotRead (read_string_item (read_item (levels_left inner)) (kind_view kind) text.now)
+        → NotRead (read_string_item (read_item (levels_left inner)) kind text.now)
         → IsCut (Core (Reads (levels_left inner))) text.now) }
     ensures refused { IfErr result (λ e. e ≡ Error.Memory) }
 {

@@ -9,7 +9,6 @@ ghost use Rattle.std.specs.List.{AllByRecursion};
 ghost use Rattle.cbor_grammar.specs.declared.width.IntegerWidth.TheVariants.{Unknown};
 ghost use Rattle.cbor_diag.specs.View.{view, items_view};
 ghost use Rattle.cbor_grammar.specs.WellFormed.{levels_left, WellFormed, WellFormedItems, IsChunk};
-ghost use Rattle.cbor_grammar.specs.StringKind.{bytes_kind, text_kind};
 ghost use Rattle.cbor_grammar.specs.Written.{encoded_items};
 ghost use Rattle.cbor_grammar.specs.Item.{Item, atom, chunked_string};
 ghost use Rattle.cbor_grammar.specs.Reading.{Gives, Read};
@@ -20,7 +19,6 @@ ghost use Rattle.cbor_notation.specs.mirror.NotationReading.{ends_string, read_i
 ghost use Rattle.cbor_notation.specs.mirror.NotationReading.{one_string, read_piece, read_pieces};
 ghost use Rattle.cbor_notation.specs.mirror.NotationReading.{read_string, read_content, with_chunk};
 ghost use Rattle.cbor_diag.specs.mirror.ChunkList.{chunk_list, list_kind};
-ghost use Rattle.cbor_grammar.specs.mirror.StringView.{kind_view};
 
 use super::read_items;
 use crate::encode::push_items;
@@ -54,7 +52,7 @@ impl Chunks {
     /// No chunks yet, of a string of this kind.
     fn new(alloc: Global, kind: StringKind) -> Chunks
         ensures none { chunk_list result ≡ [] }
-        ensures kind { list_kind result ≡ kind_view kind }
+        ensures kind { list_kind result ≡ kind }
     {
         match kind {
             StringKind::Bytes => Chunks::Bytes(Vec::new(alloc)),
@@ -159,8 +157,7 @@ fn read_pieces(
 ) -> cbor_grammar::Result<(Vec<u8>, &[u8])>
     requires { inner ≤ 129 }
     ensures gives { Gives (λ x. (x.0.items, x.1.now)) result
-        (read_pieces (read_item (levels_left inner)) (kind_view kind)
-        (suc (length text.now)) text.now) }
+        (read_pieces (read_item (levels_left inner)) kind (suc (length text.now)) text.now) }
     ensures shorter { IfOk result (λ x. length x.1.now ≤ length text.now) }
 {
     let mut content = Vec::new(alloc);
@@ -184,7 +181,7 @@ pub(super) fn read_content(
 ) -> cbor_grammar::Result<(Vec<u8>, &[u8])>
     requires { inner ≤ 129 }
     ensures gives { Gives (λ x. (x.0.items, x.1.now)) result
-        (read_content (read_item (levels_left inner)) (kind_view kind) text.now) }
+        (read_content (read_item (levels_left inner)) kind text.now) }
     ensures shorter { IfOk result (λ x. length x.1.now ≤ length text.now) }
 {
     if !Start::of(text).begins_string(kind) {
@@ -206,7 +203,8 @@ fn ends_string(text: &[u8]) -> bool
 fn read_plain_hex(text: &[u8]) -> Option<(&[u8], &[u8])>
     ensures gives { IfSome result (λ x. (read : List ℕ → Read Item) (bytes : List ℕ)
         → base16_of x.0.now ≡ Some bytes
-        → read_string_item read bytes_kind text.now ≡ one_string bytes_kind bytes x.1.now) }
+        → read_string_item read StringKind.Bytes text.now
+        ≡ one_string StringKind.Bytes bytes x.1.now) }
     ensures shorter { IfSome result (λ x. length x.1.now ≤ length text.now) }
 {
     let inner = after_word(text, b"h'")?;
@@ -230,7 +228,7 @@ pub(super) fn read_byte_item(
     requires low { 1 ≤ inner }
     requires high { inner ≤ 129 }
     ensures gives { Gives (λ x. (view x.0, x.1.now)) result
-        (read_string_item (read_item (levels_left inner)) bytes_kind text.now) }
+        (read_string_item (read_item (levels_left inner)) StringKind.Bytes text.now) }
     ensures well { IfOk result (λ x. WellFormed (inner - 1) (view x.0)) }
     ensures shorter { IfOk result (λ x. length x.1.now ≤ length text.now) }
 {
@@ -251,7 +249,8 @@ pub(super) fn read_byte_item(
 /// there. `None` otherwise.
 fn read_plain_text(text: &[u8]) -> Option<(&[u8], &[u8])>
     ensures gives { IfSome result (λ x. (read : List ℕ → Read Item)
-        → read_string_item read text_kind text.now ≡ one_string text_kind x.0.now x.1.now) }
+        → read_string_item read StringKind.Text text.now
+        ≡ one_string StringKind.Text x.0.now x.1.now) }
     ensures shorter { IfSome result (λ x. length x.1.now ≤ length text.now) }
 {
     let inner = after_byte(text, b'"')?;
@@ -274,7 +273,7 @@ pub(super) fn read_text_item(
     requires low { 1 ≤ inner }
     requires high { inner ≤ 129 }
     ensures gives { Gives (λ x. (view x.0, x.1.now)) result
-        (read_string_item (read_item (levels_left inner)) text_kind text.now) }
+        (read_string_item (read_item (levels_left inner)) StringKind.Text text.now) }
     ensures well { IfOk result (λ x. WellFormed (inner - 1) (view x.0)) }
     ensures shorter { IfOk result (λ x. length x.1.now ≤ length text.now) }
 {
@@ -300,10 +299,9 @@ fn read_chunk_list(
 ) -> cbor_grammar::Result<(Chunks, &[u8])>
     requires { inner ≤ 129 }
     ensures gives { Gives (λ x. (chunk_list x.0, x.1.now)) result
-        (read_members (read_chunk (read_item (levels_left inner)) (kind_view kind)) 41 text.now) }
-    ensures kind { IfOk result (λ x. list_kind x.0 ≡ kind_view kind) }
-    ensures well { IfOk result (λ x.
-        AllByRecursion (IsChunk (kind_view kind)) (chunk_list x.0)) }
+        (read_members (read_chunk (read_item (levels_left inner)) kind) 41 text.now) }
+    ensures kind { IfOk result (λ x. list_kind x.0 ≡ kind) }
+    ensures well { IfOk result (λ x. AllByRecursion (IsChunk kind) (chunk_list x.0)) }
     ensures shorter { IfOk result (λ x. length x.1.now ≤ length text.now) }
 {
     let mut chunks = Chunks::new(alloc, kind);

@@ -5,7 +5,7 @@ use Rattle.cbor_grammar.specs.Item.{Chunk}
 use Rattle.cbor_grammar.specs.Reading.{Counted, read_chunks}
 use Rattle.cbor_grammar.specs.StringKind.{major_of}
 use Rattle.cbor_grammar.specs.Written.{encoded_head}
-use Rattle.cbor_grammar.specs.mirror.StringView.{kind_of, kind_view, borrowed_chunk}
+use Rattle.cbor_grammar.specs.mirror.StringView.{kind_of, borrowed_chunk}
 use Rattle.cbor_grammar.proofs.bytes.Chunks.{chunk_takes}
 use Rattle.cbor_grammar.proofs.bytes.Steps.{later_none}
 use Rattle.cbor_notation.proofs.straight.Readings.{fails_then, fails_stopped, none_before}
@@ -17,7 +17,7 @@ use Rattle.cbor_dump.proofs.walk.dump_chunks.Goals as goal
 
 pub chunks-init : goal.chunks-init
 chunks-init c =
-    let all = read_chunks (length c.args.bytes.now) (kind_view c.args.kind) c.args.bytes.now in
+    let all = read_chunks (length c.args.bytes.now) c.args.kind c.args.bytes.now in
     record {
       chunks = [];
       turns = 0;
@@ -34,15 +34,15 @@ returns-in_err-chunk-clause-refused c =
     let p = err_from_is_err_and c.from_residual.result c.from_residual.ensures.1 in
     let i = c.chunks.invariant in
     let e = c.in_err-chunk.field-0.0 in
-    let all = read_chunks (length c.args.bytes.now) (kind_view c.args.kind) c.args.bytes.now in
-    let stops = chunk_fails e (kind_view c.args.kind) i.chunks i.turns i.bound c.chunks.rest.now all i.enough
+    let all = read_chunks (length c.args.bytes.now) c.args.kind c.args.bytes.now in
+    let stops = chunk_fails e c.args.kind i.chunks i.turns i.bound c.chunks.rest.now all i.enough
     c.in_err-chunk.ensures.gives i.so_far in
     rw (p.1, p.2) (fails_then e all _ (fails_stopped e (i.turns + 1) all stops))
 
 pub returns-in_default-clause-dumped : goal.returns-in_default-clause-dumped
 returns-in_default-clause-dumped c =
     let i = c.chunks.invariant in
-    let kind = kind_view c.args.kind in
+    let kind = c.args.kind in
     let after = c.in_ok-chunk.after.now in
     let all = read_chunks (length c.args.bytes.now) kind c.args.bytes.now in
     let whole = no_more_chunk kind i.chunks i.turns i.bound c.chunks.rest.now after all
@@ -54,13 +54,13 @@ returns-in_default-clause-dumped c =
 pub slice_bounds-head-count : goal.slice_bounds-head-count
 slice_bounds-head-count c =
     let chunk = borrowed_chunk c.in-Some.width c.in-Some.content in
-    let fits = chunk_fits (kind_view c.args.kind) c.chunks.rest.now c.in_ok-chunk.after.now chunk
+    let fits = chunk_fits c.args.kind c.chunks.rest.now c.in_ok-chunk.after.now chunk
     c.chunks.invariant.fits (rw c.in-Some.is at c.in_ok-chunk.ensures.gives) in
     omega (arith, fits, ap length c.as_bytes.ensures.bytes)
 
 pub chunk-requires-clause-head : goal.chunk-requires-clause-head
 chunk-requires-clause-head c =
-    let kind = kind_view c.args.kind in
+    let kind = c.args.kind in
     let b = c.chunks.rest.now in
     let after = c.in_ok-chunk.after.now in
     let chunk = borrowed_chunk c.in-Some.width c.in-Some.content in
@@ -73,7 +73,7 @@ chunk-requires-clause-head c =
 pub chunks-preserved : goal.chunks-preserved
 chunks-preserved c =
     let i = c.chunks.invariant in
-    let kind = kind_view c.args.kind in
+    let kind = c.args.kind in
     let after = c.in_ok-chunk.after.now in
     let all = read_chunks (length c.args.bytes.now) kind c.args.bytes.now in
     let chunk = borrowed_chunk c.in-Some.width c.in-Some.content in

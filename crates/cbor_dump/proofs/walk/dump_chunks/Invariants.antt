@@ -5,7 +5,6 @@ use Rattle.cbor_grammar.specs.Dump.{inside, string_lines}
 use Rattle.cbor_grammar.specs.Item.{Chunk}
 use Rattle.cbor_grammar.specs.Reading.{later, read_chunks}
 use Rattle.cbor_dump.specs.mirror.Dumped.{context_view, Wrote}
-use Rattle.cbor_grammar.specs.mirror.StringView.{kind_view}
 use Rattle.cbor_grammar.proofs.bytes.Heads.{IsBytes}
 use Rattle.cbor_grammar.proofs.turns.ChunkLoops.{onto}
 use Rattle.cbor_dump.proofs.walk.dump_chunks.Given as goal
@@ -20,10 +19,10 @@ invariant-chunks l = record {
   turns : ℕ;
   bound : ℕ;
   enough : length l.rest ≤ bound;
-  so_far : later turns (onto chunks (read_chunks bound (kind_view l.kind) l.rest))
-      ≡ read_chunks (length l.bytes) (kind_view l.kind) l.bytes;
+  so_far : later turns (onto chunks (read_chunks bound l.kind l.rest))
+      ≡ read_chunks (length l.bytes) l.kind l.bytes;
   wrote : Wrote l.fn.walk.writer l.walk.writer
-      (flat_map (string_lines (kind_view l.kind) (inside (context_view l.context))) chunks);
+      (flat_map (string_lines l.kind (inside (context_view l.context))) chunks);
   fits : IsBytes l.rest;
   shared : l.walk.shared ≡ l.fn.walk.shared;
 }

@@ -8,7 +8,7 @@ use Rattle.cbor_grammar.specs.Reading.{Counted, read_chunks}
 use Rattle.cbor_grammar.specs.NotationText.{string_text}
 use Rattle.cbor_notation.specs.mirror.EncodingView.{encoding_view}
 use Rattle.cbor_notation.specs.mirror.LayoutView.{style_view}
-use Rattle.cbor_grammar.specs.mirror.StringView.{kind_view, borrowed_chunk}
+use Rattle.cbor_grammar.specs.mirror.StringView.{borrowed_chunk}
 use Rattle.cbor_grammar.proofs.bytes.Steps.{later_none}
 use Rattle.cbor_notation.proofs.straight.Readings.{fails_then, fails_stopped, ok_then, none_before}
 use Rattle.cbor_notation.proofs.straight.Texts.{chunk_more, chunks_printed}
@@ -17,7 +17,7 @@ use Rattle.cbor_notation.proofs.from_bytes.push_chunks_front.Goals as goal
 
 pub chunks-init : goal.chunks-init
 chunks-init c =
-    let all = read_chunks (length c.args.bytes.now) (kind_view c.args.kind) c.args.bytes.now in
+    let all = read_chunks (length c.args.bytes.now) c.args.kind c.args.bytes.now in
     record {
       chunks = [];
       turns = 0;
@@ -34,15 +34,15 @@ returns-in_err-chunk-clause-refused c =
     let p = err_from_is_err_and c.from_residual.result c.from_residual.ensures.1 in
     let i = c.chunks.invariant in
     let e = c.in_err-chunk.field-0.0 in
-    let all = read_chunks (length c.args.bytes.now) (kind_view c.args.kind) c.args.bytes.now in
-    let stops = chunk_fails e (kind_view c.args.kind) i.chunks i.turns i.bound c.chunks.rest.now all i.enough
+    let all = read_chunks (length c.args.bytes.now) c.args.kind c.args.bytes.now in
+    let stops = chunk_fails e c.args.kind i.chunks i.turns i.bound c.chunks.rest.now all i.enough
     c.in_err-chunk.ensures.gives i.so_far in
     rw (p.1, p.2) (fails_then e all _ (fails_stopped e (i.turns + 1) all stops))
 
 pub returns-in_default-clause-printed : goal.returns-in_default-clause-printed
 returns-in_default-clause-printed c =
     let i = c.chunks.invariant in
-    let kind = kind_view c.args.kind in
+    let kind = c.args.kind in
     let after = c.in_ok-chunk.after.now in
     let all = read_chunks (length c.args.bytes.now) kind c.args.bytes.now in
     let whole = no_more_chunk kind i.chunks i.turns i.bound c.chunks.rest.now after all
@@ -60,7 +60,7 @@ returns-in_default-clause-printed c =
 pub chunks-preserved : goal.chunks-preserved
 chunks-preserved c =
     let i = c.chunks.invariant in
-    let kind = kind_view c.args.kind in
+    let kind = c.args.kind in
     let encoding = encoding_view c.args.context.now.encoding in
     let after = c.in_ok-chunk.after.now in
     let all = read_chunks (length c.args.bytes.now) kind c.args.bytes.now in

@@ -5,7 +5,6 @@ use Rattle.cbor_grammar.specs.Item.{Chunk}
 use Rattle.cbor_grammar.specs.Reading.{later, read_chunks}
 use Rattle.cbor_notation.specs.mirror.EncodingView.{encoding_view}
 use Rattle.cbor_notation.specs.mirror.LayoutView.{style_view}
-use Rattle.cbor_grammar.specs.mirror.StringView.{kind_view}
 use Rattle.cbor_notation.proofs.straight.Texts.{chunks_begun, chunk_texts}
 use Rattle.cbor_grammar.proofs.turns.ChunkLoops.{onto}
 use Rattle.cbor_notation.proofs.from_bytes.push_chunks_front.Given as goal
@@ -20,10 +19,10 @@ invariant-chunks l = record {
   turns : ℕ;
   bound : ℕ;
   enough : length l.rest ≤ bound;
-  so_far : later turns (onto chunks (read_chunks bound (kind_view l.kind) l.rest))
-      ≡ read_chunks (length l.bytes) (kind_view l.kind) l.bytes;
+  so_far : later turns (onto chunks (read_chunks bound l.kind l.rest))
+      ≡ read_chunks (length l.bytes) l.kind l.bytes;
   count : length chunks ≡ l.held;
   text : string_bytes l.out ≡ string_bytes l.fn.out
-      ++ chunks_begun (style_view l.style) (chunk_texts (kind_view l.kind) (encoding_view l.context.encoding) chunks);
+      ++ chunks_begun (style_view l.style) (chunk_texts l.kind (encoding_view l.context.encoding) chunks);
   room : l.held + length l.rest ≤ length l.bytes;
 }

@@ -9,7 +9,7 @@ use Rattle.cbor_diag.specs.View.{view, items_view, pairs_view}
 use Rattle.cbor_grammar.specs.Strings.{byte_chunk, text_chunk}
 use Rattle.cbor_notation.specs.declared.context.NotationContext.{NotationContext}
 use Rattle.cbor_grammar.specs.Layout.{Context}
-use Rattle.cbor_grammar.specs.StringKind.{bytes_kind, text_kind}
+use Rattle.cbor_grammar.specs.declared.strings.StringKind.TheVariants.{Bytes, Text}
 use Rattle.cbor_notation.specs.mirror.LayoutView.{style_view, context_view, item_text, content_there, chunks_there}
 use Rattle.cbor_grammar.specs.NotationText.{text, inside, members, members_layout, colon, item_texts, pair_texts}
 use Rattle.cbor_grammar.specs.NotationText.{array_text, map_text, below}
@@ -67,7 +67,7 @@ push_item-returns-in-ByteString t c =
     let new = string_bytes c.push_content.new.out in
     let context = c.args.context.now in
     shown c.push_content.result context.level (context_view context) (view c.args.item.now)
-    (atom (string bytes_kind (byte_chunk c.in-ByteString.string))) old new c.requires.well_formed seen
+    (atom (string Bytes (byte_chunk c.in-ByteString.string))) old new c.requires.well_formed seen
     (subst
     (λ (b : List ℕ). Appends c.push_content.result old new (content_there context (context_view context).content b))
     c.deref.ensures.value c.push_content.ensures)
@@ -79,7 +79,7 @@ push_item-returns-in-TextString t c =
     let new = string_bytes c.push_text.new.out in
     let context = c.args.context.now in
     shown c.push_text.result context.level (context_view context) (view c.args.item.now)
-    (atom (string text_kind (text_chunk c.in-TextString.string))) old new c.requires.well_formed seen
+    (atom (string Text (text_chunk c.in-TextString.string))) old new c.requires.well_formed seen
     (subst (λ (b : List ℕ). Appends c.push_text.result old new (text b)) c.as_str.ensures.value c.push_text.ensures)
 
 pub push_item-returns-in-IndefiniteByteString : goal.push_item-returns-in-IndefiniteByteString
@@ -88,9 +88,9 @@ push_item-returns-in-IndefiniteByteString t c =
     let old = string_bytes c.args.out.now in
     let new = string_bytes c.push_chunks.new.out in
     shown c.push_chunks.result c.args.context.now.level (context_view c.args.context.now) (view c.args.item.now)
-    (atom (chunked_string bytes_kind (map byte_chunk c.in-IndefiniteByteString.chunks.items))) old new
+    (atom (chunked_string Bytes (map byte_chunk c.in-IndefiniteByteString.chunks.items))) old new
     c.requires.well_formed seen
-    (subst (λ vs. Appends c.push_chunks.result old new (chunks_there c.args.context.now bytes_kind (map byte_chunk vs)))
+    (subst (λ vs. Appends c.push_chunks.result old new (chunks_there c.args.context.now Bytes (map byte_chunk vs)))
     c.deref-in-IndefiniteByteString.ensures.value c.push_chunks.ensures)
 
 pub push_item-returns-in-IndefiniteTextString : goal.push_item-returns-in-IndefiniteTextString
@@ -99,11 +99,10 @@ push_item-returns-in-IndefiniteTextString t c =
     let old = string_bytes c.args.out.now in
     let new = string_bytes c.push_chunks-in-IndefiniteTextString.new.out in
     shown c.push_chunks-in-IndefiniteTextString.result c.args.context.now.level (context_view c.args.context.now)
-    (view c.args.item.now)
-    (atom (chunked_string text_kind (map text_chunk c.in-IndefiniteTextString.chunks.items))) old new
+    (view c.args.item.now) (atom (chunked_string Text (map text_chunk c.in-IndefiniteTextString.chunks.items))) old new
     c.requires.well_formed seen
     (subst (λ vs. Appends c.push_chunks-in-IndefiniteTextString.result old new
-    (chunks_there c.args.context.now text_kind (map text_chunk vs)))
+    (chunks_there c.args.context.now Text (map text_chunk vs)))
     c.deref-in-IndefiniteTextString.ensures.value c.push_chunks-in-IndefiniteTextString.ensures)
 
 pub push_array-returns : goal.push_array-returns

@@ -12,7 +12,6 @@ use Rattle.cbor_grammar.specs.Reading.{◌>>=◌, Fails}
 use Rattle.cbor_notation.specs.mirror.NotationReading.{skip_blank, read_negative_number, read_length, read_pair}
 use Rattle.cbor_notation.specs.mirror.NotationReading.{read_chunk, read_item, read_core, read_members, read_pieces}
 use Rattle.cbor_notation.specs.mirror.NotationReading.{begins_piece, kind_from, members_from}
-use Rattle.cbor_grammar.specs.mirror.StringView.{kind_view}
 use Rattle.cbor_diag.specs.mirror.ChunkList.{chunk_list, list_kind}
 use Rattle.cbor_diag.proofs.notation.ChunkLoops.{Fails-bind, onto}
 use Rattle.cbor_diag.proofs.notation.Loops.{members_closed, members_begin, member_fails, member_last, no_comma}
@@ -212,13 +211,13 @@ read_pairs-returns-in-Some-after_end-clause-well t c =
 
 pub strings::read_chunk_list-returns-in-Some-clause-gives : goal.strings::read_chunk_list-returns-in-Some-clause-gives
 strings::read_chunk_list-returns-in-Some-clause-gives t c =
-    members_closed (read_chunk (read_item (129 - c.args.inner)) (kind_view c.args.kind)) 41 c.args.text.now
+    members_closed (read_chunk (read_item (129 - c.args.inner)) c.args.kind) 41 c.args.text.now
     c.after_blank-rest.result.now c.in-Some.after.now (chunk_list c.new-chunks.result) c.new-chunks.ensures.none
     c.after_blank-rest.ensures.gives (sym c.in-Some.ensures.gives)
 
 pub strings::read_chunk_list-chunks-init : goal.strings::read_chunk_list-chunks-init
 strings::read_chunk_list-chunks-init t c =
-    let read = read_chunk (read_item (129 - c.args.inner)) (kind_view c.args.kind) in
+    let read = read_chunk (read_item (129 - c.args.inner)) c.args.kind in
     let begun = members_begin read 41 c.args.text.now c.after_blank-rest.result.now (chunk_list c.new-chunks.result)
     c.new-chunks.ensures.none c.after_blank-rest.ensures.gives (sym c.in_default.ensures.gives) in
     record {
@@ -235,11 +234,10 @@ pub strings::read_chunk_list-returns-in_err-content-clause-gives :
 strings::read_chunk_list-returns-in_err-content-clause-gives t c =
     let p = err_from_is_err_and c.from_residual.result c.from_residual.ensures.1 in
     let item = read_item (129 - c.args.inner) in
-    let read = read_chunk item (kind_view c.args.kind) in
+    let read = read_chunk item c.args.kind in
     let i = c.chunks.invariant in
     rw (p.1, p.2) (member_fails read 41 (chunk_list c.chunks.chunks) i.bound c.chunks.rest.now (read_members read 41
-    c.args.text.now) i.enough i.so_far c.in_err-content.field-0.0
-    (no_content item (kind_view c.args.kind) c.chunks.rest.now
+    c.args.text.now) i.enough i.so_far c.in_err-content.field-0.0 (no_content item c.args.kind c.chunks.rest.now
     c.after_blank.result.now c.after_blank.ensures.gives c.in_err-content.field-0.0 c.in_err-content.ensures.gives))
 
 pub strings::read_chunk_list-returns-in_err-push-clause-gives :
@@ -247,10 +245,10 @@ pub strings::read_chunk_list-returns-in_err-push-clause-gives :
 strings::read_chunk_list-returns-in_err-push-clause-gives t c =
     let p = err_from_is_err_and c.from_residual-in_err-push.result c.from_residual-in_err-push.ensures.1 in
     let item = read_item (129 - c.args.inner) in
-    let read = read_chunk item (kind_view c.args.kind) in
+    let read = read_chunk item c.args.kind in
     let i = c.chunks.invariant in
     rw (p.1, p.2) (member_fails read 41 (chunk_list c.chunks.chunks) i.bound c.chunks.rest.now (read_members read 41
-    c.args.text.now) i.enough i.so_far c.in_err-push.field-0.0 (no_string item (kind_view c.args.kind) c.chunks.rest.now
+    c.args.text.now) i.enough i.so_far c.in_err-push.field-0.0 (no_string item c.args.kind c.chunks.rest.now
     c.after_blank.result.now c.after_blank.ensures.gives c.in_ok-content.content.items c.in_ok-content.after.now
     c.in_ok-content.ensures.gives (list_kind c.chunks.chunks) (chunk_list c.chunks.chunks) i.kind
     c.in_err-push.field-0.0
@@ -260,9 +258,9 @@ pub strings::read_chunk_list-returns-in-Some-after_end-clause-gives :
     goal.strings::read_chunk_list-returns-in-Some-after_end-clause-gives
 strings::read_chunk_list-returns-in-Some-after_end-clause-gives t c =
     let item = read_item (129 - c.args.inner) in
-    let read = read_chunk item (kind_view c.args.kind) in
+    let read = read_chunk item c.args.kind in
     let i = c.chunks.invariant in
-    let added = string_read item (kind_view c.args.kind) c.chunks.rest.now c.after_blank.result.now
+    let added = string_read item c.args.kind c.chunks.rest.now c.after_blank.result.now
     c.after_blank.ensures.gives c.in_ok-content.content.items c.in_ok-content.after.now c.in_ok-content.ensures.gives
     (list_kind c.chunks.chunks) (chunk_list c.chunks.chunks) i.kind (chunk_list c.push.new.self)
     c.in_ok-push.ensures.gives in
@@ -282,9 +280,9 @@ pub strings::read_chunk_list-returns-in_err-rest-clause-gives :
 strings::read_chunk_list-returns-in_err-rest-clause-gives t c =
     let p = err_from_is_err_and c.from_residual-in_err-rest.result c.from_residual-in_err-rest.ensures.1 in
     let item = read_item (129 - c.args.inner) in
-    let read = read_chunk item (kind_view c.args.kind) in
+    let read = read_chunk item c.args.kind in
     let i = c.chunks.invariant in
-    let added = string_read item (kind_view c.args.kind) c.chunks.rest.now c.after_blank.result.now
+    let added = string_read item c.args.kind c.chunks.rest.now c.after_blank.result.now
     c.after_blank.ensures.gives c.in_ok-content.content.items c.in_ok-content.after.now c.in_ok-content.ensures.gives
     (list_kind c.chunks.chunks) (chunk_list c.chunks.chunks) i.kind (chunk_list c.push.new.self)
     c.in_ok-push.ensures.gives in
@@ -295,9 +293,9 @@ strings::read_chunk_list-returns-in_err-rest-clause-gives t c =
 pub strings::read_chunk_list-chunks-preserved : goal.strings::read_chunk_list-chunks-preserved
 strings::read_chunk_list-chunks-preserved t c =
     let item = read_item (129 - c.args.inner) in
-    let read = read_chunk item (kind_view c.args.kind) in
+    let read = read_chunk item c.args.kind in
     let i = c.chunks.invariant in
-    let added = string_read item (kind_view c.args.kind) c.chunks.rest.now c.after_blank.result.now
+    let added = string_read item c.args.kind c.chunks.rest.now c.after_blank.result.now
     c.after_blank.ensures.gives c.in_ok-content.content.items c.in_ok-content.after.now c.in_ok-content.ensures.gives
     (list_kind c.chunks.chunks) (chunk_list c.chunks.chunks) i.kind (chunk_list c.push.new.self)
     c.in_ok-push.ensures.gives in
@@ -322,21 +320,21 @@ pub strings::read_chunks-returns-in_err-chunks-clause-gives :
 strings::read_chunks-returns-in_err-chunks-clause-gives t c =
     let p = err_from_is_err_and c.from_residual-in_err-chunks.result c.from_residual-in_err-chunks.ensures.1 in
     rw (p.1, p.2) (no_chunks (read_item (129 - c.args.inner)) c.args.text.now c.in_ok-expect_byte.field-0.now
-    c.after_blank-first.result.now (kind_view c.kind-kind.result) c.in_ok-expect_byte.ensures.gives
+    c.after_blank-first.result.now c.kind-kind.result c.in_ok-expect_byte.ensures.gives
     c.after_blank-first.ensures.gives (c.kind-kind.ensures ∙ ap kind_from c.of.ensures)
     c.in_err-chunks.field-0.0 c.in_err-chunks.ensures.gives)
 
 pub strings::read_chunks-returns-clause-gives : goal.strings::read_chunks-returns-clause-gives
 strings::read_chunks-returns-clause-gives t c =
     chunks_read (read_item (129 - c.args.inner)) c.args.text.now c.in_ok-expect_byte.field-0.now
-    c.after_blank-first.result.now (kind_view c.kind-kind.result) c.in_ok-expect_byte.ensures.gives
+    c.after_blank-first.result.now c.kind-kind.result c.in_ok-expect_byte.ensures.gives
     c.after_blank-first.ensures.gives (c.kind-kind.ensures ∙ ap kind_from c.of.ensures)
     (chunk_list c.in_ok-chunks.chunks) c.in_ok-chunks.rest.now (view c.into_item.result) c.in_ok-chunks.ensures.gives
     (rw c.in_ok-chunks.ensures.kind at c.into_item.ensures)
 
 pub strings::read_chunks-returns-clause-well : goal.strings::read_chunks-returns-clause-well
 strings::read_chunks-returns-clause-well t c =
-    chunks_well (c.args.inner - 1) (kind_view c.kind-kind.result) (chunk_list c.in_ok-chunks.chunks)
+    chunks_well (c.args.inner - 1) c.kind-kind.result (chunk_list c.in_ok-chunks.chunks)
     (view c.into_item.result) (omega (arith, c.requires.high)) c.in_ok-chunks.ensures.well
     (rw c.in_ok-chunks.ensures.kind at c.into_item.ensures)
 
@@ -485,7 +483,7 @@ read_item-returns-clause-gives t c =
 
 pub strings::read_pieces-pieces-init : goal.strings::read_pieces-pieces-init
 strings::read_pieces-pieces-init t c =
-    let begun = pieces_begin (read_item (129 - c.args.inner)) (kind_view c.args.kind) c.args.text.now
+    let begun = pieces_begin (read_item (129 - c.args.inner)) c.args.kind c.args.text.now
     c.new-content.result.items c.new-content.ensures.items in
     record { bound = begun.0; enough = begun.1; so_far = begun.2; room = omega arith }
 
@@ -494,20 +492,20 @@ strings::read_pieces-returns-in_err-piece-clause-gives t c =
     let p = err_from_is_err_and c.from_residual.result c.from_residual.ensures.1 in
     let read = read_item (129 - c.args.inner) in
     let i = c.pieces.invariant in
-    let begins = sym (c.begins_piece.ensures ∙ ap (begins_piece (kind_view c.args.kind)) c.of.ensures)
+    let begins = sym (c.begins_piece.ensures ∙ ap (begins_piece c.args.kind) c.of.ensures)
     ∙ c.pieces-test.true in
-    rw (p.1, p.2) (piece_fails read (kind_view c.args.kind) c.pieces.content.items i.bound c.pieces.rest.now
-    (read_pieces read (kind_view c.args.kind) (suc (length c.args.text.now)) c.args.text.now) i.enough i.so_far
+    rw (p.1, p.2) (piece_fails read c.args.kind c.pieces.content.items i.bound c.pieces.rest.now
+    (read_pieces read c.args.kind (suc (length c.args.text.now)) c.args.text.now) i.enough i.so_far
     c.in_err-piece.field-0.0 begins c.in_err-piece.ensures.gives)
 
 pub strings::read_pieces-pieces-preserved : goal.strings::read_pieces-pieces-preserved
 strings::read_pieces-pieces-preserved t c =
     let read = read_item (129 - c.args.inner) in
     let i = c.pieces.invariant in
-    let begins = sym (c.begins_piece.ensures ∙ ap (begins_piece (kind_view c.args.kind)) c.of.ensures)
+    let begins = sym (c.begins_piece.ensures ∙ ap (begins_piece c.args.kind) c.of.ensures)
     ∙ c.pieces-test.true in
-    let next = piece_more read (kind_view c.args.kind) c.pieces.content.items i.bound c.pieces.rest.now
-    (read_pieces read (kind_view c.args.kind) (suc (length c.args.text.now)) c.args.text.now) i.enough i.so_far
+    let next = piece_more read c.args.kind c.pieces.content.items i.bound c.pieces.rest.now
+    (read_pieces read c.args.kind (suc (length c.args.text.now)) c.args.text.now) i.enough i.so_far
     c.in_ok-piece.piece.items c.in_ok-piece.after.now c.after_blank-rest.result.now begins c.in_ok-piece.ensures.gives
     c.after_blank-rest.ensures.gives c.in_ok-piece.ensures.shorter c.after_blank-rest.ensures.shorter in
     record {
@@ -521,6 +519,6 @@ pub strings::read_pieces-returns-clause-gives : goal.strings::read_pieces-return
 strings::read_pieces-returns-clause-gives t c =
     let read = read_item (129 - c.args.inner) in
     let i = c.pieces.invariant in
-    pieces_end read (kind_view c.args.kind) c.pieces.content.items i.bound c.pieces.rest.now
-    (read_pieces read (kind_view c.args.kind) (suc (length c.args.text.now)) c.args.text.now) i.enough i.so_far
-    (sym (c.begins_piece.ensures ∙ ap (begins_piece (kind_view c.args.kind)) c.of.ensures) ∙ c.pieces-test.false)
+    pieces_end read c.args.kind c.pieces.content.items i.bound c.pieces.rest.now
+    (read_pieces read c.args.kind (suc (length c.args.text.now)) c.args.text.now) i.enough i.so_far
+    (sym (c.begins_piece.ensures ∙ ap (begins_piece c.args.kind) c.of.ensures) ∙ c.pieces-test.false)

@@ -5,7 +5,6 @@ use Rattle.cbor_diag.specs.View.{view, items_view, pairs_view}
 use Rattle.cbor_grammar.specs.WellFormed.{WellFormedItems, WellFormedPairs, IsChunk}
 use Rattle.cbor_notation.specs.mirror.NotationReading.{read_item, read_pair, read_chunk, read_members, members_from}
 use Rattle.cbor_notation.specs.mirror.NotationReading.{read_pieces}
-use Rattle.cbor_grammar.specs.mirror.StringView.{kind_view}
 use Rattle.cbor_diag.specs.mirror.ChunkList.{chunk_list, list_kind}
 use Rattle.cbor_diag.proofs.notation.ChunkLoops.{onto}
 use Rattle.cbor_diag.proofs.parse.notation.+diag.Given as goal
@@ -89,8 +88,8 @@ invariant-strings::read_pieces-pieces l =
     record {
       bound : ℕ;
       enough : length l.rest < bound;
-      so_far : onto (λ xs. l.content.items ++ xs) (read_pieces read (kind_view l.kind) bound l.rest)
-          ≡ read_pieces read (kind_view l.kind) (suc (length l.text)) l.text;
+      so_far : onto (λ xs. l.content.items ++ xs) (read_pieces read l.kind bound l.rest)
+          ≡ read_pieces read l.kind (suc (length l.text)) l.text;
       room : length l.rest ≤ length l.text;
     }
 
@@ -99,7 +98,7 @@ decreases-strings::read_chunk_list-chunks l = length l.rest
 
 abbrev pub invariant-strings::read_chunk_list-chunks : goal.invariant-strings::read_chunk_list-chunks
 invariant-strings::read_chunk_list-chunks l =
-    let kind = kind_view l.kind in
+    let kind = l.kind in
     let read = read_chunk (read_item (129 - l.inner)) kind in
     record {
       bound : ℕ;

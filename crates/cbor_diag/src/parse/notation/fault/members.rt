@@ -4,7 +4,6 @@ ghost use Rattle.cbor_grammar.specs.WellFormed.{levels_left};
 ghost use Rattle.cbor_grammar.specs.Item.{Item, Chunk};
 ghost use Rattle.cbor_diag.specs.mirror.DeadEnds.{NotRead, Value, read_member};
 ghost use Rattle.cbor_notation.specs.mirror.NotationReading.{read_chunk, read_item, read_pair};
-ghost use Rattle.cbor_grammar.specs.mirror.StringView.{kind_view};
 
 use super::super::read_item;
 use super::super::strings::read_content;
@@ -47,10 +46,9 @@ pub(super) fn after_pair(alloc: Global, text: &[u8], level: u8) -> Result<&[u8]>
 pub(super) fn after_chunk(alloc: Global, kind: StringKind, text: &[u8], level: u8) -> Result<&[u8]>
     requires { level ≤ 129 }
     ensures found { IfOk result (λ rest. (x : Chunk)
-        × (read_chunk (read_item (levels_left level)) (kind_view kind) text.now
-        ≡ Ok (x, rest.now))) }
+        × (read_chunk (read_item (levels_left level)) kind text.now ≡ Ok (x, rest.now))) }
     ensures refused { IfErr result (λ e. e ≢ Error.Memory
-        → NotRead (read_chunk (read_item (levels_left level)) (kind_view kind) text.now)) }
+        → NotRead (read_chunk (read_item (levels_left level)) kind text.now)) }
     ensures shorter { IfOk result (λ rest. length rest.now ≤ length text.now) }
 {
     let (content, rest) = read_content(alloc, kind, after_blank(text), level)?;

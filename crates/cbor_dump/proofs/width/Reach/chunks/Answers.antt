@@ -3,7 +3,7 @@ use Rattle.std.proofs.Common.{◌+◌, List, [], ◌∷◌, ◌++◌, length, ap
 use Rattle.std.proofs.lemmas.Result.{err_from_is_err_and}
 use Rattle.cbor_grammar.specs.Item.{Chunk}
 use Rattle.cbor_grammar.specs.Reading.{Counted, read_chunks}
-use Rattle.cbor_grammar.specs.mirror.StringView.{kind_view, borrowed_chunk}
+use Rattle.cbor_grammar.specs.mirror.StringView.{borrowed_chunk}
 use Rattle.cbor_grammar.proofs.bytes.Chunks.{chunk_takes}
 use Rattle.cbor_grammar.proofs.bytes.Steps.{later_none}
 use Rattle.cbor_dump.proofs.dump.FrontWidths.{none_yet, chunk_taken, chunk_counted, chunks_measured}
@@ -13,7 +13,7 @@ use Rattle.cbor_dump.proofs.width.Reach.chunks.Goals as goal
 
 pub chunks-init : goal.chunks-init
 chunks-init c =
-    let all = read_chunks (length c.args.bytes.now) (kind_view c.args.kind) c.args.bytes.now in
+    let all = read_chunks (length c.args.bytes.now) c.args.kind c.args.bytes.now in
     record {
       chunks = [];
       turns = 0;
@@ -29,15 +29,15 @@ returns-in_err-chunk-clause-refused c =
     let p = err_from_is_err_and c.from_residual.result c.from_residual.ensures.1 in
     let i = c.chunks.invariant in
     let e = c.in_err-chunk.field-0.0 in
-    let all = read_chunks (length c.args.bytes.now) (kind_view c.args.kind) c.args.bytes.now in
-    let stops = chunk_fails e (kind_view c.args.kind) i.chunks i.turns i.bound c.chunks.rest.now all i.enough
+    let all = read_chunks (length c.args.bytes.now) c.args.kind c.args.bytes.now in
+    let stops = chunk_fails e c.args.kind i.chunks i.turns i.bound c.chunks.rest.now all i.enough
     c.in_err-chunk.ensures.gives i.so_far in
     rw (p.1, p.2) (fails_then e all _ (fails_stopped e (i.turns + 1) all stops))
 
 pub returns-in_default-clause-measured : goal.returns-in_default-clause-measured
 returns-in_default-clause-measured c =
     let i = c.chunks.invariant in
-    let kind = kind_view c.args.kind in
+    let kind = c.args.kind in
     let after = c.in_ok-chunk.after.now in
     let all = read_chunks (length c.args.bytes.now) kind c.args.bytes.now in
     let whole = no_more_chunk kind i.chunks i.turns i.bound c.chunks.rest.now after all
@@ -49,21 +49,21 @@ returns-in_default-clause-measured c =
 pub chunk-requires-clause-taken : goal.chunk-requires-clause-taken
 chunk-requires-clause-taken c =
     let chunk = borrowed_chunk c.in-Some.field-0-1 c.in-Some.content in
-    let taken = chunk_taken (kind_view c.args.kind) c.chunks.rest.now c.in_ok-chunk.after.now chunk
+    let taken = chunk_taken c.args.kind c.chunks.rest.now c.in_ok-chunk.after.now chunk
     c.chunks.invariant.fits (rw c.in-Some.is at c.in_ok-chunk.ensures.gives) in
     omega (arith, taken.0)
 
 pub chunk-requires-clause-head : goal.chunk-requires-clause-head
 chunk-requires-clause-head c =
     let chunk = borrowed_chunk c.in-Some.field-0-1 c.in-Some.content in
-    let taken = chunk_taken (kind_view c.args.kind) c.chunks.rest.now c.in_ok-chunk.after.now chunk
+    let taken = chunk_taken c.args.kind c.chunks.rest.now c.in_ok-chunk.after.now chunk
     c.chunks.invariant.fits (rw c.in-Some.is at c.in_ok-chunk.ensures.gives) in
     omega (arith, taken.0, taken.1)
 
 pub chunks-preserved : goal.chunks-preserved
 chunks-preserved c =
     let i = c.chunks.invariant in
-    let kind = kind_view c.args.kind in
+    let kind = c.args.kind in
     let after = c.in_ok-chunk.after.now in
     let all = read_chunks (length c.args.bytes.now) kind c.args.bytes.now in
     let chunk = borrowed_chunk c.in-Some.field-0-1 c.in-Some.content in

@@ -2,7 +2,6 @@
 use Rattle.std.proofs.Common.{◌≡◌, ℕ, ◌+◌, ◌≤◌, List, length, max}
 use Rattle.cbor_grammar.specs.Item.{Chunk}
 use Rattle.cbor_grammar.specs.Reading.{later, read_chunks}
-use Rattle.cbor_grammar.specs.mirror.StringView.{kind_view}
 use Rattle.cbor_dump.specs.mirror.Widths.{chunks_width}
 use Rattle.cbor_grammar.proofs.bytes.Heads.{IsBytes}
 use Rattle.cbor_grammar.proofs.turns.ChunkLoops.{onto}
@@ -18,8 +17,8 @@ invariant-chunks l = record {
   turns : ℕ;
   bound : ℕ;
   enough : length l.rest ≤ bound;
-  so_far : later turns (onto chunks (read_chunks bound (kind_view l.kind) l.rest))
-      ≡ read_chunks (length l.bytes) (kind_view l.kind) l.bytes;
+  so_far : later turns (onto chunks (read_chunks bound l.kind l.rest))
+      ≡ read_chunks (length l.bytes) l.kind l.bytes;
   fits : IsBytes l.rest;
-  reach : l.self.widest ≡ max l.fn.self.widest (chunks_width (kind_view l.kind) (l.fn.place.depth + 1) chunks);
+  reach : l.self.widest ≡ max l.fn.self.widest (chunks_width l.kind (l.fn.place.depth + 1) chunks);
 }

@@ -6,8 +6,7 @@ use Rattle.std.specs.Bool.{IsFalse}
 use Rattle.cbor_grammar.specs.declared.error.Error.TheVariants as refusal
 use Rattle.cbor_grammar.specs.declared.error.Error.{Error}
 use Rattle.cbor_notation.specs.declared.start.Start.TheVariants as start
-use Rattle.cbor_grammar.specs.StringKind.{bytes_kind}
-use Rattle.cbor_grammar.specs.mirror.StringView.{kind_view}
+use Rattle.cbor_grammar.specs.declared.strings.StringKind.TheVariants.{Bytes}
 use Rattle.cbor_notation.specs.mirror.NotationReading.{read_item, read_members, read_pair, read_negative_number}
 use Rattle.cbor_notation.specs.mirror.NotationReading.{kind_from}
 use Rattle.cbor_notation.specs.mirror.NotationReading.{read_string_item, read_string, begins_string}
@@ -104,7 +103,7 @@ is_dead_core-returns-in-Apostrophe-clause-dead t c =
     dead_from c.is_dead_string_item.result
     (λ never. core_dead (129 - c.args.inner) c.split-start.result.0 c.args.text.now c.split-start.result.1.now
     c.split-start.ensures.start c.split-start.ensures.rest c.requires.some
-    (λ more. not_by (read_string_item read bytes_kind (c.args.text.now ++ more)) _
+    (λ more. not_by (read_string_item read Bytes (c.args.text.now ++ more)) _
     (bytes_core read (c.args.text.now ++ more) (c.split-start.result.1.now ++ more) c.split-start.result.0
     c.in-Apostrophe.is) (never more))) c.is_dead_string_item.ensures.dead
 
@@ -112,7 +111,7 @@ pub is_dead_chunks-returns-clause-dead : goal.is_dead_chunks-returns-clause-dead
 is_dead_chunks-returns-clause-dead t c =
     dead_from c.is_dead_list.result
     (λ never. chunks_list_dead (129 - c.args.inner) c.args.text.now c.in-Some.opened.now c.after_blank-first.result.now
-    (kind_view c.kind-kind.result) (sym c.in-Some.ensures.gives) c.after_blank-first.ensures.gives
+    c.kind-kind.result (sym c.in-Some.ensures.gives) c.after_blank-first.ensures.gives
     (sym c.ends_blank.ensures ∙ c.if-not-ends_blank.false)
     (c.kind-kind.ensures ∙ ap kind_from c.of.ensures) never) c.is_dead_list.ensures.dead
 
@@ -210,18 +209,18 @@ is_dead_pair-returns-in-Some-after_byte-clause-dead t c =
 
 pub is_dead_pieces-returns-in_default-clause-dead : goal.is_dead_pieces-returns-in_default-clause-dead
 is_dead_pieces-returns-in_default-clause-dead t c =
-    let goes = sym (c.begins_piece.ensures ∙ ap (begins_piece (kind_view c.args.kind)) c.of.ensures)
+    let goes = sym (c.begins_piece.ensures ∙ ap (begins_piece c.args.kind) c.of.ensures)
     ∙ c.pieces-test.true in
     dead_from c.is_dead_piece.result
-    (λ never. c.pieces.invariant.0 (piece_dead (129 - c.args.inner) (kind_view c.args.kind) c.pieces.rest.now goes never))
+    (λ never. c.pieces.invariant.0 (piece_dead (129 - c.args.inner) c.args.kind c.pieces.rest.now goes never))
     c.is_dead_piece.ensures.dead
 
 pub is_dead_string-returns-in-Some-clause-dead : goal.is_dead_string-returns-in-Some-clause-dead
 is_dead_string-returns-in-Some-clause-dead t c is =
     let read = was_given c.read_content.result c.in_ok-content.field-0 (c.in-Some.content, c.in-Some.rest)
-    (λ x. (x.0.items, x.1.now)) (read_content (read_item (129 - c.args.inner)) (kind_view c.args.kind) c.args.text.now)
+    (λ x. (x.0.items, x.1.now)) (read_content (read_item (129 - c.args.inner)) c.args.kind c.args.text.now)
     c.in_ok-content.ensures.found c.in-Some.is c.read_content.ensures.gives in
-    string_content_dead (129 - c.args.inner) (kind_view c.args.kind) c.args.text.now c.in-Some.content.items
+    string_content_dead (129 - c.args.inner) c.args.kind c.args.text.now c.in-Some.content.items
     c.in-Some.rest.now read (c.is_dead_content.ensures.ends is) (c.is_dead_content.ensures.content is)
 
 pub is_dead_core-returns-in-Digit-clause-cut : goal.is_dead_core-returns-in-Digit-clause-cut
@@ -451,22 +450,21 @@ is_dead_pair-returns-in-Some-after_byte-clause-cut t c =
 
 pub is_dead_chunk-returns-then-not-ends_blank-clause-cut : goal.is_dead_chunk-returns-then-not-ends_blank-clause-cut
 is_dead_chunk-returns-then-not-ends_blank-clause-cut t c is refused =
-    chunk_blank_cut (129 - c.args.level) (kind_view c.args.kind) c.args.text.now
+    chunk_blank_cut (129 - c.args.level) c.args.kind c.args.text.now
     (ap ends_blank (sym c.after_blank-core.ensures.gives) ∙ sym c.ends_blank.ensures ∙ c.if-not-ends_blank.true)
 
 pub is_dead_chunk-returns-clause-cut : goal.is_dead_chunk-returns-clause-cut
 is_dead_chunk-returns-clause-cut t c =
-    cut_from c.is_dead_string.result
-    (λ cut refused. chunk_core_cut (129 - c.args.level) (kind_view c.args.kind) c.args.text.now
+    cut_from c.is_dead_string.result (λ cut refused. chunk_core_cut (129 - c.args.level) c.args.kind c.args.text.now
     c.after_blank-core.result.now c.after_blank-core.ensures.gives (cut
-    (subst (λ (u : List ℕ). NotRead (read_string (read_item (129 - c.args.level)) (kind_view c.args.kind) u))
+    (subst (λ (u : List ℕ). NotRead (read_string (read_item (129 - c.args.level)) c.args.kind u))
     (sym c.after_blank-core.ensures.gives) refused))) c.is_dead_string.ensures.cut
 
 pub is_dead_chunks-returns-clause-cut : goal.is_dead_chunks-returns-clause-cut
 is_dead_chunks-returns-clause-cut t c =
     cut_from c.is_dead_list.result
     (λ cut refused. chunks_cut (129 - c.args.inner) c.args.text.now c.in-Some.opened.now c.after_blank-first.result.now
-    (kind_view c.kind-kind.result) (sym c.in-Some.ensures.gives) c.after_blank-first.ensures.gives
+    c.kind-kind.result (sym c.in-Some.ensures.gives) c.after_blank-first.ensures.gives
     (c.kind-kind.ensures ∙ ap kind_from c.of.ensures) cut refused) c.is_dead_list.ensures.cut
 
 pub is_dead_chunks-returns-then-not-ends_blank-clause-cut :
@@ -477,7 +475,7 @@ is_dead_chunks-returns-then-not-ends_blank-clause-cut t c is refused =
 
 pub is_dead_pieces-pieces-preserved : goal.is_dead_pieces-pieces-preserved
 is_dead_pieces-pieces-preserved t c =
-    let goes = sym (c.begins_piece.ensures ∙ ap (begins_piece (kind_view c.args.kind)) c.of.ensures)
+    let goes = sym (c.begins_piece.ensures ∙ ap (begins_piece c.args.kind) c.of.ensures)
     ∙ c.pieces-test.true in
     let read = was_given c.read_piece.result c.in_ok-after.field-0 (c.in-Some.field-0-0, c.in-Some.after)
     (λ x. (x.0.items, x.1.now)) (read_piece (read_item (129 - c.args.inner)) c.pieces.rest.now)
@@ -485,23 +483,23 @@ is_dead_pieces-pieces-preserved t c =
     let shorter = was_read c.read_piece.result c.in_ok-after.field-0 (c.in-Some.field-0-0, c.in-Some.after)
     (λ x. length x.1.now < length c.pieces.rest.now) c.in_ok-after.ensures.found c.in-Some.is
     c.read_piece.ensures.shorter in (
-      λ never. c.pieces.invariant.0 (pieces_next (129 - c.args.inner) (kind_view c.args.kind) c.pieces.rest.now
+      λ never. c.pieces.invariant.0 (pieces_next (129 - c.args.inner) c.args.kind c.pieces.rest.now
           c.in-Some.field-0-0.items c.in-Some.after.now c.after_blank-rest.result.now goes read
           c.after_blank-rest.ensures.gives (sym c.ends_blank.ensures ∙ c.if-not-ends_blank.false) never),
-      pieces_go_on (129 - c.args.inner) (kind_view c.args.kind) c.args.text.now c.pieces.rest.now
+      pieces_go_on (129 - c.args.inner) c.args.kind c.args.text.now c.pieces.rest.now
           c.in-Some.field-0-0.items c.in-Some.after.now c.after_blank-rest.result.now c.pieces.invariant.1 goes read
           c.after_blank-rest.ensures.gives (omega (arith, shorter, c.after_blank-rest.ensures.shorter)),
     )
 
 pub is_dead_pieces-pieces-init : goal.is_dead_pieces-pieces-init
-is_dead_pieces-pieces-init t c = (λ never. never, pieces_begin (129 - c.args.inner) (kind_view c.args.kind) c.args.text.now)
+is_dead_pieces-pieces-init t c = (λ never. never, pieces_begin (129 - c.args.inner) c.args.kind c.args.text.now)
 
 pub is_dead_pieces-returns-in_default-clause-cut : goal.is_dead_pieces-returns-in_default-clause-cut
 is_dead_pieces-returns-in_default-clause-cut t c =
-    let goes = sym (c.begins_piece.ensures ∙ ap (begins_piece (kind_view c.args.kind)) c.of.ensures)
+    let goes = sym (c.begins_piece.ensures ∙ ap (begins_piece c.args.kind) c.of.ensures)
     ∙ c.pieces-test.true in
     cut_from c.is_dead_piece.result
-    (λ cut begins refused. pieces_cut (129 - c.args.inner) (kind_view c.args.kind) c.args.text.now c.pieces.rest.now
+    (λ cut begins refused. pieces_cut (129 - c.args.inner) c.args.kind c.args.text.now c.pieces.rest.now
     c.pieces.invariant.1 goes (cut (dead.refused (λ x. (x.0.items, x.1.now)) c.read_piece.result
     (read_piece (read_item (129 - c.args.inner)) c.pieces.rest.now) c.read_piece.ensures.gives
     (was_error c.read_piece.result c.in_ok-after.field-0 c.in_ok-after.ensures.none c.in_default.is))) begins
@@ -509,7 +507,7 @@ is_dead_pieces-returns-in_default-clause-cut t c =
 
 pub is_dead_pieces-returns-then-not-ends_blank-clause-cut : goal.is_dead_pieces-returns-then-not-ends_blank-clause-cut
 is_dead_pieces-returns-then-not-ends_blank-clause-cut t c is begins refused =
-    let goes = sym (c.begins_piece.ensures ∙ ap (begins_piece (kind_view c.args.kind)) c.of.ensures)
+    let goes = sym (c.begins_piece.ensures ∙ ap (begins_piece c.args.kind) c.of.ensures)
     ∙ c.pieces-test.true in
     let read = was_given c.read_piece.result c.in_ok-after.field-0 (c.in-Some.field-0-0, c.in-Some.after)
     (λ x. (x.0.items, x.1.now)) (read_piece (read_item (129 - c.args.inner)) c.pieces.rest.now)
@@ -517,34 +515,34 @@ is_dead_pieces-returns-then-not-ends_blank-clause-cut t c is begins refused =
     let shorter = was_read c.read_piece.result c.in_ok-after.field-0 (c.in-Some.field-0-0, c.in-Some.after)
     (λ x. length x.1.now < length c.pieces.rest.now) c.in_ok-after.ensures.found c.in-Some.is
     c.read_piece.ensures.shorter in
-    absurd (pieces_ended (129 - c.args.inner) (kind_view c.args.kind) c.args.text.now c.after_blank-rest.result.now
-    (pieces_go_on (129 - c.args.inner) (kind_view c.args.kind) c.args.text.now c.pieces.rest.now
+    absurd (pieces_ended (129 - c.args.inner) c.args.kind c.args.text.now c.after_blank-rest.result.now
+    (pieces_go_on (129 - c.args.inner) c.args.kind c.args.text.now c.pieces.rest.now
     c.in-Some.field-0-0.items c.in-Some.after.now c.after_blank-rest.result.now c.pieces.invariant.1 goes read
     c.after_blank-rest.ensures.gives (omega (arith, shorter, c.after_blank-rest.ensures.shorter)))
-    (no_piece (129 - c.args.inner) (kind_view c.args.kind) c.after_blank-rest.result.now
+    (no_piece (129 - c.args.inner) c.args.kind c.after_blank-rest.result.now
     (sym c.ends_blank.ensures ∙ c.if-not-ends_blank.true)) begins refused)
 
 pub is_dead_pieces-returns-clause-cut : goal.is_dead_pieces-returns-clause-cut
 is_dead_pieces-returns-clause-cut t c is begins refused =
-    absurd (pieces_ended (129 - c.args.inner) (kind_view c.args.kind) c.args.text.now c.pieces.rest.now
-    c.pieces.invariant.1 (sym (c.begins_piece.ensures ∙ ap (begins_piece (kind_view c.args.kind)) c.of.ensures)
+    absurd (pieces_ended (129 - c.args.inner) c.args.kind c.args.text.now c.pieces.rest.now
+    c.pieces.invariant.1 (sym (c.begins_piece.ensures ∙ ap (begins_piece c.args.kind) c.of.ensures)
     ∙ c.pieces-test.false) begins refused)
 
 pub is_dead_string-returns-in-Some-clause-cut : goal.is_dead_string-returns-in-Some-clause-cut
 is_dead_string-returns-in-Some-clause-cut t c is refused =
     let read = was_given c.read_content.result c.in_ok-content.field-0 (c.in-Some.content, c.in-Some.rest)
-    (λ x. (x.0.items, x.1.now)) (read_content (read_item (129 - c.args.inner)) (kind_view c.args.kind) c.args.text.now)
+    (λ x. (x.0.items, x.1.now)) (read_content (read_item (129 - c.args.inner)) c.args.kind c.args.text.now)
     c.in_ok-content.ensures.found c.in-Some.is c.read_content.ensures.gives in
-    content_ends (129 - c.args.inner) (kind_view c.args.kind) c.args.text.now c.in-Some.content.items
-    c.in-Some.rest.now (sym (c.begins_string.ensures ∙ ap (begins_string (kind_view c.args.kind)) c.of.ensures)
+    content_ends (129 - c.args.inner) c.args.kind c.args.text.now c.in-Some.content.items
+    c.in-Some.rest.now (sym (c.begins_string.ensures ∙ ap (begins_string c.args.kind) c.of.ensures)
     ∙ c.if-not-begins_string.false) read (c.is_dead_content.ensures.cut is) refused
 
 pub is_dead_string-returns-in-None-clause-cut : goal.is_dead_string-returns-in-None-clause-cut
 is_dead_string-returns-in-None-clause-cut t c =
     cut_from c.is_dead_pieces.result
-    (λ cut not_read. cut (sym (c.begins_string.ensures ∙ ap (begins_string (kind_view c.args.kind)) c.of.ensures)
+    (λ cut not_read. cut (sym (c.begins_string.ensures ∙ ap (begins_string c.args.kind) c.of.ensures)
     ∙ c.if-not-begins_string.false) (dead.refused (λ x. (x.0.items, x.1.now)) c.read_content.result
-    (read_content (read_item (129 - c.args.inner)) (kind_view c.args.kind) c.args.text.now) c.read_content.ensures.gives
+    (read_content (read_item (129 - c.args.inner)) c.args.kind c.args.text.now) c.read_content.ensures.gives
     (was_error c.read_content.result c.in_ok-content.field-0 c.in_ok-content.ensures.none c.in-None.is)))
     c.is_dead_pieces.ensures.cut
 
@@ -561,20 +559,19 @@ is_dead_embedded-returns-in_default-clause-cut t c is not_read =
 pub is_dead_string-returns-then-not-begins_string-clause-cut :
     goal.is_dead_string-returns-then-not-begins_string-clause-cut
 is_dead_string-returns-then-not-begins_string-clause-cut t c is not_read =
-    subst (IsCut (StringOf (kind_view c.args.kind) (Reads (129 - c.args.inner))))
+    subst (IsCut (StringOf c.args.kind (Reads (129 - c.args.inner))))
     (sym (no_length c.args.text.now c.is_empty.result c.is_empty.ensures is))
-    (string_empty (129 - c.args.inner) (kind_view c.args.kind))
+    (string_empty (129 - c.args.inner) c.args.kind)
 
 pub is_dead_string_item-returns-then-not-is_apart_from_no_chunks-clause-cut :
     goal.is_dead_string_item-returns-then-not-is_apart_from_no_chunks-clause-cut
 is_dead_string_item-returns-then-not-is_apart_from_no_chunks-clause-cut t c is not_read =
-    near_cut (129 - c.args.inner) (kind_view c.args.kind) c.args.text.now
+    near_cut (129 - c.args.inner) c.args.kind c.args.text.now
     (c.is_apart_from_no_chunks.ensures.near c.if-not-is_apart_from_no_chunks.true) not_read
 
 pub is_dead_string_item-returns-clause-cut : goal.is_dead_string_item-returns-clause-cut
 is_dead_string_item-returns-clause-cut t c =
-    cut_from c.is_dead_string.result
-    (λ cut. apart_cut (129 - c.args.inner) (kind_view c.args.kind) c.args.text.now
+    cut_from c.is_dead_string.result (λ cut. apart_cut (129 - c.args.inner) c.args.kind c.args.text.now
     (c.is_apart_from_no_chunks.ensures.apart c.if-not-is_apart_from_no_chunks.false) cut) c.is_dead_string.ensures.cut
 
 pub is_dead_integer-returns-in_default-clause-cut : goal.is_dead_integer-returns-in_default-clause-cut

@@ -1,13 +1,12 @@
 //! What a head says beside its major type (RFC 8949 section 3 calls it the argument).
 ghost use Rattle.std.specs.Prelude.{◌≡◌, ℕ, option_map};
 ghost use Rattle.cbor_grammar.specs.Reading.{after_break, after_members, count_width};
-ghost use Rattle.cbor_bytes.specs.mirror.HeadView.{argument_count, argument_view};
-ghost use Rattle.cbor_bytes.specs.mirror.HeadView.{left_of};
+ghost use Rattle.cbor_grammar.specs.mirror.Lengths.{argument_count, left_of};
 
-use cbor_grammar::IntegerWidth;
+use crate::width::IntegerWidth;
 
-/// What a head says beside its major type, in its five bits of info and the bytes that they ask
-/// for.
+/// What a head says beside its major type, in its five bits of info and the bytes that they ask for
+/// (in RFC 7049 section 2 it is the additional information).
 #[derive(Clone, Copy)]
 pub enum Argument {
     /// A number, and the width that it was written in.
@@ -17,7 +16,7 @@ pub enum Argument {
 }
 
 /// The bytes after the break at the front, if there is one.
-pub(super) fn after_break(bytes: &[u8]) -> Option<&[u8]>
+pub fn after_break(bytes: &[u8]) -> Option<&[u8]>
     ensures { option_map (λ x. x.now) result ≡ after_break bytes.now }
 {
     match bytes {
@@ -29,7 +28,7 @@ pub(super) fn after_break(bytes: &[u8]) -> Option<&[u8]>
 impl Argument {
     /// The number, where there is one.
     pub fn number(self) -> Option<u64>
-        ensures { result ≡ argument_count (argument_view self) }
+        ensures { result ≡ argument_count self }
     {
         match self {
             Argument::Number(number, _) => Some(number),
