@@ -5,3 +5,4 @@ pub mod Straight
 pub mod Ahead
 pub mod EncodingView
 pub mod LayoutView
+pub mod Cursor

@@ -7,6 +7,7 @@ pub mod budget;
 pub mod content;
 pub mod context;
 pub mod convert;
+pub mod cursor;
 pub mod encoding;
 mod examples;
 pub mod from_bytes;

@@ -6,6 +6,7 @@
 //! is not read is one. These functions are called after an error only, and read the parts before it
 //! again, once at each level.
 mod ends;
+mod fronts;
 mod members;
 mod tokens;
 
@@ -29,17 +30,16 @@ ghost use Rattle.cbor_notation.specs.mirror.NotationReading.{read_string_item, b
 ghost use Rattle.cbor_notation.specs.mirror.NotationReading.{first_start};
 ghost use Rattle.cbor_grammar.specs.mirror.StringView.{kind_view};
 
-use super::strings::{read_content, read_piece};
-use super::{parse_diag, read_items};
+use super::parse_diag;
 use cbor_grammar::level::DEEPEST;
 use cbor_grammar::strings::StringKind;
 use cbor_grammar::{Error, Result};
-use cbor_notation::number::read_unsigned_number;
 use cbor_notation::scan::{after_blank, after_byte, read_length};
 use cbor_notation::start::Start;
 use ends::{
     has_no_close, is_apart_from_no_chunks, is_begun, is_dead_content, is_unclosed, is_unended,
 };
+use fronts::{content_front, items_front, piece_front, unsigned_front};
 use members::{after_item, after_member};
 use std::alloc::Global;
 use tokens::{
@@ -126,7 +126,7 @@ fn is_dead_integer(alloc: Global, text: &[u8], inner: u8) -> Result<bool>
         → IsCut (Core (Reads (levels_left inner))) text.now) }
     ensures refused { IfErr result (λ e. e ≡ Error.Memory) }
 {
-    let Ok((_, after)) = read_unsigned_number(text) else {
+    let Ok((_, after)) = unsigned_front(text) else {
         return Ok(is_dead_unsigned(text));
     };
     let Some(rest) = after_byte(after, b'(') else {
@@ -267,7 +267,7 @@ fn is_dead_embedded(alloc: Global, text: &[u8], inner: u8) -> Result<bool>
     let Some(first) = after_byte(text, b'<') else {
         return Ok(!text.is_empty());
     };
-    match but_memory(read_items(alloc, b'>', first, inner))? {
+    match but_memory(items_front(alloc, b'>', first, inner))? {
         Some((_, rest)) => Ok(has_no_close(rest)),
         None => is_dead_list(alloc, Member::Item, b'>', first, inner),
     }
@@ -309,7 +309,7 @@ fn is_dead_pieces(alloc: Global, kind: StringKind, text: &[u8], inner: u8) -> Re
 {
     let mut rest = text;
     'pieces: while Start::of(rest).begins_piece(kind) {
-        let Some((_, after)) = but_memory(read_piece(alloc, rest, inner))? else {
+        let Some((_, after)) = but_memory(piece_front(alloc, rest, inner))? else {
             return is_dead_piece(alloc, rest, inner);
         };
         rest = after_blank(after);
@@ -335,7 +335,7 @@ fn is_dead_string(alloc: Global, kind: StringKind, text: &[u8], inner: u8) -> Re
     if !Start::of(text).begins_string(kind) {
         return Ok(!text.is_empty());
     }
-    match but_memory(read_content(alloc, kind, text, inner))? {
+    match but_memory(content_front(alloc, kind, text, inner))? {
         Some((content, rest)) => Ok(is_dead_content(kind, &content, rest)),
         None => is_dead_pieces(alloc, kind, text, inner),
     }

@@ -21,9 +21,10 @@ ghost use Rattle.cbor_notation.specs.mirror.OpenTokens.{widens, is_prefix, may_b
 ghost use Rattle.cbor_notation.specs.mirror.OpenTokens.{may_close, is_small, is_float, Near};
 
 use super::super::word::are_decimal;
+use super::fronts::{negative_front, number_front, unsigned_front};
 use cbor_grammar::{Error, IntegerWidth, Result};
 use cbor_notation::content::{b_notation, h_notation};
-use cbor_notation::number::{read_negative_number, read_number, read_unsigned_number};
+use cbor_notation::cursor::Cursor;
 use cbor_notation::scan::{after_blank, after_space, after_word, whitespace_len};
 use std::alloc::Global;
 
@@ -138,9 +139,9 @@ pub(super) fn is_dead_unsigned(text: &[u8]) -> bool
     ensures cut { IsFalse result → NotRead (read_unsigned_number text.now)
         → IsCut (λ t (x : ℕ × IntegerWidth). NumberOf t x.0 x.1) text.now }
 {
-    match read_number(text) {
+    match number_front(text) {
         Ok(((value, indicator), rest)) => {
-            !widens(value, indicator, rest) && is_refused(read_unsigned_number(text))
+            !widens(value, indicator, rest) && is_refused(unsigned_front(text))
         }
         Err(_) => !text.is_empty(),
     }
@@ -173,9 +174,9 @@ pub(super) fn is_dead_negative(text: &[u8]) -> bool
     ensures cut { IsFalse result → NotRead (read_negative_number text.now)
         → IsCut (λ t (x : ℕ × IntegerWidth). NegativeOf t x.0 x.1) (45 ∷ text.now) }
 {
-    match read_number(text) {
+    match number_front(text) {
         Ok(((value, indicator), rest)) => {
-            !may_be_negative(text, value, indicator, rest) && is_refused(read_negative_number(text))
+            !may_be_negative(text, value, indicator, rest) && is_refused(negative_front(text))
         }
         Err(_) => !text.is_empty(),
     }
@@ -204,7 +205,7 @@ fn is_dead_simple(text: &[u8]) -> bool
     ensures cut { IsFalse result → NotRead (read_simple text.now)
         → GoesOn SimpleOf (codes "simple(" ++ text.now) }
 {
-    match read_number(text) {
+    match number_front(text) {
         Ok(((value, _), rest)) => !is_small(value, &text[..text.len() - rest.len()], rest),
         Err(_) => !text.is_empty(),
     }
@@ -364,7 +365,7 @@ pub(super) fn is_dead_b_notation(alloc: Global, text: &[u8]) -> Result<bool>
         → IsCut (λ t bytes. (left : ℕ) → Notation (Reads left) t bytes) (98 ∷ text.now)) }
     ensures refused { IfErr result (λ e. e ≡ Error.Memory) }
 {
-    match b_notation(alloc, text) {
+    match b_notation(alloc, &mut Cursor::new(text)) {
         Ok(_) => Ok(false),
         Err(Error::Memory) => Err(Error::Memory),
         Err(_) => Ok(is_dead_b(text)),
@@ -379,7 +380,7 @@ pub(super) fn is_dead_h_notation(alloc: Global, text: &[u8]) -> Result<bool>
         → IsCut (λ t bytes. (left : ℕ) → Notation (Reads left) t bytes) (104 ∷ text.now)) }
     ensures refused { IfErr result (λ e. e ≡ Error.Memory) }
 {
-    match h_notation(alloc, text) {
+    match h_notation(alloc, &mut Cursor::new(text)) {
         Ok(_) => Ok(false),
         Err(Error::Memory) => Err(Error::Memory),
         Err(_) => Ok(is_dead_h(text)),

@@ -218,9 +218,9 @@ is_dead_pieces-returns-in_default-clause-dead t c =
 
 pub is_dead_string-returns-in-Some-clause-dead : goal.is_dead_string-returns-in-Some-clause-dead
 is_dead_string-returns-in-Some-clause-dead t c is =
-    let read = was_given c.read_content.result c.in_ok-content.field-0 (c.in-Some.content, c.in-Some.rest)
+    let read = was_given c.content_front.result c.in_ok-content.field-0 (c.in-Some.content, c.in-Some.rest)
     (λ x. (x.0.items, x.1.now)) (read_content (read_item (129 - c.args.inner)) (kind_view c.args.kind) c.args.text.now)
-    c.in_ok-content.ensures.found c.in-Some.is c.read_content.ensures.gives in
+    c.in_ok-content.ensures.found c.in-Some.is c.content_front.ensures.gives in
     string_content_dead (129 - c.args.inner) (kind_view c.args.kind) c.args.text.now c.in-Some.content.items
     c.in-Some.rest.now read (c.is_dead_content.ensures.ends is) (c.is_dead_content.ensures.content is)
 
@@ -479,12 +479,12 @@ pub is_dead_pieces-pieces-preserved : goal.is_dead_pieces-pieces-preserved
 is_dead_pieces-pieces-preserved t c =
     let goes = sym (c.begins_piece.ensures ∙ ap (begins_piece (kind_view c.args.kind)) c.of.ensures)
     ∙ c.pieces-test.true in
-    let read = was_given c.read_piece.result c.in_ok-after.field-0 (c.in-Some.field-0-0, c.in-Some.after)
+    let read = was_given c.piece_front.result c.in_ok-after.field-0 (c.in-Some.field-0-0, c.in-Some.after)
     (λ x. (x.0.items, x.1.now)) (read_piece (read_item (129 - c.args.inner)) c.pieces.rest.now)
-    c.in_ok-after.ensures.found c.in-Some.is c.read_piece.ensures.gives in
-    let shorter = was_read c.read_piece.result c.in_ok-after.field-0 (c.in-Some.field-0-0, c.in-Some.after)
+    c.in_ok-after.ensures.found c.in-Some.is c.piece_front.ensures.gives in
+    let shorter = was_read c.piece_front.result c.in_ok-after.field-0 (c.in-Some.field-0-0, c.in-Some.after)
     (λ x. length x.1.now < length c.pieces.rest.now) c.in_ok-after.ensures.found c.in-Some.is
-    c.read_piece.ensures.shorter in (
+    c.piece_front.ensures.shorter in (
       λ never. c.pieces.invariant.0 (pieces_next (129 - c.args.inner) (kind_view c.args.kind) c.pieces.rest.now
           c.in-Some.field-0-0.items c.in-Some.after.now c.after_blank-rest.result.now goes read
           c.after_blank-rest.ensures.gives (sym c.ends_blank.ensures ∙ c.if-not-ends_blank.false) never),
@@ -502,21 +502,21 @@ is_dead_pieces-returns-in_default-clause-cut t c =
     ∙ c.pieces-test.true in
     cut_from c.is_dead_piece.result
     (λ cut begins refused. pieces_cut (129 - c.args.inner) (kind_view c.args.kind) c.args.text.now c.pieces.rest.now
-    c.pieces.invariant.1 goes (cut (dead.refused (λ x. (x.0.items, x.1.now)) c.read_piece.result
-    (read_piece (read_item (129 - c.args.inner)) c.pieces.rest.now) c.read_piece.ensures.gives
-    (was_error c.read_piece.result c.in_ok-after.field-0 c.in_ok-after.ensures.none c.in_default.is))) begins
+    c.pieces.invariant.1 goes (cut (dead.refused (λ x. (x.0.items, x.1.now)) c.piece_front.result
+    (read_piece (read_item (129 - c.args.inner)) c.pieces.rest.now) c.piece_front.ensures.gives
+    (was_error c.piece_front.result c.in_ok-after.field-0 c.in_ok-after.ensures.none c.in_default.is))) begins
     refused) c.is_dead_piece.ensures.cut
 
 pub is_dead_pieces-returns-then-not-ends_blank-clause-cut : goal.is_dead_pieces-returns-then-not-ends_blank-clause-cut
 is_dead_pieces-returns-then-not-ends_blank-clause-cut t c is begins refused =
     let goes = sym (c.begins_piece.ensures ∙ ap (begins_piece (kind_view c.args.kind)) c.of.ensures)
     ∙ c.pieces-test.true in
-    let read = was_given c.read_piece.result c.in_ok-after.field-0 (c.in-Some.field-0-0, c.in-Some.after)
+    let read = was_given c.piece_front.result c.in_ok-after.field-0 (c.in-Some.field-0-0, c.in-Some.after)
     (λ x. (x.0.items, x.1.now)) (read_piece (read_item (129 - c.args.inner)) c.pieces.rest.now)
-    c.in_ok-after.ensures.found c.in-Some.is c.read_piece.ensures.gives in
-    let shorter = was_read c.read_piece.result c.in_ok-after.field-0 (c.in-Some.field-0-0, c.in-Some.after)
+    c.in_ok-after.ensures.found c.in-Some.is c.piece_front.ensures.gives in
+    let shorter = was_read c.piece_front.result c.in_ok-after.field-0 (c.in-Some.field-0-0, c.in-Some.after)
     (λ x. length x.1.now < length c.pieces.rest.now) c.in_ok-after.ensures.found c.in-Some.is
-    c.read_piece.ensures.shorter in
+    c.piece_front.ensures.shorter in
     absurd (pieces_ended (129 - c.args.inner) (kind_view c.args.kind) c.args.text.now c.after_blank-rest.result.now
     (pieces_go_on (129 - c.args.inner) (kind_view c.args.kind) c.args.text.now c.pieces.rest.now
     c.in-Some.field-0-0.items c.in-Some.after.now c.after_blank-rest.result.now c.pieces.invariant.1 goes read
@@ -532,9 +532,9 @@ is_dead_pieces-returns-clause-cut t c is begins refused =
 
 pub is_dead_string-returns-in-Some-clause-cut : goal.is_dead_string-returns-in-Some-clause-cut
 is_dead_string-returns-in-Some-clause-cut t c is refused =
-    let read = was_given c.read_content.result c.in_ok-content.field-0 (c.in-Some.content, c.in-Some.rest)
+    let read = was_given c.content_front.result c.in_ok-content.field-0 (c.in-Some.content, c.in-Some.rest)
     (λ x. (x.0.items, x.1.now)) (read_content (read_item (129 - c.args.inner)) (kind_view c.args.kind) c.args.text.now)
-    c.in_ok-content.ensures.found c.in-Some.is c.read_content.ensures.gives in
+    c.in_ok-content.ensures.found c.in-Some.is c.content_front.ensures.gives in
     content_ends (129 - c.args.inner) (kind_view c.args.kind) c.args.text.now c.in-Some.content.items
     c.in-Some.rest.now (sym (c.begins_string.ensures ∙ ap (begins_string (kind_view c.args.kind)) c.of.ensures)
     ∙ c.if-not-begins_string.false) read (c.is_dead_content.ensures.cut is) refused
@@ -543,9 +543,10 @@ pub is_dead_string-returns-in-None-clause-cut : goal.is_dead_string-returns-in-N
 is_dead_string-returns-in-None-clause-cut t c =
     cut_from c.is_dead_pieces.result
     (λ cut not_read. cut (sym (c.begins_string.ensures ∙ ap (begins_string (kind_view c.args.kind)) c.of.ensures)
-    ∙ c.if-not-begins_string.false) (dead.refused (λ x. (x.0.items, x.1.now)) c.read_content.result
-    (read_content (read_item (129 - c.args.inner)) (kind_view c.args.kind) c.args.text.now) c.read_content.ensures.gives
-    (was_error c.read_content.result c.in_ok-content.field-0 c.in_ok-content.ensures.none c.in-None.is)))
+    ∙ c.if-not-begins_string.false) (dead.refused (λ x. (x.0.items, x.1.now)) c.content_front.result
+    (read_content (read_item (129 - c.args.inner)) (kind_view c.args.kind) c.args.text.now)
+    c.content_front.ensures.gives
+    (was_error c.content_front.result c.in_ok-content.field-0 c.in_ok-content.ensures.none c.in-None.is)))
     c.is_dead_pieces.ensures.cut
 
 pub is_dead_chunks-returns-in_default-clause-cut : goal.is_dead_chunks-returns-in_default-clause-cut
@@ -580,10 +581,10 @@ is_dead_string_item-returns-clause-cut t c =
 pub is_dead_integer-returns-in_default-clause-cut : goal.is_dead_integer-returns-in_default-clause-cut
 is_dead_integer-returns-in_default-clause-cut t c is not_read =
     number_cut (129 - c.args.inner) c.args.text.now (c.is_dead_unsigned.ensures.cut is
-    (dead.refused (λ x. ((x.0.0, x.0.1), x.1.now)) c.read_unsigned_number.result
-    (read_unsigned_number c.args.text.now) c.read_unsigned_number.ensures.gives
-    (error_refused c.read_unsigned_number.result c.in_default.field-0 c.in_default.is
-    c.read_unsigned_number.ensures.memory)))
+    (dead.refused (λ x. ((x.0.0, x.0.1), x.1.now)) c.unsigned_front.result
+    (read_unsigned_number c.args.text.now) c.unsigned_front.ensures.gives
+    (error_refused c.unsigned_front.result c.in_default.field-0 c.in_default.is
+    c.unsigned_front.ensures.memory)))
 
 -- what a branch of a match answers
 by_branch : (P : Type 0) (r s : Result Bool Error) → r ≡ s → IfOk s (λ dead. IsFalse dead → P)
@@ -594,9 +595,9 @@ pub is_dead_embedded-returns-clause-cut : goal.is_dead_embedded-returns-clause-c
 is_dead_embedded-returns-clause-cut t c =
     elim c.match-branch-2.branch [
       | is_dead_embedded-in-Some-2 w ↦
-          let read = was_given c.read_items.result c.in_ok-rest.field-0 (w.in-Some-2.field-0-0, w.in-Some-2.rest)
+          let read = was_given c.items_front.result c.in_ok-rest.field-0 (w.in-Some-2.field-0-0, w.in-Some-2.rest)
           (λ x. (map view x.0.items, x.1.now)) (read_members (read_item (129 - c.args.inner)) 62 c.in-Some.first.now)
-          c.in_ok-rest.ensures.found w.in-Some-2.is c.read_items.ensures.gives in
+          c.in_ok-rest.ensures.found w.in-Some-2.is c.items_front.ensures.gives in
           by_branch _ c.match-branch-2.result (Ok w.has_no_close.result) w.result-is
           (λ is not_read. embedded_ends (129 - c.args.inner) c.args.text.now c.in-Some.first.now
           (map view w.in-Some-2.field-0-0.items) w.in-Some-2.rest.now (sym c.in-Some.ensures.gives) read
@@ -605,9 +606,9 @@ is_dead_embedded-returns-clause-cut t c =
           by_branch _ c.match-branch-2.result w.is_dead_list.result w.result-is
           (cut_from w.is_dead_list.result
           (λ cut not_read. embedded_list_cut (129 - c.args.inner) c.args.text.now c.in-Some.first.now
-          (sym c.in-Some.ensures.gives) (cut (dead.refused (λ x. (map view x.0.items, x.1.now)) c.read_items.result
-          (read_members (read_item (129 - c.args.inner)) 62 c.in-Some.first.now) c.read_items.ensures.gives
-          (was_error c.read_items.result c.in_ok-rest.field-0 c.in_ok-rest.ensures.none w.in-None.is))))
+          (sym c.in-Some.ensures.gives) (cut (dead.refused (λ x. (map view x.0.items, x.1.now)) c.items_front.result
+          (read_members (read_item (129 - c.args.inner)) 62 c.in-Some.first.now) c.items_front.ensures.gives
+          (was_error c.items_front.result c.in_ok-rest.field-0 c.in_ok-rest.ensures.none w.in-None.is))))
           w.is_dead_list.ensures.cut)
     ]
 
