@@ -1,11 +1,10 @@
 //! The lines of heads and of strings.
 ghost use Rattle.std.specs.Prelude.{◌≡◌, ◌<◌, ◌≤◌, ◌+◌, ◌*◌, ◌==◌, ◌++◌, ◌∷◌, [], length, OnOk};
 ghost use Rattle.std.specs.Prelude.{if◌then◌else◌, replicate};
-ghost use Rattle.std.specs.Str.{IsCharBoundary};
 ghost use Rattle.std.specs.String.{string_bytes};
 ghost use Rattle.cbor_grammar.specs.Comments.{simple_comment, text_comment};
 ghost use Rattle.cbor_grammar.specs.Dump as spec;
-ghost use Rattle.cbor_grammar.specs.Pieces.{text_pieces, text_cut as cut_of};
+ghost use Rattle.cbor_grammar.specs.Pieces.{text_pieces};
 ghost use Rattle.cbor_grammar.specs.Reading.{count_width};
 ghost use Rattle.cbor_grammar.specs.WellFormed.{deepest};
 ghost use Rattle.cbor_grammar.specs.Written.{encoded_head, encoded_simple};
@@ -20,6 +19,7 @@ ghost use Rattle.cbor_grammar.specs.mirror.StringView.{borrowed_chunk, bytes_of,
 use crate::comment::Comment;
 use crate::context::DumpContext;
 use crate::hex_style::HexStyle;
+use crate::width::{PIECE, SHORT_TEXT, text_cut};
 use crate::writer::Writer;
 use cbor_bytes::argument::Argument;
 use cbor_bytes::head::ItemHead;
@@ -167,7 +167,7 @@ impl Writer {
         }
         let mut rest = bytes;
         'pieces: while !rest.is_empty() {
-            let (piece, after) = rest.split_at(rest.len().min(16));
+            let (piece, after) = rest.split_at(rest.len().min(PIECE));
             self.piece_line(depth, piece, &Comment::Bytes(encoding, bytes, piece))?;
             rest = after;
         }
@@ -220,7 +220,7 @@ impl Writer {
         if text.is_empty() {
             return self.piece_line(depth, text.as_bytes(), &Comment::Empty);
         }
-        if text.len() <= 24 {
+        if text.len() <= SHORT_TEXT {
             return self.piece_line(depth, text.as_bytes(), &Comment::Text(text));
         }
         let mut rest = text;
@@ -270,13 +270,4 @@ impl Writer {
         )?;
         self.string_content(context, content)
     }
-}
-
-/// After how many bytes a text is cut: at most 16, before a character.
-fn text_cut(rest: &str) -> usize
-    requires { 0 < length rest.now }
-    ensures cut { result ≡ cut_of rest.now }
-    ensures boundary { IsCharBoundary rest.now result }
-{
-    rest.floor_char_boundary(16)
 }

@@ -27,10 +27,10 @@ use cbor_grammar::strings::{StringContent, StringKind};
 use cbor_notes::element_size;
 
 /// How many bytes of a string a line shows at most.
-const PIECE: usize = 16;
+pub(crate) const PIECE: usize = 16;
 
 /// How many bytes a text has at most that is shown in one line.
-const SHORT_TEXT: usize = 24;
+pub(crate) const SHORT_TEXT: usize = 24;
 
 /// Where in a dump an item is, as far as its digits depend on it.
 #[derive(Clone, Copy)]
@@ -353,8 +353,8 @@ fn text_piece(text: &str) -> usize
     longest
 }
 
-/// After how many bytes a text is cut: at most 16, before a character.
-fn text_cut(rest: &str) -> usize
+/// After how many bytes a text is cut: at most `PIECE`, before a character.
+pub(crate) fn text_cut(rest: &str) -> usize
     requires { 0 < length rest.now }
     ensures cut { result ≡ cut_of rest.now }
     ensures boundary { IsCharBoundary rest.now result }

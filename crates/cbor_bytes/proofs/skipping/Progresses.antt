@@ -7,29 +7,18 @@ use Rattle.cbor_grammar.specs.declared.error.Error.{Error}
 use Rattle.cbor_bytes.specs.declared.skip.Stop.{Stop}
 use Rattle.cbor_bytes.specs.declared.skip.Stop.TheVariants as stops
 use Rattle.cbor_bytes.specs.declared.skip.due.Due.TheVariants as due
-use Rattle.cbor_bytes.specs.declared.skip.due.Pause.{Pause}
-use Rattle.cbor_bytes.specs.declared.skip.due.Pause.TheVariants as pause
 use Rattle.cbor_bytes.specs.declared.skip.progress.Progress.{Progress}
 use Rattle.cbor_bytes.specs.declared.skip.to_come.ToCome.{ToCome}
 use Rattle.cbor_grammar.specs.Item.{no_items}
 use Rattle.cbor_grammar.specs.Reading.{items_in}
 use Rattle.cbor_grammar.specs.WellFormed.{deepest}
 use Rattle.cbor_bytes.specs.mirror.Skipping.{Skip, here, Goes, Shows, skip_item, frame_of, argument_of}
-use Rattle.cbor_bytes.specs.mirror.Scanning.{skip_from, Waits, PausesSo, PausesIn, IsFew}
+use Rattle.cbor_bytes.specs.mirror.Scanning.{skip_from, Waits}
 use Rattle.cbor_bytes.specs.mirror.Scanned.{EndsSo, StopsAt}
 use Rattle.cbor_bytes.proofs.skipping.Skips.{goes_at, goes_then, shows_then, no_item, behind_first, first_is, empty_is}
 use Rattle.cbor_bytes.proofs.skipping.SkippedParts.{first_goes}
 use Rattle.cbor_bytes.proofs.skipping.Scans.{waits_then}
 use Rattle.cbor_bytes.proofs.skipping.ScannedParts.{goes_more, shows_more}
-
-pub pauses_few : (f : List ℕ → Skip) (b : List ℕ) (p : Pause) → PausesSo f b p → IsFew p
-pauses_few f b (pause.Cut d rest) w = w.few
-pauses_few f b (pause.Fault e after) s = tt
-
-pub pauses_in_few : (outer : List ToCome) (top : ToCome) (f : List ℕ → Skip) (b : List ℕ) (p : Pause)
-    → PausesIn outer top f b p → IsFew p
-pauses_in_few outer top f b (pause.Cut d rest) w = w.few
-pauses_in_few outer top f b (pause.Fault e after) s = tt
 
 -- before the first byte
 pub first_waits : (outer : List ToCome) (top : ToCome) (held : List ℕ) → outer ≡ []

@@ -227,11 +227,6 @@ pub pairs_push : (level : ℕ) (vs : List (DataItem × DataItem)) (v : DataItem 
 pairs_push level [] v held key value = (key, value, tt)
 pairs_push level (w ∷ vs) v held key value = (held.0, held.1, pairs_push level vs v held.2 key value)
 
-pub all_push : {X : Type 0} (P : X → Type 0) (xs : List X) (x : X) → AllByRecursion P xs → P x
-    → AllByRecursion P (xs ++ x ∷ [])
-all_push P [] x held here = (here, tt)
-all_push P (y ∷ xs) x held here = (held.0, all_push P xs x held.1 here)
-
 open_fits : (w : Option IntegerWidth) (n : ℕ) → n < 2 ^ 64 → (w ≡ None) ⊎ (w ≡ Some Unknown) → FitsCount w n
 open_fits w n fits (inl e) = subst (λ x. FitsCount x n) (sym e) tt
 open_fits w n fits (inr e) = subst (λ x. FitsCount x n) (sym e) fits

@@ -13,7 +13,6 @@ use Rattle.cbor_grammar.specs.declared.error.Error.{Error}
 use Rattle.cbor_diag.specs.declared.parse.notation.fault.Member.{Member}
 use Rattle.cbor_diag.specs.declared.parse.notation.fault.Member.TheVariants as member
 use Rattle.cbor_notation.specs.declared.start.Start.{Start}
-use Rattle.cbor_notation.specs.declared.start.Start.TheVariants as start
 use Rattle.cbor_grammar.specs.declared.width.IntegerWidth.{IntegerWidth}
 use Rattle.cbor_grammar.specs.declared.width.IntegerWidth.TheVariants.{Unknown, Zero}
 use Rattle.cbor_grammar.specs.Item as spec
@@ -34,7 +33,6 @@ use Rattle.cbor_grammar.specs.mirror.StringView.{kind_view}
 use Rattle.cbor_diag.specs.mirror.DeadEnds.{NotRead, ends_blank, is_firm, Value, read_member, MemberIs, ChunkIs}
 use Rattle.cbor_grammar.proofs.bytes.Heads.{bind_ok, ok_is}
 use Rattle.cbor_diag.proofs.notation.CutTokens.{blank_goes_on, cut_by}
-use Rattle.cbor_diag.proofs.notation.DeadTokens.{not_bind}
 use Rattle.cbor_diag.proofs.notation.CutLists.{Finds, finds_by, not_made, cut_in, cut_as}
 use Rattle.cbor_diag.proofs.notation.CutLists.{soft_cut}
 use Rattle.cbor_notation.proofs.notation.sound.Items.{item_sound, reads_blank, pair_sound, pair_blank}
@@ -329,18 +327,3 @@ module _ (left : ℕ) where
               (t, ap (λ (u : List ℕ). 123 ∷ 95 ∷ u) (append-nil t), rw (pairs_list-pairs_of ps) h),
             ),
           )) cut)
-
-  -- ---- pairs that are not read
-
-  pub pair_key_refused : (text : List ℕ) → NotRead (read_item left text) → NotRead (read_pair (read_item left) text)
-  pair_key_refused text refused = not_bind (read_item left text) _ refused
-
-  pub pair_colon_refused : (text : List ℕ) (x : Item) (after : List ℕ) → read_item left text ≡ Ok (x, after)
-      → NotRead (or_refused (after_byte 58 after)) → NotRead (read_pair (read_item left) text)
-  pair_colon_refused text x after found refused = rw found (not_bind (or_refused (after_byte 58 after)) _ refused)
-
-  pub pair_value_refused : (text : List ℕ) (x : Item) (after next : List ℕ) → read_item left text ≡ Ok (x, after)
-      → or_refused (after_byte 58 after) ≡ Ok next → NotRead (read_item left next)
-      → NotRead (read_pair (read_item left) text)
-  pair_value_refused text x after next found colon refused =
-      rw (found, colon) (not_bind (read_item left next) _ refused)

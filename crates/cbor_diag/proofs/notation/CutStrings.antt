@@ -353,9 +353,6 @@ module _ (left : ℕ) where
       by start.LetterH is h = rw is refl
       by _ is h = absurd cc
 
-  text_empty : IsCut (StringOf text_kind (Reads left)) []
-  text_empty = string_empty text_kind
-
   two_string : StringOf text_kind (Reads left) (34 ∷ 50 ∷ 34 ∷ []) (record { bytes = 50 ∷ []; width = Unknown })
   unfolding lib.Utf8.encode
   two_string = (refl, (50 ∷ 34 ∷ [], refl), one (inl refl), IsUtf8-encode 50 refl)

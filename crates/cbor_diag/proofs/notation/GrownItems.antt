@@ -70,10 +70,6 @@ of_some (Some y) x e = ap Some (ok_is y x e)
 
 -- ---- what is firm
 
-pub firm_some : (text : List ℕ) → is_firm text ≡ true → (b : ℕ) × (rest : List ℕ) × (text ≡ b ∷ rest)
-firm_some [] e = absurd (false≢true e)
-firm_some (b ∷ rest) e = (b, rest, refl)
-
 pub firm_blank : (text : List ℕ) → is_firm text ≡ true → ends_blank (skip_blank text) ≡ true
 firm_blank text e = (and_parts (ends_blank (skip_blank text)) (is_settled (skip_blank text)) e).0
 

@@ -194,20 +194,6 @@ fn read_counted_front(
     }
 }
 
-/// The same, without counting turns.
-pub(crate) fn read_front(
-    alloc: Global,
-    bytes: &[u8],
-    level: u8,
-) -> Result<Option<(DataItem, usize)>>
-    requires from { 1 ≤ level }
-    requires to { level ≤ deepest + 1 }
-    ensures outcome { HasOutcome level bytes.now result }
-    ensures memory { result ≡ Err Error.Memory → MayWantMemory bytes.now }
-{
-    read_counted_front(alloc, bytes, level, &mut Turns::new())
-}
-
 /// The one item that the bytes are, all of them, read from `level`.
 pub(crate) fn read_whole(alloc: Global, bytes: &[u8], level: u8) -> Result<DataItem>
     requires from { 1 ≤ level }

@@ -263,11 +263,6 @@ not_array (code.Tag t w) never = tt
 
 -- ---- the members that notes see
 
-pub no_member : (levels : ℕ) (left more : Argument) (b after : List ℕ) (is : Items) → IsSome (after_members left b)
-    → AreMembers levels left b is → IsNextMember levels more is None after
-no_member levels left more b after no_items ends are = refl
-no_member levels left more b after (item i is) ends are = absurd (let none = are.0 in let some = rw none at ends in cc)
-
 pub headless : (levels : ℕ) (left more : Argument) (b after : List ℕ) (is : Items) (e : Error)
     → read_head b ≡ Err e → AreMembers levels left b is → IsNextMember levels more is None after
 headless levels left more b after no_items e fails are = refl

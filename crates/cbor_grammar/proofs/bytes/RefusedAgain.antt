@@ -77,9 +77,6 @@ wants_put k rest (tag_of t w) i h = absurd (omega arith)
 wants_put k rest (tagged_with t w j) i h = absurd h
 
 module _ (level left : ℕ) (levels : level + left ≡ 129) where
-  abbrev read : List ℕ → Counted Item
-  read = counted_item left
-
   -- whole parts, and one that fails
   parts_spent : (k : ℕ) (whole rest : List ℕ) (f : Frame) (t : ℕ) (e : Error) → (spelled : SpelledParts level k whole)
       → Wants k rest f → counted_item left rest ≡ (t, Err e)

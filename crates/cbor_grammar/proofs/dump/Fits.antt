@@ -258,11 +258,7 @@ low_end depth level below few = omega arith
 pub low_first : (depth level : ℕ) → depth < level → level ≤ deepest → depth < 140
 low_first depth level below few = omega arith
 
--- the two parts of what is known of each line
-pub fits_of : (lines : List DumpLine) → AllByRecursion IsGood lines → AllByRecursion IsFit lines
-fits_of [] good = tt
-fits_of (line ∷ lines) good = (good.0.fit, fits_of lines good.1)
-
+-- what is known of each line, in part
 pub plain_of : (lines : List DumpLine) → AllByRecursion IsGood lines → AllByRecursion IsPlain lines
 plain_of [] good = tt
 plain_of (line ∷ lines) good = (good.0.plain, plain_of lines good.1)

@@ -42,11 +42,6 @@ fails_is refusal.Memory d read same is = tt
 fails_is {X = X} e d read same is = let P : Error → Result X Error = λ x. Err x in is ∙ ap P (sym same)
 
 -- an error of a step is one of all
-pub fails_bind : {A B : Type 0} (e : Error) (r : Result A Error) (f : A → Result B Error) → Fails e r
-    → Fails e (r >>= f)
-fails_bind refusal.Memory r f h = tt
-fails_bind e r f h = ap (λ x. x >>= f) h
-
 pub fails_then : {A B : Type 0} (e : Error) (c : Counted A) (f : A × List ℕ → Counted B) → Fails e c.1
     → Fails e (c >>- f).1
 fails_then refusal.Memory c f h = tt
