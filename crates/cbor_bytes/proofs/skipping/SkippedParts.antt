@@ -202,17 +202,19 @@ wanted_same : (outer : List ToCome) (top : ToCome) (b : List ℕ) → after_end 
 wanted_same outer top b none = ap (closing deepest outer) (frame_next (deepest - length outer) (frame_of top) b none)
 
 -- the innermost container ends, and nothing is open round it
-pub last_ends : (top : ToCome) (b after : List ℕ) → Some after ≡ after_end (frame_of top) b
-    → Goes (skip_open [] top) here b after
-last_ends top b after some = frame_ends (deepest - 0) (frame_of top) b after (sym some)
+pub last_ends : {f : List ℕ → Skip} {all : List ℕ} (outer : List ToCome) (top : ToCome) (b after : List ℕ)
+    → Goes f (skip_open outer top) all b → outer ≡ [] → Some after ≡ after_end (frame_of top) b → Goes f here all after
+last_ends outer top b after so_far none some =
+    goes_then (rw none at so_far) (frame_ends (deepest - 0) (frame_of top) b after (sym some))
 
 -- the innermost container ends in another one
-pub open_ends : (outer : List ToCome) (t top : ToCome) (b after : List ℕ) → Some after ≡ after_end (frame_of top) b
-    → Goes (skip_open (outer ++ t ∷ []) top) (skip_open outer t) b after
-open_ends outer t top b after some =
+pub open_ends : {f : List ℕ → Skip} {all : List ℕ} (whole outer : List ToCome) (t top : ToCome) (b after : List ℕ)
+    → Goes f (skip_open whole top) all b → whole ≡ outer ++ t ∷ [] → Some after ≡ after_end (frame_of top) b
+    → Goes f (skip_open outer t) all after
+open_ends whole outer t top b after so_far is some =
     let ends = goes_within (closing deepest (outer ++ t ∷ []))
     (frame_ends (deepest - length (outer ++ t ∷ [])) (frame_of top) b after (sym some)) in
-    goes_then ends (goes_here after (λ c. closing_append deepest outer t (Ok c)))
+    goes_then (rw is at so_far) (goes_then ends (goes_here after (λ c. closing_append deepest outer t (Ok c))))
 
 -- ---- the next part
 
