@@ -379,8 +379,8 @@ fn embedded_sequence(walk: &mut Walk, context: &DumpContext, bytes: &[u8]) -> Re
     Ok(())
 }
 
-/// The note of an embedded item, which is at the front of the bytes: its dump, whose left column has
-/// that width. The item was read before, so the only error is out of memory.
+/// The note of an embedded item, which is at the front of the bytes: its dump, whose left column
+/// has that width. The item was read before, so the only error is out of memory.
 #[cycle(walk)]
 fn embedded_note(
     walk: &mut Walk,

@@ -296,8 +296,8 @@ impl Reach {
     }
 }
 
-/// How many bytes of a dump a head shows that took this many: the same, but for a simple value below
-/// 24, which one byte shows.
+/// How many bytes of a dump a head shows that took this many: the same, but for a simple value
+/// below 24, which one byte shows.
 fn shown_length(head: ItemHead, taken: usize) -> usize
     ensures { result ≡ spec.shown_length (head_view head) taken }
 {

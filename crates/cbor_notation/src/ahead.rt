@@ -3,8 +3,8 @@
 //!
 //! Each function takes a budget of characters and returns what its part leaves of it, and the bytes
 //! after that part; or `None` where the part takes all of the budget, or where the bytes are cut or
-//! have a fault. Then it does not matter what is returned: the caller reads the same bytes next, and
-//! finds the error. Strings are skipped by their length, and texts aren't tested for UTF-8.
+//! have a fault. Then it does not matter what is returned: the caller reads the same bytes next,
+//! and finds the error. Strings are skipped by their length, and texts aren't tested for UTF-8.
 //!
 //! Each head takes two characters of the budget or more. So one look reads fewer than 30 heads,
 //! however long or deep the container is.

@@ -62,8 +62,8 @@ pub fn bytes_to_diag(alloc: Global, bytes: &[u8]) -> cbor_grammar::Result<String
     whole_text(alloc, bytes, Layout::Compact)
 }
 
-/// Appends the text of [`bytes_to_diag`] to `out`, to reuse its memory. The errors are the same, and
-/// after one `out` is unchanged.
+/// Appends the text of [`bytes_to_diag`] to `out`, to reuse its memory. The errors are the same,
+/// and after one `out` is unchanged.
 pub fn push_bytes_to_diag(alloc: Global, bytes: &[u8], out: &mut String) -> cbor_grammar::Result<()>
     // The text of the item that the bytes are, exactly if they are one.
     ensures ok { OnOk result ((i : Item) × IsItem bytes.now i
@@ -125,8 +125,8 @@ pub fn push_bytes_to_diag_partial(
 /// Returns the item of hex with comments in diagnostic notation (RFC 7049 section 6) on one line,
 /// without blanks.
 ///
-/// It returns what [`parse_hex`] and [`DataItem::to_diag`] return one after the other, the errors of
-/// [`parse_hex`] included. It builds no item, so it takes less time and less memory.
+/// It returns what [`parse_hex`] and [`DataItem::to_diag`] return one after the other, the errors
+/// of [`parse_hex`] included. It builds no item, so it takes less time and less memory.
 ///
 /// ```rust
 /// use cbor_diag::hex_to_diag;

@@ -107,8 +107,8 @@ pub(super) fn push_part(
 /// For how many bytes of an input memory is taken before its text is written, at most.
 const MOST: usize = 1 << 19;
 
-/// How much memory a text of that many bytes begins with: it is mostly up to twice as long. From C, a
-/// message of 98 bytes takes a quarter less than where its text is made longer again and again.
+/// How much memory a text of that many bytes begins with: it is mostly up to twice as long. From C,
+/// a message of 98 bytes takes a quarter less than where its text is made longer again and again.
 fn first_capacity(len: usize) -> usize {
     2 * len.min(MOST) + 32
 }

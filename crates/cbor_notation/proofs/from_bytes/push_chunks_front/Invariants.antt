@@ -17,6 +17,7 @@ invariant-chunks l = record {
   read : ChunksRead (kind_view l.kind) l.bytes l.rest;
   count : length read.chunks ≡ l.held;
   text : string_bytes l.out ≡ string_bytes l.fn.out
-      ++ chunks_begun (style_view l.style) (chunk_texts (kind_view l.kind) (encoding_view l.context.encoding) read.chunks);
+      ++ chunks_begun (style_view l.style)
+      (chunk_texts (kind_view l.kind) (encoding_view l.context.encoding) read.chunks);
   room : l.held + length l.rest ≤ length l.bytes;
 }

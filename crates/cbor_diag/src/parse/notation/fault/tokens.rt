@@ -324,7 +324,8 @@ fn are_closed(text: &[u8], comments: bool) -> bool
     false
 }
 
-/// Whether no other bytes behind the text change that it is no `b32'..'` or `b64'..'` after the `b`.
+/// Whether no other bytes behind the text change that it is no `b32'..'` or `b64'..'` after the
+/// `b`.
 #[tactic(auto, using(crate::proofs::notation::DeadTokens::b32_dead, crate::proofs::notation::DeadTokens::b64_dead, crate::proofs::notation::DeadTokens::b_dead))]
 fn is_dead_b(text: &[u8]) -> bool
     ensures dead { IsTrue result → NotRead (b_notation text.now) → NeverReads b_notation text.now }

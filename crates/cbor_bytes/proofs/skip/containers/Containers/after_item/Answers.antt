@@ -15,7 +15,8 @@ returns-in_default-pop-clause-goes c =
 
 pub turns-preserved-in-Some : goal.turns-preserved-in-Some
 turns-preserved-in-Some c = record {
-  goes = open_ends c.turns.self.outer c.pop.new.self c.in-Some-pop.«open» c.turns.top c.turns.rest.now c.in-Some.after.now
+  goes = open_ends c.turns.self.outer c.pop.new.self c.in-Some-pop.«open» c.turns.top c.turns.rest.now
+      c.in-Some.after.now
       c.turns.invariant.goes c.in-Some-pop.ensures.some c.in-Some.ensures;
 }
 
