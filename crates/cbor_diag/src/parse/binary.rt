@@ -195,7 +195,7 @@ fn read_counted_front(
 }
 
 /// The one item that the bytes are, all of them, read from `level`.
-pub(crate) fn read_whole(alloc: Global, bytes: &[u8], level: u8) -> Result<DataItem>
+fn read_whole(alloc: Global, bytes: &[u8], level: u8) -> Result<DataItem>
     requires from { 1 ≤ level }
     requires to { level ≤ deepest + 1 }
     ensures answer { HasAnswer level bytes.now result }
