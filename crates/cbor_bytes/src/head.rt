@@ -1,9 +1,10 @@
 //! Heads (RFC 7049 section 2): the first byte of an item, and the number that goes with it.
 ghost use Rattle.std.specs.Prelude.{◌≡◌, ◌≢◌, ◌<◌, ◌≤◌, length, IfOk, IfErr};
 ghost use Rattle.std.specs.Int.{w8, w16, w32, w64};
+ghost use Rattle.std.specs.Result.{result_map_both};
 ghost use Rattle.cbor_grammar.specs.Head.{FitsStated};
 ghost use Rattle.cbor_grammar.specs.mirror.MajorNumber.{major_number};
-ghost use Rattle.cbor_bytes.specs.mirror.HeadView.{argument_view, head_view, Finds};
+ghost use Rattle.cbor_bytes.specs.mirror.HeadView.{argument_view, head_view};
 ghost use Rattle.cbor_grammar.specs.Reading.{FitsArgument, read_number, read_argument};
 ghost use Rattle.cbor_grammar.specs.Reading.{simple_or_float, head_of, read_head};
 ghost use Rattle.std.specs.Prelude.{◌-◌, ◌*◌};
@@ -32,7 +33,8 @@ pub enum ItemHead {
 }
 
 fn read_u8(bytes: &[u8]) -> Result<(u8, &[u8])>
-    ensures gives { Finds (λ x. (x.0, x.1.now)) result (read_number w8 bytes.now) }
+    ensures gives { read_number w8 bytes.now
+        ≡ result_map_both (λ x. (x.0, x.1.now)) (λ e. e) result }
     ensures refused { IfErr result (λ e. e ≢ Error.Memory) }
 {
     match bytes {
@@ -42,7 +44,8 @@ fn read_u8(bytes: &[u8]) -> Result<(u8, &[u8])>
 }
 
 fn read_u16(bytes: &[u8]) -> Result<(u16, &[u8])>
-    ensures gives { Finds (λ x. (x.0, x.1.now)) result (read_number w16 bytes.now) }
+    ensures gives { read_number w16 bytes.now
+        ≡ result_map_both (λ x. (x.0, x.1.now)) (λ e. e) result }
     ensures refused { IfErr result (λ e. e ≢ Error.Memory) }
 {
     if bytes.len() < 2 {
@@ -53,7 +56,8 @@ fn read_u16(bytes: &[u8]) -> Result<(u16, &[u8])>
 }
 
 fn read_u32(bytes: &[u8]) -> Result<(u32, &[u8])>
-    ensures gives { Finds (λ x. (x.0, x.1.now)) result (read_number w32 bytes.now) }
+    ensures gives { read_number w32 bytes.now
+        ≡ result_map_both (λ x. (x.0, x.1.now)) (λ e. e) result }
     ensures refused { IfErr result (λ e. e ≢ Error.Memory) }
 {
     if bytes.len() < 4 {
@@ -65,7 +69,8 @@ fn read_u32(bytes: &[u8]) -> Result<(u32, &[u8])>
 }
 
 fn read_u64(bytes: &[u8]) -> Result<(u64, &[u8])>
-    ensures gives { Finds (λ x. (x.0, x.1.now)) result (read_number w64 bytes.now) }
+    ensures gives { read_number w64 bytes.now
+        ≡ result_map_both (λ x. (x.0, x.1.now)) (λ e. e) result }
     ensures refused { IfErr result (λ e. e ≢ Error.Memory) }
 {
     if bytes.len() < 8 {
@@ -82,8 +87,8 @@ fn read_u64(bytes: &[u8]) -> Result<(u64, &[u8])>
 #[tactic(auto, unfolding(cbor_grammar::specs::Reading::read_argument, cbor_grammar::specs::Reading::read_wide))]
 pub(super) fn read_argument(info: u8, bytes: &[u8]) -> Result<(Argument, &[u8])>
     requires { info < 32 }
-    ensures gives { Finds (λ x. (argument_view x.0, x.1.now)) result
-        (read_argument info bytes.now) }
+    ensures gives { read_argument info bytes.now
+        ≡ result_map_both (λ x. (argument_view x.0, x.1.now)) (λ e. e) result }
     ensures refused { IfErr result (λ e. e ≢ Error.Memory) }
     ensures fits { IfOk result (λ x. FitsArgument (argument_view x.0)) }
     ensures shorter { IfOk result (λ x. length x.1.now ≤ length bytes.now) }
@@ -133,8 +138,8 @@ impl ItemHead {
     #[tactic(auto, unfolding(cbor_grammar::specs::Reading::head_of))]
     fn new(major: Major, argument: Argument) -> Result<ItemHead>
         requires { FitsArgument (argument_view argument) }
-        ensures gives { Finds head_view result
-            (head_of (major_number major) (argument_view argument)) }
+        ensures gives { head_of (major_number major) (argument_view argument)
+            ≡ result_map_both head_view (λ e. e) result }
         ensures refused { IfErr result (λ e. e ≢ Error.Memory) }
     {
         let head = match (major, argument) {
@@ -158,7 +163,8 @@ impl ItemHead {
 #[inline(always)]
 #[tactic(auto, unfolding(cbor_grammar::specs::Reading::read_head))]
 pub fn read_head(bytes: &[u8]) -> Result<(ItemHead, &[u8])>
-    ensures gives { Finds (λ x. (head_view x.0, x.1.now)) result (read_head bytes.now) }
+    ensures gives { read_head bytes.now
+        ≡ result_map_both (λ x. (head_view x.0, x.1.now)) (λ e. e) result }
     ensures refused { IfErr result (λ e. e ≢ Error.Memory) }
     ensures shorter { IfOk result (λ x. length x.1.now < length bytes.now) }
 {

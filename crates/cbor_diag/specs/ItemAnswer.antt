@@ -10,7 +10,7 @@ use Rattle.cbor_diag.specs.View.{view}
 use Rattle.cbor_grammar.specs.Bytes.{any, Spells}
 use Rattle.cbor_grammar.specs.Refused.{Cut, Fault}
 use Rattle.cbor_grammar.specs.Turns.{item_turns, cut_spent, fault_spent}
-use Rattle.cbor_grammar.specs.Answer.{Outcome, IsOutcome, IsFrontError, IsWholeError, spelled, cut, fault}
+use Rattle.cbor_grammar.specs.Answer.{Outcome, IsOutcome, spelled, cut, fault, UnlessMemory, IsRefused}
 use Rattle.std.specs.Prelude.{◌⊎◌}
 use Rattle.cbor_grammar.specs.Notation.{Reads}
 
@@ -25,7 +25,7 @@ Gave (Err e) o = o ≡ fault e
 abbrev pub HasOutcome : ℕ → List ℕ → Result (Option (DataItem × ℕ)) Error → Type 0
 HasOutcome level b (Ok (Some x)) = IsOutcome level b (spelled (view x.0) x.1)
 HasOutcome level b (Ok None) = IsOutcome level b cut
-HasOutcome level b (Err e) = IsFrontError level b e
+HasOutcome level b (Err e) = UnlessMemory (Fault level b) e
 
 -- What a reader of the front of an input gave says how far a count of turns rose, out of memory aside: by
 -- the turns of the item, or by those of what is whole before a cut or a fault, and the one that failed.
@@ -38,7 +38,7 @@ HasTurns level b old new (Err e) = (f : Fault level b e) → new ≡ old + (faul
 -- What a reader of one whole item gave holds of the input, out of memory aside.
 abbrev pub HasAnswer : ℕ → List ℕ → Result DataItem Error → Type 0
 HasAnswer level b (Ok x) = Spells any level b (view x)
-HasAnswer level b (Err e) = IsWholeError level b e
+HasAnswer level b (Err e) = UnlessMemory (IsRefused level b) e
 
 -- A reader of one whole item gave it, or memory ran out.
 abbrev pub GaveItem : Result DataItem Error → Item → Type 0

@@ -3,7 +3,6 @@ pub mod mirror
 pub mod ItemAnswer
 -- what the crates below define, for callers
 pub use Rattle.cbor_grammar.specs.Answer
-pub use Rattle.cbor_grammar.specs.Appended
 pub use Rattle.cbor_grammar.specs.Argument
 pub use Rattle.cbor_grammar.specs.Bytes
 pub use Rattle.cbor_grammar.specs.Comments

@@ -12,7 +12,6 @@ pub mod Argument
 pub mod ItemHead
 pub mod Reading
 pub mod Answer
-pub mod Appended
 pub mod HexText
 pub mod Notation
 pub mod Examples

@@ -1,6 +1,5 @@
 -- Definitions that mirror the code. Only the checker reads them: no contract of a public call needs them.
 pub mod Counting
-pub mod Appends
 pub mod AtLevel
 pub mod MajorNumber
 pub mod StringView

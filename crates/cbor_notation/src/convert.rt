@@ -4,7 +4,7 @@ ghost use Rattle.std.specs.Prelude.{◌≡◌, ℕ, ◌+◌, ◌<◌, ◌≤◌,
 ghost use Rattle.std.specs.Prelude.{MatchResult, None, Ok};
 ghost use Rattle.std.specs.String.{string_bytes};
 ghost use Rattle.cbor_grammar.specs.declared.width.IntegerWidth.{IntegerWidth};
-ghost use Rattle.cbor_grammar.specs.Answer.{Outcome, GavePart, GaveRefusal, RefusedSo};
+ghost use Rattle.cbor_grammar.specs.Answer.{Outcome, GaveText, GaveRefusal, RefusedSo};
 ghost use Rattle.cbor_grammar.specs.Embedded.{sequence, EmbedsExactly};
 ghost use Rattle.cbor_grammar.specs.Encoding.{Encoding};
 ghost use Rattle.cbor_grammar.specs.Estimate.{estimated_length, one_line_limit};
@@ -112,7 +112,7 @@ pub fn push_bytes_to_diag_partial(
 
     // Bytes begin in exactly one of the three ways, and that one is returned.
     ensures exact { (o : Outcome) → BeginsSo bytes.now o
-        → GavePart diag_of result (string_bytes out.old) (string_bytes out.new) o }
+        → GaveText diag_of result (string_bytes out.old) (string_bytes out.new) o }
     ensures one_of_three { BeginsInOneWay bytes.now }
 
     // Nothing is appended without an item.
@@ -255,7 +255,7 @@ pub fn push_bytes_to_diag_pretty_partial(
 
     // Bytes begin in exactly one of the three ways, and that one is returned.
     ensures exact { (o : Outcome) → BeginsSo bytes.now o
-        → GavePart pretty_of result (string_bytes out.old) (string_bytes out.new) o }
+        → GaveText pretty_of result (string_bytes out.old) (string_bytes out.new) o }
     ensures one_of_three { BeginsInOneWay bytes.now }
 
     // Nothing is appended without an item.

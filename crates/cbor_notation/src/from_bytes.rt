@@ -14,7 +14,7 @@ ghost use Rattle.cbor_grammar.specs.Layout as shown;
 ghost use Rattle.cbor_grammar.specs.NotationText.{last_line, rest_text, style_indent};
 ghost use Rattle.cbor_grammar.specs.Reading.{Fails};
 ghost use Rattle.cbor_grammar.specs.WellFormed.{deepest};
-ghost use Rattle.cbor_grammar.specs.mirror.Appends.{AppendsText};
+ghost use Rattle.cbor_notes.specs.Appends.{AppendsText};
 ghost use Rattle.cbor_bytes.specs.mirror.HeadView.{argument_view};
 ghost use Rattle.cbor_notation.specs.mirror.LayoutView.{context_view, style_view, item_text};
 ghost use Rattle.cbor_notation.specs.mirror.LayoutView.{IsIndented, content_there};

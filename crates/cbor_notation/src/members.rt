@@ -3,7 +3,7 @@
 #![tactic(auto, using(cbor_grammar::proofs::shared::Appending::appending_steps))]
 
 ghost use Rattle.std.specs.Prelude.{◌≡◌, ◌∷◌, [], ◌++◌, ◌<◌, ◌≤◌, ◌^◌, map};
-ghost use Rattle.cbor_grammar.specs.mirror.Appends.{AppendsText};
+ghost use Rattle.cbor_notes.specs.Appends.{AppendsText};
 ghost use Rattle.cbor_grammar.specs.StringKind.{no_chunks};
 ghost use Rattle.cbor_grammar.specs.WellFormed.{deepest};
 ghost use Rattle.cbor_grammar.specs.mirror.StringView.{kind_view};

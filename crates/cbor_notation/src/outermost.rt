@@ -5,7 +5,7 @@
 ghost use Rattle.std.specs.Prelude.{◌≡◌, ◌≤◌, ◌++◌, IfOk, IfErr, IfSome, OnOk, OnErr};
 ghost use Rattle.std.specs.Prelude.{MatchResult, None, Ok};
 ghost use Rattle.std.specs.String.{string_bytes};
-ghost use Rattle.cbor_grammar.specs.Answer.{Outcome, GavePart, GaveRefusal, RefusedSo};
+ghost use Rattle.cbor_grammar.specs.Answer.{Outcome, GaveText, GaveRefusal, RefusedSo};
 ghost use Rattle.cbor_grammar.specs.Facts.{IsItem, BeginsWithItem, IsCut, HasFault, IsNoItem};
 ghost use Rattle.cbor_grammar.specs.Facts.{BeginsSo, BeginsInOneWay, normal_of};
 ghost use Rattle.cbor_grammar.specs.HexText.{IsHexOf, IsHexRefused};
@@ -90,7 +90,7 @@ pub(super) fn push_part(
     ensures cut { result ≡ Ok None → IsCut bytes.now }
     ensures fault { RefusedSo result (HasFault bytes.now) }
     ensures exact { (o : Outcome) → BeginsSo bytes.now o
-        → GavePart (text_in layout) result (string_bytes out.old) (string_bytes out.new) o }
+        → GaveText (text_in layout) result (string_bytes out.old) (string_bytes out.new) o }
     ensures one_of_three { BeginsInOneWay bytes.now }
     ensures cut_unchanged { result ≡ Ok None → string_bytes out.new ≡ string_bytes out.old }
     ensures unchanged { OnErr result (string_bytes out.new ≡ string_bytes out.old) }

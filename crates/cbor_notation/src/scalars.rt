@@ -5,7 +5,7 @@
 ghost use Rattle.std.specs.Prelude.{◌≡◌, ◌+◌, ◌++◌, codes};
 ghost use Rattle.std.specs.Fmt.{decimal};
 ghost use Rattle.std.specs.List.{flat_map, list_any};
-ghost use Rattle.cbor_grammar.specs.mirror.Appends.{AppendsText};
+ghost use Rattle.cbor_notes.specs.Appends.{AppendsText};
 ghost use Rattle.cbor_notation.specs.mirror.EncodingView.{encoding_view};
 ghost use Rattle.cbor_grammar.specs.mirror.StringView.{bytes_of, kind_of};
 ghost use Rattle.cbor_notes.specs.Ascii.{quote};

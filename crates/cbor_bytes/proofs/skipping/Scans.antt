@@ -14,6 +14,7 @@ use Rattle.std.proofs.lemmas.List.{drop_at}
 use Rattle.std.proofs.lemmas.List.{take-append-le, drop_more, drop_all}
 use Rattle.std.proofs.lemmas.Str.{IsUtf8-append, IsUtf8-drop, IsUtf8-take, IsUtf8-from_is_utf8, is_utf8-from_IsUtf8}
 use Rattle.std.proofs.lemmas.Str.{IsCharBoundary-from_take, IsCharBoundary-past_char, len_utf8_bounds}
+use Rattle.cbor_bytes.specs.declared.skip.due.Due.{Due}
 use Rattle.cbor_grammar.specs.declared.width.IntegerWidth.{IntegerWidth}
 use Rattle.cbor_grammar.specs.declared.width.IntegerWidth.TheVariants.{Zero}
 use Rattle.cbor_grammar.specs.declared.strings.StringKind as code
@@ -26,8 +27,8 @@ use Rattle.cbor_bytes.specs.declared.skip.due.Pause.TheVariants as pause
 use Rattle.cbor_grammar.specs.StringKind.{StringKind, bytes_kind, text_kind, IsContent}
 use Rattle.cbor_grammar.specs.Reading.{◌>>=◌, read_head, read_argument}
 use Rattle.cbor_grammar.specs.mirror.StringView.{kind_view}
-use Rattle.cbor_bytes.specs.mirror.Skipping.{Skip, rest_of, Goes, Shows, skip_content, skip_chunks, stop_of}
-use Rattle.cbor_bytes.specs.mirror.Scanning.{WholeChars, then_chunks, skip_bad, skip_due, Waits, PausesSo}
+use Rattle.cbor_bytes.specs.mirror.Skipping.{Skip, rest_of, Goes, FailsAt, skip_content, skip_chunks, stop_of}
+use Rattle.cbor_bytes.specs.mirror.Scanning.{WholeChars, then_chunks, skip_bad, skip_due, Waits, Pauses}
 use Rattle.cbor_grammar.proofs.bytes.Heads.{IsBytes}
 use Rattle.cbor_grammar.proofs.bytes.StringRefusals.{bad_content, content_refuses}
 use Rattle.cbor_grammar.proofs.bytes.HeadRefusals.{InfoRefusal, cut_info, bad_info, info_refused}
@@ -246,7 +247,7 @@ bad_text_waits more b le = record {
 }
 
 pub bad_text_shows : (more : ℕ) (b : List ℕ) → more < length b
-    → Shows (skip_bad more) b refusal.Utf8 (length b - more - 1)
+    → FailsAt (skip_bad more) b refusal.Utf8 (length b - more - 1)
 bad_text_shows more b lt =
     let count : length (take more b) ≡ more = omega (arith, length-take more b) in
     record {
@@ -270,9 +271,10 @@ goes_to x same = record { over = x.over; parts = x.parts; along = λ c. x.along 
 pub waits_then : {f g h : List ℕ → Skip} {b r s : List ℕ} → Goes f g b r → Waits g h r s → Waits f h b s
 waits_then x y = record { goes = goes_then x y.goes; cut = y.cut; few = y.few }
 
-pub pauses_then : (f g : List ℕ → Skip) (b r : List ℕ) (p : Pause) → Goes f g b r → PausesSo g r p → PausesSo f b p
-pauses_then f g b r (pause.Cut d rest) x y = waits_then x y
-pauses_then f g b r (pause.Fault e after) x y = shows_then x y
+pub pauses_then : (to : Due → List ℕ → Skip) (f g : List ℕ → Skip) (b r : List ℕ) (p : Pause) → Goes f g b r
+    → Pauses to g r p → Pauses to f b p
+pauses_then to f g b r (pause.Cut d rest) x y = waits_then x y
+pauses_then to f g b r (pause.Fault e after) x y = shows_then x y
 
 -- ---- few bytes
 
@@ -333,8 +335,8 @@ bytes_wait code_kind.Bytes left chunked b is short =
 bytes_wait code_kind.Text left chunked b is short = absurd cc
 
 pub chunked_shows : (chunked : Bool) (kind : StringKind) (left : ℕ) (b : List ℕ) (e : refusal.the_data) (after : ℕ)
-    → Shows (skip_content kind left Zero) b e after
-    → Shows (λ c. then_chunks chunked kind (skip_content kind left Zero c)) b e after
+    → FailsAt (skip_content kind left Zero) b e after
+    → FailsAt (λ c. then_chunks chunked kind (skip_content kind left Zero c)) b e after
 chunked_shows false kind left b e after s = s
 chunked_shows true kind left b e after s = stops_within (skip_content kind left Zero) b (stops.Fault e after)
     (λ r. r >>= skip_chunks kind) (more_keeps kind) s

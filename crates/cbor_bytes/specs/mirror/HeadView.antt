@@ -29,11 +29,6 @@ head_view (code.Tag n w) = tag n w
 head_view (code.Float bits w) = float bits w
 head_view (code.Simple n) = simple n
 
--- What a function that takes no memory returned, seen by view, is what reading gives.
-abbrev pub Finds : {X Y : Type 0} → (X → Y) → Result X Error → Result Y Error → Type 0
-Finds view (Ok x) read = read ≡ Ok (view x)
-Finds view (Err e) read = read ≡ Err e
-
 -- how many members are still to come of such a length where `held` are there
 abbrev pub left_of : code_argument.Argument → ℕ → Argument
 left_of (Number n w) held = number (n - held) w

@@ -58,7 +58,7 @@ pub record Goes (from to : List ℕ → Skip) (b rest : List ℕ) : Type 0 where
   pub along : (c : List ℕ) → from (over ++ c) ≡ to c
 
 -- An error that some first bytes show, which end with one more than are cut, and how many follow them.
-pub record Shows (from : List ℕ → Skip) (b : List ℕ) (error : Error) (after : ℕ) : Type 0 where
+pub record FailsAt (from : List ℕ → Skip) (b : List ℕ) (error : Error) (after : ℕ) : Type 0 where
   pub before : List ℕ
   pub last : ℕ
   pub behind : List ℕ
@@ -70,7 +70,7 @@ pub record Shows (from : List ℕ → Skip) (b : List ℕ) (error : Error) (afte
 
 abbrev pub StopsSo : (List ℕ → Skip) → List ℕ → Stop → Type 0
 StopsSo from b stops.Cut = from b ≡ Err CutShort
-StopsSo from b (stops.Fault error after) = Shows from b error after
+StopsSo from b (stops.Fault error after) = FailsAt from b error after
 
 -- where reading refuses so
 abbrev pub stop_of : Error → ℕ → Stop

@@ -2,15 +2,16 @@
 //!
 //! Each function takes the remaining bytes and returns those after what it skips, or why it pauses.
 ghost use Rattle.std.specs.Prelude.{◌≡◌, ◌<◌, ◌≤◌, ℕ, ◌+◌, length, take, None, IfOk, IfErr, IsUtf8};
+ghost use Rattle.cbor_bytes.specs.mirror.Scanning.{Pauses};
 ghost use Rattle.cbor_grammar.specs.ItemHead.{string};
 ghost use Rattle.cbor_grammar.specs.Reading.{opened};
 ghost use Rattle.cbor_grammar.specs.declared.width.IntegerWidth.TheVariants.{Zero};
 ghost use Rattle.cbor_bytes.specs.mirror.HeadView.{argument_view, head_view};
 ghost use Rattle.cbor_grammar.specs.mirror.StringView.{kind_view};
-ghost use Rattle.cbor_bytes.specs.mirror.Skipping.{here, Goes, Shows, skip_content, skip_chunks};
+ghost use Rattle.cbor_bytes.specs.mirror.Skipping.{here, Goes, FailsAt, skip_content, skip_chunks};
 ghost use Rattle.cbor_bytes.specs.mirror.Skipping.{skip_body};
 ghost use Rattle.cbor_bytes.specs.mirror.Scanning.{WholeChars, then_chunks, skip_bad, skip_due};
-ghost use Rattle.cbor_bytes.specs.mirror.Scanning.{Waits, PausesSo};
+ghost use Rattle.cbor_bytes.specs.mirror.Scanning.{Waits};
 ghost use Rattle.cbor_grammar.specs.StringKind.{text_kind};
 
 use super::{Stop, after_content, read_chunk_length};
@@ -88,7 +89,7 @@ fn unfinished(kind: StringKind, left: u64, chunked: bool, bytes: &[u8]) -> (Due,
 fn after_rest(kind: StringKind, left: u64, chunked: bool, bytes: &[u8]) -> Result<&[u8], Pause>
     ensures goes { IfOk result (λ rest.
         Goes (skip_content (kind_view kind) left Zero) here bytes.now rest.now) }
-    ensures pauses { IfErr result (λ pause. PausesSo
+    ensures pauses { IfErr result (λ pause. Pauses skip_due
         (λ c. then_chunks chunked (kind_view kind) (skip_content (kind_view kind) left Zero c))
         bytes.now pause) }
     ensures shorter { IfOk result (λ rest. length rest.now ≤ length bytes.now) }
@@ -108,7 +109,7 @@ fn after_break_due(kind: StringKind, bytes: &[u8]) -> Result<&[u8], Pause>
     ensures goes { IfOk result
         (λ rest. Goes (skip_chunks (kind_view kind)) here bytes.now rest.now) }
     ensures pauses { IfErr result
-        (λ pause. PausesSo (skip_chunks (kind_view kind)) bytes.now pause) }
+        (λ pause. Pauses skip_due (skip_chunks (kind_view kind)) bytes.now pause) }
     ensures shorter { IfOk result (λ rest. length rest.now ≤ length bytes.now) }
 {
     let mut rest = bytes;
@@ -136,7 +137,7 @@ fn after_content_due(
     ensures goes { IfOk result (λ rest. Goes
         (λ c. then_chunks chunked (kind_view kind) (skip_content (kind_view kind) left Zero c))
         here bytes.now rest.now) }
-    ensures pauses { IfErr result (λ pause. PausesSo
+    ensures pauses { IfErr result (λ pause. Pauses skip_due
         (λ c. then_chunks chunked (kind_view kind) (skip_content (kind_view kind) left Zero c))
         bytes.now pause) }
     ensures shorter { IfOk result (λ rest. length rest.now ≤ length bytes.now) }
@@ -153,7 +154,7 @@ fn after_content_due(
 fn after_string_due(kind: StringKind, len: Argument, bytes: &[u8]) -> Result<&[u8], Pause>
     ensures goes { (left : ℕ) → IfOk result (λ rest. Goes (skip_body left
         (string (kind_view kind) (argument_view len))) here bytes.now rest.now) }
-    ensures pauses { (left : ℕ) → IfErr result (λ pause. PausesSo (skip_body left
+    ensures pauses { (left : ℕ) → IfErr result (λ pause. Pauses skip_due (skip_body left
         (string (kind_view kind) (argument_view len))) bytes.now pause) }
     ensures shorter { IfOk result (λ rest. length rest.now ≤ length bytes.now) }
 {
@@ -169,7 +170,7 @@ pub(super) fn after_atom_due(head: ItemHead, bytes: &[u8]) -> Result<&[u8], Paus
     ensures goes { (left : ℕ) → IfOk result
         (λ rest. Goes (skip_body left (head_view head)) here bytes.now rest.now) }
     ensures pauses { (left : ℕ) → IfErr result
-        (λ pause. PausesSo (skip_body left (head_view head)) bytes.now pause) }
+        (λ pause. Pauses skip_due (skip_body left (head_view head)) bytes.now pause) }
     ensures shorter { IfOk result (λ rest. length rest.now ≤ length bytes.now) }
 {
     match head {
@@ -180,7 +181,7 @@ pub(super) fn after_atom_due(head: ItemHead, bytes: &[u8]) -> Result<&[u8], Paus
 
 /// Why there are no bytes after a text that is not UTF-8, with `more` bytes before its last.
 fn bad_text(more: u64, bytes: &[u8]) -> Pause
-    ensures { PausesSo (skip_bad more) bytes.now result }
+    ensures { Pauses skip_due (skip_bad more) bytes.now result }
 {
     let len = bytes.len() as u64;
     if len <= more {
@@ -195,7 +196,7 @@ impl Due {
     /// The bytes after what is due of a string; all of them if a part is due.
     pub(super) fn after(self, bytes: &[u8]) -> Result<&[u8], Pause>
         ensures goes { IfOk result (λ rest. Goes (skip_due self) here bytes.now rest.now) }
-        ensures pauses { IfErr result (λ pause. PausesSo (skip_due self) bytes.now pause) }
+        ensures pauses { IfErr result (λ pause. Pauses skip_due (skip_due self) bytes.now pause) }
         ensures shorter { IfOk result (λ rest. length rest.now ≤ length bytes.now) }
     {
         match self {

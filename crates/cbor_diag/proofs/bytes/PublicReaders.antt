@@ -11,7 +11,7 @@ use Rattle.cbor_grammar.specs.Bytes.{any, strict, Spells}
 use Rattle.cbor_grammar.specs.WellFormed.{WellFormed}
 use Rattle.cbor_grammar.specs.Written.{encoded}
 use Rattle.cbor_grammar.specs.Refused.{Cut, Fault}
-use Rattle.cbor_grammar.specs.Answer.{Outcome, spelled, cut, fault, IsOutcome, OneOutcome}
+use Rattle.cbor_grammar.specs.Answer.{Outcome, spelled, cut, fault, IsOutcome, OneOutcome, UnlessMemory}
 use Rattle.cbor_diag.specs.ItemAnswer.{HasOutcome, HasAnswer, Gave}
 use Rattle.cbor_diag.specs.ItemAnswer.{GaveItem}
 use Rattle.cbor_grammar.specs.Answer.{GaveRefusal, IsRefused, RefusedSo, size}
@@ -22,7 +22,6 @@ use Rattle.cbor_grammar.proofs.bytes.Strict.{strict_only}
 use Rattle.cbor_grammar.proofs.bytes.Resolved.{spells_well, encoded_strict}
 use Rattle.cbor_grammar.proofs.bytes.Sizes.{items_bound}
 use Rattle.cbor_grammar.proofs.bytes.ExactlyOne.{front_cut}
-use Rattle.cbor_grammar.specs.Answer.{IsFrontError}
 use Rattle.cbor_grammar.proofs.bytes.Outcomes.{fault_of, same, whole_outcome, no_refused_item, one_refusal, refused_of}
 use Rattle.cbor_grammar.proofs.bytes.Outcomes.{memory_or}
 
@@ -46,7 +45,7 @@ pub fault_is : (b : List ℕ) (r : Front) → HasOutcome 1 b r → RefusedSo r (
 fault_is b (Ok x) h = tt
 fault_is b (Err e) h = fault_of b e h
 
-gave_refusal : (b : List ℕ) (e : Error) → IsFrontError 1 b e → OneOutcome 1 b → (o : Outcome) → IsOutcome 1 b o
+gave_refusal : (b : List ℕ) (e : Error) → UnlessMemory (Fault 1 b) e → OneOutcome 1 b → (o : Outcome) → IsOutcome 1 b o
     → Gave (Err e) o
 gave_refusal b refusal.Memory h one o k = tt
 gave_refusal b e h one o k = same b (fault e) o one h k

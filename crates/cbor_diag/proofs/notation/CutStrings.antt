@@ -22,7 +22,7 @@ use Rattle.cbor_grammar.specs.Notation.{IsBlank, Members, Notation, as_text, as_
 use Rattle.cbor_grammar.specs.Notation.{StringOf}
 use Rattle.cbor_grammar.specs.Notation.{ShowsKind, Core, Reads}
 use Rattle.cbor_grammar.specs.Written.{encoded_items}
-use Rattle.cbor_grammar.specs.DeadEnd.{GoesOn, IsCut, IsUnfinished, closes_text, is_piece_start, inside}
+use Rattle.cbor_grammar.specs.DeadEnd.{GoesOn, CutOf, IsUnfinished, closes_text, is_piece_start, inside}
 use Rattle.cbor_grammar.specs.DeadEnd as dead_end
 use Rattle.cbor_notation.specs.mirror.NotationReading.{or_refused, skip_blank, after_byte, after_word, read_item}
 use Rattle.cbor_notation.specs.mirror.NotationReading.{read_members}
@@ -61,11 +61,11 @@ empty_string bytes_kind R = (refl, tt, one (as_text refl), tt)
 empty_string text_kind R = (refl, (codes "\"", refl), one (inl refl), IsUtf8-nil)
 
 module _ (left : ℕ) where
-  pub string_empty : (kind : StringKind) → IsCut (StringOf kind (Reads left)) []
+  pub string_empty : (kind : StringKind) → CutOf (StringOf kind (Reads left)) []
   string_empty kind = cut_by (StringOf kind (Reads left)) [] (quotes kind, empty_chunk, empty_string kind (Reads left))
 
   pub chunk_blank_cut : (kind : StringKind) (text : List ℕ) → ends_blank (skip_blank text) ≡ false
-      → IsCut (ChunkIs kind (Reads left)) text
+      → CutOf (ChunkIs kind (Reads left)) text
   chunk_blank_cut kind text unended =
       let goes = blank_goes_on text unended in
       cut_by (ChunkIs kind (Reads left)) text (
@@ -84,17 +84,17 @@ module _ (left : ℕ) where
       )
 
   pub chunk_core_cut : (kind : StringKind) (text core : List ℕ) → core ≡ skip_blank text
-      → IsCut (StringOf kind (Reads left)) core → IsCut (ChunkIs kind (Reads left)) text
+      → CutOf (StringOf kind (Reads left)) core → CutOf (ChunkIs kind (Reads left)) text
   chunk_core_cut kind text core is cut =
       let blank = blank_left true text in
-      subst (λ (t : List ℕ). IsCut (ChunkIs kind (Reads left)) t)
+      subst (λ (t : List ℕ). CutOf (ChunkIs kind (Reads left)) t)
       (ap (λ (t : List ℕ). blank.0 ++ t) is ∙ sym blank.1)
       (cut_in (StringOf kind (Reads left)) (ChunkIs kind (Reads left)) blank.0 [] core
       (λ t c h. (c, (blank.0, t, [], refl, blank.2, h, nothing))) cut)
 
   -- ---- indefinite strings
 
-  pub chunks_empty : IsCut (Core (Reads left)) (40 ∷ [])
+  pub chunks_empty : CutOf (Core (Reads left)) (40 ∷ [])
   chunks_empty = cut_by (Core (Reads left)) (40 ∷ []) (
     codes "_)",
     atom (chunked_string bytes_kind []),
@@ -102,7 +102,7 @@ module _ (left : ℕ) where
   )
 
   pub chunks_blank_cut : (opened : List ℕ) → ends_blank (skip_blank opened) ≡ false
-      → IsCut (Core (Reads left)) (40 ∷ 95 ∷ opened)
+      → CutOf (Core (Reads left)) (40 ∷ 95 ∷ opened)
   chunks_blank_cut opened unended =
       let goes = blank_goes_on opened unended in
       cut_by (Core (Reads left)) (40 ∷ 95 ∷ opened) (
@@ -148,8 +148,8 @@ module _ (left : ℕ) where
   shown kind opened t [] (inr w) h = absurd (quote_blank h.3 h.1 w.0 h.4 (sym h.2 ∙ w.1))
 
   pub chunks_list_cut : (opened first : List ℕ) (kind : StringKind) → first ≡ skip_blank opened
-      → kind ≡ kind_from (first_start first) → IsCut (Members (ChunkIs kind (Reads left)) (41 ∷ [])) first
-      → IsCut (Core (Reads left)) (40 ∷ 95 ∷ opened)
+      → kind ≡ kind_from (first_start first) → CutOf (Members (ChunkIs kind (Reads left)) (41 ∷ [])) first
+      → CutOf (Core (Reads left)) (40 ∷ 95 ∷ opened)
   chunks_list_cut opened first kind is kind_is cut =
       let blank = blank_left true opened in
       let goes = cut.4 in
@@ -198,29 +198,29 @@ module _ (left : ℕ) where
       kinds start.Other e = inl (kind_is ∙ ap kind_from e)
 
   pub chunks_opened : (text opened : List ℕ) → after_byte 95 text ≡ Some opened → ends_blank (skip_blank opened) ≡ false
-      → IsCut (Core (Reads left)) (40 ∷ text)
+      → CutOf (Core (Reads left)) (40 ∷ text)
   chunks_opened text opened at unended =
-      subst (λ (t : List ℕ). IsCut (Core (Reads left)) (40 ∷ t)) (sym (after_byte_is 95 text opened at))
+      subst (λ (t : List ℕ). CutOf (Core (Reads left)) (40 ∷ t)) (sym (after_byte_is 95 text opened at))
       (chunks_blank_cut opened unended)
 
   pub chunks_cut : (text opened first : List ℕ) (kind : StringKind) → after_byte 95 text ≡ Some opened
       → first ≡ skip_blank opened → kind ≡ kind_from (first_start first)
       → (NotRead (read_members (read_chunk (read_item left) kind) 41 first)
-      → IsCut (Members (ChunkIs kind (Reads left)) (41 ∷ [])) first)
-      → NotRead (read_chunks (read_item left) text) → IsCut (Core (Reads left)) (40 ∷ text)
+      → CutOf (Members (ChunkIs kind (Reads left)) (41 ∷ [])) first)
+      → NotRead (read_chunks (read_item left) text) → CutOf (Core (Reads left)) (40 ∷ text)
   chunks_cut text opened first kind at is kind_is cut refused =
       let here : NotRead (chunks_of (read_item left) (kind_from (first_start (skip_blank opened))) (skip_blank opened)) =
       rw at at refused in
       let there : NotRead (chunks_of (read_item left) kind first) =
       subst (λ (k : StringKind). NotRead (chunks_of (read_item left) k first)) (sym kind_is)
       (subst (λ (f : List ℕ). NotRead (chunks_of (read_item left) (kind_from (first_start f)) f)) (sym is) here) in
-      subst (λ (t : List ℕ). IsCut (Core (Reads left)) (40 ∷ t)) (sym (after_byte_is 95 text opened at))
+      subst (λ (t : List ℕ). CutOf (Core (Reads left)) (40 ∷ t)) (sym (after_byte_is 95 text opened at))
       (chunks_list_cut opened first kind is kind_is (cut (not_made (read_members (read_chunk (read_item left) kind) 41
       first) (λ cs. (atom (chunked_string kind cs.0), cs.1)) there)))
 
   -- ---- items in a string
 
-  pub embedded_empty : IsCut (Notation (Reads left)) (60 ∷ [])
+  pub embedded_empty : CutOf (Notation (Reads left)) (60 ∷ [])
   embedded_empty = cut_by (Notation (Reads left)) (60 ∷ []) (
     codes "<>>",
     encoded_items (items_of []),
@@ -233,16 +233,16 @@ module _ (left : ℕ) where
       (t ++ 62 ∷ [], refl, rw (list_of-items_of is) (members_more (Reads left) (62 ∷ []) (62 ∷ []) t is h)) refl
 
   pub embedded_list_cut : (text first : List ℕ) → after_byte 60 text ≡ Some first
-      → IsCut (Members (Reads left) (62 ∷ [])) first → IsCut (Notation (Reads left)) (60 ∷ text)
+      → CutOf (Members (Reads left) (62 ∷ [])) first → CutOf (Notation (Reads left)) (60 ∷ text)
   embedded_list_cut text first at cut =
-      subst (λ (t : List ℕ). IsCut (Notation (Reads left)) (60 ∷ t)) (sym (after_byte_is 60 text first at))
+      subst (λ (t : List ℕ). CutOf (Notation (Reads left)) (60 ∷ t)) (sym (after_byte_is 60 text first at))
       (cut_in (Members (Reads left) (62 ∷ [])) (Notation (Reads left)) (60 ∷ 60 ∷ []) (62 ∷ []) first
       (λ t is h. (encoded_items (items_of is), embedded_goes t is h)) cut)
 
   pub embedded_ends : (text first : List ℕ) (is : List Item) (rest : List ℕ) → after_byte 60 text ≡ Some first
       → read_members (read_item left) 62 first ≡ Ok (is, rest)
       → (rest ≡ []) ⊎ ((last : List ℕ) × (after_byte 62 rest ≡ Some last))
-      → NotRead (read_embedded (read_item left) text) → IsCut (Notation (Reads left)) (60 ∷ text)
+      → NotRead (read_embedded (read_item left) text) → CutOf (Notation (Reads left)) (60 ∷ text)
   embedded_ends text first is rest at found (inl none) refused =
       let members = subst (λ (r : Read (List Item)). Sound left (Members (Reads left) (62 ∷ [])) first r) found
       (members_sound left (Reads left) 62 (read_item left) (item_sound left) (reads_blank left) first) in
@@ -259,8 +259,8 @@ module _ (left : ℕ) where
 
   -- ---- pieces
 
-  string_of_bytes : (text : List ℕ) → IsCut (Joined (Notation (Reads left))) text
-      → IsCut (StringOf bytes_kind (Reads left)) text
+  string_of_bytes : (text : List ℕ) → CutOf (Joined (Notation (Reads left))) text
+      → CutOf (StringOf bytes_kind (Reads left)) text
   string_of_bytes text cut = cut_as (Joined (Notation (Reads left))) (StringOf bytes_kind (Reads left)) text
       (λ t bytes h. (record { bytes = bytes; width = Unknown }, (refl, tt, h, tt))) cut
 
@@ -270,9 +270,9 @@ module _ (left : ℕ) where
       × (text ≡ 34 ∷ (in_quotes 34 bytes ++ 34 ∷ (space ++ rest)))
 
   abbrev StringGoes : StringKind → List ℕ → List ℕ → Type 0
-  StringGoes bytes_kind text rest = IsCut (Joined (Notation (Reads left))) rest
-      → IsCut (StringOf bytes_kind (Reads left)) text
-  StringGoes text_kind text rest = (rest ≡ text) ⊎ TextGoes text rest ⊎ IsCut (StringOf text_kind (Reads left)) text
+  StringGoes bytes_kind text rest = CutOf (Joined (Notation (Reads left))) rest
+      → CutOf (StringOf bytes_kind (Reads left)) text
+  StringGoes text_kind text rest = (rest ≡ text) ⊎ TextGoes text rest ⊎ CutOf (StringOf text_kind (Reads left)) text
 
   -- the reader finds no pieces from `rest` on
   abbrev pub PiecesGo : StringKind → List ℕ → List ℕ → Type 0
@@ -353,14 +353,14 @@ module _ (left : ℕ) where
       by start.LetterH is h = rw is refl
       by _ is h = absurd cc
 
-  text_empty : IsCut (StringOf text_kind (Reads left)) []
+  text_empty : CutOf (StringOf text_kind (Reads left)) []
   text_empty = string_empty text_kind
 
   two_string : StringOf text_kind (Reads left) (34 ∷ 50 ∷ 34 ∷ []) (record { bytes = 50 ∷ []; width = Unknown })
   unfolding lib.Utf8.encode
   two_string = (refl, (50 ∷ 34 ∷ [], refl), one (inl refl), IsUtf8-encode 50 refl)
 
-  text_opened : (back : List ℕ) → IsUnfinished (34 ∷ []) back → IsCut (StringOf text_kind (Reads left)) (34 ∷ back)
+  text_opened : (back : List ℕ) → IsUnfinished (34 ∷ []) back → CutOf (StringOf text_kind (Reads left)) (34 ∷ back)
   text_opened back unended = (
     [],
     34 ∷ [],
@@ -371,16 +371,16 @@ module _ (left : ℕ) where
   )
 
   second_piece : (text rest : List ℕ) → TextGoes text rest → begins_piece text_kind (first_start rest) ≡ true
-      → IsCut (StringOf text_kind (Reads left)) text
+      → CutOf (StringOf text_kind (Reads left)) text
   second_piece text [] goes begins = absurd cc
   second_piece text (b ∷ rest) goes begins =
-      subst (λ (t : List ℕ). IsCut (StringOf text_kind (Reads left)) t) (sym goes.3)
+      subst (λ (t : List ℕ). CutOf (StringOf text_kind (Reads left)) t) (sym goes.3)
       (text_opened _ (dead_end.piece goes.0 goes.1 b rest goes.2 (starts_piece b begins) refl))
 
   blank_behind : (text rest : List ℕ) → TextGoes text rest → (goes : (m : List ℕ) × IsBlank (rest ++ m))
-      → IsCut (StringOf text_kind (Reads left)) text
+      → CutOf (StringOf text_kind (Reads left)) text
   blank_behind text rest goes m =
-      subst (λ (t : List ℕ). IsCut (StringOf text_kind (Reads left)) t) (sym goes.3)
+      subst (λ (t : List ℕ). CutOf (StringOf text_kind (Reads left)) t) (sym goes.3)
       (text_opened _ (dead_end.blank goes.0 (goes.1 ++ rest) m.0
       (subst (λ (t : List ℕ). IsBlank t) (sym (append_assoc goes.1 rest m.0)) (Blank-append goes.2 m.1)) refl))
 
@@ -397,7 +397,7 @@ module _ (left : ℕ) where
       next_goes bytes_kind begun begins goes =
           let piece = piece_found bytes_kind rest bytes after begun found in
           let blank = blank_left true after in
-          λ cut. goes (subst (λ (t : List ℕ). IsCut (Joined (Notation (Reads left))) t)
+          λ cut. goes (subst (λ (t : List ℕ). CutOf (Joined (Notation (Reads left))) t)
           (ap (λ (t : List ℕ). (piece.0 ++ blank.0) ++ t) is ∙ append_assoc piece.0 blank.0 (skip_blank after)
           ∙ ap (λ (t : List ℕ). piece.0 ++ t) (sym blank.1) ∙ sym piece.1)
           (cut_in (Joined (Notation (Reads left))) (Joined (Notation (Reads left))) (piece.0 ++ blank.0) [] next
@@ -442,7 +442,7 @@ module _ (left : ℕ) where
   pub pieces_cut : (kind : StringKind) (text rest : List ℕ) → PiecesGo kind text rest
       → begins_piece kind (first_start rest) ≡ true → IsPieceCut (Reads left) rest
       → begins_string kind (first_start text) ≡ true → NotRead (read_content (read_item left) kind text)
-      → IsCut (StringOf kind (Reads left)) text
+      → CutOf (StringOf kind (Reads left)) text
   pieces_cut bytes_kind text rest goes begun piece begins refused =
       (goes begins refused).3 (cut_as (Notation (Reads left)) (Joined (Notation (Reads left))) rest
       (λ t bytes h. (bytes, one h)) (piece.1 not_quote))
@@ -455,13 +455,13 @@ module _ (left : ℕ) where
       quote_start start.Quote h = refl
       quote_start _ h = absurd cc
 
-      by : StringGoes text_kind text rest → IsCut (StringOf text_kind (Reads left)) text
+      by : StringGoes text_kind text rest → CutOf (StringOf text_kind (Reads left)) text
       by (inl same) =
           let here : first_start rest ≡ start.Quote =
           quote_start (first_start rest)
           (subst (λ (t : List ℕ). begins_string text_kind (first_start t) ≡ true) (sym same) begins) in
           let unclosed = piece.0 here in
-          subst (λ (t : List ℕ). IsCut (StringOf text_kind (Reads left)) t) (sym unclosed.1 ∙ same)
+          subst (λ (t : List ℕ). CutOf (StringOf text_kind (Reads left)) t) (sym unclosed.1 ∙ same)
           (text_opened unclosed.0 (dead_end.content (inl refl) unclosed.2))
       by (inr (inl goes)) = second_piece text rest goes begun
       by (inr (inr cut)) = cut
@@ -470,13 +470,13 @@ module _ (left : ℕ) where
 
   pub content_cut : (kind : StringKind) (text content rest : List ℕ) → begins_string kind (first_start text) ≡ true
       → read_content (read_item left) kind text ≡ Ok (content, rest) → ends_blank (skip_blank rest) ≡ false
-      → NotRead (read_string (read_item left) kind text) → IsCut (StringOf kind (Reads left)) text
+      → NotRead (read_string (read_item left) kind text) → CutOf (StringOf kind (Reads left)) text
   unfolding read_string read_pieces
   content_cut bytes_kind text content rest begins found unended refused = absurd (rw found at refused)
   content_cut text_kind text content rest begins found unended refused = by text begins found
     where
       by : (t : List ℕ) → begins_string text_kind (first_start t) ≡ true
-          → read_content (read_item left) text_kind t ≡ Ok (content, rest) → IsCut (StringOf text_kind (Reads left)) t
+          → read_content (read_item left) text_kind t ≡ Ok (content, rest) → CutOf (StringOf text_kind (Reads left)) t
       by t begins found =
           let begun = string_piece (first_start t) begins in
           let all : read_pieces (read_item left) text_kind (suc (length t)) t ≡ Ok (content, rest) =
@@ -508,7 +508,7 @@ module _ (left : ℕ) where
               (xs : List ℕ × List ℕ) → read_pieces (read_item left) text_kind n (skip_blank x.1) ≡ Ok xs
               → ◌≡◌ {A = Read (List ℕ)} (Ok (x.0 ++ xs.0, xs.1)) (Ok (content, rest))
               → begins_piece text_kind (first_start (skip_blank x.1)) ≡ false
-              → IsCut (StringOf text_kind (Reads left)) t
+              → CutOf (StringOf text_kind (Reads left)) t
           stops t x is zero xs e same ends = absurd cc
           stops t x is (suc n) xs e same ends =
               let left_is : ◌≡◌ {A = List ℕ × List ℕ} ([], skip_blank x.1) xs =
@@ -528,7 +528,7 @@ module _ (left : ℕ) where
   pub content_ends : (kind : StringKind) (text content rest : List ℕ) → begins_string kind (first_start text) ≡ true
       → read_content (read_item left) kind text ≡ Ok (content, rest)
       → (ends_blank (skip_blank rest) ≡ false) ⊎ IsContent kind content
-      → NotRead (read_string (read_item left) kind text) → IsCut (StringOf kind (Reads left)) text
+      → NotRead (read_string (read_item left) kind text) → CutOf (StringOf kind (Reads left)) text
   content_ends kind text content rest begins found (inl unended) refused =
       content_cut kind text content rest begins found unended refused
   content_ends kind text content rest begins found (inr is) refused =
@@ -536,13 +536,13 @@ module _ (left : ℕ) where
 
   -- ---- string items
 
-  pub string_item_cut : (kind : StringKind) (text : List ℕ) → IsCut (StringOf kind (Reads left)) text
-      → IsCut (Core (Reads left)) text
+  pub string_item_cut : (kind : StringKind) (text : List ℕ) → CutOf (StringOf kind (Reads left)) text
+      → CutOf (Core (Reads left)) text
   string_item_cut kind text cut = cut_as (StringOf kind (Reads left)) (Core (Reads left)) text
       (λ t c h. (atom (string kind c), h)) cut
 
   pub no_chunks_cut : (kind : StringKind) (text : List ℕ) → (m : List ℕ) × (text ++ m ≡ no_chunks kind)
-      → IsCut (Core (Reads left)) text
+      → CutOf (Core (Reads left)) text
   no_chunks_cut kind text m = cut_by (Core (Reads left)) text (m.0, atom (chunked_string kind []), inl (refl, m.1))
 
   pub no_chunks_read : (kind : StringKind) (text rest : List ℕ) → after_word (no_chunks kind) text ≡ Some rest
@@ -569,14 +569,14 @@ module _ (left : ℕ) where
   -- ---- indefinite strings of no chunks
 
   pub near_cut : (kind : StringKind) (text : List ℕ) → Near (no_chunks kind) text
-      → NotRead (read_string_item (read_item left) kind text) → IsCut (Core (Reads left)) text
+      → NotRead (read_string_item (read_item left) kind text) → CutOf (Core (Reads left)) text
   near_cut kind text (inl begun) refused = absurd (no_chunks_read kind text begun.0 begun.1 refused)
   near_cut kind text (inr goes) refused = no_chunks_cut kind text goes
 
   pub apart_cut : (kind : StringKind) (text : List ℕ)
       → ((m : List ℕ) → after_word (no_chunks kind) (text ++ m) ≡ None)
-      → (NotRead (read_string (read_item left) kind text) → IsCut (StringOf kind (Reads left)) text)
-      → NotRead (read_string_item (read_item left) kind text) → IsCut (Core (Reads left)) text
+      → (NotRead (read_string (read_item left) kind text) → CutOf (StringOf kind (Reads left)) text)
+      → NotRead (read_string_item (read_item left) kind text) → CutOf (Core (Reads left)) text
   apart_cut kind text apart cut refused =
       let none : after_word (no_chunks kind) text ≡ None =
       subst (λ (t : List ℕ). after_word (no_chunks kind) t ≡ None) (append-nil text) (apart []) in

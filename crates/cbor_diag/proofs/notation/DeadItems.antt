@@ -36,7 +36,7 @@ use Rattle.cbor_notation.proofs.notation.sound.Steps.{a_test, after_byte_is}
 use Rattle.cbor_notation.proofs.notation.ItemsFound.{notation_again}
 use Rattle.cbor_grammar.specs.WellFormed.{deepest}
 use Rattle.cbor_grammar.specs.Notation.{IsNotation, Reads}
-use Rattle.cbor_grammar.specs.DeadEnd.{IsCut, IsDeadEnd, IsDiagFault}
+use Rattle.cbor_grammar.specs.DeadEnd.{CutOf, IsDeadEnd, IsDiagFault}
 use Rattle.cbor_grammar.specs.NotationRefused.{IsAnswered, IsNoNotation}
 use Rattle.cbor_notation.proofs.notation.sound.Items.{notation_sound}
 
@@ -368,7 +368,7 @@ fault_is text refusal.BadHex end is within dead = (is, within, dead)
 fault_is text refusal.Notation end is within dead = (is, within, dead)
 fault_is text refusal.PastWidth end is within dead = (is, within, dead)
 
-pub cut_is : (text : List ℕ) (e : Error) → IsNoNotation text e → IsCut IsNotation text
+pub cut_is : (text : List ℕ) (e : Error) → IsNoNotation text e → CutOf IsNotation text
     → IsDiagFault text refusal.CutShort (length text)
 cut_is text e is cut = (refl, is.none, cut)
 

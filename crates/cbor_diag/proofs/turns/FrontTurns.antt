@@ -13,7 +13,7 @@ use Rattle.cbor_grammar.specs.Turns.{item_turns, cut_spent, fault_spent}
 use Rattle.cbor_diag.specs.ItemAnswer.{HasOutcome, HasTurns}
 use Rattle.cbor_grammar.specs.Answer.{RefusedSo}
 use Rattle.cbor_grammar.specs.Reading.{Fails, Counted, later, counted_item, read_item}
-use Rattle.cbor_grammar.specs.mirror.Counting.{Stops}
+use Rattle.cbor_grammar.specs.mirror.Counting.{FailsIn}
 use Rattle.cbor_grammar.proofs.bytes.Heads.{IsBytes}
 use Rattle.cbor_grammar.proofs.bytes.Found.{item_takes}
 use Rattle.cbor_grammar.proofs.bytes.FoundAgain.{counted_again}
@@ -25,7 +25,7 @@ pub first_ok : (left old new : ℕ) (b rest : List ℕ) (i : Item) → later old
     → read_item left b ≡ Ok (i, rest)
 first_ok left old new b rest i h = ap (λ (c : Counted Item). c.1) h
 
-pub first_fails : (left old new : ℕ) (b : List ℕ) (e : Error) → Stops e new (later old (counted_item left b))
+pub first_fails : (left old new : ℕ) (b : List ℕ) (e : Error) → FailsIn e new (later old (counted_item left b))
     → Fails e (read_item left b)
 first_fails left old new b refusal.Memory h = tt
 first_fails left old new b e h = ap (λ (c : Counted Item). c.1) h
@@ -39,12 +39,12 @@ ok_turns level left old new b rest i levels fits h =
     sym (ap (λ (c : Counted Item). c.0) h) ∙ ap (λ (c : Counted Item). old + c.0) is
 
 pub cut_risen : (level left old new : ℕ) (b : List ℕ) → level + left ≡ 129
-    → Stops refusal.CutShort new (later old (counted_item left b)) → (c : Cut level b) → new ≡ old + (cut_spent c + 1)
+    → FailsIn refusal.CutShort new (later old (counted_item left b)) → (c : Cut level b) → new ≡ old + (cut_spent c + 1)
 cut_risen level left old new b levels h c = sym (ap (λ (x : Counted Item). x.0) h)
     ∙ ap (λ (x : Counted Item). old + x.0) (cut_turns level left b levels c)
 
 pub fault_risen : (level left old new : ℕ) (b : List ℕ) (e : Error) → level + left ≡ 129 → e ≢ refusal.CutShort
-    → Stops e new (later old (counted_item left b)) → HasTurns level b old new (Err e)
+    → FailsIn e new (later old (counted_item left b)) → HasTurns level b old new (Err e)
 fault_risen level left old new b refusal.Memory levels other h = tt
 fault_risen level left old new b e levels other h = λ f. sym (ap (λ (x : Counted Item). x.0) h)
     ∙ ap (λ (x : Counted Item). old + x.0) (fault_turns level left b e levels f)

@@ -11,7 +11,7 @@ use Rattle.cbor_grammar.specs.Item.{Chunk, Item}
 use Rattle.cbor_grammar.specs.StringKind.{StringKind}
 use Rattle.cbor_grammar.specs.Reading.{Read}
 use Rattle.cbor_grammar.specs.Notation.{Blanked, Members, Notation, PairOf, StringOf}
-use Rattle.cbor_grammar.specs.DeadEnd.{IsCut, closes_text}
+use Rattle.cbor_grammar.specs.DeadEnd.{CutOf, closes_text}
 use Rattle.cbor_notation.specs.mirror.NotationReading.{skip_blank, read_number, read_pair, read_chunk, members_from}
 use Rattle.cbor_notation.specs.mirror.NotationReading.{read_pieces, first_start}
 use Rattle.cbor_notation.specs.declared.start.Start.TheVariants as start
@@ -26,9 +26,9 @@ abbrev pub NeverReads : {Y : Type 0} → (List ℕ → Result Y Error) → List 
 NeverReads read text = (more : List ℕ) → NotRead (read (text ++ more))
 
 -- an error other than out of memory
-abbrev pub IsRefused : {Y : Type 0} → Result Y Error → Type 0
-IsRefused (Ok y) = ⊥
-IsRefused (Err e) = e ≢ refusal.Memory
+abbrev pub IsRealError : {Y : Type 0} → Result Y Error → Type 0
+IsRealError (Ok y) = ⊥
+IsRealError (Err e) = e ≢ refusal.Memory
 
 -- the same with more bytes behind the rest
 abbrev pub grown : {X : Type 0} → List ℕ → Read X → Read X
@@ -88,4 +88,4 @@ MemberIs (member.Chunk kind) R text c = ChunkIs (kind_view kind) R text c
 abbrev pub IsPieceCut : (List ℕ → Item → Type 0) → List ℕ → Type 0
 IsPieceCut R text = (first_start text ≡ start.Quote
     → (content : List ℕ) × (text ≡ quote ∷ content) × (closes_text quote false content ≡ false))
-    × (¬ (first_start text ≡ start.Quote) → IsCut (Notation R) text)
+    × (¬ (first_start text ≡ start.Quote) → CutOf (Notation R) text)

@@ -22,7 +22,7 @@ ghost use Rattle.cbor_grammar.specs.Turns.{item_turns, cut_spent, fault_spent};
 ghost use Rattle.cbor_grammar.specs.Facts.{IsItem, IsStrictItem, BeginsWithItem, IsCut, HasFault};
 ghost use Rattle.cbor_grammar.specs.Facts.{IsNoItem, BeginsSo, BeginsInOneWay, IsWellFormed};
 ghost use Rattle.cbor_grammar.specs.Reading.{Gives, later, no_level_left, read_atom, counted_item};
-ghost use Rattle.cbor_grammar.specs.mirror.Counting.{HoldsContent, Runs, Stops, read_item_head};
+ghost use Rattle.cbor_grammar.specs.mirror.Counting.{HoldsContent, GivesIn, FailsIn, read_item_head};
 ghost use Rattle.cbor_grammar.specs.mirror.Counting.{resume, resume_with};
 ghost use Rattle.cbor_bytes.specs.mirror.HeadView.{head_view};
 ghost use Rattle.cbor_diag.specs.mirror.Stack.{frames};
@@ -62,7 +62,7 @@ fn read_atom<'a>(
     turns: &mut Turns,
 ) -> Result<(DataItem, &'a [u8])>
     requires { turns.old + 2 * length bytes.now < 2 ^ 126 }
-    ensures gives { Runs (λ x. (view x.0, x.1.now)) turns.old turns.new result
+    ensures gives { GivesIn (λ x. (view x.0, x.1.now)) turns.old turns.new result
         (read_atom (head_view head) bytes.now) }
     ensures falls { IfOk result (λ x.
         turns.new + 2 * length x.1.now ≤ turns.old + 2 * length bytes.now) }
@@ -110,7 +110,7 @@ fn turn<'a>(
     ensures gives { IfOk result (λ x.
         later turns.old (resume (levels_left level) (frames stack.old) bytes.now) ≡ later turns.new
         (resume_with (levels_left level) (frames stack.new) (option_map view x.0) x.1.now)) }
-    ensures stops { IfErr result (λ e. Stops e turns.new
+    ensures stops { IfErr result (λ e. FailsIn e turns.new
         (later turns.old (resume (levels_left level) (frames stack.old) bytes.now))) }
     ensures level { IfOk result (λ x. level + length stack.new ≤ deepest + 1) }
     ensures falls { IfOk result (λ x. turns.new + 2 * length x.1.now + length stack.new
@@ -148,7 +148,7 @@ fn read_item<'a>(
 ) -> Result<(DataItem, &'a [u8])>
     requires level { level ≤ deepest + 1 }
     requires bounded { turns.old + 2 * length bytes.now < 2 ^ 126 }
-    ensures gives { Runs (λ x. (view x.0, x.1.now)) turns.old turns.new result
+    ensures gives { GivesIn (λ x. (view x.0, x.1.now)) turns.old turns.new result
         (counted_item (levels_left level) bytes.now) }
     ensures few { turns.new ≤ turns.old + 2 * length bytes.now + 1 }
     ensures rises { turns.old < turns.new }

@@ -11,8 +11,7 @@ use Rattle.cbor_notes.specs.Layout.{width_of}
 use Rattle.cbor_notes.proofs.columns.OneColumn.{digits_left, one_column}
 use Rattle.cbor_grammar.specs.declared.error.Error.{Error}
 use Rattle.cbor_grammar.specs.declared.error.Error.TheVariants as refusal
-use Rattle.cbor_grammar.specs.Answer.{Outcome, spelled, fault, IsOutcome, OneOutcome}
-use Rattle.cbor_grammar.specs.Appended.{GaveText}
+use Rattle.cbor_grammar.specs.Answer.{Outcome, spelled, fault, IsOutcome, OneOutcome, GaveText}
 use Rattle.cbor_grammar.specs.Dump.{dump, lines, top}
 use Rattle.cbor_grammar.specs.Facts.{IsItem, IsWellFormed}
 use Rattle.cbor_grammar.specs.HexText.{IsHexOf}

@@ -17,7 +17,7 @@ use Rattle.cbor_grammar.specs.Item.{Item}
 use Rattle.cbor_grammar.specs.Head.{HeadThen}
 use Rattle.cbor_grammar.specs.Bytes.{any, Spells}
 use Rattle.cbor_grammar.specs.Refused.{Fault, too_deep, bad_head, bad_text, bad_chunk_head, bad_chunk_text, bad_part}
-use Rattle.cbor_grammar.specs.Answer.{spelled, IsOutcome, IsRefused}
+use Rattle.cbor_grammar.specs.Answer.{spelled, IsOutcome, IsRefused, UnlessMemory}
 use Rattle.cbor_grammar.specs.Answer.{MayWantMemory}
 use Rattle.cbor_grammar.specs.Reading.{Fails, read_head, read_item}
 use Rattle.cbor_grammar.specs.mirror.Counting.{HoldsContent}
@@ -25,7 +25,6 @@ use Rattle.cbor_grammar.proofs.bytes.Heads.{IsBytes, ArgumentThen, HeadIs, head_
 use Rattle.cbor_grammar.proofs.bytes.CutShort.{cut_takes}
 use Rattle.cbor_grammar.proofs.bytes.Found.{item_takes}
 use Rattle.cbor_grammar.proofs.bytes.Faults.{fault_takes}
-use Rattle.cbor_grammar.specs.Answer.{IsFrontError, IsWholeError}
 use Rattle.std.proofs.Common.{sym, ◌⊎◌}
 use Rattle.std.proofs.lemmas.List.{take_all}
 use Rattle.cbor_grammar.specs.Answer.{Outcome, cut, fault, OneOutcome}
@@ -77,7 +76,7 @@ found_outcome level left b i rest levels fits e =
     (omega arith, rw front t.spells)
 
 pub refusal_outcome : (level left : ℕ) (b : List ℕ) (e : Error) → level + left ≡ 129 → IsBytes b → e ≢ refusal.CutShort
-    → Fails e (read_item left b) → IsFrontError level b e
+    → Fails e (read_item left b) → UnlessMemory (Fault level b) e
 refusal_outcome level left b refusal.Memory levels fits other h = tt
 refusal_outcome level left b e levels fits other h = fault_takes level left b e levels fits other h
 
@@ -106,7 +105,7 @@ fault_refusal level b refusal.TooDeep h = h
 fault_refusal level b e h = absurd (fault_kind h)
 
 -- a refusal of the front is one of the whole
-pub front_refusal : (level : ℕ) (b : List ℕ) (e : Error) → IsFrontError level b e → IsWholeError level b e
+pub front_refusal : (level : ℕ) (b : List ℕ) (e : Error) → UnlessMemory (Fault level b) e → UnlessMemory (IsRefused level b) e
 front_refusal level b refusal.Memory h = tt
 front_refusal level b e h = fault_refusal level b e h
 
@@ -133,12 +132,12 @@ more_found level left b i rest levels fits e some =
 
 -- what reading refuses is why the input is not one whole item
 pub whole_refusal : (level left : ℕ) (b : List ℕ) (e : Error) → level + left ≡ 129 → IsBytes b
-    → Fails e (read_item left b) → IsWholeError level b e
+    → Fails e (read_item left b) → UnlessMemory (IsRefused level b) e
 whole_refusal level left b refusal.CutShort levels fits h = cut_takes level left b levels fits h
 whole_refusal level left b e levels fits h =
     front_refusal level b e (refusal_outcome level left b e levels fits (λ is. cc) h)
 
-pub fault_of : (b : List ℕ) (e : Error) → IsFrontError 1 b e → e ≢ refusal.Memory → Fault 1 b e
+pub fault_of : (b : List ℕ) (e : Error) → UnlessMemory (Fault 1 b) e → e ≢ refusal.Memory → Fault 1 b e
 fault_of b refusal.Memory h no_memory = absurd (no_memory refl)
 fault_of b _ h no_memory = h
 
@@ -189,7 +188,7 @@ one_refusal level b e f one h k =
     let y = front_of level b f k in
     sym x.2 ∙ ap refusal_for (one.only x.0 x.1 ∙ sym (one.only y.0 y.1)) ∙ y.2
 
-pub refused_of : (level : ℕ) (b : List ℕ) (e : Error) → IsWholeError level b e → e ≢ refusal.Memory
+pub refused_of : (level : ℕ) (b : List ℕ) (e : Error) → UnlessMemory (IsRefused level b) e → e ≢ refusal.Memory
     → IsRefused level b e
 refused_of level b refusal.Memory h no_memory = absurd (no_memory refl)
 refused_of level b _ h no_memory = h

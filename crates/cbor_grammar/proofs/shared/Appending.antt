@@ -10,7 +10,7 @@ use Rattle.std.proofs.Common.{arith}
 use Rattle.std.proofs.Math.Seq.{take-append_seam, take-length}
 use Rattle.std.proofs.lemmas.List.{length-take, take-append-drop}
 use Rattle.std.proofs.lemmas.Str.{IsCharBoundary-from_take, IsUtf8-string_bytes}
-use Rattle.cbor_grammar.specs.mirror.Appends.{Appends}
+use Rattle.cbor_notes.specs.Appends.{Appends}
 
 begins : (old text new : List ℕ) → new ≡ old ++ text → StartsWith new old
 begins old text new is = ap (take (length old)) is ∙ take-append_seam old text

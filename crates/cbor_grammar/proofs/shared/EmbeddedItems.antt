@@ -6,29 +6,28 @@ use Rattle.cbor_grammar.specs.declared.error.Error.{Error}
 use Rattle.cbor_grammar.specs.declared.error.Error.TheVariants as refusal
 use Rattle.cbor_grammar.specs.Item.{Item, Items, no_items, item}
 use Rattle.cbor_grammar.specs.Bytes.{any, Spells, SpellsItems}
-use Rattle.cbor_grammar.specs.Answer.{spelled, cut, fault, IsOutcome, IsRefused}
+use Rattle.cbor_grammar.specs.Answer.{spelled, cut, fault, IsOutcome, IsRefused, UnlessMemory}
 use Rattle.cbor_grammar.specs.Reading.{Read, read_item}
 use Rattle.cbor_grammar.specs.Embedded.{if_whole, embedded_at, before, and_then, sequence_of, EmbedsExactly}
 use Rattle.cbor_grammar.specs.Embedded.{RejectsExactly}
-use Rattle.cbor_grammar.specs.Refused.{Cut}
+use Rattle.cbor_grammar.specs.Refused.{Cut, Fault}
 use Rattle.cbor_grammar.proofs.bytes.Heads.{IsBytes}
 use Rattle.cbor_grammar.proofs.bytes.Sizes.{one_byte}
 use Rattle.cbor_grammar.proofs.bytes.Found.{item_takes}
 use Rattle.cbor_grammar.proofs.bytes.FoundAgain.{item_again}
 use Rattle.cbor_grammar.proofs.bytes.Refusals.{item_nothing}
 use Rattle.cbor_grammar.proofs.bytes.ExactlyOne.{outcome_reads}
-use Rattle.cbor_grammar.specs.Answer.{IsFrontError, IsWholeError}
 
 -- ---- what a reader refuses
 
 -- the front of an input is at fault, where a reader refuses it for another reason than memory
-pub fault_is : (level : ℕ) (b : List ℕ) (e : Error) → e ≢ refusal.Memory → IsFrontError level b e
+pub fault_is : (level : ℕ) (b : List ℕ) (e : Error) → e ≢ refusal.Memory → UnlessMemory (Fault level b) e
     → IsOutcome level b (fault e)
 fault_is level b refusal.Memory other h = absurd (other refl)
 fault_is level b _ other h = h
 
 -- a whole input is refused, where a reader refuses it for another reason than memory
-pub refused_is : (level : ℕ) (b : List ℕ) (e : Error) → e ≢ refusal.Memory → IsWholeError level b e
+pub refused_is : (level : ℕ) (b : List ℕ) (e : Error) → e ≢ refusal.Memory → UnlessMemory (IsRefused level b) e
     → IsRefused level b e
 refused_is level b refusal.Memory other h = absurd (other refl)
 refused_is level b _ other h = h

@@ -10,17 +10,17 @@ use Rattle.cbor_grammar.specs.Reading.{Read, Counted, later, ◌>>-◌, Frame, p
 use Rattle.cbor_grammar.specs.Reading.{read_parts}
 use Rattle.cbor_grammar.specs.Reading.{no_level_left, counted_item}
 
--- Counted reading stops with this error after this number of turns. Where memory ran out, these are at most the
--- turns that it takes in all.
-abbrev pub Stops : {X : Type 0} → Error → ℕ → Counted X → Type 0
-Stops refusal.Memory n c = n ≤ c.0
-Stops e n c = c ≡ (n, Err e)
+-- Counted reading fails so in this number of turns. Where memory ran out, these are at most the turns that it takes
+-- in all.
+abbrev pub FailsIn : {X : Type 0} → Error → ℕ → Counted X → Type 0
+FailsIn refusal.Memory n c = n ≤ c.0
+FailsIn e n c = c ≡ (n, Err e)
 
 -- A count that rose from old to new and what a function returned, seen by view, are what counted reading
 -- gives; where memory ran out, the count rose no further.
-abbrev pub Runs : {X Y : Type 0} → (X → Y × List ℕ) → ℕ → ℕ → Result X Error → Counted Y → Type 0
-Runs view old new (Ok x) c = later old c ≡ (new, Ok (view x))
-Runs view old new (Err e) c = Stops e new (later old c)
+abbrev pub GivesIn : {X Y : Type 0} → (X → Y × List ℕ) → ℕ → ℕ → Result X Error → Counted Y → Type 0
+GivesIn view old new (Ok x) c = later old c ≡ (new, Ok (view x))
+GivesIn view old new (Err e) c = FailsIn e new (later old c)
 
 -- what needs memory: a string, a container or a tag
 abbrev pub HoldsContent : ItemHead → Type 0

@@ -23,7 +23,7 @@ use Rattle.cbor_grammar.specs.Reading.{closed, read_parts, read_body, read_head,
 use Rattle.cbor_grammar.specs.StringKind.{StringKind}
 use Rattle.cbor_grammar.specs.mirror.StringView.{kind_of, borrowed_chunk}
 use Rattle.cbor_grammar.specs.WellFormed.{levels_left, FitsFloat}
-use Rattle.cbor_grammar.specs.mirror.Counting.{Stops}
+use Rattle.cbor_grammar.specs.mirror.Counting.{FailsIn}
 use Rattle.cbor_bytes.specs.mirror.HeadView.{argument_view}
 use Rattle.cbor_bytes.specs.mirror.HeadView.{left_of}
 use Rattle.cbor_notation.specs.mirror.LayoutView.{context_view, item_text}
@@ -52,7 +52,7 @@ pub fails_then : {A B : Type 0} (e : Error) (c : Counted A) (f : A × List ℕ �
 fails_then refusal.Memory c f h = tt
 fails_then e c f h = then_first c (0, Err e) f h
 
-pub fails_stopped : {A : Type 0} (e : Error) (n : ℕ) (c : Counted A) → Stops e n c → Fails e c.1
+pub fails_stopped : {A : Type 0} (e : Error) (n : ℕ) (c : Counted A) → FailsIn e n c → Fails e c.1
 fails_stopped refusal.Memory n c h = tt
 fails_stopped {A = A} e n c h = ap (λ (d : Counted A). d.1) h
 

@@ -2,7 +2,7 @@
 use Rattle.std.proofs.Common.{List, ℕ, length, take, subst, sym, arith}
 use Rattle.cbor_grammar.specs.declared.error.Error.TheVariants.{Utf8}
 use Rattle.cbor_grammar.specs.StringKind.{IsContent}
-use Rattle.cbor_bytes.specs.mirror.Skipping.{here, Goes, Shows, skip_content}
+use Rattle.cbor_bytes.specs.mirror.Skipping.{here, Goes, FailsAt, skip_content}
 use Rattle.cbor_grammar.specs.mirror.StringView.{kind_view}
 use Rattle.cbor_bytes.proofs.skipping.Skips.{content_cut, content_goes, content_shows}
 use Rattle.cbor_bytes.proofs.skip.after_content.Goals as goal
@@ -28,5 +28,5 @@ returns-clause-stops c = λ w.
     let bad : ¬ (IsContent kind (take c.args.count b)) =
     λ holds. (let yes = c.may_hold.ensures.1 (subst (IsContent kind) (sym e.front) holds) in let no =
     c.if-may_hold.false in cc) in
-    subst (λ (r : List ℕ). Shows (skip_content kind c.args.count w) b Utf8 (length r)) (sym e.back)
+    subst (λ (r : List ℕ). FailsAt (skip_content kind c.args.count w) b Utf8 (length r)) (sym e.back)
     (content_shows kind c.args.count w b (omega arith) bad)

@@ -7,7 +7,7 @@ use Rattle.cbor_grammar.specs.Argument.{number}
 use Rattle.cbor_grammar.specs.Head.{break_byte}
 use Rattle.cbor_grammar.specs.StringKind.{StringKind, major_of}
 use Rattle.cbor_grammar.specs.Reading.{◌>>=◌, read_argument}
-use Rattle.cbor_bytes.specs.mirror.Skipping.{here, Goes, Shows, StopsSo, stop_of, skip_content, skip_chunks}
+use Rattle.cbor_bytes.specs.mirror.Skipping.{here, Goes, FailsAt, StopsSo, stop_of, skip_content, skip_chunks}
 use Rattle.cbor_grammar.specs.mirror.StringView.{kind_view}
 use Rattle.cbor_grammar.proofs.bytes.Heads.{IsBytes, IsBytes-rest}
 use Rattle.cbor_bytes.proofs.skipping.Skips.{break_goes, chunk_goes}
@@ -36,7 +36,7 @@ returns-then-first-number-clause-stops c =
     let kind = kind_view c.args.kind in
     let no_break : get_or b 0 0 ≢ break_byte = λ is. omega arith in
     let other : get_or b 0 0 / 32 ≢ major_of kind = λ is. omega arith in
-    at_first (λ (x : List ℕ). Shows (skip_chunks kind) x Head (length (behind_first b))) b c.in-len1-up.len_at_least
+    at_first (λ (x : List ℕ). FailsAt (skip_chunks kind) x Head (length (behind_first b))) b c.in-len1-up.len_at_least
     (kind_shows kind (get_or b 0 0) (behind_first b) no_break other)
 
 -- a chunk's head, with its content and more chunks after it
@@ -72,7 +72,7 @@ returns-in-Ok-Indefinite-default-clause-stops c =
     let major : get_or b 0 0 / 32 ≡ major_of kind = omega arith in
     let i = c.in-Ok-Indefinite-default in
     let read = rw i.field-0-0-is at i.ensures.gives in
-    at_first (λ (x : List ℕ). Shows (skip_chunks kind) x Head (length (behind_first b))) b some
+    at_first (λ (x : List ℕ). FailsAt (skip_chunks kind) x Head (length (behind_first b))) b some
     (indefinite_shows kind (get_or b 0 0) (behind_first b) i.field-0-1.now fits no_break major read)
 
 pub returns-in-Err-clause-stops : goal.returns-in-Err-clause-stops

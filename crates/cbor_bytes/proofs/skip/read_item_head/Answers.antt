@@ -3,7 +3,7 @@ use Rattle.std.proofs.Common.{◌-◌, ℕ, List, get_or, length, Err, ap, sym, 
 use Rattle.cbor_grammar.specs.declared.error.Error.TheVariants.{TooDeep}
 use Rattle.cbor_grammar.specs.Reading.{read_head}
 use Rattle.cbor_bytes.specs.mirror.HeadView.{head_view}
-use Rattle.cbor_bytes.specs.mirror.Skipping.{Goes, Shows, StopsSo, stop_of, skip_item, skip_body}
+use Rattle.cbor_bytes.specs.mirror.Skipping.{Goes, FailsAt, StopsSo, stop_of, skip_item, skip_body}
 use Rattle.cbor_bytes.proofs.skipping.Skips.{head_goes, head_stops, deep_shows, no_item, behind_first}
 use Rattle.cbor_bytes.proofs.skipping.Skips.{first_is, at_first, fits_first, empty_is}
 use Rattle.cbor_bytes.proofs.skipping.Scans.{head_few, stop_few}
@@ -16,7 +16,7 @@ returns-in_default-clause-stops c = ap (skip_item c.args.levels) (empty_is c.arg
 pub returns-then-levels-eq0-clause-stops : goal.returns-then-levels-eq0-clause-stops
 returns-then-levels-eq0-clause-stops c =
     let b = c.args.bytes.now in
-    at_first (λ (x : List ℕ). Shows (skip_item c.args.levels) x TooDeep (length (behind_first b))) b
+    at_first (λ (x : List ℕ). FailsAt (skip_item c.args.levels) x TooDeep (length (behind_first b))) b
     c.in-len1-up.len_at_least (deep_shows c.args.levels (get_or b 0 0) (behind_first b) (omega arith))
 
 pub returns-in-Ok-clause-goes : goal.returns-in-Ok-clause-goes

@@ -16,7 +16,7 @@ ghost use Rattle.cbor_grammar.specs.WellFormed.{deepest, levels_left};
 ghost use Rattle.cbor_grammar.specs.Item.{Item, Chunk};
 ghost use Rattle.cbor_grammar.specs.Notation.{Core, IsNotation, Members, Notation, PairOf, Reads};
 ghost use Rattle.cbor_grammar.specs.Notation.{StringOf};
-ghost use Rattle.cbor_grammar.specs.DeadEnd.{IsDeadEnd, IsDiagFault, IsCut};
+ghost use Rattle.cbor_grammar.specs.DeadEnd.{IsDeadEnd, IsDiagFault, CutOf};
 ghost use Rattle.cbor_grammar.specs.NotationRefused.{IsNoNotation};
 ghost use Rattle.cbor_diag.specs.mirror.DeadEnds.{NeverReads, NeverPieces, NotRead, Value};
 ghost use Rattle.cbor_diag.specs.mirror.DeadEnds.{read_member, MemberIs, ChunkIs, IsPieceCut};
@@ -67,7 +67,7 @@ fn is_dead_item(alloc: Global, text: &[u8], level: u8) -> Result<bool>
         → NeverReads (read_item (levels_left level)) text.now) }
     ensures cut { IfOk result (λ dead. IsFalse dead
         → NotRead (read_item (levels_left level) text.now)
-        → IsCut (Reads (levels_left level)) text.now) }
+        → CutOf (Reads (levels_left level)) text.now) }
     ensures refused { IfErr result (λ e. e ≡ Error.Memory) }
 {
     if level > DEEPEST {
@@ -90,7 +90,7 @@ fn is_dead_core(alloc: Global, text: &[u8], inner: u8) -> Result<bool>
         → NeverReads (read_core (read_item (levels_left inner))) text.now) }
     ensures cut { IfOk result (λ dead. IsFalse dead
         → NotRead (read_core (read_item (levels_left inner)) text.now)
-        → IsCut (Core (Reads (levels_left inner))) text.now) }
+        → CutOf (Core (Reads (levels_left inner))) text.now) }
     ensures refused { IfErr result (λ e. e ≡ Error.Memory) }
 {
     let (start, rest) = Start::split(text);
@@ -123,7 +123,7 @@ fn is_dead_integer(alloc: Global, text: &[u8], inner: u8) -> Result<bool>
         → NeverReads (read_integer (read_item (levels_left inner))) text.now) }
     ensures cut { IfOk result (λ dead. IsFalse dead
         → NotRead (read_integer (read_item (levels_left inner)) text.now)
-        → IsCut (Core (Reads (levels_left inner))) text.now) }
+        → CutOf (Core (Reads (levels_left inner))) text.now) }
     ensures refused { IfErr result (λ e. e ≡ Error.Memory) }
 {
     let Ok((_, after)) = read_unsigned_number(text) else {
@@ -147,7 +147,7 @@ fn is_dead_pair(alloc: Global, text: &[u8], level: u8) -> Result<bool>
         → NeverReads (read_pair (read_item (levels_left level))) text.now) }
     ensures cut { IfOk result (λ dead. IsFalse dead
         → NotRead (read_pair (read_item (levels_left level)) text.now)
-        → IsCut (PairOf (Reads (levels_left level))) text.now) }
+        → CutOf (PairOf (Reads (levels_left level))) text.now) }
     ensures refused { IfErr result (λ e. e ≡ Error.Memory) }
 {
     let Some(after) = but_memory(after_item(alloc, text, level))? else {
@@ -171,7 +171,7 @@ fn is_dead_chunk(alloc: Global, kind: StringKind, text: &[u8], level: u8) -> Res
         → NeverReads (read_chunk (read_item (levels_left level)) (kind_view kind)) text.now) }
     ensures cut { IfOk result (λ dead. IsFalse dead
         → NotRead (read_chunk (read_item (levels_left level)) (kind_view kind) text.now)
-        → IsCut (ChunkIs (kind_view kind) (Reads (levels_left level))) text.now) }
+        → CutOf (ChunkIs (kind_view kind) (Reads (levels_left level))) text.now) }
     ensures refused { IfErr result (λ e. e ≡ Error.Memory) }
 {
     let core = after_blank(text);
@@ -189,7 +189,7 @@ fn is_dead_member(alloc: Global, member: Member, text: &[u8], level: u8) -> Resu
         → NeverReads (read_member member (read_item (levels_left level))) text.now) }
     ensures cut { IfOk result (λ dead. IsFalse dead
         → NotRead (read_member member (read_item (levels_left level)) text.now)
-        → IsCut (MemberIs member (Reads (levels_left level))) text.now) }
+        → CutOf (MemberIs member (Reads (levels_left level))) text.now) }
     ensures refused { IfErr result (λ e. e ≡ Error.Memory) }
 {
     match member {
@@ -208,7 +208,7 @@ fn is_dead_list(alloc: Global, member: Member, close: u8, text: &[u8], level: u8
         (read_members (read_member member (read_item (levels_left level))) close) text.now) }
     ensures cut { IfOk result (λ dead. IsFalse dead
         → NotRead (read_members (read_member member (read_item (levels_left level))) close text.now)
-        → IsCut (Members (MemberIs member (Reads (levels_left level))) (close ∷ [])) text.now) }
+        → CutOf (Members (MemberIs member (Reads (levels_left level))) (close ∷ [])) text.now) }
     ensures refused { IfErr result (λ e. e ≡ Error.Memory) }
 {
     let mut rest = after_blank(text);
@@ -238,7 +238,7 @@ fn is_dead_chunks(alloc: Global, text: &[u8], inner: u8) -> Result<bool>
         → NeverReads (read_chunks (read_item (levels_left inner))) text.now) }
     ensures cut { IfOk result (λ dead. IsFalse dead
         → NotRead (read_chunks (read_item (levels_left inner)) text.now)
-        → IsCut (Core (Reads (levels_left inner))) (40 ∷ text.now)) }
+        → CutOf (Core (Reads (levels_left inner))) (40 ∷ text.now)) }
     ensures refused { IfErr result (λ e. e ≡ Error.Memory) }
 {
     let Some(opened) = after_byte(text, b'_') else {
@@ -261,7 +261,7 @@ fn is_dead_embedded(alloc: Global, text: &[u8], inner: u8) -> Result<bool>
         → NeverReads (read_embedded (read_item (levels_left inner))) text.now) }
     ensures cut { IfOk result (λ dead. IsFalse dead
         → NotRead (read_embedded (read_item (levels_left inner)) text.now)
-        → IsCut (Notation (Reads (levels_left inner))) (60 ∷ text.now)) }
+        → CutOf (Notation (Reads (levels_left inner))) (60 ∷ text.now)) }
     ensures refused { IfErr result (λ e. e ≡ Error.Memory) }
 {
     let Some(first) = after_byte(text, b'<') else {
@@ -304,7 +304,7 @@ fn is_dead_pieces(alloc: Global, kind: StringKind, text: &[u8], inner: u8) -> Re
     ensures cut { IfOk result (λ dead. IsFalse dead
         → begins_string (kind_view kind) (first_start text.now) ≡ true
         → NotRead (read_content (read_item (levels_left inner)) (kind_view kind) text.now)
-        → IsCut (StringOf (kind_view kind) (Reads (levels_left inner))) text.now) }
+        → CutOf (StringOf (kind_view kind) (Reads (levels_left inner))) text.now) }
     ensures refused { IfErr result (λ e. e ≡ Error.Memory) }
 {
     let mut rest = text;
@@ -329,7 +329,7 @@ fn is_dead_string(alloc: Global, kind: StringKind, text: &[u8], inner: u8) -> Re
         → NeverReads (read_string (read_item (levels_left inner)) (kind_view kind)) text.now) }
     ensures cut { IfOk result (λ dead. IsFalse dead
         → NotRead (read_string (read_item (levels_left inner)) (kind_view kind) text.now)
-        → IsCut (StringOf (kind_view kind) (Reads (levels_left inner))) text.now) }
+        → CutOf (StringOf (kind_view kind) (Reads (levels_left inner))) text.now) }
     ensures refused { IfErr result (λ e. e ≡ Error.Memory) }
 {
     if !Start::of(text).begins_string(kind) {
@@ -350,7 +350,7 @@ fn is_dead_string_item(alloc: Global, kind: StringKind, text: &[u8], inner: u8) 
         (read_string_item (read_item (levels_left inner)) (kind_view kind)) text.now) }
     ensures cut { IfOk result (λ dead. IsFalse dead
         → NotRead (read_string_item (read_item (levels_left inner)) (kind_view kind) text.now)
-        → IsCut (Core (Reads (levels_left inner))) text.now) }
+        → CutOf (Core (Reads (levels_left inner))) text.now) }
     ensures refused { IfErr result (λ e. e ≡ Error.Memory) }
 {
     if !is_apart_from_no_chunks(kind, text) {
@@ -364,7 +364,7 @@ fn is_dead_string_item(alloc: Global, kind: StringKind, text: &[u8], inner: u8) 
 fn is_dead_end(alloc: Global, text: &[u8]) -> Result<bool>
     ensures dead { IfOk result (λ dead. IsTrue dead → IsDeadEnd text.now) }
     ensures cut { IfOk result (λ dead. IsFalse dead → NotRead (notation_of deepest text.now)
-        → IsCut IsNotation text.now) }
+        → CutOf IsNotation text.now) }
     ensures refused { IfErr result (λ e. e ≡ Error.Memory) }
 {
     match but_memory(after_item(alloc, text, 1))? {

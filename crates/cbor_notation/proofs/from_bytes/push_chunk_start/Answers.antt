@@ -1,7 +1,7 @@
 -- What is written before the first chunk is the opening of the string.
 use Rattle.std.proofs.Common.{sym, subst}
 use Rattle.std.specs.String.{string_bytes}
-use Rattle.cbor_grammar.specs.mirror.Appends.{Appends}
+use Rattle.cbor_notes.specs.Appends.{Appends}
 use Rattle.cbor_notation.specs.mirror.LayoutView.{style_view}
 use Rattle.cbor_notation.specs.mirror.Straight.{before_chunk}
 use Rattle.cbor_grammar.proofs.shared.Appending.{appends_after}

@@ -1,5 +1,6 @@
 -- After the content of a chunk the chunks that follow are due, and after another content nothing.
 use Rattle.std.proofs.lemmas.Result.{IfOk-weaker, IfErr-weaker}
+use Rattle.cbor_bytes.specs.mirror.Scanning.{skip_due}
 use Rattle.cbor_grammar.specs.declared.width.IntegerWidth.TheVariants.{Zero}
 use Rattle.cbor_grammar.specs.Reading.{◌>>=◌}
 use Rattle.cbor_bytes.specs.mirror.Skipping.{skip_content, skip_chunks}
@@ -18,6 +19,6 @@ pub returns-then-chunked-clause-pauses : goal.returns-then-chunked-clause-pauses
 returns-then-chunked-clause-pauses c =
     let k = kind_view c.args.kind in
     rw c.if-chunked.true (IfErr-weaker c.after_break_due.result _ _ (λ pause pauses.
-    pauses_then (λ r. skip_content k c.args.left Zero r >>= skip_chunks k) (skip_chunks k) c.args.bytes.now
+    pauses_then skip_due (λ r. skip_content k c.args.left Zero r >>= skip_chunks k) (skip_chunks k) c.args.bytes.now
     c.in_ok-rest.rest.now pause (goes_within (λ r. r >>= skip_chunks k) c.in_ok-rest.ensures.goes) pauses)
     c.after_break_due.ensures.pauses)

@@ -1,6 +1,7 @@
 -- What is due of a string of definite length is its content.
 use Rattle.std.proofs.Common.{◌∙◌}
 use Rattle.std.proofs.lemmas.Result.{IfOk-weaker, IfErr-weaker}
+use Rattle.cbor_bytes.specs.mirror.Scanning.{skip_due}
 use Rattle.cbor_grammar.specs.declared.width.IntegerWidth.TheVariants.{Zero}
 use Rattle.cbor_bytes.specs.mirror.Skipping.{skip_content}
 use Rattle.cbor_grammar.specs.mirror.StringView.{kind_view}
@@ -24,6 +25,6 @@ returns-in-Number-clause-pauses c = λ left.
     let w = c.in-Number.field-1 in
     let kind = kind_view c.args.kind in
     rw c.in-Number.is (IfErr-weaker c.after_rest.result _ _ (λ pause pauses.
-    pauses_then _ (skip_content kind n Zero) c.args.bytes.now c.args.bytes.now pause
+    pauses_then skip_due _ (skip_content kind n Zero) c.args.bytes.now c.args.bytes.now pause
     (goes_here c.args.bytes.now (λ r. string_same left n w kind r ∙ content_width kind n w Zero r)) pauses)
     c.after_rest.ensures.pauses)

@@ -1,7 +1,7 @@
 use Rattle.std.proofs.Common.{◌-◌, subst, arith}
 use Rattle.cbor_diag.specs.View.{view}
 use Rattle.cbor_grammar.specs.Reading.{Fails, later, counted_item, read_item}
-use Rattle.cbor_grammar.specs.mirror.Counting.{Stops}
+use Rattle.cbor_grammar.specs.mirror.Counting.{FailsIn}
 use Rattle.cbor_grammar.proofs.bytes.Shorter.{item_shorter}
 use Rattle.cbor_grammar.proofs.bytes.CutShort.{cut_takes}
 use Rattle.cbor_grammar.proofs.bytes.Outcomes.{found_outcome, refusal_outcome}
@@ -32,7 +32,7 @@ returns-in-CutShort-clause-counted c =
     let b = c.args.bytes.now in
     let read = counted_item (129 - c.args.level) b in
     λ cut. cut_risen c.args.level (129 - c.args.level) c.args.turns.now _ b (omega arith)
-    (subst (λ e. Stops e c.read_item.new.turns (later c.args.turns.now read)) c.in-CutShort.is
+    (subst (λ e. FailsIn e c.read_item.new.turns (later c.args.turns.now read)) c.in-CutShort.is
     c.in-Err.ensures.gives) cut
 
 pub returns-in_default-clause-outcome : goal.returns-in_default-clause-outcome

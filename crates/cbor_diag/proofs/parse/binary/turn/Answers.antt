@@ -4,7 +4,7 @@ use Rattle.std.proofs.lemmas.List.{length-map}
 use Rattle.std.proofs.lemmas.Result.{err_from_is_err_and}
 use Rattle.cbor_diag.specs.View.{view}
 use Rattle.cbor_grammar.specs.Reading.{later, read_atom}
-use Rattle.cbor_grammar.specs.mirror.Counting.{Stops}
+use Rattle.cbor_grammar.specs.mirror.Counting.{FailsIn}
 use Rattle.cbor_bytes.specs.mirror.HeadView.{head_view}
 use Rattle.cbor_diag.specs.mirror.Stack.{frame, frames}
 use Rattle.cbor_grammar.specs.declared.error.Error.TheVariants as refusal
@@ -63,7 +63,7 @@ returns-in_err-item-in-None-clause-stops c =
     let p = err_from_is_err_and c.from_residual-in_err-item-in-None.result
     c.from_residual-in_err-item-in-None.ensures.1 in
     let is = sym c.in_ok-container.ensures.opens ∙ ap (option_map frame) c.in-None.is in
-    let stops = subst (λ t. Stops c.in_err-item-in-None.field-0.0 c.read_atom.new.turns
+    let stops = subst (λ t. FailsIn c.in_err-item-in-None.field-0.0 c.read_atom.new.turns
     (later t (read_atom (head_view c.in_ok-head.head) c.in_ok-head.rest.now))) c.rise.ensures
     c.in_err-item-in-None.ensures.gives in
     rw (p.1, p.2) (atom_stops c.in_err-item-in-None.field-0.0 (129 - c.args.level) c.args.turns.now _

@@ -7,12 +7,12 @@ ghost use Rattle.std.specs.Char.{digit_value};
 ghost use Rattle.std.specs.Bool.{IsFalse};
 ghost use Rattle.cbor_notes.specs.Token.{Blank};
 ghost use Rattle.cbor_notes.specs.TokenReading.{unquoted};
-ghost use Rattle.cbor_grammar.specs.DeadEnd.{GoesOn, IsCut, closes, closes_text};
+ghost use Rattle.cbor_grammar.specs.DeadEnd.{GoesOn, CutOf, closes, closes_text};
 ghost use Rattle.cbor_grammar.specs.Notation.{NumberOf, NegativeOf, SimpleOf, Notation, Core};
 ghost use Rattle.cbor_grammar.specs.Notation.{Reads};
 ghost use Rattle.cbor_grammar.specs.Notation.{Closes};
 ghost use Rattle.cbor_diag.specs.mirror.DeadEnds.{NeverReads, ends_blank, is_firm};
-ghost use Rattle.cbor_diag.specs.mirror.DeadEnds.{is_settled, NotRead, IsRefused};
+ghost use Rattle.cbor_diag.specs.mirror.DeadEnds.{is_settled, NotRead, IsRealError};
 ghost use Rattle.cbor_notation.specs.mirror.NotationReading.{after_end, after_space, after_word};
 ghost use Rattle.cbor_notation.specs.mirror.NotationReading.{read_unsigned_number, read_word};
 ghost use Rattle.cbor_notation.specs.mirror.NotationReading.{read_negative_number, read_simple};
@@ -60,7 +60,7 @@ pub(super) fn is_firm(text: &[u8]) -> bool
 
 /// Whether this is an error other than `Memory`.
 fn is_refused<T: Drop>(answer: Result<T>) -> bool
-    ensures refused { IsTrue result → IsRefused answer }
+    ensures refused { IsTrue result → IsRealError answer }
     ensures other { IsFalse result → answer ≢ Err Error.Memory → (x : T) × (answer ≡ Ok x) }
 {
     match answer {
@@ -73,7 +73,7 @@ fn is_refused<T: Drop>(answer: Result<T>) -> bool
 /// What was read, or `None` for any error but `Memory`.
 pub(super) fn but_memory<T: Drop>(answer: Result<T>) -> Result<Option<T>>
     ensures found { IfOk result (λ found. IfSome found (λ x. answer ≡ Ok x)) }
-    ensures none { IfOk result (λ found. IfNone found (IsRefused answer)) }
+    ensures none { IfOk result (λ found. IfNone found (IsRealError answer)) }
     ensures refused { IfErr result (λ e. e ≡ Error.Memory) }
 {
     match answer {
@@ -136,7 +136,7 @@ fn widens(value: u128, indicator: Option<u8>, rest: &[u8]) -> bool
 pub(super) fn is_dead_unsigned(text: &[u8]) -> bool
     ensures dead { IsTrue result → NeverReads read_unsigned_number text.now }
     ensures cut { IsFalse result → NotRead (read_unsigned_number text.now)
-        → IsCut (λ t (x : ℕ × IntegerWidth). NumberOf t x.0 x.1) text.now }
+        → CutOf (λ t (x : ℕ × IntegerWidth). NumberOf t x.0 x.1) text.now }
 {
     match read_number(text) {
         Ok(((value, indicator), rest)) => {
@@ -171,7 +171,7 @@ fn may_be_negative(text: &[u8], value: u128, indicator: Option<u8>, rest: &[u8])
 pub(super) fn is_dead_negative(text: &[u8]) -> bool
     ensures dead { IsTrue result → NeverReads read_negative_number text.now }
     ensures cut { IsFalse result → NotRead (read_negative_number text.now)
-        → IsCut (λ t (x : ℕ × IntegerWidth). NegativeOf t x.0 x.1) (45 ∷ text.now) }
+        → CutOf (λ t (x : ℕ × IntegerWidth). NegativeOf t x.0 x.1) (45 ∷ text.now) }
 {
     match read_number(text) {
         Ok(((value, indicator), rest)) => {
@@ -249,7 +249,7 @@ fn is_dead_float(text: &[u8]) -> bool
 pub(super) fn is_dead_word(text: &[u8]) -> bool
     ensures dead { IsTrue result → NeverReads read_word text.now }
     ensures cut { IsFalse result → NotRead (read_word text.now)
-        → IsCut (λ t i. (left : ℕ) → Core (Reads left) t i) text.now }
+        → CutOf (λ t i. (left : ℕ) → Core (Reads left) t i) text.now }
 {
     if let Some(rest) = after_word(text, b"simple(") {
         is_dead_simple(rest)
@@ -329,7 +329,7 @@ fn are_closed(text: &[u8], comments: bool) -> bool
 fn is_dead_b(text: &[u8]) -> bool
     ensures dead { IsTrue result → NotRead (b_notation text.now) → NeverReads b_notation text.now }
     ensures cut { IsFalse result → NotRead (b_notation text.now)
-        → IsCut (λ t bytes. (left : ℕ) → Notation (Reads left) t bytes) (98 ∷ text.now) }
+        → CutOf (λ t bytes. (left : ℕ) → Notation (Reads left) t bytes) (98 ∷ text.now) }
 {
     if let Some(digits) = after_word(text, b"32'") {
         are_closed(digits, true)
@@ -345,7 +345,7 @@ fn is_dead_b(text: &[u8]) -> bool
 fn is_dead_h(text: &[u8]) -> bool
     ensures dead { IsTrue result → NotRead (h_notation text.now) → NeverReads h_notation text.now }
     ensures cut { IsFalse result → NotRead (h_notation text.now)
-        → IsCut (λ t bytes. (left : ℕ) → Notation (Reads left) t bytes) (104 ∷ text.now) }
+        → CutOf (λ t bytes. (left : ℕ) → Notation (Reads left) t bytes) (104 ∷ text.now) }
 {
     if let Some(digits) = after_word(text, b"'") {
         are_closed(digits, true)
@@ -361,7 +361,7 @@ fn is_dead_h(text: &[u8]) -> bool
 pub(super) fn is_dead_b_notation(alloc: Global, text: &[u8]) -> Result<bool>
     ensures dead { IfOk result (λ dead. IsTrue dead → NeverReads b_notation text.now) }
     ensures cut { IfOk result (λ dead. IsFalse dead → NotRead (b_notation text.now)
-        → IsCut (λ t bytes. (left : ℕ) → Notation (Reads left) t bytes) (98 ∷ text.now)) }
+        → CutOf (λ t bytes. (left : ℕ) → Notation (Reads left) t bytes) (98 ∷ text.now)) }
     ensures refused { IfErr result (λ e. e ≡ Error.Memory) }
 {
     match b_notation(alloc, text) {
@@ -376,7 +376,7 @@ pub(super) fn is_dead_b_notation(alloc: Global, text: &[u8]) -> Result<bool>
 pub(super) fn is_dead_h_notation(alloc: Global, text: &[u8]) -> Result<bool>
     ensures dead { IfOk result (λ dead. IsTrue dead → NeverReads h_notation text.now) }
     ensures cut { IfOk result (λ dead. IsFalse dead → NotRead (h_notation text.now)
-        → IsCut (λ t bytes. (left : ℕ) → Notation (Reads left) t bytes) (104 ∷ text.now)) }
+        → CutOf (λ t bytes. (left : ℕ) → Notation (Reads left) t bytes) (104 ∷ text.now)) }
     ensures refused { IfErr result (λ e. e ≡ Error.Memory) }
 {
     match h_notation(alloc, text) {

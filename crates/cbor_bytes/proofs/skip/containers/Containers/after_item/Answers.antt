@@ -1,12 +1,13 @@
 -- Scanning goes on from part to part over the open containers, and pauses where a part does.
 use Rattle.std.proofs.Common.{◌≡◌, ◌-◌, List, length, sym, subst, arith}
 use Rattle.std.proofs.lemmas.Result.{err_from_is_err_and}
+use Rattle.cbor_bytes.proofs.skipping.Scans.{pauses_then}
+use Rattle.cbor_bytes.specs.mirror.Scanning.{skip_from}
 use Rattle.cbor_bytes.specs.declared.skip.to_come.ToCome.{ToCome}
 use Rattle.cbor_bytes.specs.mirror.Skipping.{here, Goes, skip_item, begun, skip_open}
 use Rattle.cbor_grammar.specs.WellFormed.{deepest}
 use Rattle.cbor_bytes.proofs.skipping.Skips.{goes_then}
 use Rattle.cbor_bytes.proofs.skipping.SkippedParts.{last_ends, open_ends, whole_goes, opens_goes}
-use Rattle.cbor_bytes.proofs.skipping.ScannedParts.{pauses_in_then}
 use Rattle.cbor_bytes.proofs.skip.containers.Containers.after_item.Goals as goal
 
 pub returns-in_default-pop-clause-goes : goal.returns-in_default-pop-clause-goes
@@ -34,7 +35,7 @@ turns-preserved-in-Some c =
 pub returns-in_err-rest-in-Err-clause-pauses : goal.returns-in_err-rest-in-Err-clause-pauses
 returns-in_err-rest-in-Err-clause-pauses c =
     let p = err_from_is_err_and c.from_residual.result c.from_residual.ensures.1 in
-    rw (p.1, p.2) (pauses_in_then c.after_part.new.self.outer c.after_part.new.self.top
+    rw (p.1, p.2) (pauses_then (skip_from c.after_part.new.self.outer c.after_part.new.self.top)
     (skip_open c.args.self.now.outer c.args.self.now.top)
     (skip_open c.turns.self.outer c.turns.top) c.args.bytes.now c.turns.rest.now c.in_err-rest-in-Err.field-0.0
     c.turns.invariant.goes c.in_err-rest-in-Err.ensures.pauses)

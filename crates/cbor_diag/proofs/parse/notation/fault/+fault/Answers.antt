@@ -11,9 +11,9 @@ use Rattle.cbor_grammar.specs.mirror.StringView.{kind_view}
 use Rattle.cbor_notation.specs.mirror.NotationReading.{read_item, read_members, read_pair, read_negative_number}
 use Rattle.cbor_notation.specs.mirror.NotationReading.{kind_from}
 use Rattle.cbor_notation.specs.mirror.NotationReading.{read_string_item, read_string, begins_string}
-use Rattle.cbor_diag.specs.mirror.DeadEnds.{NeverReads, Value, read_member, NotRead, IsRefused, MemberIs, ends_blank}
+use Rattle.cbor_diag.specs.mirror.DeadEnds.{NeverReads, Value, read_member, NotRead, IsRealError, MemberIs, ends_blank}
 use Rattle.cbor_grammar.specs.Notation.{Members, PairOf, Reads}
-use Rattle.cbor_grammar.specs.DeadEnd.{IsCut}
+use Rattle.cbor_grammar.specs.DeadEnd.{CutOf}
 use Rattle.cbor_diag.proofs.notation.CutCores.{minus_core, bracket_core, brace_core, parenthesis_core, digit_core}
 use Rattle.cbor_diag.proofs.notation.CutCores.{quote_core, bytes_core_cut, word_core, quote_piece, apostrophe_piece}
 use Rattle.cbor_diag.proofs.notation.CutCores.{angle_piece, letter_b_piece, letter_h_piece}
@@ -236,7 +236,7 @@ is_dead_core-returns-in-Bracket-clause-cut t c =
     cut_from c.is_dead_list.result
     (λ cut. bracket_core (129 - c.args.inner) c.args.text.now c.split-start.result.1.now
     (sym c.in-Bracket.is ∙ c.split-start.ensures.start) c.split-start.ensures.rest c.requires.some (subst (λ (u : List ℕ). NotRead (read_members (read_item (129 - c.args.inner)) 93 u)
-    → IsCut (Members (Reads (129 - c.args.inner)) (93 ∷ [])) u) c.read_length.ensures.gives.1 cut))
+    → CutOf (Members (Reads (129 - c.args.inner)) (93 ∷ [])) u) c.read_length.ensures.gives.1 cut))
     c.is_dead_list.ensures.cut
 
 pub is_dead_core-returns-in-Brace-clause-cut : goal.is_dead_core-returns-in-Brace-clause-cut
@@ -244,7 +244,7 @@ is_dead_core-returns-in-Brace-clause-cut t c =
     cut_from c.is_dead_list-in-Brace.result
     (λ cut. brace_core (129 - c.args.inner) c.args.text.now c.split-start.result.1.now
     (sym c.in-Brace.is ∙ c.split-start.ensures.start) c.split-start.ensures.rest c.requires.some (subst (λ (u : List ℕ). NotRead (read_members (read_pair (read_item (129 - c.args.inner))) 125 u)
-    → IsCut (Members (PairOf (Reads (129 - c.args.inner))) (125 ∷ [])) u) c.read_length-in-Brace.ensures.gives.1 cut))
+    → CutOf (Members (PairOf (Reads (129 - c.args.inner))) (125 ∷ [])) u) c.read_length-in-Brace.ensures.gives.1 cut))
     c.is_dead_list-in-Brace.ensures.cut
 
 pub is_dead_core-returns-in-Parenthesis-clause-cut : goal.is_dead_core-returns-in-Parenthesis-clause-cut
@@ -312,26 +312,26 @@ pub is_dead_member-returns-in-Item-clause-cut : goal.is_dead_member-returns-in-I
 is_dead_member-returns-in-Item-clause-cut t c =
     subst (λ (m : Member). IfOk c.is_dead_item.result (λ dead. IsFalse dead
     → NotRead (read_member m (read_item (129 - c.args.level)) c.args.text.now)
-    → IsCut (MemberIs m (Reads (129 - c.args.level))) c.args.text.now)) (sym c.in-Item.is) c.is_dead_item.ensures.cut
+    → CutOf (MemberIs m (Reads (129 - c.args.level))) c.args.text.now)) (sym c.in-Item.is) c.is_dead_item.ensures.cut
 
 pub is_dead_member-returns-in-Pair-clause-cut : goal.is_dead_member-returns-in-Pair-clause-cut
 is_dead_member-returns-in-Pair-clause-cut t c =
     subst (λ (m : Member). IfOk c.is_dead_pair.result (λ dead. IsFalse dead
     → NotRead (read_member m (read_item (129 - c.args.level)) c.args.text.now)
-    → IsCut (MemberIs m (Reads (129 - c.args.level))) c.args.text.now)) (sym c.in-Pair.is) c.is_dead_pair.ensures.cut
+    → CutOf (MemberIs m (Reads (129 - c.args.level))) c.args.text.now)) (sym c.in-Pair.is) c.is_dead_pair.ensures.cut
 
 pub is_dead_member-returns-in-Chunk-clause-cut : goal.is_dead_member-returns-in-Chunk-clause-cut
 is_dead_member-returns-in-Chunk-clause-cut t c =
     subst (λ (m : Member). IfOk c.is_dead_chunk.result (λ dead. IsFalse dead
     → NotRead (read_member m (read_item (129 - c.args.level)) c.args.text.now)
-    → IsCut (MemberIs m (Reads (129 - c.args.level))) c.args.text.now)) (sym c.in-Chunk.is) c.is_dead_chunk.ensures.cut
+    → CutOf (MemberIs m (Reads (129 - c.args.level))) c.args.text.now)) (sym c.in-Chunk.is) c.is_dead_chunk.ensures.cut
 
 pub is_dead_item-returns-clause-cut : goal.is_dead_item-returns-clause-cut
 is_dead_item-returns-clause-cut t c =
     let one : suc (129 - (c.args.level + 1)) ≡ 129 - c.args.level =
     omega (arith, c.requires, c.if-level-gt-DEEPEST.false) in
     cut_from c.is_dead_core.result
-    (λ cut refused. subst (λ (n : ℕ). IsCut (Reads n) c.args.text.now) one
+    (λ cut refused. subst (λ (n : ℕ). CutOf (Reads n) c.args.text.now) one
     (item_core_cut (129 - (c.args.level + 1)) c.args.text.now c.after_blank-core.result.now
     c.after_blank-core.ensures.gives (cut (core_refused (129 - (c.args.level + 1)) c.args.text.now
     c.after_blank-core.result.now c.after_blank-core.ensures.gives
@@ -341,7 +341,7 @@ pub is_dead_item-returns-then-not-ends_blank-clause-cut : goal.is_dead_item-retu
 is_dead_item-returns-then-not-ends_blank-clause-cut t c is refused =
     let one : suc (129 - (c.args.level + 1)) ≡ 129 - c.args.level =
     omega (arith, c.requires, c.if-level-gt-DEEPEST.false) in
-    subst (λ (n : ℕ). IsCut (Reads n) c.args.text.now) one
+    subst (λ (n : ℕ). CutOf (Reads n) c.args.text.now) one
     (item_blank_cut (129 - (c.args.level + 1)) c.args.text.now
     (ap ends_blank (sym c.after_blank-core.ensures.gives) ∙ sym c.ends_blank.ensures ∙ c.if-not-ends_blank.true))
 
@@ -550,18 +550,18 @@ is_dead_string-returns-in-None-clause-cut t c =
 
 pub is_dead_chunks-returns-in_default-clause-cut : goal.is_dead_chunks-returns-in_default-clause-cut
 is_dead_chunks-returns-in_default-clause-cut t c is not_read =
-    subst (λ (u : List ℕ). IsCut (Core (Reads (129 - c.args.inner))) (40 ∷ u))
+    subst (λ (u : List ℕ). CutOf (Core (Reads (129 - c.args.inner))) (40 ∷ u))
     (sym (no_length c.args.text.now c.is_empty.result c.is_empty.ensures is)) (chunks_empty (129 - c.args.inner))
 
 pub is_dead_embedded-returns-in_default-clause-cut : goal.is_dead_embedded-returns-in_default-clause-cut
 is_dead_embedded-returns-in_default-clause-cut t c is not_read =
-    subst (λ (u : List ℕ). IsCut (Notation (Reads (129 - c.args.inner))) (60 ∷ u))
+    subst (λ (u : List ℕ). CutOf (Notation (Reads (129 - c.args.inner))) (60 ∷ u))
     (sym (no_length c.args.text.now c.is_empty.result c.is_empty.ensures is)) (embedded_empty (129 - c.args.inner))
 
 pub is_dead_string-returns-then-not-begins_string-clause-cut :
     goal.is_dead_string-returns-then-not-begins_string-clause-cut
 is_dead_string-returns-then-not-begins_string-clause-cut t c is not_read =
-    subst (IsCut (StringOf (kind_view c.args.kind) (Reads (129 - c.args.inner))))
+    subst (CutOf (StringOf (kind_view c.args.kind) (Reads (129 - c.args.inner))))
     (sym (no_length c.args.text.now c.is_empty.result c.is_empty.ensures is))
     (string_empty (129 - c.args.inner) (kind_view c.args.kind))
 
