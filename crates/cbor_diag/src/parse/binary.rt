@@ -15,15 +15,15 @@ ghost use Rattle.cbor_diag.specs.View.{view};
 ghost use Rattle.cbor_grammar.specs.WellFormed.{deepest, levels_left};
 ghost use Rattle.cbor_grammar.specs.Written.{encoded};
 ghost use Rattle.cbor_grammar.specs.Answer.{Outcome, spelled};
-ghost use Rattle.cbor_diag.specs.ItemAnswer.{HasOutcome, HasAnswer, Gave, GaveItem};
+ghost use Rattle.cbor_diag.specs.ItemAnswer.{Gave, GaveItem};
 ghost use Rattle.cbor_grammar.specs.Answer.{GaveRefusal, RefusedSo, MayWantMemory, size};
-ghost use Rattle.cbor_diag.specs.ItemAnswer.{HasTurns};
+ghost use Rattle.cbor_diag.specs.mirror.BytesAnswer.{WholeAnswer, FrontAnswer, FrontTurns};
 ghost use Rattle.cbor_grammar.specs.Turns.{item_turns, cut_spent, fault_spent};
 ghost use Rattle.cbor_grammar.specs.Facts.{IsItem, IsStrictItem, BeginsWithItem, IsCut, HasFault};
 ghost use Rattle.cbor_grammar.specs.Facts.{IsNoItem, BeginsSo, BeginsInOneWay, IsWellFormed};
 ghost use Rattle.cbor_grammar.specs.Reading.{Gives, later, no_level_left, read_atom, counted_item};
-ghost use Rattle.cbor_grammar.specs.mirror.Counting.{HoldsContent, GivesIn, FailsIn, read_item_head};
-ghost use Rattle.cbor_grammar.specs.mirror.Counting.{resume, resume_with};
+ghost use Rattle.cbor_grammar.specs.mirror.Counting.{HoldsContent, GivesIn, FailsIn};
+ghost use Rattle.cbor_grammar.specs.mirror.Counting.{read_item_head, resume, resume_with};
 ghost use Rattle.cbor_bytes.specs.mirror.HeadView.{head_view};
 ghost use Rattle.cbor_diag.specs.mirror.Stack.{frames};
 
@@ -167,25 +167,17 @@ fn read_item<'a>(
     }
 }
 
-/// What the bytes begin with, read from `level`: an item and its length, or `None` if the bytes end
-/// before the item does.
-fn read_counted_front(
-    alloc: Global,
-    bytes: &[u8],
-    level: u8,
-    turns: &mut Turns,
-) -> Result<Option<(DataItem, usize)>>
-    requires from { 1 ≤ level }
-    requires to { level ≤ deepest + 1 }
-    requires bounded { turns.old ≤ 2 ^ 64 }
-    ensures outcome { HasOutcome level bytes.now result }
-    ensures counted { HasTurns level bytes.now turns.old turns.new result }
-    ensures within { turns.new ≤ turns.old + (counted_item (levels_left level) bytes.now).0 }
+/// What the bytes begin with: an item and its length, or `None` if the bytes end before the item
+/// does.
+fn read_front(alloc: Global, bytes: &[u8], turns: &mut Turns) -> Result<Option<(DataItem, usize)>>
+    requires { turns.old ≤ 2 ^ 64 }
+    ensures answer { FrontAnswer bytes.now result }
+    ensures turns { FrontTurns bytes.now turns.old turns.new result }
     ensures few { turns.new ≤ turns.old + 2 * length bytes.now + 1 }
     ensures rises { turns.old < turns.new }
     ensures memory { result ≡ Err Error.Memory → MayWantMemory bytes.now }
 {
-    match read_item(alloc, bytes, level, turns) {
+    match read_item(alloc, bytes, 1, turns) {
         Ok((item, rest)) => Ok(Some((item, bytes.len() - rest.len()))),
         Err(error) => match error {
             Error::CutShort => Ok(None),
@@ -194,28 +186,12 @@ fn read_counted_front(
     }
 }
 
-/// The same, without counting turns.
-pub(crate) fn read_front(
-    alloc: Global,
-    bytes: &[u8],
-    level: u8,
-) -> Result<Option<(DataItem, usize)>>
-    requires from { 1 ≤ level }
-    requires to { level ≤ deepest + 1 }
-    ensures outcome { HasOutcome level bytes.now result }
+/// The one item that the bytes are, all of them.
+fn read_whole(alloc: Global, bytes: &[u8]) -> Result<DataItem>
+    ensures answer { WholeAnswer bytes.now result }
     ensures memory { result ≡ Err Error.Memory → MayWantMemory bytes.now }
 {
-    read_counted_front(alloc, bytes, level, &mut Turns::new())
-}
-
-/// The one item that the bytes are, all of them, read from `level`.
-pub(crate) fn read_whole(alloc: Global, bytes: &[u8], level: u8) -> Result<DataItem>
-    requires from { 1 ≤ level }
-    requires to { level ≤ deepest + 1 }
-    ensures answer { HasAnswer level bytes.now result }
-    ensures memory { result ≡ Err Error.Memory → MayWantMemory bytes.now }
-{
-    let (item, rest) = read_item(alloc, bytes, level, &mut Turns::new())?;
+    let (item, rest) = read_item(alloc, bytes, 1, &mut Turns::new())?;
     if rest.is_empty() {
         Ok(item)
     } else {
@@ -258,7 +234,7 @@ pub fn parse_bytes(alloc: Global, bytes: &[u8]) -> Result<DataItem>
     ensures items_bounded { IfOk result (λ i. size (view i) ≤ length bytes.now) }
     ensures fronts_cut { OnOk result ((n : ℕ) → n < length bytes.now → IsCut (take n bytes.now)) }
 {
-    read_whole(alloc, bytes, 1)
+    read_whole(alloc, bytes)
 }
 
 /// Reads one item from the front of the bytes, and returns it with the number of bytes that it
@@ -298,7 +274,7 @@ pub fn parse_bytes_partial(alloc: Global, bytes: &[u8]) -> Result<Option<(DataIt
     ensures well_formed { IfOk result (λ o. IfSome o (λ x. IsWellFormed (view x.0))) }
     ensures memory { result ≡ Err Error.Memory → MayWantMemory bytes.now }
 {
-    parse_bytes_counted(alloc, bytes, &mut Turns::new())
+    read_front(alloc, bytes, &mut Turns::new())
 }
 
 /// Reads as [`parse_bytes_partial`] does, with the same results, and adds the number of its turns
@@ -356,5 +332,5 @@ pub fn parse_bytes_counted(
     ensures within_fault { (e : Error) → (f : HasFault bytes.now e) →
         turns.new ≤ turns.old + (fault_spent f + 1) }
 {
-    read_counted_front(alloc, bytes, 1, turns)
+    read_front(alloc, bytes, turns)
 }

@@ -105,7 +105,8 @@ fault_refusal level b refusal.TooDeep h = h
 fault_refusal level b e h = absurd (fault_kind h)
 
 -- a refusal of the front is one of the whole
-pub front_refusal : (level : ℕ) (b : List ℕ) (e : Error) → UnlessMemory (Fault level b) e → UnlessMemory (IsRefused level b) e
+pub front_refusal : (level : ℕ) (b : List ℕ) (e : Error) → UnlessMemory (Fault level b) e
+    → UnlessMemory (IsRefused level b) e
 front_refusal level b refusal.Memory h = tt
 front_refusal level b e h = fault_refusal level b e h
 
@@ -137,9 +138,9 @@ whole_refusal level left b refusal.CutShort levels fits h = cut_takes level left
 whole_refusal level left b e levels fits h =
     front_refusal level b e (refusal_outcome level left b e levels fits (λ is. cc) h)
 
-pub fault_of : (b : List ℕ) (e : Error) → UnlessMemory (Fault 1 b) e → e ≢ refusal.Memory → Fault 1 b e
-fault_of b refusal.Memory h no_memory = absurd (no_memory refl)
-fault_of b _ h no_memory = h
+pub unless_memory : (Means : Error → Type 0) (e : Error) → UnlessMemory Means e → e ≢ refusal.Memory → Means e
+unless_memory Means refusal.Memory h no_memory = absurd (no_memory refl)
+unless_memory Means _ h no_memory = h
 
 pub same : (b : List ℕ) (o p : Outcome) → OneOutcome 1 b → IsOutcome 1 b o → IsOutcome 1 b p → p ≡ o
 same b o p one h k = one.only p k ∙ sym (one.only o h)
@@ -187,11 +188,6 @@ one_refusal level b e f one h k =
     let x = front_of level b e h in
     let y = front_of level b f k in
     sym x.2 ∙ ap refusal_for (one.only x.0 x.1 ∙ sym (one.only y.0 y.1)) ∙ y.2
-
-pub refused_of : (level : ℕ) (b : List ℕ) (e : Error) → UnlessMemory (IsRefused level b) e → e ≢ refusal.Memory
-    → IsRefused level b e
-refused_of level b refusal.Memory h no_memory = absurd (no_memory refl)
-refused_of level b _ h no_memory = h
 
 -- out of memory, or another refusal
 pub memory_or : (e : Error) → (e ≡ refusal.Memory) ⊎ (e ≢ refusal.Memory)

@@ -15,7 +15,7 @@ use Rattle.cbor_grammar.proofs.bytes.Heads.{IsBytes}
 use Rattle.cbor_grammar.proofs.bytes.CutShort.{cut_takes}
 use Rattle.cbor_grammar.proofs.bytes.Outcomes.{found_outcome, refusal_outcome}
 use Rattle.cbor_grammar.proofs.bytes.Outcomes.{whole_outcome, no_refused_item, one_refusal, memory_or}
-use Rattle.cbor_grammar.proofs.bytes.Outcomes.{fault_of, same}
+use Rattle.cbor_grammar.proofs.bytes.Outcomes.{unless_memory, same}
 use Rattle.cbor_grammar.proofs.bytes.Shorter.{item_shorter}
 
 -- ---- what reading says of the bytes
@@ -29,7 +29,7 @@ begins_so b i rest fits e =
 
 pub front_fault : (b : List ℕ) (e : Error) → IsBytes b → e ≢ refusal.CutShort → Fails e (read_item 128 b)
     → e ≢ refusal.Memory → Fault 1 b e
-front_fault b e fits no_cut h no_memory = fault_of b e (refusal_outcome 1 128 b e refl fits no_cut h) no_memory
+front_fault b e fits no_cut h = unless_memory (Fault 1 b) e (refusal_outcome 1 128 b e refl fits no_cut h)
 
 pub front_cut_so : (b : List ℕ) → IsBytes b → Fails refusal.CutShort (read_item 128 b) → Cut 1 b
 front_cut_so b fits h = cut_takes 1 128 b refl fits h
