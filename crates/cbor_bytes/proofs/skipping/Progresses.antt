@@ -7,15 +7,13 @@ use Rattle.cbor_grammar.specs.declared.error.Error.{Error}
 use Rattle.cbor_bytes.specs.declared.skip.Stop.{Stop}
 use Rattle.cbor_bytes.specs.declared.skip.Stop.TheVariants as stops
 use Rattle.cbor_bytes.specs.declared.skip.due.Due.TheVariants as due
-use Rattle.cbor_bytes.specs.declared.skip.due.Pause.{Pause}
-use Rattle.cbor_bytes.specs.declared.skip.due.Pause.TheVariants as pause
 use Rattle.cbor_bytes.specs.declared.skip.progress.Progress.{Progress}
 use Rattle.cbor_bytes.specs.declared.skip.to_come.ToCome.{ToCome}
 use Rattle.cbor_grammar.specs.Item.{no_items}
 use Rattle.cbor_grammar.specs.Reading.{items_in}
 use Rattle.cbor_grammar.specs.WellFormed.{deepest}
 use Rattle.cbor_bytes.specs.mirror.Skipping.{Skip, here, Goes, FailsAt, skip_item, frame_of, argument_of}
-use Rattle.cbor_bytes.specs.mirror.Scanning.{skip_from, Waits, IsFew, Pauses, skip_due}
+use Rattle.cbor_bytes.specs.mirror.Scanning.{skip_from, Waits}
 use Rattle.cbor_bytes.specs.mirror.Scanned.{EndsBefore, StopsAt}
 use Rattle.cbor_bytes.proofs.skipping.Skips.{goes_at, goes_then, shows_then, no_item, behind_first, first_is, empty_is}
 use Rattle.cbor_bytes.proofs.skipping.SkippedParts.{first_goes}

@@ -15,7 +15,6 @@ use Rattle.cbor_bytes.specs.mirror.Skipping.{Skip, Goes, FailsAt, skip_item, fra
 use Rattle.cbor_bytes.specs.mirror.Scanning.{skip_due, skip_from, Waits, Pauses}
 use Rattle.cbor_bytes.proofs.skipping.Skips.{goes_then, goes_within, goes_here, shows_then, stops_within}
 use Rattle.cbor_bytes.proofs.skipping.SkippedParts.{wanted, wanted_err, next_same, part_goes, part_stops, Next}
-use Rattle.cbor_bytes.proofs.skipping.Scans.{waits_then}
 
 module _ (outer : List ToCome) (top next : ToCome) where
   -- a part that goes on so, with one part less to come after it

@@ -1,6 +1,5 @@
 -- What the code's own types of heads are, and what its functions find.
-use Rattle.std.specs.Prelude.{◌≡◌, ℕ, Option, Some, None, Result, Ok, Err}
-use Rattle.cbor_grammar.specs.declared.error.Error.{Error}
+use Rattle.std.specs.Prelude.{ℕ, Option, Some, None}
 use Rattle.cbor_bytes.specs.declared.argument.Argument as code_argument
 use Rattle.cbor_bytes.specs.declared.argument.Argument.TheVariants.{Number, Indefinite}
 use Rattle.cbor_bytes.specs.declared.head.ItemHead as code_head

@@ -38,7 +38,7 @@ impl Progress {
         requires { IsFew pause }
         ensures { (from : List ℕ → Skip) (bytes : List ℕ)
             → Pauses (skip_from self.old.containers.outer self.old.containers.top) from bytes
-                pause.entry
+            pause.entry
             → StopsAt self.new from bytes result }
     {
         match pause {
