@@ -1,5 +1,5 @@
 -- From what counted reading gives to the turns of the front of an input.
-use Rattle.std.proofs.Common.{◌≡◌, ◌≢◌, ℕ, ◌+◌, ◌*◌, ◌≤◌, List, length, take, drop, Option, Some, None, Ok, Err}
+use Rattle.std.proofs.Common.{◌≡◌, ◌≢◌, ℕ, ◌+◌, ◌≤◌, List, take, drop, Some, None, Ok, Err}
 use Rattle.std.proofs.Common.{refl, sym, ap, ◌∙◌, arith}
 use Rattle.std.proofs.lemmas.List.{length-take, take-append-drop}
 use Rattle.cbor_grammar.specs.declared.error.Error.{Error}
