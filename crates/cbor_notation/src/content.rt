@@ -22,7 +22,7 @@ pub fn read_quoted(alloc: Global, text: &[u8], quote: u8) -> Result<(Vec<u8>, &[
         (or_refused (unquoted quote false text.now)) }
     ensures shorter { IfOk result (λ x. length x.1.now < length text.now) }
 {
-    match cbor_notes::quoted_at(alloc, text, 0, quote)? {
+    match cbor_notes::quoted_front(alloc, text, quote)? {
         Some((content, end)) => Ok((content, &text[end..])),
         None => Err(Error::Notation),
     }
@@ -53,7 +53,7 @@ fn read_digits(alloc: Global, text: &[u8], comments: bool) -> Result<(Vec<u8>, &
         (or_refused (digits_of comments text.now)) }
     ensures shorter { IfOk result (λ x. length x.1.now < length text.now) }
 {
-    match cbor_notes::digits_at(alloc, text, 0, comments)? {
+    match cbor_notes::digits_front(alloc, text, comments)? {
         Some((digits, end)) => Ok((digits, &text[end..])),
         None => Err(Error::Notation),
     }

@@ -17,7 +17,7 @@ pub fn read_number(text: &[u8]) -> Result<((u128, Option<u8>), &[u8])>
         (λ e. (e ≡ Error.Notation) × (read_number text.now ≡ Err Error.Notation)) }
     ensures shorter { IfOk result (λ x. length x.1.now < length text.now) }
 {
-    match cbor_notes::number_at(text, 0) {
+    match cbor_notes::number_front(text) {
         Some((value, indicator, end)) => Ok(((value, indicator), &text[end..])),
         None => Err(Error::Notation),
     }
