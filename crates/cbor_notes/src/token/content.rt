@@ -57,8 +57,10 @@ pub fn quoted_front(
     text: &[u8],
     quote: u8,
 ) -> Result<Option<(Vec<u8>, usize)>, AllocError>
-    ensures found { IfOk result (λ found. IfSome found (λ answer. (answer.1 ≤ length text.now)
-        × (unquoted quote false text.now ≡ Some (answer.0.items, drop answer.1 text.now)))) }
+    ensures within { IfOk result (λ found. IfSome found
+        (λ answer. (0 < answer.1) × (answer.1 ≤ length text.now))) }
+    ensures found { IfOk result (λ found. IfSome found
+        (λ answer. unquoted quote false text.now ≡ Some (answer.0.items, drop answer.1 text.now))) }
     ensures none { IfOk result (λ found. IfNone found (unquoted quote false text.now ≡ None)) }
 {
     let mut content = Vec::new(alloc);
@@ -127,8 +129,10 @@ pub fn digits_front(
     text: &[u8],
     comments: bool,
 ) -> Result<Option<(Vec<u8>, usize)>, AllocError>
-    ensures found { IfOk result (λ found. IfSome found (λ answer. (answer.1 ≤ length text.now)
-        × (digits_of comments text.now ≡ Some (answer.0.items, drop answer.1 text.now)))) }
+    ensures within { IfOk result (λ found. IfSome found
+        (λ answer. (0 < answer.1) × (answer.1 ≤ length text.now))) }
+    ensures found { IfOk result (λ found. IfSome found
+        (λ answer. digits_of comments text.now ≡ Some (answer.0.items, drop answer.1 text.now))) }
     ensures none { IfOk result (λ found. IfNone found (digits_of comments text.now ≡ None)) }
 {
     let mut digits = Vec::new(alloc);
@@ -211,6 +215,7 @@ fn split_run(text: &[u8], comments: bool) -> Option<(&[u8], &[u8])>
 /// The text after a `'` at the front.
 fn after_quote(text: &[u8]) -> Option<&[u8]>
     ensures found { IfSome result (λ after. text.now ≡ 39 ∷ after.now) }
+    ensures shorter { IfSome result (λ after. length after.now < length text.now) }
     ensures none { IfNone result (0 < length text.now → slice_index text.now 0 ≢ 39) }
 {
     match text {

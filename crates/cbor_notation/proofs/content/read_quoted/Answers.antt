@@ -7,7 +7,7 @@ use Rattle.cbor_notation.proofs.content.read_quoted.Goals as goal
 pub returns-in-Some-clause-gives : goal.returns-in-Some-clause-gives
 returns-in-Some-clause-gives c =
     let found = rw c.in-Some.is at c.in_ok-content.ensures.found in
-    ap or_refused found.1 ∙ ap (λ rest. Ok (c.in-Some.content.items, rest)) (sym
+    ap or_refused found ∙ ap (λ rest. Ok (c.in-Some.content.items, rest)) (sym
     (take_rest c.args.text.now c.in-Some.end))
 
 pub returns-in-None-clause-gives : goal.returns-in-None-clause-gives

@@ -7,17 +7,18 @@ use Rattle.cbor_notes.proofs.token.content.digits_at.Goals as goal
 
 pub returns-in-Some-clause-found : goal.returns-in-Some-clause-found
 returns-in-Some-clause-found c =
-    let found = rw c.in-Some.is at c.in_ok-digits.ensures.found in (
-      omega (arith, found.0, c.split_at.ensures.back_len),
+    let found = rw c.in-Some.is at c.in_ok-digits.ensures.found in
+    let within = rw c.in-Some.is at c.in_ok-digits.ensures.within in (
+      omega (arith, within.1, c.split_at.ensures.back_len),
       DigitsBetween-digits_of c.args.comments _ _ (from_place (digits_of c.args.comments) c.args.text.now
-          c.split_at.result.1.now c.args.at c.in-Some.len c.in-Some.digits.items c.split_at.ensures.back found.1),
+          c.split_at.result.1.now c.args.at c.in-Some.len c.in-Some.digits.items c.split_at.ensures.back found),
     )
 
 pub returns-in-Some-clause-only : goal.returns-in-Some-clause-only
 returns-in-Some-clause-only c =
     let found = rw c.in-Some.is at c.in_ok-digits.ensures.found in
     only_digits c.args.comments _ _ _ (from_place (digits_of c.args.comments) c.args.text.now
-    c.split_at.result.1.now c.args.at c.in-Some.len c.in-Some.digits.items c.split_at.ensures.back found.1)
+    c.split_at.result.1.now c.args.at c.in-Some.len c.in-Some.digits.items c.split_at.ensures.back found)
 
 pub returns-in-None-clause-none : goal.returns-in-None-clause-none
 returns-in-None-clause-none c =

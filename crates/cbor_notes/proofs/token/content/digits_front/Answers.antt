@@ -55,11 +55,9 @@ returns-clause-found c =
     let quote = c.in-Some-after_quote.ensures.found in
     let after = c.in-Some-after_quote.after.now in
     let read = digits_closed c.args.comments c.args.text.now c.runs.digits.items c.runs.rest.now after
-    c.runs.invariant.read quote in (
-      omega arith,
-      digits_place c.args.comments c.args.text.now c.runs.digits.items after (digits_read c.args.comments
-          c.args.text.now c.runs.digits.items after read (elim c.else-is_empty.either [
-            | inl all ↦ inr (omega (arith, ap length quote, all.1, c.runs.invariant.within))
-            | inr some ↦ inl (omega (arith, eqb-false _ 0 (sym c.is_empty.ensures ∙ some), c.runs.digits.ok.0))
-          ])),
-    )
+    c.runs.invariant.read quote in
+    digits_place c.args.comments c.args.text.now c.runs.digits.items after (digits_read c.args.comments c.args.text.now
+    c.runs.digits.items after read (elim c.else-is_empty.either [
+      | inl all ↦ inr (omega (arith, ap length quote, all.1, c.runs.invariant.within))
+      | inr some ↦ inl (omega (arith, eqb-false _ 0 (sym c.is_empty.ensures ∙ some), c.runs.digits.ok.0))
+    ]))

@@ -8,10 +8,11 @@ use Rattle.cbor_notes.proofs.token.content.quoted_at.Goals.{In-Some, In-None}
 
 pub returns-in-Some-clause-found : goal.returns-in-Some-clause-found
 returns-in-Some-clause-found c =
-    let found = rw c.in-Some.is at c.in_ok-content.ensures.found in (
-      omega (arith, found.0, c.split_at.ensures.back_len),
+    let found = rw c.in-Some.is at c.in_ok-content.ensures.found in
+    let within = rw c.in-Some.is at c.in_ok-content.ensures.within in (
+      omega (arith, within.1, c.split_at.ensures.back_len),
       in_quotes-unquoted c.args.quote _ _ (from_place (unquoted c.args.quote false) c.args.text.now
-          c.split_at.result.1.now c.args.at c.in-Some.len c.in-Some.content.items c.split_at.ensures.back found.1),
+          c.split_at.result.1.now c.args.at c.in-Some.len c.in-Some.content.items c.split_at.ensures.back found),
     )
 
 pub returns-in-Some-clause-only : goal.returns-in-Some-clause-only
@@ -19,7 +20,7 @@ returns-in-Some-clause-only c =
     let found = rw c.in-Some.is at c.in_ok-content.ensures.found in
     only_quoted c.args.quote _ _ _ (no_backslash c.args.quote c.requires.quote)
     (from_place (unquoted c.args.quote false) c.args.text.now c.split_at.result.1.now c.args.at c.in-Some.len
-    c.in-Some.content.items c.split_at.ensures.back found.1)
+    c.in-Some.content.items c.split_at.ensures.back found)
 
 pub returns-in-None-clause-none : goal.returns-in-None-clause-none
 returns-in-None-clause-none c =
