@@ -1,7 +1,7 @@
 -- What the calls of cbor_notes answer, beside what reading gives.
 use Rattle.std.proofs.Common.{◌≡◌, ℕ, ◌≤◌, List, [], ◌∷◌, ◌++◌, ◌+◌, ◌-◌, ◌*◌, ◌^◌, ◌<◌, ◌≢◌, Bool, false, not, nat_lt}
 use Rattle.std.proofs.Common.{◌==◌, if◌then◌else◌, true, option_and_then, length, take, drop, position, Option, Some}
-use Rattle.std.proofs.Common.{None, Ok, Err, slice_range, refl, sym, ap, ◌∙◌, arith}
+use Rattle.std.proofs.Common.{None, Ok, Err, refl, sym, ap, ◌∙◌, arith}
 use Rattle.std.specs.Char.{digit_value}
 use Rattle.std.specs.List.{list_all}
 use Rattle.std.specs.Str.Parse.{digits_value_after}
@@ -9,15 +9,11 @@ use Rattle.std.proofs.lemmas.List.{take_rest}
 use Rattle.std.proofs.lemmas.Bool.{cond-true, lt-ltb}
 use Rattle.std.proofs.Math.Nat.{pow-le-pow_right}
 use Rattle.cbor_grammar.specs.declared.error.Error.TheVariants as refusal
-use Rattle.cbor_notes.specs.Token.{Blank, IsLongest, IsNumber, IsSomeNumber, is_whitespace, in_quotes, DigitsBetween}
-use Rattle.cbor_notes.specs.TokenReading.{after_blank, number_of, unquoted, digits_of}
-use Rattle.cbor_notes.proofs.tokens.Blanks.{after_longest_blank}
-use Rattle.cbor_notes.proofs.tokens.Numbers.{IsNumber-number_of, number_of-longest}
-use Rattle.cbor_notes.proofs.tokens.Quoted.{in_quotes-unquoted, unquoted-in_quotes}
-use Rattle.cbor_notes.proofs.tokens.Spaced.{DigitsBetween-digits_of, digits_of-DigitsBetween}
-use Rattle.cbor_notes.proofs.tokens.TextPlaces.{part_and_rest}
+use Rattle.cbor_notes.specs.Token.{is_whitespace, DigitsBetween}
+use Rattle.cbor_notes.specs.TokenReading.{number_of, digits_of}
+use Rattle.cbor_notes.proofs.tokens.Spaced.{digits_of-DigitsBetween}
 use Rattle.cbor_grammar.specs.Reading.{◌>>=◌}
-use Rattle.cbor_notation.specs.mirror.NotationReading.{or_refused, skip_blank, read_number, after_byte, after_space}
+use Rattle.cbor_notation.specs.mirror.NotationReading.{or_refused, read_number, after_byte, after_space}
 use Rattle.cbor_notation.specs.mirror.NotationReading.{numeral}
 
 pub number_found : (text : List ℕ) (end value : ℕ) (indicator : Option ℕ)
