@@ -36,7 +36,13 @@ pub fn blank_end(text: &[u8], at: usize) -> usize
     at + blank_len(rest)
 }
 
-/// Returns the length of the longest blank at the front, which [`blank_end`] describes.
+/// Returns the length of the longest blank at the front. [`blank_end`] says what a blank is.
+///
+/// ```rust
+/// use cbor_notes::blank_len;
+///
+/// assert_eq!(rt; blank_len(b" /two/ 2"), 7);
+/// ```
 pub fn blank_len(text: &[u8]) -> usize
     ensures within { result ≤ length text.now }
     ensures rest { drop result text.now ≡ after_blank true text.now }

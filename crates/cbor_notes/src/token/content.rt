@@ -51,7 +51,18 @@ pub fn quoted_at(
 }
 
 /// Returns the content at the front up to the closing `quote`, as [`quoted_at`] does, and the
-/// length of both.
+/// length of both as they are written.
+///
+/// ```rust
+/// use cbor_notes::quoted_front;
+///
+/// let found = quoted_front(alloc, br"it\'s', 1", b'\'')?;
+/// let (content, len) = found.unwrap_or((Vec::new(alloc), 0));
+/// assert_eq!(rt; content.as_slice(), b"it's".as_slice());
+/// assert_eq!(rt; len, 6);
+/// ```
+///
+/// [`quoted_at`]: crate::quoted_at
 pub fn quoted_front(
     alloc: Global,
     text: &[u8],
@@ -123,7 +134,18 @@ pub fn digits_at(
 }
 
 /// Returns the digits at the front up to the closing `'`, as [`digits_at`] does, and the length of
-/// all that.
+/// both as they are written.
+///
+/// ```rust
+/// use cbor_notes::digits_front;
+///
+/// let found = digits_front(alloc, b"48 /i/ 69', 1", true)?;
+/// let (digits, len) = found.unwrap_or((Vec::new(alloc), 0));
+/// assert_eq!(rt; digits.as_slice(), b"4869".as_slice());
+/// assert_eq!(rt; len, 10);
+/// ```
+///
+/// [`digits_at`]: crate::digits_at
 pub fn digits_front(
     alloc: Global,
     text: &[u8],

@@ -60,6 +60,14 @@ pub fn number_at(text: &[u8], at: usize) -> Option<(u128, Option<u8>, usize)>
 
 /// Returns the longest number at the front, as [`number_at`] does: its value, its indicator if it
 /// has one, and its length.
+///
+/// ```rust
+/// use cbor_notes::number_front;
+///
+/// assert_eq!(rt; number_front(b"18_1, 25"), Some((18, Some(1), 4)));
+/// ```
+///
+/// [`number_at`]: crate::number_at
 pub fn number_front(text: &[u8]) -> Option<(u128, Option<u8>, usize)>
     ensures within { IfSome result (λ found. (0 < found.2) × (found.2 ≤ length text.now)) }
     ensures found { IfSome result (λ found. (value : ℕ) × (found.0 ≡ capped value)
