@@ -1,9 +1,10 @@
 -- The number at the front of a text and at a place in it, as its digits are read there.
 use Rattle.std.proofs.Common.{◌≡◌, ℕ, ◌+◌, ◌-◌, ◌<◌, List, ◌++◌, length, drop, slice_range, Option, Some, None, refl}
 use Rattle.std.proofs.Common.{sym, ap, ◌∙◌, inl, inr, subst, arith}
+use Rattle.std.proofs.Common.{◌≢◌, ◌≤◌, false, not, ◌==◌, ◌&&◌, [], ◌∷◌}
 use Rattle.std.proofs.lemmas.List.{length-append, drop-drop}
-use Rattle.std.proofs.lemmas.Bool.{cond-true, cond-false, cases_Bool}
-use Rattle.cbor_notes.specs.Token.{Base}
+use Rattle.std.proofs.lemmas.Bool.{cond-true, cond-false, cases_Bool, and_parts, cond_both, ne_eqb, false≢true}
+use Rattle.cbor_notes.specs.Token.{Base, decimal_base, hexadecimal_base, octal_base, binary_base}
 use Rattle.cbor_notes.specs.Token.{IsNumber, IsSomeNumber, IsLongest, prefix, radix}
 use Rattle.cbor_notes.specs.TokenReading.{starts_with_digit, base_of, digit_run, indicator_of, with_indicator}
 use Rattle.cbor_notes.specs.TokenReading.{after_run, number_in, number_of}
@@ -105,3 +106,21 @@ none_at text none front rest is some =
     let never : ◌≡◌ {A = Option (ℕ × Option ℕ × List ℕ)} None (Some reached.0) = sym none
     ∙ (ap number_of is ∙ reached.1) in
     cc never
+
+-- a text of two bytes has no prefix and digit
+pub base_of-short : (text : List ℕ) → length text ≤ 2 → base_of text ≡ decimal_base
+base_of-short [] short = refl
+base_of-short (first ∷ []) short = refl
+base_of-short (first ∷ letter ∷ next ∷ rest) short = absurd (omega arith)
+base_of-short (first ∷ letter ∷ []) short =
+    cond_both (not (first == 48)) decimal_base _ (λ b. b ≡ decimal_base) (λ _. refl)
+    (λ _. cond_both ((letter == 120) && false) hexadecimal_base _ (λ b. b ≡ decimal_base)
+    (λ is. absurd (false≢true (and_parts _ _ is).1))
+    (λ _. cond_both ((letter == 111) && false) octal_base _ (λ b. b ≡ decimal_base)
+    (λ is. absurd (false≢true (and_parts _ _ is).1))
+    (λ _. cond_both ((letter == 98) && false) binary_base decimal_base (λ b. b ≡ decimal_base)
+    (λ is. absurd (false≢true (and_parts _ _ is).1)) (λ _. refl))))
+
+pub base_of-other : (first : ℕ) (rest : List ℕ) → first ≢ 48 → base_of (first ∷ rest) ≡ decimal_base
+base_of-other first [] other = refl
+base_of-other first (letter ∷ rest) other = rw (ne_eqb first 48 other) refl
